@@ -1,0 +1,182 @@
+ghost use Rattle.std.specs.Prelude.{◌≡◌, ◌≤◌, length, IfOk};
+
+use crate::value::print_value;
+use aql_value::{Cells, Dims, Items, Memory, Parts, Str, Value, canon};
+use std::alloc::Global;
+
+// 2 to the power of 127.
+const HALF: u128 = 170141183460469231731687303715884105728;
+
+fn printed(alloc: Global, v: &Value) -> Result<Vec<u8>, Memory> {
+    let mut out = Vec::new(alloc);
+    print_value(alloc, v, &mut out)?;
+    Ok(out)
+}
+
+fn string(alloc: Global, content: &[u8]) -> Result<Value, Memory> {
+    let mut bytes = Vec::new(alloc);
+    bytes.extend_from_slice(content)?;
+    Ok(Value::Text(Str { bytes }))
+}
+
+fn numbers(alloc: Global, all: &[u128]) -> Result<Items, Memory> {
+    let mut items = Vec::new(alloc);
+    for n in all {
+        items.push(Value::Nat(*n))?;
+    }
+    Ok(Items { items })
+}
+
+fn set(alloc: Global, items: Items) -> Result<Value, Memory> {
+    Ok(Value::Members(canon(alloc, items)?))
+}
+
+fn pair(alloc: Global, a: Value, b: Value) -> Result<Value, Memory> {
+    let mut items = Vec::new(alloc);
+    items.push(a)?;
+    items.push(b)?;
+    Ok(Value::Row(Parts::new(Items { items }).ok_or(Memory)?))
+}
+
+fn dims(alloc: Global, all: &[u128]) -> Result<Dims, Memory>
+    ensures { IfOk result (λ d. d ≡ all.now) }
+{
+    let mut dims = Vec::new(alloc);
+    dims.extend_from_slice(all)?;
+    Ok(Dims { dims })
+}
+
+fn grid(alloc: Global, lengths: &[u128], cells: Items) -> Result<Value, Memory>
+    requires some { 1 ≤ length lengths.now }
+    requires few { length lengths.now ≤ 8 }
+{
+    let cells = Cells::new(dims(alloc, lengths)?, cells).ok_or(Memory)?;
+    Ok(Value::Grid(cells))
+}
+
+#[test]
+fn strings_are_quoted_and_escaped(rt: HostRuntime) -> Result<(), Memory> {
+    let alloc = rt.alloc();
+    let rows: [(&[u8], &[u8]); 6] = [
+        (b"", b"\"\""),
+        (b"a b~", b"\"a b~\""),
+        (b"\"\n", b"\"\\\"\\x0a\""),
+        (b"\\", b"\"\\\\\""),
+        (b"\x1f\x7f", b"\"\\x1f\\x7f\""),
+        (b"\x80\xff", b"\"\\x80\\xff\""),
+    ];
+    for (content, want) in rows {
+        let v = string(alloc, content)?;
+        assert_eq!(rt; printed(alloc, &v)?.as_slice(), want);
+    }
+    Ok(())
+}
+
+#[test]
+fn numbers_and_truth_values(rt: HostRuntime) -> Result<(), Memory> {
+    let alloc = rt.alloc();
+    assert_eq!(rt; printed(alloc, &Value::Nat(0))?.as_slice(), b"0".as_slice());
+    let greatest = Value::Nat(340282366920938463463374607431768211455);
+    assert_eq!(rt;
+        printed(alloc, &greatest)?.as_slice(),
+        b"340282366920938463463374607431768211455".as_slice()
+    );
+    assert_eq!(rt;
+        printed(alloc, &Value::Bool(true))?.as_slice(),
+        b"true".as_slice()
+    );
+    assert_eq!(rt;
+        printed(alloc, &Value::Bool(false))?.as_slice(),
+        b"false".as_slice()
+    );
+    Ok(())
+}
+
+fn sets_of_numbers(alloc: Global, all: &[&[u128]]) -> Result<Items, Memory> {
+    let mut sets = Vec::new(alloc);
+    for members in all {
+        sets.push(set(alloc, numbers(alloc, members)?)?)?;
+    }
+    Ok(Items { items: sets })
+}
+
+fn strings(alloc: Global, all: &[&[u8]]) -> Result<Items, Memory> {
+    let mut items = Vec::new(alloc);
+    for content in all {
+        items.push(string(alloc, content)?)?;
+    }
+    Ok(Items { items })
+}
+
+#[test]
+fn sets(rt: HostRuntime) -> Result<(), Memory> {
+    let alloc = rt.alloc();
+    let squares = set(alloc, numbers(alloc, &[9, 4, 1, 0, 4])?)?;
+    assert_eq!(rt;
+        printed(alloc, &squares)?.as_slice(),
+        b"{0, 1, 4, 9}".as_slice()
+    );
+    let letters = set(alloc, strings(alloc, &[b"b", b"a", b"b"])?)?;
+    assert_eq!(rt;
+        printed(alloc, &letters)?.as_slice(),
+        b"{\"a\", \"b\"}".as_slice()
+    );
+    Ok(())
+}
+
+#[test]
+fn sets_of_sets(rt: HostRuntime) -> Result<(), Memory> {
+    let alloc = rt.alloc();
+    let nested = set(alloc, sets_of_numbers(alloc, &[&[0, 1], &[0], &[]])?)?;
+    assert_eq!(rt;
+        printed(alloc, &nested)?.as_slice(),
+        b"{{}, {0}, {0, 1}}".as_slice()
+    );
+    let grouped = grid(alloc, &[3], sets_of_numbers(alloc, &[&[5, 6], &[], &[7]])?)?;
+    assert_eq!(rt;
+        printed(alloc, &grouped)?.as_slice(),
+        b"[[3; {5, 6}, {}, {7}]]".as_slice()
+    );
+    Ok(())
+}
+
+#[test]
+fn arrays_of_numbers(rt: HostRuntime) -> Result<(), Memory> {
+    let alloc = rt.alloc();
+    let table = grid(alloc, &[2, 3], numbers(alloc, &[0, 1, 2, 10, 11, 12])?)?;
+    assert_eq!(rt;
+        printed(alloc, &table)?.as_slice(),
+        b"[[2,3; 0, 1, 2, 10, 11, 12]]".as_slice()
+    );
+    let empty = grid(alloc, &[0], numbers(alloc, &[])?)?;
+    assert_eq!(rt; printed(alloc, &empty)?.as_slice(), b"[[0; ]]".as_slice());
+    let huge = grid(alloc, &[HALF, 4, 0], numbers(alloc, &[])?)?;
+    let want = b"[[170141183460469231731687303715884105728,4,0; ]]".as_slice();
+    assert_eq!(rt; printed(alloc, &huge)?.as_slice(), want);
+    Ok(())
+}
+
+#[test]
+fn arrays_of_pairs(rt: HostRuntime) -> Result<(), Memory> {
+    let alloc = rt.alloc();
+    let mut cells = Vec::new(alloc);
+    for (sign, n) in [(false, 3), (true, 2)] {
+        cells.push(pair(alloc, Value::Bool(sign), Value::Nat(n))?)?;
+    }
+    let signed = grid(alloc, &[1, 2], Items { items: cells })?;
+    assert_eq!(rt;
+        printed(alloc, &signed)?.as_slice(),
+        b"[[1,2; (false, 3), (true, 2)]]".as_slice()
+    );
+    Ok(())
+}
+
+#[test]
+fn a_text_follows_what_stands_before_it(rt: HostRuntime) -> Result<(), Memory> {
+    let alloc = rt.alloc();
+    let mut out = Vec::new(alloc);
+    out.extend_from_slice(b"val it = ")?;
+    print_value(alloc, &Value::Nat(7), &mut out)?;
+    assert_eq!(rt; out.as_slice(), b"val it = 7".as_slice());
+    Ok(())
+}

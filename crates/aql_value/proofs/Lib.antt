@@ -1,0 +1,4 @@
+pub mod RestOrder
+pub mod RowMajor
+mod Examples
+pub mod Merging

@@ -1,0 +1,31 @@
+//! The values of the language: numbers, truth values, strings, tuples, sets and arrays.
+//!
+//! A contract sees a `Value` as `datum v`, a mathematical value. `compare` is the total order
+//! `datum_cmp`, `canon` makes the one ascending list of the members of a list, and `Cells::cell`
+//! is the cell at an index. What each operation of the language makes of values stands in
+//! `specs/Operations.antt` and `specs/Strict.antt`.
+//!
+//! Read `value.rt`, `order.rt`, `sets.rt` and `indices.rt`; of `specs/` first `Datum`, `Meaning`,
+//! `Order`, `Canon` and `Indices`.
+#![tactic(auto)]
+
+mod arith;
+mod copies;
+mod indices;
+mod memory;
+mod ops;
+mod order;
+mod sets;
+#[cfg(test)]
+mod tests;
+mod validity;
+mod value;
+
+pub use arith::{add, monus, mul, quotient, remainder};
+pub use indices::{Index, is_below, place, saturating_product};
+pub use memory::Memory;
+pub use ops::{ArithOp, CompareOp};
+pub use order::compare;
+pub use sets::{canon, merge};
+pub use validity::valid;
+pub use value::{Ascending, Cells, Dims, Items, Parts, Str, Value};
