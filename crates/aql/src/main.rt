@@ -1,0 +1,50 @@
+//! The program: runs the script of standard input, writes its answers to standard output, and ends
+//! with the status of the run.
+//!
+//! What it does is the contract of `aql_run::run`. This crate is the edge: it meets the traits of the
+//! outside over the system's streams and files, and promises nothing of what these hold.
+//!
+//! Read `main`, then `streams` and `file_system`.
+#![tactic(auto)]
+
+mod file_system;
+mod streams;
+
+use aql_run::run;
+use std::env;
+use std::io::{self, ErrorKind};
+use std::process::ExitCode;
+use std::rt::Env;
+use streams::{InputStream, OutputStream};
+
+fn main(rt: HostRuntime) -> ExitCode {
+    let status = match words(&rt) {
+        Ok(words) => {
+            let mut input = InputStream::new(rt.stdin());
+            let mut output = OutputStream::new(rt.stdout());
+            run(rt.alloc(), words.as_slice(), &mut input, &mut output).status
+        }
+        Err(error) if error.kind() == ErrorKind::OutOfMemory => 1,
+        Err(_) => 2,
+    };
+    tell(&rt, status);
+    ExitCode::from(status)
+}
+
+// The words of the command line, the program's name first.
+fn words(rt: &(impl Env + AllocGlobal)) -> io::Result<Vec<String>> {
+    Ok(env::args(rt)?.collect(rt.alloc())?)
+}
+
+// Writes the line of a status that has one to standard error. A failure there changes nothing.
+fn tell(rt: &impl Eprint, status: u8) {
+    let line = match status {
+        1 => "aql: out of memory",
+        2 => "usage: aql [--workers N] [--budget N] [--plan] [--sample N]",
+        _ => return,
+    };
+    let _ = eprintln!(rt; "{line}");
+}
+
+#[cfg(test)]
+mod tests;

@@ -1,0 +1,58 @@
+-- What files hold, and what is answered of it.
+use Rattle.std.specs.Global.{Vec}
+use Rattle.std.specs.BTreeMap.{get_by_text, BTreeMap}
+use Rattle.std.proofs.Common.{subst}
+use Rattle.std.proofs.lemmas.Option.{none-some}
+use Rattle.std.specs.Prelude.{◌≡◌, ℕ, String, ◌-◌, min, Option, Some, None, option_map, Result, Ok, IfOk, List, [], length, take, drop}
+
+-- the bytes under each name, None where no file has the name
+abbrev pub Content : Type 0
+Content = List ℕ → Option (List ℕ)
+
+-- the bytes under each name in a map
+abbrev pub content_of : {Y : Type 0} → BTreeMap (String Y) (Vec ℕ) → Content
+content_of m name = option_map (λ bytes. bytes.items) (get_by_text m name)
+
+-- the bytes under a name, where they are told and a file has the name
+abbrev pub bytes_in : Option Content → List ℕ → Option (List ℕ)
+bytes_in None name = None
+bytes_in (Some files) name = files name
+
+-- it is told that no file has the name
+abbrev pub IsAbsent : Option Content → List ℕ → Type 0
+IsAbsent None name = ⊥
+IsAbsent (Some files) name = files name ≡ None
+
+-- the bytes, none where no file has the name
+abbrev pub or_none : Option (List ℕ) → List ℕ
+or_none None = []
+or_none (Some bytes) = bytes
+
+-- where the files are told, a size is the length of the file, and None exactly where no file has the name
+abbrev pub TellsSize : {E : Type 0} → Option Content → List ℕ → Result (Option ℕ) E → Type 0
+TellsSize None name result = Unit {0}
+TellsSize (Some files) name result = IfOk result (λ size. size ≡ option_map length (files name))
+
+-- where the files are told, a read gives the bytes from a place on, as many as the smaller of the room and the rest
+abbrev pub GivesAt : {E : Type 0} → Option Content → List ℕ → ℕ → Result ℕ E → List ℕ → Type 0
+GivesAt None name at result piece = Unit {0}
+GivesAt (Some files) name at result piece = IfOk result (λ n.
+    (n ≡ min (length piece) (length (or_none (files name)) - at)) × (take n piece ≡ take n (drop at (or_none (files name)))))
+
+-- what a size is where the bytes of the file are told
+pub size-from_told : (E : Type 0) (holds : Option Content) (name bytes : List ℕ) (size : Option ℕ) → bytes_in holds name ≡ Some bytes
+    → TellsSize {E = E} holds name (Ok size) → size ≡ Some (length bytes)
+size-from_told E None name bytes size there told = absurd (none-some _ there)
+size-from_told E (Some files) name bytes size there told = subst (λ (file : Option (List ℕ)). size ≡ option_map length file) there told
+
+-- what a size is where it is told that no file has the name
+pub size-from_absent : (E : Type 0) (holds : Option Content) (name : List ℕ) (size : Option ℕ) → IsAbsent holds name → TellsSize {E = E} holds name (Ok size) → size ≡ None
+size-from_absent E None name size absent told = absurd absent
+size-from_absent E (Some files) name size absent told = subst (λ (file : Option (List ℕ)). size ≡ option_map length file) absent told
+
+-- what a read gives where the bytes of the file are told
+pub given-from_told : (E : Type 0) (holds : Option Content) (name bytes piece : List ℕ) (at n : ℕ) → bytes_in holds name ≡ Some bytes → GivesAt {E = E} holds name at (Ok n) piece
+    → (n ≡ min (length piece) (length bytes - at)) × (take n piece ≡ take n (drop at bytes))
+given-from_told E None name bytes piece at n there told = absurd (none-some _ there)
+given-from_told E (Some files) name bytes piece at n there told =
+    subst (λ (file : Option (List ℕ)). (n ≡ min (length piece) (length (or_none file) - at)) × (take n piece ≡ take n (drop at (or_none file)))) there told

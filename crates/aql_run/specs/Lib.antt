@@ -1,0 +1,10 @@
+pub mod Lexis
+pub mod Grammar
+pub mod Meaning
+pub mod Texts
+pub mod Outcome
+pub mod Reading
+pub mod Writing
+pub mod Steps
+pub mod Scan
+pub mod Parse
