@@ -1,0 +1,352 @@
+//! Copies: equal trees.
+
+ghost use Rattle.std.specs.Prelude.{◌≡◌, IfOk};
+ghost use Rattle.aql_syntax.specs.Tree.{Quals};
+ghost use Rattle.aql_syntax.specs.View.{tree_of, trees_of, quals_of, qual_of, axes_in, defs_in, pat_of, pats_of, decl_of, reader_of};
+
+use crate::ast::{Bind, CsvReader, Decl, Expr, Kind, Kinds, LetBind, Pattern, Qual, Reader};
+use crate::build::{
+    comprehension, let_in, literal, members, row, subscript, tabulation, tuple_pattern,
+};
+use aql_value::Memory;
+use std::alloc::Global;
+
+impl Pattern {
+    /// An equal pattern.
+    #[cycle(pattern_copy)]
+    #[tactic(auto, using(crate::specs::ViewLaws::pat_of_row))]
+    pub fn copy(&self, alloc: Global) -> Result<Pattern, Memory>
+        ensures { IfOk result (λ made. pat_of made ≡ pat_of self.now) }
+    {
+        match self {
+            Pattern::Bind(x) => Ok(Pattern::Bind(x.copy(alloc)?)),
+            Pattern::Any => Ok(Pattern::Any),
+            Pattern::Nat(n) => Ok(Pattern::Nat(*n)),
+            Pattern::Bool(b) => Ok(Pattern::Bool(*b)),
+            Pattern::Text(s) => Ok(Pattern::Text(s.copy(alloc)?)),
+            Pattern::Name(x) => Ok(Pattern::Name(x.copy(alloc)?)),
+            Pattern::Row(ps) => {
+                let items = copy_patterns(alloc, &ps.items)?;
+                Ok(tuple_pattern(items))
+            }
+        }
+    }
+}
+
+impl Expr {
+    /// An equal expression.
+    #[cycle(copy)]
+    #[tactic(auto, using(crate::specs::ViewLaws::tree_views))]
+    pub fn copy(&self, alloc: Global) -> Result<Expr, Memory>
+        ensures { IfOk result (λ made. tree_of made ≡ tree_of self.now) }
+    {
+        match self {
+            Expr::Nat(n) => Ok(Expr::Nat(*n)),
+            Expr::Bool(b) => Ok(Expr::Bool(*b)),
+            Expr::Text(s) => Ok(Expr::Text(s.copy(alloc)?)),
+            Expr::Name(x) => Ok(Expr::Name(x.copy(alloc)?)),
+            Expr::Row(es) => {
+                let items = copy_exprs(alloc, &es.items)?;
+                Ok(row(items))
+            }
+            Expr::Empty => Ok(Expr::Empty),
+            Expr::Members(es) => {
+                let items = copy_exprs(alloc, &es.items)?;
+                Ok(members(items))
+            }
+            Expr::Comp { head, quals } => {
+                let head = boxed(alloc, head)?;
+                let items = copy_quals(alloc, &quals.items)?;
+                Ok(comprehension(head, items))
+            }
+            Expr::Tab { body, binds } => {
+                let body = boxed(alloc, body)?;
+                let items = copy_binds(alloc, &binds.items)?;
+                Ok(tabulation(body, items))
+            }
+            Expr::Literal { dims, cells } => {
+                let dims = copy_exprs(alloc, &dims.items)?;
+                let cells = copy_exprs(alloc, &cells.items)?;
+                Ok(literal(dims, cells))
+            }
+            Expr::Let { binds, body } => {
+                let items = copy_lets(alloc, &binds.items)?;
+                let body = boxed(alloc, body)?;
+                Ok(let_in(items, body))
+            }
+            Expr::Sub { array, at } => {
+                let array = boxed(alloc, array)?;
+                let at = copy_exprs(alloc, &at.items)?;
+                Ok(subscript(array, at))
+            }
+            Expr::If(c, a, b) => {
+                let c = boxed(alloc, c)?;
+                let a = boxed(alloc, a)?;
+                let b = boxed(alloc, b)?;
+                Ok(Expr::If(c, a, b))
+            }
+            Expr::And(a, b) => {
+                let a = boxed(alloc, a)?;
+                let b = boxed(alloc, b)?;
+                Ok(Expr::And(a, b))
+            }
+            Expr::Or(a, b) => {
+                let a = boxed(alloc, a)?;
+                let b = boxed(alloc, b)?;
+                Ok(Expr::Or(a, b))
+            }
+            Expr::Not(a) => {
+                let a = boxed(alloc, a)?;
+                Ok(Expr::Not(a))
+            }
+            Expr::Compare(o, a, b) => {
+                let a = boxed(alloc, a)?;
+                let b = boxed(alloc, b)?;
+                Ok(Expr::Compare(*o, a, b))
+            }
+            Expr::Arith(o, a, b) => {
+                let a = boxed(alloc, a)?;
+                let b = boxed(alloc, b)?;
+                Ok(Expr::Arith(*o, a, b))
+            }
+            Expr::Union(a, b) => {
+                let a = boxed(alloc, a)?;
+                let b = boxed(alloc, b)?;
+                Ok(Expr::Union(a, b))
+            }
+            Expr::Gen(a) => {
+                let a = boxed(alloc, a)?;
+                Ok(Expr::Gen(a))
+            }
+            Expr::Get(a) => {
+                let a = boxed(alloc, a)?;
+                Ok(Expr::Get(a))
+            }
+            Expr::Len(a) => {
+                let a = boxed(alloc, a)?;
+                Ok(Expr::Len(a))
+            }
+            Expr::Dim { rank, array } => {
+                let array = boxed(alloc, array)?;
+                Ok(Expr::Dim { rank: *rank, array })
+            }
+            Expr::Index { rank, pairs } => {
+                let pairs = boxed(alloc, pairs)?;
+                Ok(Expr::Index { rank: *rank, pairs })
+            }
+            Expr::Apply { name, argument } => {
+                let name = name.copy(alloc)?;
+                let argument = boxed(alloc, argument)?;
+                Ok(Expr::Apply { name, argument })
+            }
+            Expr::Fun {
+                pattern,
+                body,
+                argument,
+            } => {
+                let pattern = pattern.copy(alloc)?;
+                let body = boxed(alloc, body)?;
+                let argument = boxed(alloc, argument)?;
+                Ok(Expr::Fun {
+                    pattern,
+                    body,
+                    argument,
+                })
+            }
+            Expr::SumMap {
+                pattern,
+                body,
+                over,
+            } => {
+                let pattern = pattern.copy(alloc)?;
+                let body = boxed(alloc, body)?;
+                let over = boxed(alloc, over)?;
+                Ok(Expr::SumMap {
+                    pattern,
+                    body,
+                    over,
+                })
+            }
+            Expr::Default(a, b) => {
+                let a = boxed(alloc, a)?;
+                let b = boxed(alloc, b)?;
+                Ok(Expr::Default(a, b))
+            }
+        }
+    }
+}
+
+impl Qual {
+    // An equal qualifier.
+    #[cycle(copy)]
+    fn copy(&self, alloc: Global) -> Result<Qual, Memory>
+        ensures { IfOk result (λ made. (rest : Quals) → qual_of made rest ≡ qual_of self.now rest) }
+    {
+        match self {
+            Qual::From { pattern, over } => {
+                let pattern = pattern.copy(alloc)?;
+                let over = over.copy(alloc)?;
+                Ok(Qual::From { pattern, over })
+            }
+            Qual::Cells { index, cell, over } => {
+                let index = index.copy(alloc)?;
+                let cell = cell.copy(alloc)?;
+                let over = over.copy(alloc)?;
+                Ok(Qual::Cells { index, cell, over })
+            }
+            Qual::Match { pattern, of } => {
+                let pattern = pattern.copy(alloc)?;
+                let of = of.copy(alloc)?;
+                Ok(Qual::Match { pattern, of })
+            }
+            Qual::Test(e) => {
+                let e = e.copy(alloc)?;
+                Ok(Qual::Test(e))
+            }
+        }
+    }
+}
+
+impl Decl {
+    /// An equal declaration.
+    pub fn copy(&self, alloc: Global) -> Result<Decl, Memory>
+        ensures { IfOk result (λ made. decl_of made ≡ decl_of self.now) }
+    {
+        match self {
+            Decl::Val { name, expr } => {
+                let name = name.copy(alloc)?;
+                let expr = expr.copy(alloc)?;
+                Ok(Decl::Val { name, expr })
+            }
+            Decl::Macro {
+                name,
+                pattern,
+                body,
+            } => {
+                let name = name.copy(alloc)?;
+                let pattern = pattern.copy(alloc)?;
+                let body = body.copy(alloc)?;
+                Ok(Decl::Macro {
+                    name,
+                    pattern,
+                    body,
+                })
+            }
+            Decl::Read { name, reader, expr } => {
+                let name = name.copy(alloc)?;
+                let reader = reader.copy(alloc)?;
+                let expr = expr.copy(alloc)?;
+                Ok(Decl::Read { name, reader, expr })
+            }
+            Decl::Bare { expr } => {
+                let expr = expr.copy(alloc)?;
+                Ok(Decl::Bare { expr })
+            }
+        }
+    }
+}
+
+impl Reader {
+    /// An equal reader.
+    pub fn copy(&self, alloc: Global) -> Result<Reader, Memory>
+        ensures { IfOk result (λ made. reader_of made ≡ reader_of self.now) }
+    {
+        match self {
+            Reader::Plain { rank } => Ok(Reader::Plain { rank: *rank }),
+            Reader::Signed { rank } => Ok(Reader::Signed { rank: *rank }),
+            Reader::Strided { rank } => Ok(Reader::Strided { rank: *rank }),
+            Reader::Csv(csv) => {
+                let items = copy_kinds(alloc, &csv.kinds.items)?;
+                Ok(Reader::Csv(CsvReader {
+                    header: csv.header,
+                    kinds: Kinds { items },
+                }))
+            }
+        }
+    }
+}
+
+fn copy_kinds(alloc: Global, kinds: &[Kind]) -> Result<Vec<Kind>, Memory>
+    ensures { IfOk result (λ made. made.items ≡ kinds.now) }
+{
+    let mut made = Vec::new(alloc);
+    for kind in kinds {
+        made.push(*kind)?;
+    }
+    Ok(made)
+}
+
+#[cycle(pattern_copy)]
+#[tactic(auto, using(crate::specs::ViewLaws::pats_steps))]
+fn copy_patterns(alloc: Global, ps: &[Pattern]) -> Result<Vec<Pattern>, Memory>
+    ensures { IfOk result (λ made. pats_of made.items ≡ pats_of ps.now) }
+{
+    let mut made = Vec::new(alloc);
+    for p in ps {
+        let copied = p.copy(alloc)?;
+        made.push(copied)?;
+    }
+    Ok(made)
+}
+
+#[cycle(copy)]
+fn boxed(alloc: Global, e: &Expr) -> Result<Box<Expr>, Memory>
+    ensures { IfOk result (λ made. tree_of made.value ≡ tree_of e.now) }
+{
+    let copied = e.copy(alloc)?;
+    Ok(Box::new(alloc, copied)?)
+}
+
+#[cycle(copy)]
+#[tactic(auto, using(crate::specs::ViewLaws::trees_steps))]
+fn copy_exprs(alloc: Global, es: &[Expr]) -> Result<Vec<Expr>, Memory>
+    ensures { IfOk result (λ made. trees_of made.items ≡ trees_of es.now) }
+{
+    let mut made = Vec::new(alloc);
+    for e in es {
+        let copied = e.copy(alloc)?;
+        made.push(copied)?;
+    }
+    Ok(made)
+}
+
+#[cycle(copy)]
+#[tactic(auto, using(crate::specs::ViewLaws::quals_steps))]
+fn copy_quals(alloc: Global, quals: &[Qual]) -> Result<Vec<Qual>, Memory>
+    ensures { IfOk result (λ made. quals_of made.items ≡ quals_of quals.now) }
+{
+    let mut made = Vec::new(alloc);
+    for q in quals {
+        let copied = q.copy(alloc)?;
+        made.push(copied)?;
+    }
+    Ok(made)
+}
+
+#[cycle(copy)]
+#[tactic(auto, using(crate::specs::ViewLaws::axes_steps))]
+fn copy_binds(alloc: Global, binds: &[Bind]) -> Result<Vec<Bind>, Memory>
+    ensures { IfOk result (λ made. axes_in made.items ≡ axes_in binds.now) }
+{
+    let mut made = Vec::new(alloc);
+    for b in binds {
+        let name = b.name.copy(alloc)?;
+        let bound = b.bound.copy(alloc)?;
+        made.push(Bind { name, bound })?;
+    }
+    Ok(made)
+}
+
+#[cycle(copy)]
+#[tactic(auto, using(crate::specs::ViewLaws::defs_steps))]
+fn copy_lets(alloc: Global, binds: &[LetBind]) -> Result<Vec<LetBind>, Memory>
+    ensures { IfOk result (λ made. defs_in made.items ≡ defs_in binds.now) }
+{
+    let mut made = Vec::new(alloc);
+    for b in binds {
+        let pattern = b.pattern.copy(alloc)?;
+        let expr = b.expr.copy(alloc)?;
+        made.push(LetBind { pattern, expr })?;
+    }
+    Ok(made)
+}

@@ -1,0 +1,430 @@
+//! The size and the levels of a declaration with every macro put in place.
+
+ghost use Rattle.std.specs.Prelude.{◌≡◌, ◌-◌, ◌+◌, ◌^◌, ◌≤◌, min, max, length, take, reverse, ◌<◌, Option, Some, None};
+ghost use Rattle.std.specs.List.{slice_get};
+ghost use Rattle.aql_syntax.specs.Names.{names_equal, find};
+ghost use Rattle.aql_syntax.specs.Tree.{declared};
+ghost use Rattle.aql_syntax.specs.View.{tree_of, trees_of, quals_of, axes_in, defs_in, pat_of, pats_of, decl_of, decls_of};
+ghost use Rattle.aql_syntax.specs.Size as sizes;
+ghost use Rattle.aql_syntax.specs.Size.{pat_nodes, pats_nodes, quals_patterns, defs_patterns, binary_digits, expanded_size, expanded_levels, extents_of, extent_of, decl_size, decl_levels, size_at, levels_at};
+ghost use Rattle.aql_syntax.specs.Measured.{latest, qual_part, qual_pattern};
+
+use crate::ast::{Bind, Decl, Decls, Expr, LetBind, Pattern, Qual};
+use aql_value::Str;
+
+/// A size and levels, each the greatest number of 64 bits where it passes it.
+#[derive(Clone, Copy, Debug)]
+pub struct Counts {
+    pub size: u64,
+    pub levels: u64,
+}
+
+/// The expanded size of declaration n, counted from 1.
+pub fn size(decls: &Decls, n: u64) -> u64
+    requires first { 1 ≤ n }
+    requires last { n ≤ length decls.now.items.items }
+    ensures { result ≡ min (expanded_size (decls_of decls.now.items.items) n) (2 ^ 64 - 1) }
+{
+    measure_at(&decls.items, n as usize - 1).size
+}
+
+/// The expanded levels of declaration n, counted from 1.
+pub fn levels(decls: &Decls, n: u64) -> u64
+    requires first { 1 ≤ n }
+    requires last { n ≤ length decls.now.items.items }
+    ensures { result ≡ min (expanded_levels (decls_of decls.now.items.items) n) (2 ^ 64 - 1) }
+{
+    measure_at(&decls.items, n as usize - 1).levels
+}
+
+#[tactic(auto, using(crate::proofs::Measuring::latest_last))]
+fn measure_at(decls: &[Decl], i: usize) -> Counts
+    requires { i < length decls.now }
+    ensures size { result.size ≡ min (size_at (slice_get (decls_of decls.now) i) (extents_of (reverse (take i (decls_of decls.now))))) (2 ^ 64 - 1) }
+    ensures levels { result.levels ≡ min (levels_at (slice_get (decls_of decls.now) i) (extents_of (reverse (take i (decls_of decls.now))))) (2 ^ 64 - 1) }
+{
+    measure_own(&decls[i], &decls[..i])
+}
+
+// A declaration after others.
+fn measure_own(d: &Decl, before: &[Decl]) -> Counts
+    ensures size { result.size ≡ min (decl_size (decl_of d.now) (extents_of (latest before.now))) (2 ^ 64 - 1) }
+    ensures levels { result.levels ≡ min (decl_levels (decl_of d.now) (extents_of (latest before.now))) (2 ^ 64 - 1) }
+{
+    match d {
+        Decl::Val { name: _, expr } => measure(expr, before),
+        Decl::Macro {
+            name: _,
+            pattern,
+            body,
+        } => {
+            let own = pattern.nodes();
+            above(own, own, measure(body, before))
+        }
+        Decl::Read {
+            name: _,
+            reader: _,
+            expr,
+        } => measure(expr, before),
+        Decl::Bare { expr } => measure(expr, before),
+    }
+}
+
+/// The size and the levels of an expression after these declarations.
+#[cycle(measure)]
+#[tactic(auto, using(crate::proofs::Measuring::measure_views))]
+pub fn measure(e: &Expr, earlier: &[Decl]) -> Counts
+    ensures size { result.size ≡ min (sizes.size (tree_of e.now) (extents_of (latest earlier.now))) (2 ^ 64 - 1) }
+    ensures levels { result.levels ≡ min (sizes.levels (tree_of e.now) (extents_of (latest earlier.now))) (2 ^ 64 - 1) }
+{
+    match e {
+        Expr::Nat(_) => leaf(),
+        Expr::Bool(_) => leaf(),
+        Expr::Text(_) => leaf(),
+        Expr::Name(_) => leaf(),
+        Expr::Row(es) => above(1, 1, measure_all(&es.items, earlier)),
+        Expr::Empty => leaf(),
+        Expr::Members(es) => above(
+            1,
+            digits(es.items.len()).saturating_add(1),
+            measure_all(&es.items, earlier),
+        ),
+        Expr::Comp { head, quals } => {
+            let parts = beside(measure_quals(&quals.items, earlier), measure(head, earlier));
+            let patterns = quals_nodes(&quals.items);
+            let count = quals.items.len() as u64;
+            above(
+                count.saturating_add(patterns).saturating_add(1),
+                count
+                    .saturating_mul(4)
+                    .saturating_add(patterns)
+                    .saturating_add(1),
+                parts,
+            )
+        }
+        Expr::Tab { body, binds } => {
+            let parts = beside(measure_binds(&binds.items, earlier), measure(body, earlier));
+            let count = binds.items.len() as u64;
+            above(count.saturating_add(1), 1, parts)
+        }
+        Expr::Literal { dims, cells } => {
+            above(
+                1,
+                1,
+                beside(
+                    measure_all(&dims.items, earlier),
+                    measure_all(&cells.items, earlier),
+                ),
+            )
+        }
+        Expr::Let { binds, body } => {
+            let parts = beside(measure_lets(&binds.items, earlier), measure(body, earlier));
+            let patterns = lets_nodes(&binds.items);
+            let count = binds.items.len() as u64;
+            let own = count.saturating_add(patterns).saturating_add(1);
+            above(own, own, parts)
+        }
+        Expr::Sub { array, at } => above(
+            1,
+            1,
+            beside(measure(array, earlier), measure_all(&at.items, earlier)),
+        ),
+        Expr::If(c, a, b) => above(1, 1, beside(measure(c, earlier), two(a, b, earlier))),
+        Expr::And(a, b) => above(1, 1, two(a, b, earlier)),
+        Expr::Or(a, b) => above(1, 1, two(a, b, earlier)),
+        Expr::Not(a) => above(1, 1, measure(a, earlier)),
+        Expr::Compare(_, a, b) => above(1, 1, two(a, b, earlier)),
+        Expr::Arith(_, a, b) => above(1, 1, two(a, b, earlier)),
+        Expr::Union(a, b) => above(1, 1, two(a, b, earlier)),
+        Expr::Gen(a) => above(1, 1, measure(a, earlier)),
+        Expr::Get(a) => above(1, 1, measure(a, earlier)),
+        Expr::Len(a) => above(1, 1, measure(a, earlier)),
+        Expr::Dim { rank: _, array } => above(1, 1, measure(array, earlier)),
+        Expr::Index { rank: _, pairs } => above(1, 1, measure(pairs, earlier)),
+        Expr::Apply { name, argument } => {
+            let (nodes, body) = measure_macro(name, earlier);
+            let own = nodes.saturating_add(1);
+            above(own, own, beside(body, measure(argument, earlier)))
+        }
+        Expr::Fun {
+            pattern,
+            body,
+            argument,
+        } => {
+            let own = pattern.nodes().saturating_add(1);
+            above(own, own, two(body, argument, earlier))
+        }
+        Expr::SumMap {
+            pattern,
+            body,
+            over,
+        } => {
+            let own = pattern.nodes().saturating_add(1);
+            above(own, own, two(body, over, earlier))
+        }
+        Expr::Default(a, b) => above(1, 1, two(a, b, earlier)),
+    }
+}
+
+#[cycle(measure)]
+fn two(a: &Expr, b: &Expr, earlier: &[Decl]) -> Counts
+    ensures size { result.size ≡ min (sizes.size (tree_of a.now) (extents_of (latest earlier.now)) + sizes.size (tree_of b.now) (extents_of (latest earlier.now))) (2 ^ 64 - 1) }
+    ensures levels { result.levels ≡ min (max (sizes.levels (tree_of a.now) (extents_of (latest earlier.now))) (sizes.levels (tree_of b.now) (extents_of (latest earlier.now)))) (2 ^ 64 - 1) }
+{
+    beside(measure(a, earlier), measure(b, earlier))
+}
+
+#[cycle(measure)]
+#[tactic(auto, using(crate::specs::ViewLaws::trees_steps))]
+fn measure_all(es: &[Expr], earlier: &[Decl]) -> Counts
+    ensures size { result.size ≡ min (sizes.sizes (trees_of es.now) (extents_of (latest earlier.now))) (2 ^ 64 - 1) }
+    ensures levels { result.levels ≡ min (sizes.greatest (trees_of es.now) (extents_of (latest earlier.now))) (2 ^ 64 - 1) }
+{
+    let mut total = nothing();
+    for e in es {
+        total = beside(total, measure(e, earlier));
+    }
+    total
+}
+
+#[cycle(measure)]
+#[tactic(auto, using(crate::proofs::Measuring::qual_sums))]
+fn measure_quals(quals: &[Qual], earlier: &[Decl]) -> Counts
+    ensures size { result.size ≡ min (sizes.quals_sizes (quals_of quals.now) (extents_of (latest earlier.now))) (2 ^ 64 - 1) }
+    ensures levels { result.levels ≡ min (sizes.quals_greatest (quals_of quals.now) (extents_of (latest earlier.now))) (2 ^ 64 - 1) }
+{
+    let mut total = nothing();
+    for q in quals {
+        total = beside(total, measure_qual(q, earlier));
+    }
+    total
+}
+
+// The parts of a qualifier, before others.
+#[cycle(measure)]
+fn measure_qual(q: &Qual, earlier: &[Decl]) -> Counts
+    ensures size { result.size ≡ min (sizes.size (qual_part q.now) (extents_of (latest earlier.now))) (2 ^ 64 - 1) }
+    ensures levels { result.levels ≡ min (sizes.levels (qual_part q.now) (extents_of (latest earlier.now))) (2 ^ 64 - 1) }
+{
+    match q {
+        Qual::From { pattern: _, over } => measure(over, earlier),
+        Qual::Cells {
+            index: _,
+            cell: _,
+            over,
+        } => measure(over, earlier),
+        Qual::Match { pattern: _, of } => measure(of, earlier),
+        Qual::Test(e) => measure(e, earlier),
+    }
+}
+
+#[cycle(measure)]
+#[tactic(auto, using(crate::specs::ViewLaws::axes_steps))]
+fn measure_binds(binds: &[Bind], earlier: &[Decl]) -> Counts
+    ensures size { result.size ≡ min (sizes.axes_sizes (axes_in binds.now) (extents_of (latest earlier.now))) (2 ^ 64 - 1) }
+    ensures levels { result.levels ≡ min (sizes.axes_greatest (axes_in binds.now) (extents_of (latest earlier.now))) (2 ^ 64 - 1) }
+{
+    let mut total = nothing();
+    for b in binds {
+        total = beside(total, measure(&b.bound, earlier));
+    }
+    total
+}
+
+#[cycle(measure)]
+#[tactic(auto, using(crate::specs::ViewLaws::defs_steps))]
+fn measure_lets(binds: &[LetBind], earlier: &[Decl]) -> Counts
+    ensures size { result.size ≡ min (sizes.defs_sizes (defs_in binds.now) (extents_of (latest earlier.now))) (2 ^ 64 - 1) }
+    ensures levels { result.levels ≡ min (sizes.defs_greatest (defs_in binds.now) (extents_of (latest earlier.now))) (2 ^ 64 - 1) }
+{
+    let mut total = nothing();
+    for b in binds {
+        total = beside(total, measure(&b.expr, earlier));
+    }
+    total
+}
+
+// The nodes of the pattern of the macro of that name, and its body; nothing where it is no macro.
+#[cycle(measure)]
+#[tactic(auto, using(crate::proofs::Measuring::macro_steps))]
+fn measure_macro(name: &Str, earlier: &[Decl]) -> (u64, Counts)
+    ensures pattern { result.0 ≡ min ((extent_of (find name.now (extents_of (latest earlier.now)))).pattern) (2 ^ 64 - 1) }
+    ensures size { result.1.size ≡ min ((extent_of (find name.now (extents_of (latest earlier.now)))).size) (2 ^ 64 - 1) }
+    ensures levels { result.1.levels ≡ min ((extent_of (find name.now (extents_of (latest earlier.now)))).levels) (2 ^ 64 - 1) }
+{
+    let mut rest = earlier;
+    while let Some((last, before)) = rest.split_last() {
+        if declares(last, name) {
+            return measure_declared(last, before);
+        }
+        rest = before;
+    }
+    (0, nothing())
+}
+
+#[cycle(measure)]
+fn measure_declared(d: &Decl, before: &[Decl]) -> (u64, Counts)
+    ensures pattern { result.0 ≡ min ((extent_of (Some (sizes.extent (decl_of d.now) (extents_of (latest before.now))))).pattern) (2 ^ 64 - 1) }
+    ensures size { result.1.size ≡ min ((extent_of (Some (sizes.extent (decl_of d.now) (extents_of (latest before.now))))).size) (2 ^ 64 - 1) }
+    ensures levels { result.1.levels ≡ min ((extent_of (Some (sizes.extent (decl_of d.now) (extents_of (latest before.now))))).levels) (2 ^ 64 - 1) }
+{
+    match d {
+        Decl::Val { name: _, expr: _ } => (0, nothing()),
+        Decl::Macro {
+            name: _,
+            pattern,
+            body,
+        } => (pattern.nodes(), measure(body, before)),
+        Decl::Read {
+            name: _,
+            reader: _,
+            expr: _,
+        } => (0, nothing()),
+        Decl::Bare { expr: _ } => (0, nothing()),
+    }
+}
+
+// Whether the declaration binds that name.
+fn declares(d: &Decl, name: &Str) -> bool
+    ensures { result ≡ names_equal name.now (declared (decl_of d.now)) }
+{
+    match d {
+        Decl::Val { name: x, expr: _ } => same_bytes(&name.bytes, &x.bytes),
+        Decl::Macro {
+            name: x,
+            pattern: _,
+            body: _,
+        } => same_bytes(&name.bytes, &x.bytes),
+        Decl::Read {
+            name: x,
+            reader: _,
+            expr: _,
+        } => same_bytes(&name.bytes, &x.bytes),
+        Decl::Bare { expr: _ } => same_bytes(&name.bytes, b"it"),
+    }
+}
+
+#[tactic(auto, using(crate::proofs::Measuring::names_equal_pointwise))]
+fn same_bytes(a: &[u8], b: &[u8]) -> bool
+    ensures { result ≡ names_equal a.now b.now }
+{
+    a == b
+}
+
+fn nothing() -> Counts
+    ensures size { result.size ≡ 0 }
+    ensures levels { result.levels ≡ 0 }
+{
+    Counts { size: 0, levels: 0 }
+}
+
+fn leaf() -> Counts
+    ensures size { result.size ≡ 1 }
+    ensures levels { result.levels ≡ 1 }
+{
+    Counts { size: 1, levels: 1 }
+}
+
+// Parts side by side.
+fn beside(a: Counts, b: Counts) -> Counts
+    ensures size { result.size ≡ min (a.size + b.size) (2 ^ 64 - 1) }
+    ensures levels { result.levels ≡ max a.levels b.levels }
+{
+    Counts {
+        size: a.size.saturating_add(b.size),
+        levels: a.levels.max(b.levels),
+    }
+}
+
+// A node above its parts.
+fn above(size: u64, levels: u64, parts: Counts) -> Counts
+    ensures size { result.size ≡ min (size + parts.size) (2 ^ 64 - 1) }
+    ensures levels { result.levels ≡ min (levels + parts.levels) (2 ^ 64 - 1) }
+{
+    Counts {
+        size: size.saturating_add(parts.size),
+        levels: levels.saturating_add(parts.levels),
+    }
+}
+
+// How many binary digits a number has.
+#[tactic(auto, using(crate::proofs::Measuring::digit_steps))]
+fn digits(n: usize) -> u64
+    ensures { result ≡ binary_digits n }
+{
+    let mut rest = n;
+    let mut found: u64 = 0;
+    while rest != 0 {
+        rest /= 2;
+        found = found.saturating_add(1);
+    }
+    found
+}
+
+impl Pattern {
+    /// The number of nodes, or the greatest number of 64 bits where there are more.
+    #[cycle(pattern_nodes)]
+    #[tactic(auto, using(crate::specs::ViewLaws::pat_of_row))]
+    pub fn nodes(&self) -> u64
+        ensures { result ≡ min (pat_nodes (pat_of self.now)) (2 ^ 64 - 1) }
+    {
+        match self {
+            Pattern::Bind(_) => 1,
+            Pattern::Any => 1,
+            Pattern::Nat(_) => 1,
+            Pattern::Bool(_) => 1,
+            Pattern::Text(_) => 1,
+            Pattern::Name(_) => 1,
+            Pattern::Row(ps) => patterns_nodes(&ps.items).saturating_add(1),
+        }
+    }
+}
+
+#[cycle(pattern_nodes)]
+#[tactic(auto, using(crate::specs::ViewLaws::pats_steps))]
+fn patterns_nodes(ps: &[Pattern]) -> u64
+    ensures { result ≡ min (pats_nodes (pats_of ps.now)) (2 ^ 64 - 1) }
+{
+    let mut total: u64 = 0;
+    for p in ps {
+        total = total.saturating_add(p.nodes());
+    }
+    total
+}
+
+#[tactic(auto, using(crate::proofs::Measuring::qual_sums))]
+fn quals_nodes(quals: &[Qual]) -> u64
+    ensures { result ≡ min (quals_patterns (quals_of quals.now)) (2 ^ 64 - 1) }
+{
+    let mut total: u64 = 0;
+    for q in quals {
+        total = total.saturating_add(qual_nodes(q));
+    }
+    total
+}
+
+fn qual_nodes(q: &Qual) -> u64
+    ensures { result ≡ min (qual_pattern q.now) (2 ^ 64 - 1) }
+{
+    match q {
+        Qual::From { pattern, over: _ } => pattern.nodes(),
+        Qual::Cells {
+            index,
+            cell,
+            over: _,
+        } => index.nodes().saturating_add(cell.nodes()),
+        Qual::Match { pattern, of: _ } => pattern.nodes(),
+        Qual::Test(_) => 0,
+    }
+}
+
+#[tactic(auto, using(crate::specs::ViewLaws::defs_steps))]
+fn lets_nodes(binds: &[LetBind]) -> u64
+    ensures { result ≡ min (defs_patterns (defs_in binds.now)) (2 ^ 64 - 1) }
+{
+    let mut total: u64 = 0;
+    for b in binds {
+        total = total.saturating_add(b.pattern.nodes());
+    }
+    total
+}

@@ -1,0 +1,17 @@
+//! Types and most general unifiers.
+//!
+//! `unify` answers a substitution that makes two types one type within the limits, and after which
+//! each other such substitution can be taken; it answers `Clash` exactly where there is none.
+//! `solve` is the same for many equations. Read `specs/Types`, `specs/Unifiers`, then `ty`, `subst`,
+//! `solve`; the steps of solving stand in `step` and `specs/Solving`.
+#![tactic(auto)]
+
+pub mod equation;
+pub mod fault;
+mod replace;
+pub mod solve;
+pub mod step;
+pub mod subst;
+#[cfg(test)]
+mod tests;
+pub mod ty;

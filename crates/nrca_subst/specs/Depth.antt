@@ -1,0 +1,24 @@
+-- Substitution under a number of binders that is kept only as far as variable numbers reach.
+use Rattle.std.specs.Prelude.{◌≡◌, ℕ, ◌+◌, ◌-◌, ◌<◌, ◌^◌, ◌↔◌, min, Bool, IsTrue}
+use Rattle.nrca_term.specs.Term.{Term}
+use Rattle.nrca_term.specs.Subst.{shift_term, subst_term, uses_of, top_var}
+
+-- a number of binders that is kept as `depth`: the same number below 2^64, and any from there on
+abbrev pub IsDepth : ℕ → ℕ → Type 0
+IsDepth depth n = min n (2 ^ 64) ≡ min depth (2 ^ 64)
+
+-- for one such number of binders no variable number passes 64 bits
+abbrev pub Fits : ℕ → ℕ → Term → Term → Type 0
+Fits at depth w t = (n : ℕ) × IsDepth depth n × (top_var (subst_term (at + n) (shift_term 0 n w) t) < 2 ^ 64)
+
+-- for every such number of binders u is t with w put in
+abbrev pub Substitutes : ℕ → ℕ → Term → Term → Term → Type 0
+Substitutes at depth w t u = (n : ℕ) → IsDepth depth n → u ≡ subst_term (at + n) (shift_term 0 n w) t
+
+-- for every such number of binders the answer says whether u is t shifted
+abbrev pub TellsShifted : ℕ → ℕ → Term → Term → Bool → Type 0
+TellsShifted depth by t u b = (n : ℕ) → IsDepth depth n → IsTrue b ↔ (u ≡ shift_term n by t)
+
+-- for every such number of a variable the answer is its uses, as far as 64 bits reach
+abbrev pub CountsUses : ℕ → Term → ℕ → Type 0
+CountsUses at t count = (n : ℕ) → IsDepth at n → count ≡ min (uses_of n t) (2 ^ 64 - 1)

@@ -1,0 +1,34 @@
+-- What shifting and substitution keep, as said of the term before and the term after.
+use Rattle.std.specs.Prelude.{◌≡◌, ℕ, ◌≤◌, List, [], ◌∷◌, ◌++◌, length, Option, Some, None}
+use Rattle.aql_value.specs.Datum.{Datum}
+use Rattle.aql_types.specs.Types.{Ty}
+use Rattle.nrca_term.specs.Term.{Term, WellFormed}
+use Rattle.nrca_term.specs.Meaning.{Outcomes, cden}
+use Rattle.nrca_term.specs.Turns.{settle}
+use Rattle.nrca_term.specs.Typing.{instances, ctyped}
+use Rattle.nrca_term.specs.Subst.{strict_uses}
+
+-- with `by` values put in at `from` the new term has the value and the turns of the old one
+abbrev pub IsShifted : ℕ → ℕ → Term → Term → Type 0
+IsShifted from by t u = (V : Outcomes) (pre new post : List Datum) → length pre ≡ from → length new ≡ by →
+    (cden V (pre ++ (new ++ post)) u ≡ cden V (pre ++ post) t) × (settle V (pre ++ (new ++ post)) u ≡ settle V (pre ++ post) t)
+
+-- with `by` types put in at `from` the new term has every type of the old one, whatever types are given for the positions
+abbrev pub KeepsTypesShifted : ℕ → ℕ → Term → Term → Type 0
+KeepsTypesShifted from by t u = (given : List Ty) (pre new post : List Ty) (T : Ty) → length pre ≡ from → length new ≡ by →
+    ctyped (instances given) (pre ++ post) t T → ctyped (instances given) (pre ++ (new ++ post)) u T
+
+-- where the term put in has a value, the new term is the old one with that value put in
+abbrev pub IsSubstituted : ℕ → Term → Term → Term → Type 0
+IsSubstituted at w t u = (V : Outcomes) (pre post : List Datum) (v : Datum) → length pre ≡ at → cden V (pre ++ post) w ≡ Some v →
+    cden V (pre ++ post) u ≡ cden V (pre ++ (v ∷ post)) t
+
+-- where it has none, and some use of the variable is reached by strict parts alone, the new term has none
+abbrev pub IsUndefinedWith : ℕ → Term → Term → Term → Type 0
+IsUndefinedWith at w t u = (V : Outcomes) (pre post : List Datum) → length pre ≡ at → cden V (pre ++ post) w ≡ None → 1 ≤ strict_uses at t →
+    cden V (pre ++ post) u ≡ None
+
+-- where the term put in has the variable's type, the new term has every type of the old one
+abbrev pub KeepsTypesSubstituted : ℕ → Term → Term → Term → Type 0
+KeepsTypesSubstituted at w t u = (given : List Ty) (pre post : List Ty) (A T : Ty) → length pre ≡ at → ctyped (instances given) (pre ++ post) w A →
+    ctyped (instances given) (pre ++ (A ∷ post)) t T → ctyped (instances given) (pre ++ post) u T
