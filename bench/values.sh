@@ -1,5 +1,5 @@
 #!/usr/bin/env bash
-# Measures canon and merge of aql_value on pseudo-random values: seconds, and peak memory in KiB.
+# Measures canon and merge of aql_value on pseudo-random values: seconds (the least of five runs), and peak memory in KiB.
 # Makes a small repository of its own in a temporary folder; run it from anywhere: bench/values.sh
 set -eu
 top=$(cd "$(dirname "$0")/.." && pwd)
@@ -103,6 +103,7 @@ for line in "numbers 500000" "canon_numbers 500000" "numbers 1000000" "canon_num
     "pairs 100000" "canon_pairs 100000" "pairs 200000" "canon_pairs 200000" "pairs 400000" "canon_pairs 400000" \
     "lists 500000" "merge 500000" "lists 1000000" "merge 1000000" "lists 2000000" "merge 2000000"; do
     set -- $line
-    read -r seconds kib < <( { /usr/bin/time -f '%U %M' "$program" "$1" "$2" > /dev/null; } 2>&1 )
-    printf '%-14s %9s %9s %9s\n' "$1" "$2" "$seconds" "$kib"
+    for _ in 1 2 3 4 5; do
+        { /usr/bin/time -f '%U %M' "$program" "$1" "$2" > /dev/null; } 2>&1
+    done | sort -n | head -1 | { read -r seconds kib; printf '%-14s %9s %9s %9s\n' "$1" "$2" "$seconds" "$kib"; }
 done
