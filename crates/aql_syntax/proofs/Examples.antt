@@ -1,6 +1,5 @@
 -- Worked queries: what each denotes and how many turns it takes, and two sizes.
-use Rattle.std.specs.Prelude.{◌≡◌, ℕ, zero, suc, Bool, true, List, [], ◌∷◌, Option, Some, None, refl}
-use Rattle.aql_value.specs.Datum as datum
+use Rattle.std.specs.Prelude.{◌≡◌, ℕ, zero, suc, true, List, [], ◌∷◌, Option, Some, None, refl}
 use Rattle.aql_value.specs.Datum.{Datum, natural, set, tuple, array, data_of}
 use Rattle.aql_value.specs.Indices.{indices}
 use Rattle.aql_value.specs.Strict.{Strict}

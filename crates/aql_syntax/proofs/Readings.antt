@@ -1,16 +1,15 @@
 -- Worked readings: tokens, depth and grammar.
-use Rattle.std.specs.Prelude.{◌≡◌, ℕ, List, [], ◌∷◌, ◌++◌, Option, Some, None, refl, replicate, true, false}
-use Rattle.std.proofs.Common.{lit<, lit≤, arith}
+use Rattle.std.specs.Prelude.{◌≡◌, ℕ, List, [], ◌∷◌, ◌++◌, Some, None, refl, replicate}
+use Rattle.std.proofs.Common.{lit<, lit≤}
 use Rattle.aql_value.specs.Strict.{Strict}
 use Rattle.aql_value.specs.declared.ops.ArithOp.TheVariants as ariths
-use Rattle.aql_value.specs.declared.ops.CompareOp.TheVariants as compares
 use Rattle.aql_syntax.specs.declared.sign.Sign.TheVariants as signs
 use Rattle.aql_syntax.specs.Tree as tree
 use Rattle.aql_syntax.specs.Tree.{Name, Tree, Trees, no_tree}
-use Rattle.aql_syntax.specs.View.{of_one, of_two}
-use Rattle.aql_syntax.specs.Lexis.{Lexeme, named, numeral, quoted, mark, Begins, begins_sign, begins_number, begins_text, Digits, digits_end, digits_more, InString, string_end, string_plain, string_escape, string_hex, Blank, blank_comment, InComment, comment_end, comment_more}
+use Rattle.aql_syntax.specs.View.{of_two}
+use Rattle.aql_syntax.specs.Lexis.{Lexeme, named, numeral, quoted, mark, Begins, begins_sign, begins_number, begins_text, digits_end, digits_more, string_end, string_plain, string_escape, string_hex, Blank, blank_comment, comment_end}
 use Rattle.aql_syntax.specs.Scan.{no_counters, first_deep}
-use Rattle.aql_syntax.specs.Grammar.{Level, primary, postfix, tight, comparison, loose, whole, Reads, reads_number, reads_name, reads_literal, reads_comp, reads_primary, reads_postfix, reads_tighter, reads_binary, reads_union, reads_compare, reads_comparison, reads_looser, reads_or, reads_default, ReadsList, list_last, ReadsMaybe, maybe_none, ReadsQuals, quals_from, quals_same, ReadsMoreQuals, more_none, more_quals, ReadsPat, pat_bind, pat_name, ReadsScript, decls_none, decls_more, decl_bare}
+use Rattle.aql_syntax.specs.Grammar.{primary, tight, loose, whole, Reads, reads_number, reads_literal, reads_comp, reads_primary, reads_postfix, reads_tighter, reads_binary, reads_union, reads_comparison, reads_looser, reads_or, reads_default, list_last, maybe_none, quals_from, quals_same, more_none, more_quals, pat_bind, pat_name, ReadsScript, decls_none, decls_more, decl_bare}
 
 -- 401 parentheses pass the depth at the last of them, 400 don't
 deep_parentheses : first_deep no_counters (replicate 401 (mark signs.Open) ++ (numeral 1 ∷ replicate 401 (mark signs.Close) ++ (mark signs.Semicolon ∷ []))) ≡ Some 400

@@ -1,12 +1,12 @@
 -- What a query denotes: a value, or None where it is undefined.
-use Rattle.std.specs.Prelude.{ℕ, Bool, true, false, List, [], ◌∷◌, Option, Some, None, if◌then◌else◌}
+use Rattle.std.specs.Prelude.{ℕ, true, false, List, [], ◌∷◌, Option, Some, None, if◌then◌else◌}
 use Rattle.aql_value.specs.Datum.{Datum, natural, truth}
 use Rattle.aql_value.specs.Indices.{indices}
 use Rattle.aql_value.specs.Lists.{below}
 use Rattle.aql_value.specs.Partial.{◌>>=◌, each, concat}
 use Rattle.aql_value.specs.Operations.{as_natural, as_truth, as_set, dims_of, set_of, cell_of, sum_of, array_of}
 use Rattle.aql_value.specs.Strict.{strict_value}
-use Rattle.aql_syntax.specs.Tree.{Name, Tree, name, op, members, comp, tab, bindings, choice, conjunction, disjunction, negation, default, apply, function, summap, Trees, no_tree, tree, Axes, no_axis, axis, Quals, no_qual, from, cells, same, test, Defs, no_def, def, count_pats, axes}
+use Rattle.aql_syntax.specs.Tree.{Tree, name, op, members, comp, tab, bindings, choice, conjunction, disjunction, negation, default, apply, function, summap, Trees, no_tree, tree, Axes, no_axis, axis, Quals, no_qual, from, cells, same, test, Defs, no_def, def, count_pats, axes}
 use Rattle.aql_syntax.specs.Names.{find}
 use Rattle.aql_syntax.specs.Matching.{Env, Global, outcome, macro, Globals, lookup, on_match, match, match_axes}
 

@@ -1,9 +1,8 @@
 -- Array generators by indices: each index below the dimensions in row-major order, twice the sum of the prefix products in turns,
 -- and the index as one value against its pattern.
-use Rattle.std.proofs.Common.{◌≡◌, ℕ, zero, suc, ◌+◌, ◌*◌, ◌<◌, ◌≤◌, List, [], ◌∷◌, ◌++◌, length, map, Option, Some, None, refl, sym, ap, ◌∙◌, arith, append_assoc}
+use Rattle.std.proofs.Common.{◌≡◌, ℕ, zero, suc, ◌+◌, ◌*◌, List, [], ◌∷◌, ◌++◌, length, map, Option, Some, None, refl, sym, ap, ◌∙◌, arith}
 use Rattle.std.proofs.Math.Path.{fun_ext}
 use Rattle.std.specs.List.{slice_get}
-use Rattle.std.proofs.lemmas.Option.{slice_get-map}
 use Rattle.std.proofs.lemmas.List.{length-map}
 use Rattle.aql_value.specs.Datum as datum
 use Rattle.aql_value.specs.Datum.{Datum, natural, data_of, list_of, list_of-data_of}
@@ -15,7 +14,7 @@ use Rattle.aql_value.specs.PartialLaws.{each-then, each-append, each-map, total-
 use Rattle.aql_value.specs.Operations.{index_value, part_of}
 use Rattle.aql_value.specs.OperationsLaws.{part_of-tuple}
 use Rattle.aql_syntax.specs.Tree.{Pat, Pats, tuple, no_pat, pat, count_pats, axes}
-use Rattle.aql_syntax.specs.Matching.{Env, Globals, Match, hit, miss, undefined, on_match, with_value, match, match_parts, match_axes}
+use Rattle.aql_syntax.specs.Matching.{Env, Globals, Match, hit, miss, undefined, on_match, match, match_parts, match_axes}
 use Rattle.aql_syntax.specs.Denotation.{over_indices}
 use Rattle.aql_syntax.specs.Work.{turns_over}
 

@@ -1,18 +1,17 @@
 -- Laws of names, macros, rows and turns.
-use Rattle.std.proofs.Common.{◌≡◌, ℕ, zero, suc, ◌+◌, Bool, true, false, ◌==◌, List, [], ◌∷◌, ◌++◌, length, Option, Some, None, refl, sym, ap, ◌∙◌, if◌then◌else◌, append_assoc}
+use Rattle.std.proofs.Common.{◌≡◌, ℕ, ◌+◌, Bool, true, false, ◌==◌, List, [], ◌∷◌, ◌++◌, length, Option, Some, None, refl, sym, ap, ◌∙◌, if◌then◌else◌, append_assoc}
 use Rattle.std.proofs.Math.Path.{fun_ext}
 use Rattle.std.proofs.lemmas.Bool.{eqb-true, eq-eqb}
 use Rattle.aql_value.specs.Datum.{Datum}
 use Rattle.aql_value.specs.Partial.{◌>>=◌, each, concat, total, if_some}
-use Rattle.aql_value.specs.PartialLaws.{each-ext, then-assoc}
 use Rattle.aql_value.specs.Operations.{as_truth, as_set, dims_of, cell_of}
-use Rattle.aql_value.specs.Lists.{below, Every-all, concat-append}
-use Rattle.aql_syntax.specs.Tree.{Name, Pat, Tree, apply, function, summap, comp, Quals, no_qual, from, cells, same, test, Declaration, mac, append_quals, count_pats, axes}
+use Rattle.aql_value.specs.Lists.{below}
+use Rattle.aql_syntax.specs.Tree.{Name, Pat, Tree, apply, function, summap, Quals, no_qual, from, cells, same, test, mac, append_quals, count_pats, axes}
 use Rattle.aql_syntax.specs.Names.{names_equal, find}
-use Rattle.aql_syntax.specs.Matching.{Env, Global, outcome, macro, Globals, outcome_of, lookup, Match, hit, miss, undefined, on_match, match, match_axes}
-use Rattle.aql_syntax.specs.Denotation.{call, in_head, over_indices, den, rows}
-use Rattle.aql_syntax.specs.Work.{turns_of_call, work, work_rows}
-use Rattle.aql_syntax.specs.Script.{Earlier, entry, globals_of}
+use Rattle.aql_syntax.specs.Matching.{Env, macro, Globals, outcome_of, lookup, Match, hit, miss, undefined, on_match, match, match_axes}
+use Rattle.aql_syntax.specs.Denotation.{over_indices, den, rows}
+use Rattle.aql_syntax.specs.Work.{work, work_rows}
+use Rattle.aql_syntax.specs.Script.{Earlier, globals_of}
 
 -- Names.
 

@@ -1,5 +1,5 @@
 -- The declarations of the code as the sizes take them.
-use Rattle.std.specs.Prelude.{ℕ, List, [], ◌∷◌, ◌++◌}
+use Rattle.std.specs.Prelude.{ℕ, List, [], ◌∷◌}
 use Rattle.std.specs.Prelude.{◌+◌}
 use Rattle.aql_syntax.specs.Tree.{Declaration, Tree}
 use Rattle.aql_syntax.specs.View.{decl_of, tree_of, pat_of}

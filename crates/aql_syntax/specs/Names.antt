@@ -1,5 +1,5 @@
 -- Names and what they stand for.
-use Rattle.std.specs.Prelude.{ℕ, Bool, true, false, ◌==◌, List, [], ◌∷◌, Option, Some, None, if◌then◌else◌}
+use Rattle.std.specs.Prelude.{Bool, true, false, ◌==◌, List, [], ◌∷◌, Option, Some, None, if◌then◌else◌}
 use Rattle.aql_syntax.specs.Tree.{Name}
 
 abbrev pub names_equal : Name → Name → Bool

@@ -1,5 +1,5 @@
 -- What the declarations of a script give one another, and their outcomes in order.
-use Rattle.std.specs.Prelude.{ℕ, List, [], ◌∷◌, Option, Some, None}
+use Rattle.std.specs.Prelude.{List, [], ◌∷◌, Option, Some, None}
 use Rattle.std.specs.Option.{option_map}
 use Rattle.aql_value.specs.Datum.{Datum}
 use Rattle.aql_syntax.specs.Tree.{Name, Reader, Declaration, val, mac, read, bare, it}

@@ -1,5 +1,5 @@
 -- The size and the levels of a declaration in which every application of a macro has the macro's pattern and body in it.
-use Rattle.std.specs.Prelude.{ℕ, zero, suc, ◌+◌, ◌-◌, ◌*◌, ◌/◌, ◌==◌, max, List, [], ◌∷◌, ◌++◌, Option, Some, None, if◌then◌else◌, reverse, take}
+use Rattle.std.specs.Prelude.{ℕ, zero, suc, ◌+◌, ◌-◌, ◌*◌, ◌/◌, ◌==◌, max, List, [], ◌∷◌, Option, Some, None, if◌then◌else◌, reverse, take}
 use Rattle.std.specs.List.{slice_get}
 use Rattle.aql_syntax.specs.Tree.{Name, Pat, bind, any, equals, refers, tuple, Pats, no_pat, pat, Tree, name, op, members, comp, tab, bindings, choice, conjunction, disjunction, negation, default, apply, function, summap, Trees, no_tree, tree, Axes, no_axis, axis, Quals, no_qual, from, cells, same, test, Defs, no_def, def, Declaration, val, mac, read, bare, declared, count_trees, count_axes}
 use Rattle.aql_syntax.specs.Names.{find}

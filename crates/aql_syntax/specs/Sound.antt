@@ -1,26 +1,24 @@
 -- Where an expression has a type and a value, the value has the type, under globals of their types.
-use Rattle.std.proofs.Common.{◌≡◌, ℕ, zero, suc, ◌+◌, ◌<◌, ◌≤◌, Bool, true, false, ◌==◌, List, [], ◌∷◌, ◌++◌, length, map, replicate, Option, Some, None, refl, sym, ap, subst, ◌∙◌, arith, if◌then◌else◌, ◌^◌, nat_lt, sum, nat_eq, take, drop}
+use Rattle.std.proofs.Common.{◌≡◌, ℕ, zero, suc, ◌+◌, Bool, true, false, List, [], ◌∷◌, ◌++◌, length, map, replicate, Option, Some, None, refl, sym, ap, subst, ◌∙◌, arith, if◌then◌else◌, ◌^◌, nat_lt, sum}
 use Rattle.std.specs.List.{slice_get}
 use Rattle.std.specs.Ordering.{is_eq}
-use Rattle.std.proofs.lemmas.Bool.{eqb-true}
 use Rattle.std.proofs.lemmas.List.{length-map}
 use Rattle.aql_value.specs.Datum as datum
 use Rattle.aql_value.specs.Datum.{Datum, Table}
 use Rattle.aql_value.specs.Order.{datum_cmp}
-use Rattle.aql_value.specs.Indices.{indices, product}
+use Rattle.aql_value.specs.Indices.{indices}
 use Rattle.aql_value.specs.RowMajorLaws.{indices_lengths}
-use Rattle.aql_value.specs.Lists.{Every, Every-all, Every-impl, Every-lists, below}
+use Rattle.aql_value.specs.Lists.{Every, Every-all, Every-lists, below}
 use Rattle.aql_value.specs.Partial.{◌>>=◌, each, concat}
-use Rattle.aql_value.specs.PartialLaws.{then-is, each-values, each-length, each-cons_is}
+use Rattle.aql_value.specs.PartialLaws.{then-is, each-values, each-length}
 use Rattle.aql_value.specs.Operations.{as_natural, as_truth, as_set, as_array, part_of, in_range, sum_of, array_of, dims_of, cell_of, set_of}
 use Rattle.aql_value.specs.Indices.{cell}
-use Rattle.aql_value.specs.OperationsLaws.{array_of-is}
 use Rattle.aql_value.specs.Strict.{Strict, strict_value}
 use Rattle.aql_types.specs.Types as types
 use Rattle.aql_types.specs.Types.{Ty, Tys, no_type, type, natural, Subst, apply, apply_all, IsRank, IsWithin, Sort, value, macro, apply_sort, tys_of, index_type}
 use Rattle.aql_types.specs.TypeLaws.{apply-apply, apply_var}
 use Rattle.aql_types.specs.OperationTypes.{strict_rule}
-use Rattle.aql_types.specs.ValueTypes.{HasType, AllHaveTypes, HaveTypes}
+use Rattle.aql_types.specs.ValueTypes.{HasType, HaveTypes}
 use Rattle.aql_types.specs.OperationLaws.{some-list, set-members, has-set, has-array, array-table, strict-sound, part-sound, cell-found}
 use Rattle.aql_syntax.specs.Tree as tree
 use Rattle.aql_syntax.specs.Tree.{Name, Constant, Pat, Pats, Tree, Trees, Axes, Quals, Defs, Declaration, count_pats, count_axes, axes}
@@ -33,7 +31,7 @@ use Rattle.aql_syntax.specs.declared.ast.Kind.{Kind}
 use Rattle.aql_syntax.specs.declared.ast.Kind.TheVariants as kinds
 use Rattle.aql_syntax.specs.Work.{work}
 use Rattle.aql_syntax.specs.Script.{Earlier, entry, globals_of, Reading, read_outcome, outcome_after}
-use Rattle.aql_syntax.specs.Typing.{Scope, Locals, NameHas, Takes, constant_type, Fits, FitsAll, FitsAxes, with_indices, Has, HasAll, HasEach, BoundsHave, Rows, Binds, DeclHas, Gives, if_name, extended, scope_of, field_types, record_type, reader_type}
+use Rattle.aql_syntax.specs.Typing.{Scope, Locals, NameHas, Takes, Fits, FitsAll, FitsAxes, with_indices, Has, HasAll, HasEach, Rows, Binds, DeclHas, Gives, if_name, extended, scope_of, field_types, record_type, reader_type}
 
 -- an array generator that has a typing walks an array of a rank from 1 to 8: its array's type is within the limits
 pub generator-rank : (p q : Pat) (e : Tree) (rest : Quals) (g : Scope) (env env' : Locals) → Rows (tree.cells p q e rest) g env env' → IsRank (count_pats (axes p))

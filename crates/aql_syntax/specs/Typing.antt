@@ -3,7 +3,7 @@
 -- type of a declaration, the two types of a macro that is applied, and those that come in where no type around holds them:
 -- the sides of a comparison, the sets of generators, `get` and `summap`, the arrays of generators, subscripts and dimensions,
 -- the pairs of `index_k`, what `let`, `==` and the argument of a function bind, and the argument of a `readval`.
-use Rattle.std.specs.Prelude.{◌≡◌, ℕ, List, [], ◌∷◌, Bool, true, false, Option, Some, None}
+use Rattle.std.specs.Prelude.{◌≡◌, List, [], ◌∷◌, Bool, true, false, Option, Some, None}
 use Rattle.aql_value.specs.Strict.{Strict}
 use Rattle.aql_types.specs.Types as types
 use Rattle.aql_types.specs.Types.{Ty, natural, Tys, no_type, type, Subst, IsRank, IsWithin, Sort, value, macro, apply_sort, tys_of, index_type}

@@ -6,7 +6,7 @@ use Rattle.aql_value.specs.Lists.{below}
 use Rattle.aql_value.specs.Partial.{◌>>=◌, each, total, if_some}
 use Rattle.aql_value.specs.Operations.{as_natural, as_truth, as_set, dims_of, cell_of}
 use Rattle.aql_value.specs.Strict.{strict_turns}
-use Rattle.aql_syntax.specs.Tree.{Name, Tree, name, op, members, comp, tab, bindings, choice, conjunction, disjunction, negation, default, apply, function, summap, Trees, no_tree, tree, Axes, no_axis, axis, Quals, no_qual, from, cells, same, test, Defs, no_def, def, count_pats, axes}
+use Rattle.aql_syntax.specs.Tree.{Tree, name, op, members, comp, tab, bindings, choice, conjunction, disjunction, negation, default, apply, function, summap, Trees, no_tree, tree, Axes, no_axis, axis, Quals, no_qual, from, cells, same, test, Defs, no_def, def, count_pats, axes}
 use Rattle.aql_syntax.specs.Names.{find}
 use Rattle.aql_syntax.specs.Matching.{Env, Global, outcome, macro, Globals, on_match, match, match_axes}
 use Rattle.aql_syntax.specs.Denotation.{in_head, at_index, den, dens, bound_values}

@@ -1,7 +1,5 @@
 use Rattle.std.proofs.Common.{ap}
-use Rattle.aql_value.specs.Strict.{Strict}
 use Rattle.aql_syntax.specs.Tree as tree
-use Rattle.aql_syntax.specs.View.{tree_of}
 use Rattle.aql_syntax.specs.ViewLaws.{pat_row-vec}
 use Rattle.aql_syntax.proofs.build.tuple_pattern.Goals as goal
 

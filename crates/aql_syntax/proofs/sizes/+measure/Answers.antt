@@ -1,5 +1,5 @@
 -- The arms whose lists are inside a tree: what is measured of the list is measured of the tree.
-use Rattle.std.proofs.Common.{◌≡◌, ◌+◌, ◌*◌, ◌<◌, ◌≤◌, ap, ◌∙◌, arith}
+use Rattle.std.proofs.Common.{ap, ◌∙◌, arith}
 use Rattle.aql_syntax.specs.View.{tree_of, trees_of, quals_of}
 use Rattle.aql_syntax.specs.Measured.{latest}
 use Rattle.aql_syntax.specs.Size.{size, levels, sizes, greatest, quals_sizes, quals_greatest, quals_patterns, extents_of}

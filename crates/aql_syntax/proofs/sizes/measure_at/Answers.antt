@@ -1,5 +1,5 @@
 -- The declaration at a place is the one there, and those before it are taken the latest first.
-use Rattle.std.proofs.Common.{◌≡◌, ℕ, ◌<◌, ◌-◌, ◌^◌, min, List, Some, sym, ap, ◌∙◌, take, get_or, reverse, length, subst}
+use Rattle.std.proofs.Common.{◌≡◌, ℕ, ◌<◌, ◌-◌, ◌^◌, min, List, Some, sym, ap, ◌∙◌, take, get_or, reverse, length}
 use Rattle.std.specs.List.{slice_get}
 use Rattle.aql_syntax.specs.View.{decl_of, decls_of}
 use Rattle.aql_syntax.specs.Measured.{latest}
