@@ -1,0 +1,7 @@
+pub mod RunLaws
+pub mod Spellings
+pub mod Fronts
+pub mod Counting
+pub mod Covering
+pub mod OneAnswer
+pub mod Deep

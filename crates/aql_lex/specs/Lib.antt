@@ -1,0 +1,5 @@
+pub mod Lexed
+pub mod Lexing
+pub mod Texts
+pub mod Scanning
+pub mod TextLaws
