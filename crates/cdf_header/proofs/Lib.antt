@@ -1,0 +1,7 @@
+pub mod Loops
+pub mod Formats
+pub mod Fronts
+pub mod Readings
+pub mod Saturate
+pub mod Least
+pub mod Weights

@@ -1,0 +1,28 @@
+use Rattle.std.proofs.Common.{rules, arith, ◌≡◌, ◌≤◌, List, ℕ, Some, Ok, Err, min, length, take, ap, subst, refl, sym, ◌∙◌, get_or}
+use Rattle.std.proofs.lemmas.Grind.{common_steps}
+use Rattle.aql_outside.specs.Contents.{bytes_in}
+use Rattle.cdf_header.specs.Format.{header, done, run}
+use Rattle.cdf_header.specs.File.{IsFront, IsClassic, IsKnown, Reading, version, Answers, first}
+use Rattle.cdf_header.proofs.Readings.{begun, reading, same_byte, classic_on}
+use Rattle.cdf_header.proofs.file.header_or_fault.Goals as goal
+
+pub returns-then-not-is_known-clause-told : goal.returns-then-not-is_known-clause-told
+returns-then-not-is_known-clause-told g c = λ bytes there.
+    let b = begun _ (g.F.Files.holds c.args.files.now) (g.F.Files.holds c.size.new.self) c.args.name.now bytes c.new-front.result.items c.grow.new.front.items c.in-Ok-Some.size _ _ c.in-Ok-Some.field-0 _
+    there c.in-Ok-Some.field-0-is c.in-Ok-Some.ensures.told c.in-Ok-Some.ensures.kept c.min-most.ensures c.min-target.ensures c.new-front.ensures.items c.in_ok-whole.ensures.told c.in_ok-whole.ensures.whole c.in_ok-whole.ensures.within in
+    let here : IsClassic c.grow.new.front.items = rw (← c.deref.ensures.value) (search rules) in
+    let v : c.index-v.result.now ≡ version bytes = grind (arith, common_steps, same_byte bytes c.grow.new.front.items 3 b.is_front (omega (arith, here.0))) in
+    (classic_on bytes c.grow.new.front.items b.is_front b.within here, v, λ k. let h = c.if-not-is_known.ensures.no k in search (rules, h))
+
+pub returns-clause-told : goal.returns-clause-told
+returns-clause-told g c = λ bytes there.
+    let b = begun _ (g.F.Files.holds c.args.files.now) (g.F.Files.holds c.size.new.self) c.args.name.now bytes c.new-front.result.items c.grow.new.front.items c.in-Ok-Some.size _ _ c.in-Ok-Some.field-0 _
+    there c.in-Ok-Some.field-0-is c.in-Ok-Some.ensures.told c.in-Ok-Some.ensures.kept c.min-most.ensures c.min-target.ensures c.new-front.ensures.items c.in_ok-whole.ensures.told c.in_ok-whole.ensures.whole c.in_ok-whole.ensures.within in
+    let here : IsClassic c.grow.new.front.items = rw (← c.deref.ensures.value) (search rules) in
+    let v : c.index-v.result.now ≡ version bytes = grind (arith, common_steps, same_byte bytes c.grow.new.front.items 3 b.is_front (omega (arith, here.0))) in
+    let known : IsKnown (version bytes) = rw (← v) (search rules) in
+    let kept : g.F.Files.holds c.grow.new.files ≡ g.F.Files.holds c.args.files.now = c.in_ok-whole.ensures.kept ∙ c.in-Ok-Some.ensures.kept in
+    let told = c.read_fields.ensures.told bytes (ap (λ h. bytes_in h c.args.name.now) kept ∙ there) b.most_is b.full b.is_front in
+    reading bytes c.read_fields.result (classic_on bytes c.grow.new.front.items b.is_front b.within here) known
+    (subst (λ k. Answers (run (header (length bytes) k done) (first bytes) 4) c.read_fields.result) v
+    (subst (λ n. Answers (run (header n c.index-v.result.now done) (first bytes) 4) c.read_fields.result) b.size_is told))

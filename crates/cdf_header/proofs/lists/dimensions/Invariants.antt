@@ -1,0 +1,12 @@
+use Rattle.std.proofs.Common.{◌≡◌, ◌≤◌, ◌-◌, [], length, map}
+use Rattle.cdf_header.specs.Header.{dim}
+use Rattle.cdf_header.specs.Format.{many, dimension}
+use Rattle.cdf_header.proofs.Loops.{SoFar}
+use Rattle.cdf_header.proofs.lists.dimensions.Given as goal
+
+abbrev pub invariant-items : goal.invariant-items
+invariant-items l = record {
+  within : l.place ≤ length l.bytes;
+  few : length l.found.items ≡ l.counter;
+  so_far : SoFar (many (dimension l.v) l.count []) l.at (many (dimension l.v) (l.count - l.counter) (map dim l.found.items)) l.bytes l.place;
+}

@@ -1,0 +1,218 @@
+-- A format says, by the contents of the fields so far, which field must come next.
+use Rattle.std.specs.Prelude.{◌≡◌, ℕ, zero, suc, ◌+◌, ◌*◌, ◌/◌, ◌≤◌, Bool, true, false, cond, ◌&&◌, nat_lt, nat_eq, not, List, [], ◌∷◌, ◌++◌, length, take, drop, get_or, map, Option, Some, None, Result, Ok, Err}
+use Rattle.byteorder.specs.Endian.{big_number}
+use Rattle.cdf_header.specs.declared.fault.Fault.{Fault}
+use Rattle.cdf_header.specs.declared.fault.Fault.TheVariants.{Short, Malformed, TooMany}
+use Rattle.cdf_header.specs.declared.test.Test.{Test}
+use Rattle.cdf_header.specs.declared.test.Test.TheVariants.{Any, Tag, Count, Extent, Id, NcType}
+use Rattle.cdf_header.specs.Header.{Dim, Var, Head}
+
+-- a number of so many bytes, or so many bytes and padding to a multiple of four
+pub data Kind : Type 0 where
+  number : ℕ → Test → Kind
+  text : ℕ → Kind
+
+pub data Format : Type 0 where
+  done : Head → Format
+  ask : Kind → (List ℕ → Format) → Format
+
+abbrev pub padded : ℕ → ℕ
+padded n = (n + 3) / 4 * 4
+
+-- the bytes of a field's content, and those that it takes
+abbrev pub own : Kind → ℕ
+own (number w t) = w
+own (text n) = n
+
+abbrev pub room : Kind → ℕ
+room (number w t) = w
+room (text n) = padded n
+
+abbrev pub content : Kind → List ℕ → ℕ → List ℕ
+content kind bytes k = take (own kind) (drop k bytes)
+
+abbrev pub is_at : Option ℕ → ℕ → Bool
+is_at None n = false
+is_at (Some i) n = nat_eq n i
+
+abbrev pub most_type : ℕ → ℕ
+most_type version = cond (nat_eq version 5) 11 6
+
+-- why a number is no good
+abbrev pub flaw : Test → ℕ → ℕ → Option Fault
+flaw Any k n = None
+flaw (Tag own) k n = cond (nat_eq n 0) None (cond (nat_eq n own) None (Some (Malformed k)))
+flaw (Count before list most) k n = cond (nat_lt most n) (Some (TooMany list)) (cond (nat_eq before 0) (cond (nat_eq n 0) None (Some (Malformed k))) None)
+flaw (Extent has) k n = cond has (cond (nat_eq n 0) (Some (Malformed k)) None) None
+flaw (Id dims unlimited first) k n = cond (nat_lt n dims) (cond first None (cond (is_at unlimited n) (Some (Malformed k)) None)) (Some (Malformed k))
+flaw (NcType version) k n = cond (nat_eq n 0) (Some (Malformed k)) (cond (nat_lt (most_type version) n) (Some (Malformed k)) None)
+
+abbrev pub flaw_of : Kind → ℕ → List ℕ → Option Fault
+flaw_of (number w test) k bytes = flaw test k (big_number w bytes)
+flaw_of (text n) k bytes = None
+
+-- why no good field of a kind stands at k
+abbrev pub fault_at : Kind → List ℕ → ℕ → Option Fault
+fault_at kind bytes k = cond (nat_lt (length bytes) (k + room kind)) (Some (Short k)) (flaw_of kind k (content kind bytes k))
+
+abbrev pub unless : Option Fault → Result Head Fault → Result Head Fault
+unless None r = r
+unless (Some f) r = Err f
+
+-- reading the fields from k on in order, up to the first that fails
+abbrev pub run : Format → List ℕ → ℕ → Result Head Fault
+run (done h) bytes k = Ok h
+run (ask kind next) bytes k = unless (fault_at kind bytes k) (run (next (content kind bytes k)) bytes (k + room kind))
+
+-- ---- the relation
+
+pub record Field : Type 0 where
+  pub kind : Kind
+  pub at : ℕ
+  pub content : List ℕ
+
+-- the field stands in the bytes, within them, and nothing is wrong with it
+pub record IsGood (bytes : List ℕ) (x : Field) : Type 0 where
+  pub within : x.at + room x.kind ≤ length bytes
+  pub spelled : x.content ≡ content x.kind bytes x.at
+  pub right : flaw_of x.kind x.at x.content ≡ None
+
+-- good fields of the kinds that the format asks for, one behind the other from k on, spell a header
+abbrev pub Spells : Format → List ℕ → ℕ → List Field → Head → Type 0
+Spells (done h) bytes k [] found = h ≡ found
+Spells (done h) bytes k (x ∷ xs) found = ⊥
+Spells (ask kind next) bytes k [] found = ⊥
+Spells (ask kind next) bytes k (x ∷ xs) found =
+    (x.kind ≡ kind) × (x.at ≡ k) × IsGood bytes x × Spells (next x.content) bytes (k + room kind) xs found
+
+-- good fields spell the bytes before `at`, a field of a kind must come next, and none that is good stands there
+abbrev pub Fails : Format → List ℕ → ℕ → List Field → ℕ → Kind → Type 0
+Fails (done h) bytes k xs at kind = ⊥
+Fails (ask asked next) bytes k [] at kind = (k ≡ at) × (asked ≡ kind) × ((x : Field) → x.kind ≡ kind → x.at ≡ at → IsGood bytes x → ⊥)
+Fails (ask asked next) bytes k (x ∷ xs) at kind =
+    (x.kind ≡ asked) × (x.at ≡ k) × IsGood bytes x × Fails (next x.content) bytes (k + room asked) xs at kind
+
+-- ---- the header
+
+-- a part of a format: what must come, before whatever comes after it
+abbrev pub Reads : Type 0 → Type 0
+Reads X = (X → Format) → Format
+
+infixl 10 ◌>>=◌
+abbrev pub ◌>>=◌ : {X Y : Type 0} → Reads X → (X → Reads Y) → Reads Y
+(part >>= f) next = part (λ x. f x next)
+
+abbrev pub give : {X : Type 0} → X → Reads X
+give x next = next x
+
+unfoldable pub num : ℕ → Test → Reads ℕ
+num w test next = ask (number w test) (λ bytes. next (big_number w bytes))
+
+unfoldable pub str : ℕ → Reads (List ℕ)
+str n next = ask (text n) next
+
+abbrev pub wide : ℕ → ℕ
+wide version = cond (nat_eq version 5) 8 4
+
+abbrev pub far : ℕ → ℕ
+far version = cond (nat_eq version 1) 4 8
+
+unfoldable pub name : ℕ → Reads (List ℕ)
+name v = do
+  n ← num (wide v) Any
+  str n
+
+-- the count of a list, which may be absent
+unfoldable pub list : ℕ → ℕ → ℕ → ℕ → Reads ℕ
+list v own which most = do
+  t ← num 4 (Tag own)
+  num (wide v) (Count t which most)
+
+-- the number of the first dimension of length 0, counted from i
+abbrev pub record_from : ℕ → List Dim → Option ℕ
+record_from i [] = None
+record_from i (d ∷ ds) = cond (nat_eq d.len 0) (Some i) (record_from (i + 1) ds)
+
+abbrev pub record_of : List Dim → Option ℕ
+record_of ds = record_from 0 ds
+
+abbrev pub is_some : {X : Type 0} → Option X → Bool
+is_some None = false
+is_some (Some x) = true
+
+-- so many items, each of a format that may depend on those before it
+unfoldable pub many : {X : Type 0} → (List X → Reads X) → ℕ → List X → Reads (List X)
+many item zero xs = give xs
+many item (suc n) xs = do
+  x ← item xs
+  many item n (xs ++ x ∷ [])
+
+unfoldable pub times : Reads (Unit {0}) → ℕ → Reads (Unit {0})
+times item zero = give tt
+times item (suc n) = do
+  x ← item
+  times item n
+
+unfoldable pub dimension : ℕ → List Dim → Reads Dim
+dimension v ds = do
+  s ← name v
+  len ← num (wide v) (Extent (is_some (record_of ds)))
+  give (record { name = s; len = len })
+
+unfoldable pub dims : ℕ → Reads (List Dim)
+dims v = do
+  n ← list v 10 1 1024
+  many (dimension v) n []
+
+abbrev pub type_size : ℕ → ℕ
+type_size kind =
+    cond (nat_lt kind 3) 1 (cond (nat_eq kind 3) 2 (cond (nat_lt kind 6) 4 (cond (nat_eq kind 6) 8
+    (cond (nat_eq kind 7) 1 (cond (nat_eq kind 8) 2 (cond (nat_eq kind 9) 4 8))))))
+
+unfoldable pub skip : ℕ → Reads (Unit {0})
+skip n next = ask (text n) (λ bytes. next tt)
+
+unfoldable pub attribute : ℕ → Reads (Unit {0})
+attribute v = do
+  n ← num (wide v) Any
+  s ← skip n
+  kind ← num 4 (NcType v)
+  m ← num (wide v) Any
+  skip (m * type_size kind)
+
+unfoldable pub attributes : ℕ → Reads (Unit {0})
+attributes v = do
+  n ← list v 12 2 8192
+  times (attribute v) n
+
+unfoldable pub id : ℕ → List Dim → List ℕ → Reads ℕ
+id v ds is = num (wide v) (Id (length ds) (record_of ds) (nat_eq (length is) 0))
+
+unfoldable pub ids : ℕ → List Dim → Reads (List ℕ)
+ids v ds = do
+  rank ← num (wide v) (Count 1 4 1024)
+  many (id v ds) rank []
+
+unfoldable pub variable : ℕ → List Dim → List Var → Reads Var
+variable v ds vs = do
+  s ← name v
+  shape ← ids v ds
+  kept ← attributes v
+  kind ← num 4 (NcType v)
+  size ← num (wide v) Any
+  begin ← num (far v) Any
+  give (record { name = s; ids = shape; kind = kind; begin = begin })
+
+unfoldable pub vars : ℕ → List Dim → Reads (List Var)
+vars v ds = do
+  n ← list v 11 3 8192
+  many (variable v ds) n []
+
+-- the fields behind the first four bytes, in a file of so many bytes
+unfoldable pub header : ℕ → ℕ → Reads Head
+header size v = do
+  n ← num (wide v) Any
+  ds ← dims v
+  kept ← attributes v
+  vs ← vars v ds
+  give (record { bytes = size; version = v; numrecs = n; dims = ds; vars = vs })

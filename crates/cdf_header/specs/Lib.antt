@@ -1,0 +1,6 @@
+pub mod Header
+pub mod HeaderCode
+pub mod Format
+pub mod Gives
+pub mod File
+pub mod Places

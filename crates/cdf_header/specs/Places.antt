@@ -1,0 +1,122 @@
+-- Where the cells of a variable stand, and how many records there are. Numbers without end.
+use Rattle.std.specs.Prelude.{◌≡◌, ℕ, ◌+◌, ◌-◌, ◌*◌, ◌/◌, ◌^◌, ◌<◌, min, Bool, cond, nat_eq, false, List, [], ◌∷◌, length, map, get_or, Option, Some, None}
+use Rattle.aql_value.specs.Indices.{product}
+use Rattle.aql_value.specs.IndicesLaws.{offset}
+use Rattle.cdf_header.specs.Header.{Dim, Var, Head}
+use Rattle.cdf_header.specs.Format.{padded, type_size, wide}
+
+-- the length in the header of the dimension with this number
+abbrev pub len_at : List Dim → ℕ → ℕ
+len_at ds i = get_or (map (λ d. d.len) ds) i 0
+
+abbrev pub lens : List Dim → List ℕ → List ℕ
+lens ds is = map (len_at ds) is
+
+-- the first of these dimensions is the record dimension
+abbrev pub is_over_records : List Dim → List ℕ → Bool
+is_over_records ds [] = false
+is_over_records ds (i ∷ is) = nat_eq (len_at ds i) 0
+
+-- a record variable
+abbrev pub is_record : List Dim → Var → Bool
+is_record ds v = is_over_records ds v.ids
+
+-- all but the first
+abbrev pub inner : List ℕ → List ℕ
+inner [] = []
+inner (i ∷ is) = is
+
+-- the bytes of one record of a record variable, its slab
+abbrev pub slab_size : List Dim → Var → ℕ
+slab_size ds v = product (lens ds (inner v.ids)) * type_size v.kind
+
+-- the number of record variables
+abbrev pub record_count : List Dim → List Var → ℕ
+record_count ds [] = 0
+record_count ds (v ∷ vs) = cond (is_record ds v) 1 0 + record_count ds vs
+
+-- the bytes of their slabs
+abbrev pub plain_sum : List Dim → List Var → ℕ
+plain_sum ds [] = 0
+plain_sum ds (v ∷ vs) = cond (is_record ds v) (slab_size ds v) 0 + plain_sum ds vs
+
+-- the same, each slab padded to a multiple of 4
+abbrev pub padded_sum : List Dim → List Var → ℕ
+padded_sum ds [] = 0
+padded_sum ds (v ∷ vs) = cond (is_record ds v) (padded (slab_size ds v)) 0 + padded_sum ds vs
+
+-- the bytes of a record: each slab padded, but not that of a single record variable
+abbrev pub recsize : List Dim → List Var → ℕ
+recsize ds vs = cond (nat_eq (record_count ds vs) 1) (plain_sum ds vs) (padded_sum ds vs)
+
+-- the smaller of a number and one that may be absent
+abbrev pub nearer : ℕ → Option ℕ → ℕ
+nearer b None = b
+nearer b (Some c) = min b c
+
+-- the least begin of some record variables, with that of one more, if it is one
+abbrev pub with_begin : List Dim → Var → Option ℕ → Option ℕ
+with_begin ds v found = cond (is_record ds v) (Some (nearer v.begin found)) found
+
+-- the least begin of a record variable, where there is one
+abbrev pub least : List Dim → List Var → Option ℕ
+least ds [] = None
+least ds (v ∷ vs) = with_begin ds v (least ds vs)
+
+-- a field with all bits set
+abbrev pub all_bits : ℕ → ℕ
+all_bits version = 2 ^ (8 * wide version) - 1
+
+-- how many whole records of so many bytes stand between the least begin and the end of the file
+abbrev pub streamed : ℕ → ℕ → Option ℕ → ℕ
+streamed bytes size None = 0
+streamed bytes size (Some begin) = cond (nat_eq size 0) 0 ((bytes - begin) / size)
+
+-- the number of records: that of the header, or where it gives none, the whole records that the file has room for
+abbrev pub records : Head → ℕ
+records h = cond (nat_eq h.numrecs (all_bits h.version)) (streamed h.bytes (recsize h.dims h.vars) (least h.dims h.vars)) h.numrecs
+
+-- the variable with this number
+abbrev pub var_in : List Var → ℕ → Var
+var_in vs v = get_or vs v (record { name = []; ids = []; kind = 0; begin = 0 })
+
+abbrev pub variable_at : Head → ℕ → Var
+variable_at h v = var_in h.vars v
+
+-- the length of a dimension by its number: for the record dimension the number of records
+abbrev pub extent : Head → ℕ → ℕ
+extent h i = cond (nat_eq (len_at h.dims i) 0) (records h) (len_at h.dims i)
+
+-- the lengths of a variable's dimensions
+abbrev pub shape : Head → Var → List ℕ
+shape h v = map (extent h) v.ids
+
+-- the offset of the first byte of the cell at an index: row-major from the begin, a record variable's slabs one record apart
+abbrev pub place_of : List Dim → List Var → Var → List ℕ → ℕ
+place_of ds vs v [] = v.begin
+place_of ds vs v (r ∷ at) = cond (is_record ds v)
+    (r * recsize ds vs + v.begin + offset (lens ds (inner v.ids)) at * type_size v.kind)
+    (offset (lens ds v.ids) (r ∷ at) * type_size v.kind + v.begin)
+
+abbrev pub place : Head → Var → List ℕ → ℕ
+place h v at = place_of h.dims h.vars v at
+
+-- the bytes from one index of a dimension to the next, for numbers of so many bytes
+abbrev pub weights_in : ℕ → List ℕ → List ℕ
+weights_in size [] = []
+weights_in size (d ∷ ds) = (product ds * size) ∷ weights_in size ds
+
+-- those of a variable: a record variable's records stand one record apart
+abbrev pub weights : List Dim → List Var → Var → List ℕ
+weights ds vs v = cond (is_record ds v) (recsize ds vs ∷ weights_in (type_size v.kind) (lens ds (inner v.ids))) (weights_in (type_size v.kind) (lens ds v.ids))
+
+-- a number is that of the first variable of a name
+pub record IsFirstOf (vs : List Var) (name : List ℕ) (i : ℕ) : Type 0 where
+  pub there : i < length vs
+  pub named : get_or (map (λ v. v.name) vs) i [] ≡ name
+  pub first : (j : ℕ) → j < i → get_or (map (λ v. v.name) vs) j [] ≡ name → ⊥
+
+-- the first variable of a name, and none exactly where there is none
+abbrev pub FindsFirst : List Var → List ℕ → Option ℕ → Type 0
+FindsFirst vs name None = (j : ℕ) → j < length vs → get_or (map (λ v. v.name) vs) j [] ≡ name → ⊥
+FindsFirst vs name (Some i) = IsFirstOf vs name i

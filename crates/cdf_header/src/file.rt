@@ -1,0 +1,199 @@
+// Reading the header of a file.
+ghost use Rattle.std.specs.Prelude.{◌≡◌, ◌≤◌, ◌<◌, List, ℕ, Some, None, true, min, length, take, vec_len, IfOk, IfErr, IsErr, IsErrOf, IsTrue};
+ghost use Rattle.aql_outside.specs.Causes.{Rose};
+ghost use Rattle.aql_outside.specs.Contents.{bytes_in, IsAbsent};
+ghost use Rattle.cdf_header.specs.Header.{Head};
+ghost use Rattle.cdf_header.specs.Format.{header, done, run};
+ghost use Rattle.std.specs.Str.{IsUtf8};
+ghost use Rattle.cdf_header.specs.File.{IsFront, IsOutside, Answers, IsClassic, IsKnown, IsLost, Reading, IsHeader, Finds};
+
+use crate::fault::{CdfFault, Fault, ReadError};
+use crate::header::Header;
+use crate::lists::header_of;
+use aql_outside::Files;
+use aql_value::Str;
+use std::alloc::Global;
+use std::str;
+
+const PIECE: usize = 4096;
+
+// Takes the next piece of the file, and says whether it came whole.
+fn read_piece<F: Files>(
+    files: &mut F,
+    name: &str,
+    front: &mut Vec<u8>,
+    target: usize,
+) -> Result<bool, CdfFault>
+    requires room { length front.old.items < target }
+    requires limit { target ≤ 16777216 }
+    ensures kept { F.holds files.new ≡ F.holds files.old }
+    ensures later { F.faults files.old ≤ F.faults files.new }
+    ensures failed { IsErrOf result CdfFault.Device → Rose (F.faults files.old) (F.faults files.new) }
+    ensures causes { IfErr result IsOutside }
+    ensures within { IfOk result (λ whole. length front.new.items ≤ target) }
+    ensures grows { IfOk result (λ whole. IsTrue whole → length front.old.items < length front.new.items) }
+    ensures longer { IfOk result (λ whole. length front.old.items ≤ length front.new.items) }
+    ensures told { (bytes : List ℕ) → bytes_in (F.holds files.old) name.now ≡ Some bytes → target ≤ length bytes → IsFront bytes front.old.items
+        → IfOk result (λ whole. (whole ≡ true) × IsFront bytes front.new.items) }
+{
+    let mut piece = [0u8; PIECE];
+    let room = (target - front.len()).min(PIECE);
+    match files.read_at(name, front.len() as u64, &mut piece[..room]) {
+        Ok(count) => match front.extend_from_slice(&piece[..count]) {
+            Ok(()) => Ok(count == room),
+            Err(_) => Err(CdfFault::Memory),
+        },
+        Err(_) => Err(CdfFault::Device),
+    }
+}
+
+// Reads the front of the file up to a length, and says whether it came whole.
+fn grow<F: Files>(
+    files: &mut F,
+    name: &str,
+    front: &mut Vec<u8>,
+    target: usize,
+) -> Result<bool, CdfFault>
+    requires room { length front.old.items ≤ target }
+    requires limit { target ≤ 16777216 }
+    ensures kept { F.holds files.new ≡ F.holds files.old }
+    ensures later { F.faults files.old ≤ F.faults files.new }
+    ensures failed { IsErrOf result CdfFault.Device → Rose (F.faults files.old) (F.faults files.new) }
+    ensures causes { IfErr result IsOutside }
+    ensures within { IfOk result (λ whole. length front.new.items ≤ target) }
+    ensures whole { IfOk result (λ whole. IsTrue whole → target ≤ length front.new.items) }
+    ensures longer { IfOk result (λ whole. length front.old.items ≤ length front.new.items) }
+    ensures told { (bytes : List ℕ) → bytes_in (F.holds files.old) name.now ≡ Some bytes → target ≤ length bytes → IsFront bytes front.old.items
+        → IfOk result (λ whole. (whole ≡ true) × IsFront bytes front.new.items) }
+{
+    'pieces: while front.len() < target {
+        if !read_piece(files, name, front, target)? {
+            return Ok(false);
+        }
+    }
+    Ok(true)
+}
+
+// Reads the fields behind the first four bytes, with as much of the front of the file as they take.
+fn read_fields<F: Files>(
+    alloc: Global,
+    files: &mut F,
+    name: &str,
+    start: Vec<u8>,
+    whole: bool,
+    v: u8,
+    size: u64,
+    most: usize,
+) -> Result<Header, CdfFault>
+    requires magic { 4 ≤ length start.items }
+    requires room { length start.items ≤ most }
+    requires limit { most ≤ 16777216 }
+    ensures kept { F.holds files.new ≡ F.holds files.old }
+    ensures later { F.faults files.old ≤ F.faults files.new }
+    ensures failed { IsErrOf result CdfFault.Device → Rose (F.faults files.old) (F.faults files.new) }
+    ensures told { (bytes : List ℕ) → bytes_in (F.holds files.old) name.now ≡ Some bytes → most ≡ min 16777216 (length bytes) → whole ≡ true → IsFront bytes start.items
+        → Answers (run (header size v done) (take 16777216 bytes) 4) result }
+{
+    let mut front = start;
+    let mut ended = !whole;
+    'fronts: loop {
+        match header_of(alloc, &front, size, v) {
+            Ok((found, _)) => return Ok(found),
+            Err(ReadError::Memory) => return Err(CdfFault::Memory),
+            Err(ReadError::Fault(Fault::Malformed { at })) => return Err(CdfFault::Malformed {
+                at: at as u64,
+            }),
+            Err(ReadError::Fault(Fault::TooMany { list })) => return Err(CdfFault::TooMany {
+                list,
+            }),
+            Err(ReadError::Fault(Fault::Short { at })) => {
+                if ended {
+                    return Err(CdfFault::Malformed { at: at as u64 });
+                }
+                if front.len() == most {
+                    return Err(CdfFault::Malformed { at: at as u64 });
+                }
+            }
+        }
+        let target = (front.len() * 2).min(most);
+        ended = !grow(files, name, &mut front, target)?;
+    }
+}
+
+// Whether the bytes begin as a netCDF classic file.
+fn is_classic(front: &[u8]) -> bool
+    ensures yes { IsTrue result → IsClassic front.now }
+    ensures no { IsClassic front.now → IsTrue result }
+{
+    front.len() >= 4 && front[0] == 67 && front[1] == 68 && front[2] == 70
+}
+
+fn is_known(v: u8) -> bool
+    ensures yes { IsTrue result → IsKnown v }
+    ensures no { IsKnown v → IsTrue result }
+{
+    v == 1 || v == 2 || v == 5
+}
+
+// The header of the file of a name.
+fn header_or_fault<F: Files>(alloc: Global, files: &mut F, name: &str) -> Result<Header, CdfFault>
+    ensures kept { F.holds files.new ≡ F.holds files.old }
+    ensures later { F.faults files.old ≤ F.faults files.new }
+    ensures failed { IsErrOf result CdfFault.Device → Rose (F.faults files.old) (F.faults files.new) }
+    // Where the file is told and there.
+    ensures told { (bytes : List ℕ) → bytes_in (F.holds files.old) name.now ≡ Some bytes → Reading bytes result }
+    // Where it is told that the file isn't there.
+    ensures absent { IsAbsent (F.holds files.old) name.now → IfErr result IsLost × IsErr result }
+{
+    let size = match files.size(name) {
+        Ok(Some(size)) => size,
+        Ok(None) => return Err(CdfFault::Absent),
+        Err(_) => return Err(CdfFault::Device),
+    };
+    let most = size.min(16_777_216) as usize;
+    let mut front = Vec::new(alloc);
+    let target = most.min(PIECE);
+    let whole = grow(files, name, &mut front, target)?;
+    if !is_classic(&front) {
+        return Err(CdfFault::NotClassic);
+    }
+    let v = front[3];
+    if !is_known(v) {
+        return Err(CdfFault::Version { found: v });
+    }
+    read_fields(alloc, files, name, front, whole, v, size, most)
+}
+
+// The same, with the header that the bytes spell.
+fn read_named<F: Files>(alloc: Global, files: &mut F, name: &str) -> Result<Header, CdfFault>
+    ensures kept { F.holds files.new ≡ F.holds files.old }
+    ensures later { F.faults files.old ≤ F.faults files.new }
+    ensures failed { IsErrOf result CdfFault.Device → Rose (F.faults files.old) (F.faults files.new) }
+    ensures told { (bytes : List ℕ) → bytes_in (F.holds files.old) name.now ≡ Some bytes → Reading bytes result }
+    ensures only { (bytes : List ℕ) (h : Head) → bytes_in (F.holds files.old) name.now ≡ Some bytes → IsHeader bytes h → Finds h result }
+    ensures absent { IsAbsent (F.holds files.old) name.now → IfErr result IsLost × IsErr result }
+{
+    header_or_fault(alloc, files, name)
+}
+
+/// The header of a file. The faults are tested in the order in which they stand in `CdfFault`. Each
+/// byte is asked for once, and none behind the first 16,777,216. Where the files do not tell their
+/// bytes, a read that gives fewer bytes than asked is the end of the file.
+pub fn read_header<F: Files>(alloc: Global, files: &mut F, name: &Str) -> Result<Header, CdfFault>
+    ensures kept { F.holds files.new ≡ F.holds files.old }
+    ensures later { F.faults files.old ≤ F.faults files.new }
+    ensures failed { IsErrOf result CdfFault.Device → Rose (F.faults files.old) (F.faults files.new) }
+    // Where the file is told and there, a header is answered that its bytes spell, or the first fault in order.
+    ensures told { (bytes : List ℕ) → IsUtf8 name.now → bytes_in (F.holds files.old) name.now ≡ Some bytes → Reading bytes result }
+    // A header that the bytes spell is answered.
+    ensures only { (bytes : List ℕ) (h : Head) → IsUtf8 name.now → bytes_in (F.holds files.old) name.now ≡ Some bytes → IsHeader bytes h → Finds h result }
+    // Where it is told that no file has the name.
+    ensures absent { IsAbsent (F.holds files.old) name.now → IfErr result IsLost × IsErr result }
+    // A name that is not UTF-8 names no file.
+    ensures unnamed { ¬ (IsUtf8 name.now) → result ≡ Err CdfFault.Absent }
+{
+    match str::from_utf8(&name.bytes) {
+        Ok(text) => read_named(alloc, files, text),
+        Err(_) => Err(CdfFault::Absent),
+    }
+}
