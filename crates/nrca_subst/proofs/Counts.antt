@@ -1,9 +1,9 @@
 -- The uses of a variable in the first parts of a node.
-use Rattle.std.proofs.Common.{◌≡◌, ℕ, zero, suc, ◌+◌, ◌-◌, ◌<◌, ◌≤◌, ◌^◌, min, nat_eq, Option, Some, None, refl, sym, ap, ◌∙◌, subst, arith, if◌then◌else◌, eq-eqb, add-one}
+use Rattle.std.proofs.Common.{◌≡◌, ℕ, zero, suc, ◌+◌, ◌-◌, ◌<◌, ◌^◌, min, Some, None, refl, sym, ap, ◌∙◌, arith, eq-eqb, add-one}
 use Rattle.std.proofs.lemmas.Bool.{ne_eqb}
 use Rattle.nrca_term.specs.Term.{Term, Parts, node, none, part, Form, form_of, parts_of, child_of, count, binders_of, variable_of}
 use Rattle.nrca_term.specs.Nodes.{variable}
-use Rattle.nrca_term.specs.Subst.{uses_of, parts_uses, form_uses}
+use Rattle.nrca_term.specs.Subst.{uses_of, parts_uses}
 use Rattle.nrca_subst.specs.Depth.{IsDepth, CountsUses}
 use Rattle.nrca_subst.proofs.Deeper.{is_depth-deeper}
 

@@ -1,10 +1,9 @@
 -- A number of binders that is kept only as far as variable numbers reach.
-use Rattle.std.proofs.Common.{◌≡◌, ℕ, zero, suc, ◌+◌, ◌-◌, ◌<◌, ◌≤◌, ◌^◌, min, nat_lt, nat_eq, Option, Some, None, refl, sym, ap, ◌∙◌, arith, if◌then◌else◌, eq-eqb}
+use Rattle.std.proofs.Common.{◌≡◌, ℕ, ◌+◌, ◌-◌, ◌<◌, ◌^◌, min, Some, None, refl, ap, ◌∙◌, arith, eq-eqb}
 use Rattle.std.proofs.lemmas.Bool.{lt-ltb, le-ltb, ne_eqb}
-use Rattle.nrca_term.specs.Term.{Term, Parts, node, none, part, Form, form_of, parts_of, child_of, binders_of, variable_of}
+use Rattle.nrca_term.specs.Term.{Term, form_of, parts_of, child_of, binders_of, variable_of}
 use Rattle.nrca_term.specs.Nodes.{variable}
-use Rattle.nrca_term.specs.Subst.{shift_term, subst_term, subst_var, top_var}
-use Rattle.nrca_term.specs.ShiftLaws.{shift_term-twice, shift_term-none}
+use Rattle.nrca_term.specs.Subst.{shift_term, subst_term, top_var}
 use Rattle.nrca_subst.specs.Depth.{IsDepth, Fits, Substitutes}
 use Rattle.nrca_subst.proofs.SubstWalk.{subst_part, subst_part-deeper, top_var-subst}
 

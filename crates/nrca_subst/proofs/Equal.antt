@@ -1,10 +1,9 @@
 -- Two nodes of one form are one term exactly where their parts are.
-use Rattle.std.proofs.Common.{◌≡◌, ℕ, zero, suc, ◌+◌, ◌-◌, ◌<◌, ◌≤◌, ◌^◌, ◌↔◌, min, Bool, true, false, IsTrue, nat_lt, nat_eq, Option, Some, None, refl, sym, ap, ◌∙◌, subst, arith, if◌then◌else◌, inl, inr, ◌⊎◌}
+use Rattle.std.proofs.Common.{◌≡◌, ℕ, zero, suc, ◌+◌, ◌-◌, ◌<◌, ◌≤◌, ◌^◌, ◌↔◌, min, Bool, true, false, IsTrue, nat_lt, Some, None, refl, sym, ap, ◌∙◌, subst, arith, if◌then◌else◌, inl, inr}
 use Rattle.std.proofs.lemmas.Bool.{cases_lt, lt-ltb, le-ltb}
 use Rattle.nrca_term.specs.Term.{Term, Parts, node, none, part, Form, form_of, parts_of, child_of, count, binders_of, variable_of, WellFormed, PartsWellFormed}
 use Rattle.nrca_term.specs.Nodes.{variable}
 use Rattle.nrca_term.specs.Subst.{shift_form, shift_term, shift_parts}
-use Rattle.nrca_term.specs.ShiftLaws.{shift_term-none}
 use Rattle.nrca_subst.specs.Depth.{IsDepth, TellsShifted}
 use Rattle.nrca_subst.proofs.Deeper.{is_depth-deeper}
 

@@ -1,9 +1,7 @@
 -- What the usual definitions of shifting and substitution keep, as the contracts say it.
-use Rattle.std.proofs.Common.{◌≡◌, ℕ, zero, suc, ◌+◌, ◌<◌, ◌≤◌, ◌^◌, min, List, [], ◌∷◌, ◌++◌, length, Option, Some, None, Result, IfOk, MatchResult, Ok, Err, refl, sym, ap, subst, ◌∙◌, arith}
-use Rattle.aql_value.specs.Datum.{Datum}
-use Rattle.aql_types.specs.Types.{Ty}
+use Rattle.std.proofs.Common.{◌≡◌, ℕ, ◌++◌, length, sym, ap, subst, ◌∙◌, arith}
 use Rattle.nrca_term.specs.Term.{Term, WellFormed}
-use Rattle.nrca_term.specs.Meaning.{Outcomes, cden}
+use Rattle.nrca_term.specs.Meaning.{cden}
 use Rattle.nrca_term.specs.Turns.{settle}
 use Rattle.nrca_term.specs.Typing.{instances, ctyped}
 use Rattle.nrca_term.specs.Subst.{shift_term, subst_term, strict_uses}

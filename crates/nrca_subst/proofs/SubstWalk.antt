@@ -1,9 +1,9 @@
 -- What the walk of a substitution makes.
-use Rattle.std.proofs.Common.{◌≡◌, ℕ, zero, suc, ◌+◌, ◌-◌, ◌<◌, ◌≤◌, max, nat_lt, Option, Some, None, refl, sym, ap, ◌∙◌, arith, inl, inr, if◌then◌else◌}
-use Rattle.nrca_term.specs.Term.{Term, Parts, Form, node, none, part, form_of, parts_of, count, child_of, binders_of, variable_of, weight_of, parts_weight, form_weight}
-use Rattle.nrca_term.specs.Subst.{shift_form, shift_term, shift_parts, subst_var, subst_node, subst_term, subst_parts, form_top, top_var, parts_top}
+use Rattle.std.proofs.Common.{◌≡◌, ℕ, zero, suc, ◌+◌, ◌≤◌, Some, None, refl, sym, ap, ◌∙◌, arith}
+use Rattle.nrca_term.specs.Term.{Term, Parts, Form, node, none, part, form_of, parts_of, count, child_of, binders_of, variable_of}
+use Rattle.nrca_term.specs.Subst.{shift_term, subst_node, subst_term, subst_parts, top_var, parts_top}
 use Rattle.nrca_term.specs.ShiftLaws.{shift_term-twice}
-use Rattle.nrca_subst.proofs.Walking.{first_parts, walked, parts_weight-child, binders_of-walked, walked-part}
+use Rattle.nrca_subst.proofs.Walking.{first_parts, walked}
 
 abbrev pub subst_part : ℕ → Term → ℕ → Term → Term
 subst_part at w k t = subst_term (at + k) (shift_term 0 k w) t

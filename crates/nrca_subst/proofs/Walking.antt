@@ -1,9 +1,7 @@
 -- A walk over the parts of a node that replaces each by a function of its variables and itself.
-use Rattle.std.proofs.Common.{◌≡◌, ℕ, zero, suc, ◌+◌, ◌-◌, ◌<◌, ◌≤◌, ◌^◌, max, Option, Some, None, refl, sym, ap, ◌∙◌, arith, add-one}
-use Rattle.nrca_term.specs.Term.{Term, Parts, Form, node, none, part, form_of, parts_of, count, child_of, binders_of, set_child, with_part, variable_of, weight_of, parts_weight, form_weight}
-use Rattle.aql_value.specs.Strict.{Strict}
+use Rattle.std.proofs.Common.{◌≡◌, ℕ, zero, suc, ◌+◌, ◌≤◌, Some, None, refl, sym, ap, ◌∙◌, arith, add-one}
+use Rattle.nrca_term.specs.Term.{Term, Parts, Form, node, none, part, form_of, parts_of, count, child_of, binders_of, set_child, with_part, variable_of}
 use Rattle.nrca_term.specs.Subst.{shift_form, shift_term, shift_parts, top_var, parts_top}
-use Rattle.nrca_term.specs.ShiftLaws.{shift_term-past}
 
 -- the first n parts replaced
 unfoldable pub first_parts : (ℕ → Term → Term) → ℕ → Parts → Parts
@@ -91,30 +89,6 @@ walked-skip g n t s u e c d =
     ∙ ap (λ x. node (form_of t) (set_child (first_parts g n (parts_of t)) n x)) d
     ∙ ap (node (form_of t)) (step_parts g n (parts_of t) u c)
     ∙ ap (λ m. node (form_of t) (first_parts g m (parts_of t))) (sym (add-one n))
-
--- a part weighs less than its node
-pub parts_weight-child : (ps : Parts) (i : ℕ) (u : Term) → child_of ps i ≡ Some u → weight_of u ≤ parts_weight ps
-parts_weight-child none i u e = cc
-parts_weight-child (part k t ps) zero u e = let same : u ≡ t = cc in omega (arith, ap weight_of same)
-parts_weight-child (part k t ps) (suc i) u e = omega (arith, parts_weight-child ps i u e)
-
-form_weight-positive : (f : Form) → 1 ≤ form_weight f
-form_weight-positive (Form.var i) = omega arith
-form_weight-positive (Form.global n) = omega arith
-form_weight-positive Form.bind = omega arith
-form_weight-positive Form.choose = omega arith
-form_weight-positive Form.default = omega arith
-form_weight-positive Form.big_union = omega arith
-form_weight-positive Form.sum = omega arith
-form_weight-positive (Form.tab rank) = omega arith
-form_weight-positive (Form.strict s) = strict_positive s
-  where
-    strict_positive : (c : Strict) → 1 ≤ form_weight (Form.strict c)
-    strict_positive (Strict.dim rank) = omega arith
-    strict_positive _ = omega arith
-
-pub weight_of-child : (t : Term) (i : ℕ) (u : Term) → child_of (parts_of t) i ≡ Some u → weight_of u < weight_of t
-weight_of-child (node f ps) i u e = omega (arith, parts_weight-child ps i u e, form_weight-positive f)
 
 -- what the walk of a shift makes
 abbrev pub shift_part : ℕ → ℕ → ℕ → Term → Term

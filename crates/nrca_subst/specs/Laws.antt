@@ -1,8 +1,8 @@
 -- What shifting and substitution keep, as said of the term before and the term after.
-use Rattle.std.specs.Prelude.{◌≡◌, ℕ, ◌≤◌, List, [], ◌∷◌, ◌++◌, length, Option, Some, None}
+use Rattle.std.specs.Prelude.{◌≡◌, ℕ, ◌≤◌, List, ◌∷◌, ◌++◌, length, Some, None}
 use Rattle.aql_value.specs.Datum.{Datum}
 use Rattle.aql_types.specs.Types.{Ty}
-use Rattle.nrca_term.specs.Term.{Term, WellFormed}
+use Rattle.nrca_term.specs.Term.{Term}
 use Rattle.nrca_term.specs.Meaning.{Outcomes, cden}
 use Rattle.nrca_term.specs.Turns.{settle}
 use Rattle.nrca_term.specs.Typing.{instances, ctyped}

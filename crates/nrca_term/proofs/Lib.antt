@@ -1,5 +1,5 @@
 pub mod Children
-pub mod CopyLemmas
+pub mod Filling
 pub mod Swaps
 pub mod WeightLemmas
 mod Examples

@@ -4,7 +4,7 @@ use Rattle.std.proofs.Math.Nat.{mul-add, mul_comm}
 use Rattle.std.proofs.lemmas.Nat.{mul-le}
 use Rattle.aql_value.specs.Partial.{◌>>=◌}
 use Rattle.aql_value.specs.Strict.{Strict}
-use Rattle.nrca_term.specs.Term.{Term, Parts, node, none, part, Form, child_of, weight_of, parts_weight, form_weight}
+use Rattle.nrca_term.specs.Term.{Term, Parts, node, none, part, Form, parts_of, child_of, weight_of, parts_weight, form_weight}
 use Rattle.nrca_term.specs.Places.{place_of, on_child, put_at}
 use Rattle.nrca_term.specs.Measure.{has_operand, nodes_of, parts_nodes, first_nodes, own_pairs, pairs_of, parts_pairs, Below}
 
@@ -140,3 +140,27 @@ left-bound t = cube (weight_of t) (pairs_of t) (pairs-weight t)
 pub below-weight : (s t : Term) → Below s t → weight_of s ≤ weight_of t
 below-weight s t (inl h) = omega (arith, h)
 below-weight s t (inr h) = omega (arith, h.0)
+
+-- a part weighs less than its node
+pub parts_weight-child : (ps : Parts) (i : ℕ) (u : Term) → child_of ps i ≡ Some u → weight_of u ≤ parts_weight ps
+parts_weight-child none i u e = cc
+parts_weight-child (part k t ps) zero u e = let same : u ≡ t = cc in omega (arith, ap weight_of same)
+parts_weight-child (part k t ps) (suc i) u e = omega (arith, parts_weight-child ps i u e)
+
+form_weight-positive : (f : Form) → 1 ≤ form_weight f
+form_weight-positive (Form.var i) = omega arith
+form_weight-positive (Form.global n) = omega arith
+form_weight-positive Form.bind = omega arith
+form_weight-positive Form.choose = omega arith
+form_weight-positive Form.default = omega arith
+form_weight-positive Form.big_union = omega arith
+form_weight-positive Form.sum = omega arith
+form_weight-positive (Form.tab rank) = omega arith
+form_weight-positive (Form.strict s) = strict_positive s
+  where
+    strict_positive : (c : Strict) → 1 ≤ form_weight (Form.strict c)
+    strict_positive (Strict.dim rank) = omega arith
+    strict_positive _ = omega arith
+
+pub weight_of-child : (t : Term) (i : ℕ) (u : Term) → child_of (parts_of t) i ≡ Some u → weight_of u < weight_of t
+weight_of-child (node f ps) i u e = omega (arith, parts_weight-child ps i u e, form_weight-positive f)

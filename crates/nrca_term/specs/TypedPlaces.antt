@@ -18,7 +18,8 @@ use Rattle.nrca_term.specs.Meaning.{Outcomes, Part, worth, test_value, members_v
 use Rattle.nrca_term.specs.Places.{branch, otherwise, indices_of, entered, entered_in, place_of, put_at, on_child, reach, reach_each}
 use Rattle.nrca_term.specs.Entering.{bounds-length}
 use Rattle.nrca_term.specs.MeasureLaws.{through}
-use Rattle.nrca_term.specs.Sound.{AllSound, sound-get, sounds, sound-length, length-tab, set-members, has-append, index-have, parts-sound}
+use Rattle.aql_types.specs.OperationLaws.{set-members, has-append}
+use Rattle.nrca_term.specs.Sound.{AllSound, sound-get, sounds, sound-length, length-tab, index-have, parts-sound}
 
 -- the type of a part
 abbrev pub TypedChild : (ℕ → Ty → Type 0) → List Ty → List Arg → ℕ → Term → Type 0

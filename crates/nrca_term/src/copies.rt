@@ -1,99 +1,142 @@
 //! Copies of terms.
 
-ghost use Rattle.std.specs.Prelude.{◌≡◌, IfOk};
+ghost use Rattle.std.specs.Prelude.{◌≡◌, IfOk, OnOk};
+ghost use Rattle.nrca_term.specs.Hollow.{bottoms, hollow};
+ghost use Rattle.nrca_term.specs.Nodes.{bottom_term};
 ghost use Rattle.nrca_term.specs.View.{term_of, terms_of};
 
 use crate::{Core, Terms};
 use aql_value::Memory;
 use std::alloc::Global;
 
-#[cycle(copy)]
-fn copy_box(alloc: Global, part: &Core) -> Result<Box<Core>, Memory>
-    ensures { IfOk result (λ b. term_of b.value ≡ term_of part.now) }
-{
-    let part = part.copy(alloc)?;
-    let boxed = Box::new(alloc, part)?;
-    Ok(boxed)
-}
-
-#[cycle(copy)]
-fn copy_all(alloc: Global, terms: &Terms) -> Result<Terms, Memory>
-    ensures { IfOk result (λ ts. terms_of ts ≡ terms_of terms.now) }
-{
-    let mut all = Vec::new(alloc);
-    for term in &terms.0 {
-        let next = term.copy(alloc)?;
-        all.push(next)?;
-    }
-    Ok(Terms(all))
-}
-
 impl Core {
     /// An equal term.
-    #[cycle(copy)]
-    #[tactic(auto, using(crate::proofs::CopyLemmas::copies))]
     pub fn copy(&self, alloc: Global) -> Result<Core, Memory>
         ensures { IfOk result (λ c. term_of c ≡ term_of self.now) }
     {
-        match self {
-            Core::Var(i) => Ok(Core::Var(*i)),
-            Core::Global(n) => Ok(Core::Global(*n)),
-            Core::Nat(n) => Ok(Core::Nat(*n)),
-            Core::Bool(b) => Ok(Core::Bool(*b)),
-            Core::Text(s) => Ok(Core::Text(s.copy(alloc)?)),
-            Core::Bottom => Ok(Core::Bottom),
-            Core::Let(a, b) => Ok(Core::Let(copy_box(alloc, a)?, copy_box(alloc, b)?)),
-            Core::If(c, a, b) => Ok(Core::If(
-                copy_box(alloc, c)?,
-                copy_box(alloc, a)?,
-                copy_box(alloc, b)?,
-            )),
-            Core::Default(a, b) => Ok(Core::Default(copy_box(alloc, a)?, copy_box(alloc, b)?)),
-            Core::Tuple(ts) => Ok(Core::Tuple(copy_all(alloc, ts)?)),
-            Core::Proj { at, of, part } => Ok(Core::Proj {
-                at: *at,
-                of: *of,
-                part: copy_box(alloc, part)?,
-            }),
-            Core::Arith(op, a, b) => Ok(Core::Arith(*op, copy_box(alloc, a)?, copy_box(alloc, b)?)),
-            Core::Compare(op, a, b) => Ok(Core::Compare(
-                *op,
-                copy_box(alloc, a)?,
-                copy_box(alloc, b)?,
-            )),
-            Core::Empty => Ok(Core::Empty),
-            Core::Single(a) => Ok(Core::Single(copy_box(alloc, a)?)),
-            Core::Union(a, b) => Ok(Core::Union(copy_box(alloc, a)?, copy_box(alloc, b)?)),
-            Core::BigUnion { over, body } => Ok(Core::BigUnion {
-                over: copy_box(alloc, over)?,
-                body: copy_box(alloc, body)?,
-            }),
-            Core::Sum { over, body } => Ok(Core::Sum {
-                over: copy_box(alloc, over)?,
-                body: copy_box(alloc, body)?,
-            }),
-            Core::Gen(a) => Ok(Core::Gen(copy_box(alloc, a)?)),
-            Core::Get(a) => Ok(Core::Get(copy_box(alloc, a)?)),
-            Core::Tab { bounds, body } => Ok(Core::Tab {
-                bounds: copy_all(alloc, bounds)?,
-                body: copy_box(alloc, body)?,
-            }),
-            Core::Sub { array, at } => Ok(Core::Sub {
-                array: copy_box(alloc, array)?,
-                at: copy_all(alloc, at)?,
-            }),
-            Core::Dim { rank, array } => Ok(Core::Dim {
-                rank: *rank,
-                array: copy_box(alloc, array)?,
-            }),
-            Core::Index { rank, pairs } => Ok(Core::Index {
-                rank: *rank,
-                pairs: copy_box(alloc, pairs)?,
-            }),
-            Core::Literal { dims, cells } => Ok(Core::Literal {
-                dims: copy_all(alloc, dims)?,
-                cells: copy_all(alloc, cells)?,
-            }),
+        let mut whole = Core::Bottom;
+        copy_in(alloc, self, &mut whole)?;
+        Ok(whole)
+    }
+}
+
+// In place, so that a level of the recursion keeps little on the stack.
+#[cycle(copy)]
+fn copy_in(alloc: Global, from: &Core, to: &mut Core) -> Result<(), Memory>
+    ensures { OnOk result (term_of to.new ≡ term_of from.now) }
+{
+    put_shell(alloc, from, to)?;
+    fill_parts(alloc, from, to)
+}
+
+// Copies each part into its place.
+#[cycle(copy)]
+fn fill_parts(alloc: Global, from: &Core, to: &mut Core) -> Result<(), Memory>
+    requires { term_of to.old ≡ hollow (term_of from.now) }
+    ensures { OnOk result (term_of to.new ≡ term_of from.now) }
+{
+    let mut part = Core::Bottom;
+    for i in 0..from.parts() {
+        match from.part(i) {
+            Some(source) => match copy_in(alloc, source, &mut part) {
+                Ok(()) => to.exchange(i, &mut part),
+                Err(error) => {
+                    discard(part);
+                    return Err(error);
+                }
+            },
+            None => unreachable!(),
         }
     }
+    discard(part);
+    Ok(())
+}
+
+// A call of its own, so that a term is let go in frames of its own.
+#[inline(never)]
+fn discard(_term: Core) {}
+
+#[inline(never)]
+fn put_shell(alloc: Global, from: &Core, to: &mut Core) -> Result<(), Memory>
+    ensures { OnOk result (term_of to.new ≡ hollow (term_of from.now)) }
+{
+    *to = shell(alloc, from)?;
+    Ok(())
+}
+
+// The node of a term, with Bottom in the place of each part.
+#[inline(never)]
+#[tactic(auto, using(crate::proofs::Filling::shells))]
+fn shell(alloc: Global, from: &Core) -> Result<Core, Memory>
+    ensures { IfOk result (λ c. term_of c ≡ hollow (term_of from.now)) }
+{
+    match from {
+        Core::Var(i) => Ok(Core::Var(*i)),
+        Core::Global(n) => Ok(Core::Global(*n)),
+        Core::Nat(n) => Ok(Core::Nat(*n)),
+        Core::Bool(b) => Ok(Core::Bool(*b)),
+        Core::Text(s) => Ok(Core::Text(s.copy(alloc)?)),
+        Core::Bottom => Ok(Core::Bottom),
+        Core::Let(_, _) => Ok(Core::Let(hole(alloc)?, hole(alloc)?)),
+        Core::If(_, _, _) => Ok(Core::If(hole(alloc)?, hole(alloc)?, hole(alloc)?)),
+        Core::Default(_, _) => Ok(Core::Default(hole(alloc)?, hole(alloc)?)),
+        Core::Tuple(ts) => Ok(Core::Tuple(holes(alloc, ts)?)),
+        Core::Proj { at, of, part: _ } => Ok(Core::Proj {
+            at: *at,
+            of: *of,
+            part: hole(alloc)?,
+        }),
+        Core::Arith(op, _, _) => Ok(Core::Arith(*op, hole(alloc)?, hole(alloc)?)),
+        Core::Compare(op, _, _) => Ok(Core::Compare(*op, hole(alloc)?, hole(alloc)?)),
+        Core::Empty => Ok(Core::Empty),
+        Core::Single(_) => Ok(Core::Single(hole(alloc)?)),
+        Core::Union(_, _) => Ok(Core::Union(hole(alloc)?, hole(alloc)?)),
+        Core::BigUnion { over: _, body: _ } => Ok(Core::BigUnion {
+            over: hole(alloc)?,
+            body: hole(alloc)?,
+        }),
+        Core::Sum { over: _, body: _ } => Ok(Core::Sum {
+            over: hole(alloc)?,
+            body: hole(alloc)?,
+        }),
+        Core::Gen(_) => Ok(Core::Gen(hole(alloc)?)),
+        Core::Get(_) => Ok(Core::Get(hole(alloc)?)),
+        Core::Tab { bounds, body: _ } => Ok(Core::Tab {
+            bounds: holes(alloc, bounds)?,
+            body: hole(alloc)?,
+        }),
+        Core::Sub { array: _, at } => Ok(Core::Sub {
+            array: hole(alloc)?,
+            at: holes(alloc, at)?,
+        }),
+        Core::Dim { rank, array: _ } => Ok(Core::Dim {
+            rank: *rank,
+            array: hole(alloc)?,
+        }),
+        Core::Index { rank, pairs: _ } => Ok(Core::Index {
+            rank: *rank,
+            pairs: hole(alloc)?,
+        }),
+        Core::Literal { dims, cells } => Ok(Core::Literal {
+            dims: holes(alloc, dims)?,
+            cells: holes(alloc, cells)?,
+        }),
+    }
+}
+
+fn hole(alloc: Global) -> Result<Box<Core>, Memory>
+    ensures { IfOk result (λ b. term_of b.value ≡ bottom_term) }
+{
+    let boxed = Box::new(alloc, Core::Bottom)?;
+    Ok(boxed)
+}
+
+fn holes(alloc: Global, terms: &Terms) -> Result<Terms, Memory>
+    ensures { IfOk result (λ ts. terms_of ts ≡ bottoms terms.now) }
+{
+    let mut all = Vec::new(alloc);
+    for _term in &terms.0 {
+        all.push(Core::Bottom)?;
+    }
+    Ok(Terms(all))
 }

@@ -1,11 +1,10 @@
-use Rattle.std.proofs.Common.{◌≡◌, ◌+◌, ◌<◌, ◌-◌, ◌^◌, ℕ, min, true, false, Some, None, option_map, arith, ap, sym, subst, ◌∙◌}
-use Rattle.nrca_term.specs.Term.{Term, weight_of, count, child_of, parts_of, form_of, variable_of, binders_of}
-use Rattle.nrca_term.specs.Nodes.{variable}
+use Rattle.std.proofs.Common.{◌+◌, ◌-◌, ◌^◌, min, false, arith, sym, subst, ◌∙◌}
+use Rattle.nrca_term.specs.Term.{parts_of}
 use Rattle.nrca_term.specs.View.{term_of}
 use Rattle.nrca_term.specs.WellFormed.{well_formed-Core}
-use Rattle.nrca_subst.specs.Depth.{IsDepth, TellsShifted}
-use Rattle.nrca_subst.proofs.Equal.{FirstShifted, first_shifted-none, first_shifted-next, tells-all, tells-form, tells-count, tells-part, tells-variable, tells-no_variable, child-there}
-use Rattle.nrca_subst.proofs.Walking.{weight_of-child}
+use Rattle.nrca_subst.specs.Depth.{TellsShifted}
+use Rattle.nrca_subst.proofs.Equal.{tells-all, tells-count, tells-part, child-there}
+use Rattle.nrca_term.specs.MeasureLaws.{weight_of-child}
 use Rattle.nrca_subst.proofs.comparing.+same.Goals as goal
 
 pub same_parts-returns-then-count-parts : goal.same_parts-returns-then-count-parts

@@ -1,8 +1,6 @@
-use Rattle.std.proofs.Common.{◌≡◌, ◌*◌, ◌+◌, ◌<◌, ℕ, Some}
-use Rattle.nrca_term.specs.Term.{Term, weight_of, child_of, parts_of, count, binders_of}
-use Rattle.nrca_term.specs.Subst.{shift_term}
+use Rattle.std.proofs.Common.{◌*◌, ◌+◌}
+use Rattle.nrca_term.specs.Term.{weight_of}
 use Rattle.nrca_term.specs.View.{term_of}
-use Rattle.nrca_subst.specs.Depth.{IsDepth}
 use Rattle.nrca_subst.proofs.Equal.{FirstShifted}
 use Rattle.nrca_subst.proofs.comparing.+same.Given as goal
 

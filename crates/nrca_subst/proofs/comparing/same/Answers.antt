@@ -1,4 +1,4 @@
-use Rattle.std.proofs.Common.{◌≡◌, sym, ◌∙◌}
+use Rattle.std.proofs.Common.{sym, ◌∙◌}
 use Rattle.nrca_term.specs.ShiftLaws.{shift_term-none}
 use Rattle.nrca_term.specs.View.{term_of}
 use Rattle.nrca_subst.proofs.comparing.same.Goals as goal

@@ -1,10 +1,9 @@
-use Rattle.std.proofs.Common.{◌≡◌, ◌+◌, ◌<◌, ◌-◌, ◌^◌, ℕ, min, Some, None, option_map, arith, ap, sym, subst, ◌∙◌}
-use Rattle.nrca_term.specs.Term.{Term, weight_of, count, child_of, parts_of, form_of, variable_of, binders_of}
-use Rattle.nrca_term.specs.Nodes.{variable}
+use Rattle.std.proofs.Common.{◌-◌, ◌^◌, min, arith, ap, sym, subst, ◌∙◌}
+use Rattle.nrca_term.specs.Term.{parts_of}
 use Rattle.nrca_term.specs.View.{term_of}
-use Rattle.nrca_subst.specs.Depth.{IsDepth, CountsUses}
-use Rattle.nrca_subst.proofs.Counts.{first_uses, first_uses-none, uses-counted, counts-here, counts-apart, counts-part}
-use Rattle.nrca_subst.proofs.Walking.{weight_of-child}
+use Rattle.nrca_subst.specs.Depth.{CountsUses}
+use Rattle.nrca_subst.proofs.Counts.{first_uses-none, uses-counted, counts-part}
+use Rattle.nrca_term.specs.MeasureLaws.{weight_of-child}
 use Rattle.nrca_subst.proofs.Equal.{child-there}
 use Rattle.nrca_subst.proofs.counting.+uses.Goals as goal
 use Rattle.nrca_subst.proofs.counting.+uses.Goals.{uses_in_parts-in-Some, uses_in_parts-in_default}

@@ -1,8 +1,9 @@
-use Rattle.std.proofs.Common.{rules, ◌≡◌, ◌+◌, ◌<◌, ◌-◌, ◌^◌, ℕ, ◌≤◌, Some, None, arith, ap, sym, ◌∙◌, subst}
-use Rattle.nrca_term.specs.Term.{Term, with_part, weight_of, count, child_of, parts_of, form_of, variable_of}
+use Rattle.std.proofs.Common.{◌+◌, arith, ap, ◌∙◌}
+use Rattle.nrca_term.specs.MeasureLaws.{weight_of-child}
+use Rattle.nrca_term.specs.Term.{with_part, count, parts_of}
 use Rattle.nrca_term.specs.Subst.{shift_term, top_var}
 use Rattle.nrca_term.specs.View.{term_of}
-use Rattle.nrca_subst.proofs.Walking.{walked, shift_part, walked-start, walked-step, walked-shift, count-walked, binders_of-walked, weight_of-child, top_var-child, walked-part, count-with_part}
+use Rattle.nrca_subst.proofs.Walking.{shift_part, walked-start, walked-step, walked-shift, count-walked, binders_of-walked, top_var-child, walked-part, count-with_part}
 use Rattle.nrca_subst.proofs.shifting.+shift.Goals as goal
 
 pub shift_parts_in-loop-i-init : goal.shift_parts_in-loop-i-init

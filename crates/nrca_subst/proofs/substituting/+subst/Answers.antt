@@ -1,10 +1,11 @@
-use Rattle.std.proofs.Common.{rules, min, ◌≡◌, ◌+◌, ◌<◌, ◌-◌, ◌^◌, ℕ, ◌≤◌, Some, None, arith, ap, sym, ◌∙◌, subst}
-use Rattle.nrca_term.specs.Term.{Term, with_part, weight_of, count, child_of, parts_of, form_of, variable_of, binders_of}
-use Rattle.nrca_term.specs.Subst.{shift_term, subst_term}
+use Rattle.std.proofs.Common.{min, ◌≡◌, ◌+◌, ◌-◌, ◌^◌, arith, ap, sym, ◌∙◌, subst}
+use Rattle.nrca_term.specs.MeasureLaws.{weight_of-child}
+use Rattle.nrca_term.specs.Term.{with_part, count, parts_of}
+use Rattle.nrca_term.specs.Subst.{shift_term}
 use Rattle.nrca_term.specs.View.{term_of}
-use Rattle.nrca_subst.specs.Depth.{IsDepth, Fits, Substitutes}
-use Rattle.nrca_subst.proofs.Deeper.{is_depth-start, substitutes-part, fits-part}
-use Rattle.nrca_subst.proofs.Walking.{walked, walked-start, walked-step, count-walked, binders_of-walked, walked-part, count-with_part, weight_of-child}
+use Rattle.nrca_subst.specs.Depth.{Fits, Substitutes}
+use Rattle.nrca_subst.proofs.Deeper.{substitutes-part, fits-part}
+use Rattle.nrca_subst.proofs.Walking.{walked-start, walked-step, count-walked, binders_of-walked, walked-part, count-with_part}
 use Rattle.nrca_subst.proofs.SubstWalk.{subst_part, walked-subst}
 use Rattle.nrca_subst.proofs.substituting.+subst.Goals as goal
 

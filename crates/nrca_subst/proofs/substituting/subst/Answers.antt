@@ -1,12 +1,9 @@
-use Rattle.std.proofs.Common.{◌≡◌, ◌<◌, ◌^◌, ◌+◌, ℕ, IfOk, ap, sym, subst, ◌∙◌, arith, Result, Ok, Err}
-use Rattle.nrca_term.specs.declared.term.Core.{Core}
-use Rattle.aql_value.specs.declared.memory.Memory.{Memory}
+use Rattle.std.proofs.Common.{◌≡◌, ◌+◌, ℕ, ap, ◌∙◌, arith}
 use Rattle.nrca_term.specs.Subst.{shift_term, subst_term, top_var}
 use Rattle.nrca_term.specs.ShiftLaws.{shift_term-none}
 use Rattle.nrca_term.specs.Term.{Term}
 use Rattle.nrca_term.specs.View.{term_of}
-use Rattle.nrca_subst.specs.Depth.{Fits, Substitutes}
-use Rattle.nrca_subst.specs.Laws.{IsSubstituted, IsUndefinedWith, KeepsTypesSubstituted}
+use Rattle.nrca_subst.specs.Depth.{Substitutes}
 use Rattle.nrca_subst.proofs.Deeper.{is_depth-start}
 use Rattle.nrca_subst.proofs.Keeping.{is_substituted, is_undefined_with, keeps_types_substituted}
 use Rattle.nrca_subst.proofs.substituting.subst.Goals as goal
