@@ -1,3 +1,4 @@
 pub mod Joined
+pub mod TypeText
 pub mod ValueText
 pub mod Appends

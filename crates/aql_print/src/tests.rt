@@ -1,6 +1,8 @@
 ghost use Rattle.std.specs.Prelude.{◌≡◌, ◌≤◌, length, IfOk};
 
+use crate::scheme::print_scheme;
 use crate::value::print_value;
+use aql_types::ty::{Scheme, Ty, row};
 use aql_value::{Cells, Dims, Items, Memory, Parts, Str, Value, canon};
 use std::alloc::Global;
 
@@ -178,5 +180,71 @@ fn a_text_follows_what_stands_before_it(rt: HostRuntime) -> Result<(), Memory> {
     out.extend_from_slice(b"val it = ")?;
     print_value(alloc, &Value::Nat(7), &mut out)?;
     assert_eq!(rt; out.as_slice(), b"val it = 7".as_slice());
+    Ok(())
+}
+
+fn set_of(alloc: Global, t: Ty) -> Result<Ty, Memory> {
+    Ok(Ty::SetOf(Box::new(alloc, t)?))
+}
+
+fn two(alloc: Global, a: Ty, b: Ty) -> Result<Ty, Memory> {
+    let mut parts = Vec::new(alloc);
+    parts.push(a)?;
+    parts.push(b)?;
+    Ok(row(parts))
+}
+
+fn scheme_printed(alloc: Global, s: &Scheme) -> Result<Vec<u8>, Memory> {
+    let mut out = Vec::new(alloc);
+    print_scheme(alloc, s, &mut out)?;
+    Ok(out)
+}
+
+#[test]
+fn types_of_values(rt: HostRuntime) -> Result<(), Memory> {
+    let alloc = rt.alloc();
+    let cell = two(alloc, Ty::Bool, Ty::Nat)?;
+    let signed = Scheme::Value(Ty::ArrayOf {
+        rank: 3,
+        cell: Box::new(alloc, cell)?,
+    });
+    assert_eq!(rt;
+        scheme_printed(alloc, &signed)?.as_slice(),
+        b"[[bool * nat]]_3".as_slice()
+    );
+    let left = two(alloc, Ty::Nat, Ty::Text)?;
+    let nested = two(alloc, left, set_of(alloc, Ty::Var(9))?)?;
+    assert_eq!(rt;
+        scheme_printed(alloc, &Scheme::Value(nested))?.as_slice(),
+        b"(nat * string) * {'a}".as_slice()
+    );
+    Ok(())
+}
+
+#[test]
+fn variables_by_first_appearance(rt: HostRuntime) -> Result<(), Memory> {
+    let alloc = rt.alloc();
+    let argument = two(alloc, Ty::Var(5), set_of(alloc, Ty::Var(2))?)?;
+    let pair = two(alloc, Ty::Var(5), Ty::Var(2))?;
+    let of_macro = Scheme::Macro {
+        argument,
+        result: set_of(alloc, pair)?,
+    };
+    assert_eq!(rt;
+        scheme_printed(alloc, &of_macro)?.as_slice(),
+        b"'a * {'b} -> {'a * 'b}".as_slice()
+    );
+    Ok(())
+}
+
+#[test]
+fn letters_begin_anew_with_a_number(rt: HostRuntime) -> Result<(), Memory> {
+    let alloc = rt.alloc();
+    let mut parts = Vec::new(alloc);
+    for x in 0..28 {
+        parts.push(Ty::Var(x))?;
+    }
+    let wide = scheme_printed(alloc, &Scheme::Value(row(parts)))?;
+    assert!(rt; wide.as_slice().ends_with(b" * 'y * 'z * 'a1 * 'b1"));
     Ok(())
 }

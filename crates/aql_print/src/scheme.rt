@@ -1,0 +1,192 @@
+ghost use Rattle.std.specs.Prelude.{◌≡◌, ◌+◌, ◌++◌, ◌∷◌, [], OnOk, IfOk, decimal, codes};
+ghost use Rattle.aql_types.specs.Types as types;
+ghost use Rattle.aql_types.specs.View.{type_of, types_of, sort_of};
+ghost use Rattle.aql_print.specs.Appends.{AppendsPrefix};
+ghost use Rattle.aql_print.specs.Joined.{separated};
+ghost use Rattle.aql_print.specs.TypeText as texts;
+ghost use Rattle.aql_print.specs.TypeText.{is_one_of, place, variables_all, variable_text, part_text, part_texts, type_text, scheme_text};
+
+use crate::bytes::{put, put_before, put_number};
+use aql_types::ty::{Scheme, Ty};
+use aql_value::Memory;
+use std::alloc::Global;
+
+/// Appends the text of a scheme. Where memory runs out, the old bytes and then a prefix of the text are left.
+#[tactic(auto, using(crate::proofs::Prefixes::prefix_none))]
+pub fn print_scheme(alloc: Global, s: &Scheme, out: &mut Vec<u8>) -> Result<(), Memory>
+    ensures ok { OnOk result (out.new.items ≡ out.old.items ++ scheme_text (sort_of s.now)) }
+    ensures prefix { AppendsPrefix out.old.items out.new.items (scheme_text (sort_of s.now)) }
+{
+    let text = written(alloc, s)?;
+    put(&text, out)
+}
+
+// The text of a scheme.
+fn written(alloc: Global, s: &Scheme) -> Result<Vec<u8>, Memory>
+    ensures { IfOk result (λ text. text.items ≡ scheme_text (sort_of s.now)) }
+{
+    match s {
+        Scheme::Value(t) => {
+            let names = variables(t, Vec::new(alloc))?;
+            add_type(t, &names, Vec::new(alloc))
+        }
+        Scheme::Macro { argument, result } => {
+            let names = variables(argument, Vec::new(alloc))?;
+            let names = variables(result, names)?;
+            let text = add_type(argument, &names, Vec::new(alloc))?;
+            let text = add(b" -> ", text)?;
+            add_type(result, &names, text)
+        }
+    }
+}
+
+// The variables seen before, and behind them those of a type that are new.
+#[cycle(variables)]
+#[tactic(auto, using(aql_types::specs::ViewLaws::type_of_row))]
+fn variables(t: &Ty, seen: Vec<u64>) -> Result<Vec<u64>, Memory>
+    ensures { IfOk result (λ vs. vs.items ≡ texts.variables (type_of t.now) seen.items) }
+{
+    match t {
+        Ty::Nat => Ok(seen),
+        Ty::Bool => Ok(seen),
+        Ty::Text => Ok(seen),
+        Ty::Var(x) => with_variable(*x, seen),
+        Ty::Tuple(ts) => variables_of_all(&ts.items, seen),
+        Ty::SetOf(t) => variables(t, seen),
+        Ty::ArrayOf { rank: _, cell } => variables(cell, seen),
+    }
+}
+
+#[cycle(variables)]
+#[tactic(auto, using(aql_types::specs::ViewLaws::list_steps))]
+fn variables_of_all(ts: &[Ty], seen: Vec<u64>) -> Result<Vec<u64>, Memory>
+    ensures { IfOk result (λ vs. vs.items ≡ variables_all (types_of ts.now) seen.items) }
+{
+    let mut seen = seen;
+    for t in ts {
+        seen = variables(t, seen)?;
+    }
+    Ok(seen)
+}
+
+fn with_variable(x: u64, seen: Vec<u64>) -> Result<Vec<u64>, Memory>
+    ensures { IfOk result (λ vs. vs.items ≡ texts.variables (types.var x) seen.items) }
+{
+    if is_seen(x, &seen) {
+        return Ok(seen);
+    }
+    let mut seen = seen;
+    seen.push(x)?;
+    Ok(seen)
+}
+
+#[tactic(auto, using(crate::proofs::Variables::place_steps))]
+fn is_seen(x: u64, seen: &[u64]) -> bool
+    ensures { result ≡ is_one_of x seen.now }
+{
+    for y in seen {
+        if *y == x {
+            return true;
+        }
+    }
+    false
+}
+
+#[tactic(auto, using(crate::proofs::Variables::place_steps))]
+fn place_of(x: u64, names: &[u64]) -> usize
+    ensures { result ≡ place x names.now }
+{
+    for (i, y) in names.iter().enumerate() {
+        if *y == x {
+            return i;
+        }
+    }
+    names.len()
+}
+
+// Adds bytes behind a text.
+fn add(bytes: &[u8], text: Vec<u8>) -> Result<Vec<u8>, Memory>
+    ensures { IfOk result (λ made. made.items ≡ text.items ++ bytes.now) }
+{
+    let mut text = text;
+    put(bytes, &mut text)?;
+    Ok(text)
+}
+
+// Adds a number in decimal behind a text.
+fn add_number(n: u64, text: Vec<u8>) -> Result<Vec<u8>, Memory>
+    ensures { IfOk result (λ made. made.items ≡ text.items ++ decimal n) }
+{
+    let mut text = text;
+    put_number(u128::from(n), &mut text)?;
+    Ok(text)
+}
+
+// Adds the text of a variable, by its number.
+fn add_variable(n: u64, text: Vec<u8>) -> Result<Vec<u8>, Memory>
+    ensures { IfOk result (λ made. made.items ≡ text.items ++ variable_text n) }
+{
+    let text = add(&[b'\'', b'a' + (n % 26) as u8], text)?;
+    if n / 26 == 0 {
+        return Ok(text);
+    }
+    add_number(n / 26, text)
+}
+
+// Adds the text of a type.
+#[cycle(add_type)]
+#[tactic(auto, using(aql_types::specs::ViewLaws::type_of_row))]
+fn add_type(t: &Ty, names: &[u64], text: Vec<u8>) -> Result<Vec<u8>, Memory>
+    ensures { IfOk result (λ made. made.items ≡ text.items ++ type_text (type_of t.now) names.now) }
+{
+    match t {
+        Ty::Nat => add(b"nat", text),
+        Ty::Bool => add(b"bool", text),
+        Ty::Text => add(b"string", text),
+        Ty::Var(x) => add_variable(place_of(*x, names) as u64, text),
+        Ty::Tuple(ts) => add_parts(&ts.items, names, text),
+        Ty::SetOf(t) => {
+            let text = add(b"{", text)?;
+            let text = add_type(t, names, text)?;
+            add(b"}", text)
+        }
+        Ty::ArrayOf { rank, cell } => {
+            let text = add(b"[[", text)?;
+            let text = add_type(cell, names, text)?;
+            let text = add(b"]]_", text)?;
+            add_number(*rank, text)
+        }
+    }
+}
+
+// Adds the texts of a tuple's parts, with ` * ` between each two.
+#[cycle(add_type)]
+fn add_parts(ts: &[Ty], names: &[u64], text: Vec<u8>) -> Result<Vec<u8>, Memory>
+    ensures { IfOk result (λ made. made.items ≡ text.items ++ separated (codes " * ") (part_texts (types_of ts.now) names.now)) }
+{
+    let mut text = text;
+    for (i, t) in ts.iter().enumerate() {
+        put_before(i, b" * ", &mut text)?;
+        text = add_part(t, names, text)?;
+    }
+    Ok(text)
+}
+
+#[cycle(add_type)]
+fn add_part(t: &Ty, names: &[u64], text: Vec<u8>) -> Result<Vec<u8>, Memory>
+    ensures { IfOk result (λ made. made.items ≡ text.items ++ part_text (type_of t.now) (type_text (type_of t.now) names.now)) }
+{
+    match t {
+        Ty::Nat => add_type(t, names, text),
+        Ty::Bool => add_type(t, names, text),
+        Ty::Text => add_type(t, names, text),
+        Ty::Var(_) => add_type(t, names, text),
+        Ty::Tuple(_) => {
+            let text = add(b"(", text)?;
+            let text = add_type(t, names, text)?;
+            add(b")", text)
+        }
+        Ty::SetOf(_) => add_type(t, names, text),
+        Ty::ArrayOf { rank: _, cell: _ } => add_type(t, names, text),
+    }
+}
