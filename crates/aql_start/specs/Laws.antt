@@ -1,0 +1,43 @@
+-- What is claimed of the start term of a query.
+use Rattle.std.specs.Prelude.{◌≡◌, ◌≤◌, ◌*◌, List, [], ◌∷◌, ◌++◌}
+use Rattle.aql_syntax.specs.Tree.{Tree, Declaration}
+use Rattle.aql_syntax.specs.Denotation.{den}
+use Rattle.aql_syntax.specs.Work.{work}
+use Rattle.aql_syntax.specs.Script.{Earlier, globals_of}
+use Rattle.aql_syntax.specs.Sound.{declarations_of}
+use Rattle.aql_types.specs.Types.{Ty, Sort}
+use Rattle.aql_syntax.specs.Size.{size, extents_of}
+use Rattle.aql_syntax.specs.Typing.{Has, DeclHas, scope_of}
+use Rattle.nrca_term.specs.Term.{Closed, weight_of}
+use Rattle.nrca_term.specs.Meaning.{Outcomes, cden}
+use Rattle.nrca_term.specs.Turns.{settle}
+use Rattle.aql_start.specs.Start.{start, knowns_of}
+
+-- the outcomes of declarations of which the latest is first, in order
+abbrev pub outcomes_of : Earlier → Outcomes
+outcomes_of [] = []
+outcomes_of ((d, o) ∷ earlier) = outcomes_of earlier ++ o ∷ []
+
+-- the start term is worth what the query denotes and undefined where that is, whatever outcomes later positions have
+abbrev pub StartMeans : Type 0
+StartMeans = (earlier : Earlier) (later : Outcomes) (e : Tree) →
+    cden (outcomes_of earlier ++ later) [] (start e (knowns_of (declarations_of earlier)) []) ≡ den e (globals_of earlier) []
+
+-- it takes the turns of the query as written
+abbrev pub StartTurns : Type 0
+StartTurns = (earlier : Earlier) (later : Outcomes) (e : Tree) →
+    settle (outcomes_of earlier ++ later) [] (start e (knowns_of (declarations_of earlier)) []) ≡ work e (globals_of earlier) []
+
+-- it has no free variable
+abbrev pub StartCloses : Type 0
+StartCloses = (earlier : List Declaration) (e : Tree) → Closed 0 (start e (knowns_of earlier) [])
+
+-- each declaration has some sort over those before it, the latest first
+abbrev pub EachHas : List Declaration → Type 0
+EachHas [] = Unit {0}
+EachHas (d ∷ earlier) = ((s : Sort) × DeclHas d (scope_of earlier) s) × EachHas earlier
+
+-- it weighs at most 64 times the expanded size, where the query has a type and the declarations before it have sorts
+abbrev pub StartWeighs : Type 0
+StartWeighs = (earlier : List Declaration) (e : Tree) (T : Ty) → EachHas earlier → Has e (scope_of earlier) [] T →
+    weight_of (start e (knowns_of earlier) []) ≤ 64 * size e (extents_of earlier)

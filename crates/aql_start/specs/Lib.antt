@@ -1,0 +1,13 @@
+pub mod Start
+pub mod Scopes
+pub mod Nodes
+pub mod Matching
+pub mod Unions
+pub mod Arrays
+pub mod Tabulations
+pub mod Meaning
+pub mod Turns
+pub mod Laws
+pub mod Positions
+pub mod Closed
+pub mod Weight

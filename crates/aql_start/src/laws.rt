@@ -1,0 +1,19 @@
+//! What is proved of the start term, each law the contract of a function that does nothing.
+
+ghost use Rattle.aql_start.specs.Laws.{StartMeans, StartTurns, StartCloses, StartWeighs};
+
+/// A query's start term is worth what the query denotes, undefined at the same places, and takes its turns as written.
+pub fn meaning_and_turns()
+    ensures meaning { StartMeans }
+    ensures turns { StartTurns }
+{}
+
+/// A query's start term is closed.
+pub fn closedness()
+    ensures { StartCloses }
+{}
+
+/// The start term of a query that has a type weighs at most 64 times the query's expanded size.
+pub fn weight()
+    ensures { StartWeighs }
+{}

@@ -1,0 +1,6 @@
+//! The start term of a query: the core term that the table of the translation gives, and its laws.
+//! Read `specs/Start.antt`, the definition, and then `specs/Laws.antt`, what is proved of it; each law is the contract of a
+//! function of `laws`.
+#![tactic(auto)]
+
+pub mod laws;
