@@ -11,3 +11,6 @@ pub mod Laws
 pub mod Positions
 pub mod Closed
 pub mod Weight
+pub mod TypedNodes
+pub mod Types
+pub mod TypedPositions

@@ -25,7 +25,7 @@ pub length-hidden : (n : ℕ) → length (hidden n) ≡ n
 length-hidden zero = refl
 length-hidden (suc n) = ap suc (length-hidden n)
 
-env_of-hidden : (vals : List Datum) → env_of (hidden (length vals)) vals ≡ []
+pub env_of-hidden : {A : Type 0} (vals : List A) → env_of (hidden (length vals)) vals ≡ []
 env_of-hidden [] = refl
 env_of-hidden (v ∷ vals) = env_of-hidden vals
 

@@ -159,7 +159,7 @@ env_of-index (axis x b rest) (i ∷ at) s vals e = env_of-index rest at (Some x 
 abbrev pub IsInside : {A : Type 0} → (List Datum → A) → ℕ → Scope → List Datum → (List (Name × Datum) → A) → Type 0
 IsInside f m s vals k = (new : List Datum) → length new ≡ m → f (new ++ vals) ≡ k (env_of s (new ++ vals))
 
-rejoined : {A : Type 0} (after new : List A) (u : A) (vals : List A) → (after ++ (new ++ (u ∷ []))) ++ vals ≡ after ++ (new ++ (u ∷ vals))
+pub rejoined : {A : Type 0} (after new : List A) (u : A) (vals : List A) → (after ++ (new ++ (u ∷ []))) ++ vals ≡ after ++ (new ++ (u ∷ vals))
 rejoined after new u vals = append_assoc after (new ++ (u ∷ [])) vals ∙ ap (λ l. after ++ l) (append_assoc new (u ∷ []) vals)
 
 pub inside_next : {A : Type 0} (f : List Datum → A) (m n : ℕ) (s : Scope) (vals : List Datum) (k : List (Name × Datum) → A) (new : List Datum) → length new ≡ m →

@@ -1,6 +1,6 @@
 //! What is proved of the start term, each law the contract of a function that does nothing.
 
-ghost use Rattle.aql_start.specs.Laws.{StartMeans, StartTurns, StartCloses, StartWeighs};
+ghost use Rattle.aql_start.specs.Laws.{StartMeans, StartTurns, StartCloses, StartWeighs, StartTyped};
 
 /// A query's start term is worth what the query denotes, undefined at the same places, and takes its turns as written.
 pub fn meaning_and_turns()
@@ -16,4 +16,9 @@ pub fn closedness()
 /// The start term of a query that has a type weighs at most 64 times the query's expanded size.
 pub fn weight()
     ensures { StartWeighs }
+{}
+
+/// Each type of a query, over the principal types of the positions before it, is a type of its start term.
+pub fn types()
+    ensures { StartTyped }
 {}

@@ -1,0 +1,5 @@
+pub mod Spelling
+pub mod PairsKept
+pub mod CellKinds
+pub mod Steps
+pub mod Places

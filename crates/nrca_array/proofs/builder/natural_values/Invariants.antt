@@ -1,0 +1,7 @@
+use Rattle.std.proofs.Common.{◌≡◌, map, take}
+use Rattle.aql_value.specs.Datum.{natural}
+use Rattle.aql_value.specs.Meaning.{datum}
+use Rattle.nrca_array.proofs.builder.natural_values.Given as goal
+
+abbrev pub invariant-loop-i : goal.invariant-loop-i
+invariant-loop-i l = map datum l.items.items ≡ map natural (take l.i l.numbers)

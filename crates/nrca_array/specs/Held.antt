@@ -1,0 +1,14 @@
+-- What an array and a value that are kept stand for.
+use Rattle.aql_value.specs.Datum.{Datum, array, data_of, Table}
+use Rattle.aql_value.specs.Meaning.{datum}
+use Rattle.nrca_array.specs.declared.held.Held.{Held}
+use Rattle.nrca_array.specs.declared.held.Held.TheVariants as held
+
+-- an array as a value
+abbrev pub table_datum : Table → Datum
+table_datum t = array t.dims (data_of t.cells)
+
+-- the value that is held
+abbrev pub held_datum : Held → Datum
+held_datum (held.Value v) = datum v
+held_datum (held.Flat a) = table_datum a

@@ -1,0 +1,51 @@
+-- What the bytes and lists that are kept stand for.
+use Rattle.std.specs.Prelude.{◌≡◌, ℕ, zero, suc, ◌*◌, ◌^◌, ◌<◌, Bool, nat_eq, List, [], ◌∷◌, ◌++◌, length, map, drop}
+use Rattle.byteorder.specs.Endian.{little_number}
+use Rattle.nrca_array.specs.Packing.{greatest, width_for, spelled, truth_byte}
+use Rattle.nrca_array.specs.declared.width.Width.{Width}
+use Rattle.nrca_array.specs.declared.width.Width.TheVariants.{One, Two, Four, Eight, Sixteen}
+
+-- the number of bytes
+abbrev pub width_bytes : Width → ℕ
+width_bytes One = 1
+width_bytes Two = 2
+width_bytes Four = 4
+width_bytes Eight = 8
+width_bytes Sixteen = 16
+
+-- the first n numbers of w bytes each
+abbrev pub numbers_at : (w n : ℕ) → List ℕ → List ℕ
+numbers_at w zero bytes = []
+numbers_at w (suc n) bytes = little_number w bytes ∷ numbers_at w n (drop w bytes)
+
+-- whether a byte says true
+abbrev pub byte_truth : ℕ → Bool
+byte_truth b = nat_eq b 1
+
+-- a truth value and a number at each place of both lists
+abbrev pub paired_up : List Bool → List ℕ → List (Bool × ℕ)
+paired_up [] ns = []
+paired_up (b ∷ bs) [] = []
+paired_up (b ∷ bs) (n ∷ ns) = (b, n) ∷ paired_up bs ns
+
+-- numbers in the least width in which each fits, and nothing else
+pub record IsSpelled (w : ℕ) (bytes ns : List ℕ) : Type 0 where
+  pub least : w ≡ width_for ns
+  pub small : greatest ns < 2 ^ 128
+  pub spells : bytes ≡ spelled w ns
+
+-- bytes that are 0 or 1
+abbrev pub AreTruths : List ℕ → Type 0
+AreTruths bytes = map truth_byte (map byte_truth bytes) ≡ bytes
+
+-- the pairs of n numbers of w bytes each and the n bytes behind them
+abbrev pub pairs_at : (w n : ℕ) → List ℕ → List (Bool × ℕ)
+pairs_at w n bytes = paired_up (map byte_truth (drop (n * w) bytes)) (numbers_at w n bytes)
+
+-- n numbers in the least width in which each fits, and then n bytes that are 0 or 1
+pub record ArePairs (w n : ℕ) (bytes : List ℕ) : Type 0 where
+  pub least : w ≡ width_for (numbers_at w n bytes)
+  pub small : greatest (numbers_at w n bytes) < 2 ^ 128
+  pub truths : AreTruths (drop (n * w) bytes)
+  pub many : length (drop (n * w) bytes) ≡ n
+  pub spells : bytes ≡ spelled w (numbers_at w n bytes) ++ drop (n * w) bytes

@@ -1,0 +1,4 @@
+pub mod Packing
+pub mod Kept
+pub mod Stored
+pub mod Held

@@ -1,0 +1,37 @@
+-- The cells that a builder and an array keep.
+use Rattle.std.specs.Prelude.{◌≡◌, ◌≤◌, List, length, map, None}
+use Rattle.aql_value.specs.Datum.{Datum, natural, truth}
+use Rattle.nrca_array.specs.Packing.{pair_datum, packing}
+use Rattle.nrca_array.specs.Kept.{paired_up}
+use Rattle.nrca_array.specs.declared.builder.Store.{Store}
+use Rattle.nrca_array.specs.declared.builder.Store.TheVariants as store
+use Rattle.nrca_array.specs.declared.flat.Kept.{Kept}
+use Rattle.nrca_array.specs.declared.flat.Kept.TheVariants as kept
+
+-- the cells of a builder
+abbrev pub stored : Store → List Datum
+stored (store.Plain items) = items
+stored (store.Naturals ns) = map natural ns
+stored (store.Truths bs) = map truth bs
+stored (store.Pairs ns bs) = map pair_datum (paired_up bs ns)
+
+-- cells that are packed where they can be
+abbrev pub IsStored : Store → Type 0
+IsStored (store.Plain items) = packing items ≡ None
+IsStored (store.Naturals ns) = 1 ≤ length ns
+IsStored (store.Truths bs) = 1 ≤ length bs
+IsStored (store.Pairs ns bs) = (1 ≤ length ns) × (length bs ≡ length ns)
+
+-- the cells of an array
+abbrev pub kept_cells : Kept → List Datum
+kept_cells (kept.Plain items) = items
+kept_cells (kept.Naturals ns) = map natural ns
+kept_cells (kept.Truths bs) = map truth bs
+kept_cells (kept.Pairs ps) = map pair_datum ps
+
+-- cells that are packed where they can be
+abbrev pub IsKept : Kept → Type 0
+IsKept (kept.Plain items) = packing items ≡ None
+IsKept (kept.Naturals ns) = 1 ≤ length ns
+IsKept (kept.Truths bs) = 1 ≤ length bs
+IsKept (kept.Pairs ps) = 1 ≤ length ps

@@ -1,0 +1,215 @@
+ghost use Rattle.std.specs.Prelude.{◌≡◌, ◌<◌, ◌≤◌, length, IfOk, slice_get, slice_range, Some, option_map};
+ghost use Rattle.aql_value.specs.Meaning.{datum};
+ghost use Rattle.aql_value.specs.Indices.{cell, IsTable};
+ghost use Rattle.nrca_array.specs.Packing.{packing};
+ghost use Rattle.nrca_array.specs.Stored.{kept_cells, IsKept};
+
+use crate::builder::Builder;
+use crate::numbers::Numbers;
+use crate::pairs::Pairs;
+use crate::truths::Truths;
+use crate::values::pair_value;
+use aql_value::{Cells, Dims, Index, Items, Memory, Value, is_below, place};
+use std::alloc::Global;
+use std::marker::Model;
+
+/// An array, its cells in row-major order. One cell or more that are all naturals, all truth
+/// values or all pairs of a truth value and a natural are packed. Contracts see the dimensions
+/// and the cells.
+#[derive(Drop)]
+pub struct Flat {
+    dims: Dims,
+    cells: Kept,
+}
+
+/// The cells of an array, packed where they can be.
+#[derive(Drop)]
+pub(crate) enum Kept {
+    Plain(Items),
+    Naturals(Numbers),
+    Truths(Truths),
+    Pairs(Pairs),
+}
+
+impl Model for Flat {
+    ghost use Rattle.aql_value.specs.Datum.{Table};
+    ghost use Rattle.aql_value.specs.DatumCode.{coded_table};
+
+    ghost Value = { Table };
+
+    ghost coded = { coded_table };
+
+    ghost use Rattle.nrca_array.specs.Stored.{kept_cells, IsKept};
+
+    ghost view = { λ a. record { dims = a.dims; cells = kept_cells a.cells } };
+
+    ghost use Rattle.aql_value.specs.Indices.{IsTable};
+
+    ghost invariant = { λ a. IsTable (record { dims = a.dims; cells = kept_cells a.cells }) × IsKept a.cells };
+}
+
+impl Flat {
+    // The array of these dimensions and cells.
+    pub(crate) fn new(dims: Dims, cells: Kept) -> Flat
+        requires table { IsTable (record { dims = dims; cells = kept_cells cells }) }
+        requires packed { IsKept cells }
+        ensures { result ≡ record { dims = dims; cells = kept_cells cells } }
+    {
+        Flat { dims, cells }
+    }
+
+    /// The same array, packed where it can be.
+    pub fn from_cells(alloc: Global, cells: Cells) -> Result<Flat, Memory>
+        ensures { IfOk result (λ flat. flat ≡ cells) }
+    {
+        let (dims, items) = cells.into_parts();
+        let mut packed = Builder::new(alloc);
+        for value in items.items {
+            packed = packed.push(alloc, value)?;
+        }
+        packed.shaped(dims)
+    }
+
+    /// The dimensions, of which there are 1 to 8. It takes no memory.
+    pub fn dims(&self) -> &Dims
+        ensures dims { result.now ≡ self.now.dims }
+        ensures table { IsTable self.now }
+    {
+        &self.dims
+    }
+
+    /// How many cells. It takes no memory.
+    pub fn len(&self) -> usize
+        ensures { result ≡ length self.now.cells }
+    {
+        self.cells.len()
+    }
+
+    /// The cell of a row-major number.
+    pub fn get(&self, alloc: Global, at: usize) -> Result<Value, Memory>
+        requires { at < length self.now.cells }
+        ensures { IfOk result (λ v. slice_get self.now.cells at ≡ Some (datum v)) }
+    {
+        self.cells.get(alloc, at)
+    }
+
+    /// The cell at an index: none exactly where the number of indices isn't the rank or an index
+    /// isn't below its dimension.
+    pub fn cell(&self, alloc: Global, at: &Index) -> Result<Option<Value>, Memory>
+        ensures { IfOk result (λ v. option_map datum v ≡ cell self.now at.now.items) }
+    {
+        let _count = self.cells.len();
+        let kept = &self.dims;
+        let dims = kept.dims.as_slice();
+        let at = at.as_slice();
+        if is_below(at, dims) {
+            let place = place(at, dims);
+            Ok(Some(self.cells.get(alloc, place as usize)?))
+        } else {
+            Ok(None)
+        }
+    }
+
+    /// The cells of the row-major numbers from one up to another.
+    pub fn window(&self, alloc: Global, from: u64, to: u64) -> Result<Items, Memory>
+        requires order { from ≤ to }
+        requires within { to ≤ length self.now.cells }
+        ensures { IfOk result (λ items. items ≡ slice_range self.now.cells from to) }
+    {
+        let mut items = Vec::new(alloc);
+        for i in from..to {
+            items.push(self.cells.get(alloc, i as usize)?)?;
+        }
+        Ok(Items { items })
+    }
+
+    /// The width in bits and the bytes of an array that is packed: one cell or more, which are
+    /// all naturals, or all truth values, or all pairs of a truth value and a natural. None of
+    /// any other. The width is the least of 8, 16, 32, 64 and 128 in which each natural fits, and
+    /// 8 of truth values. Naturals stand in row-major order, each in its width, the lowest byte
+    /// first; a truth value is the byte 0 or 1; of pairs the naturals of all come first, and then
+    /// a truth byte for each. It takes no memory.
+    pub fn packed(&self) -> Option<(u64, &[u8])>
+        ensures { option_map (λ p. (p.0, p.1.now)) result ≡ packing self.now.cells }
+    {
+        self.cells.packed()
+    }
+
+    /// The same array as `Cells`.
+    pub fn to_cells(&self, alloc: Global) -> Result<Cells, Memory>
+        ensures { IfOk result (λ cells. cells ≡ self.now) }
+    {
+        let dims = self.dims.copy(alloc)?;
+        let items = self.window(alloc, 0, self.len() as u64)?;
+        match Cells::new(dims, items) {
+            Some(cells) => Ok(cells),
+            None => unreachable!(),
+        }
+    }
+
+    /// An equal array.
+    pub fn copy(&self, alloc: Global) -> Result<Flat, Memory>
+        ensures { IfOk result (λ flat. flat ≡ self.now) }
+    {
+        let dims = self.dims.copy(alloc)?;
+        let cells = self.cells.copy(alloc)?;
+        Ok(Flat { dims, cells })
+    }
+}
+
+impl Kept {
+    // How many cells.
+    fn len(&self) -> usize
+        ensures { result ≡ length (kept_cells self.now) }
+    {
+        match self {
+            Kept::Plain(items) => items.items.len(),
+            Kept::Naturals(numbers) => numbers.len(),
+            Kept::Truths(truths) => truths.len(),
+            Kept::Pairs(pairs) => pairs.len(),
+        }
+    }
+
+    // The cell of a row-major number.
+    fn get(&self, alloc: Global, at: usize) -> Result<Value, Memory>
+        requires { at < length (kept_cells self.now) }
+        ensures { IfOk result (λ v. slice_get (kept_cells self.now) at ≡ Some (datum v)) }
+    {
+        match self {
+            Kept::Plain(items) => items.items[at].copy(alloc),
+            Kept::Naturals(numbers) => Ok(Value::Nat(numbers.get(at))),
+            Kept::Truths(truths) => Ok(Value::Bool(truths.get(at))),
+            Kept::Pairs(pairs) => {
+                let (b, n) = pairs.get(at);
+                pair_value(alloc, b, n)
+            }
+        }
+    }
+
+    // The width in bits and the bytes of cells that are packed.
+    #[tactic(auto, using(crate::proofs::CellKinds::lent))]
+    fn packed(&self) -> Option<(u64, &[u8])>
+        requires { IsKept self.now }
+        ensures { option_map (λ p. (p.0, p.1.now)) result ≡ packing (kept_cells self.now) }
+    {
+        match self {
+            Kept::Plain(_) => None,
+            Kept::Naturals(numbers) => Some(numbers.lend()),
+            Kept::Truths(truths) => Some((8, truths.lend())),
+            Kept::Pairs(pairs) => Some(pairs.lend()),
+        }
+    }
+
+    // Equal cells, kept in the same way.
+    fn copy(&self, alloc: Global) -> Result<Kept, Memory>
+        ensures cells { IfOk result (λ cells. kept_cells cells ≡ kept_cells self.now) }
+        ensures packed { IfOk result (λ cells. IsKept self.now → IsKept cells) }
+    {
+        Ok(match self {
+            Kept::Plain(items) => Kept::Plain(items.copy(alloc)?),
+            Kept::Naturals(numbers) => Kept::Naturals(numbers.copy(alloc)?),
+            Kept::Truths(truths) => Kept::Truths(truths.copy(alloc)?),
+            Kept::Pairs(pairs) => Kept::Pairs(pairs.copy(alloc)?),
+        })
+    }
+}

@@ -1,0 +1,32 @@
+//! Arrays as the evaluator and the reader of files keep them: packed where that can be.
+//!
+//! A contract sees a `Flat` as its dimensions and its cells, as it sees `aql_value::Cells`, and a
+//! `Held` as the value `held_datum h`. `Flat::packed` lends the bytes, which `packing` in
+//! `specs/Packing.antt` defines. A `Builder` takes cells one at a time and packs as it goes.
+//!
+//! Read `flat.rt` and `builder.rt` beside `specs/Packing.antt`, then `held.rt`; what is kept
+//! stands in `numbers.rt`, `truths.rt` and `pairs.rt`, over `bytes.rt` and `width.rt`.
+#![tactic(auto)]
+
+mod builder;
+mod bytes;
+mod flat;
+mod held;
+mod numbers;
+mod pairs;
+#[cfg(test)]
+mod tests;
+mod truths;
+mod values;
+mod width;
+
+pub use builder::Builder;
+pub use flat::Flat;
+pub use held::Held;
+
+// A kept value may be sent to another thread, and lent to several.
+fn crosses_threads<T: Send + Sync>(_value: &T) {}
+
+fn held_crosses_threads(held: &Held) {
+    crosses_threads(held);
+}

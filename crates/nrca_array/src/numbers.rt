@@ -1,0 +1,151 @@
+ghost use Rattle.std.specs.Prelude.{◌≡◌, ◌+◌, ◌*◌, ◌^◌, ◌<◌, ◌≤◌, max, [], ◌∷◌, ◌++◌, length, slice_index, IfOk};
+ghost use Rattle.nrca_array.specs.Packing.{greatest, spelled, width_for};
+ghost use Rattle.nrca_array.specs.Kept.{width_bytes, numbers_at};
+
+use crate::bytes::{number_at, put};
+use crate::width::Width;
+use aql_value::Memory;
+use std::alloc::Global;
+use std::marker::Model;
+
+/// Naturals, each in the least width in which all of them fit. Contracts see the list.
+#[derive(Drop)]
+pub(crate) struct Numbers {
+    width: Width,
+    count: usize,
+    bytes: Vec<u8>,
+}
+
+impl Model for Numbers {
+    ghost use Rattle.std.specs.Prelude.{List, ℕ};
+    ghost use Rattle.nrca_array.specs.Kept.{width_bytes, numbers_at, IsSpelled};
+
+    ghost Value = { List ℕ };
+
+    ghost view = { λ a. numbers_at (width_bytes a.width) a.count a.bytes.items };
+
+    ghost invariant = { λ a. IsSpelled (width_bytes a.width) a.bytes.items (numbers_at (width_bytes a.width) a.count a.bytes.items) };
+}
+
+impl Numbers {
+    /// No numbers.
+    pub(crate) fn new(alloc: Global) -> Numbers
+        ensures { result ≡ [] }
+    {
+        Numbers {
+            width: Width::One,
+            count: 0,
+            bytes: Vec::new(alloc),
+        }
+    }
+
+    /// How many numbers.
+    pub(crate) fn len(&self) -> usize
+        ensures { result ≡ length self.now }
+    {
+        self.count
+    }
+
+    /// A number by its place.
+    pub(crate) fn get(&self, at: usize) -> u128
+        requires { at < length self.now }
+        ensures { result ≡ slice_index self.now at }
+    {
+        number_at(self.width, &self.bytes, at)
+    }
+
+    /// One number more.
+    pub(crate) fn push(self, alloc: Global, x: u128) -> Result<Numbers, Memory>
+        ensures { IfOk result (λ ns. ns ≡ self ++ x ∷ []) }
+    {
+        let Numbers {
+            width,
+            count,
+            bytes,
+        } = self;
+        let (width, mut bytes) = widened(alloc, width, count, bytes, Width::least(x))?;
+        put(&mut bytes, width, x)?;
+        Ok(Numbers {
+            width,
+            count: count + 1,
+            bytes,
+        })
+    }
+
+    /// These numbers, and then the others.
+    pub(crate) fn append(self, alloc: Global, others: Numbers) -> Result<Numbers, Memory>
+        ensures { IfOk result (λ ns. ns ≡ self ++ others) }
+    {
+        if self.width.bytes() == others.width.bytes() {
+            let Numbers {
+                width,
+                count,
+                mut bytes,
+            } = self;
+            bytes.extend_from_slice(&others.bytes)?;
+            return Ok(Numbers {
+                width,
+                count: count + others.count,
+                bytes,
+            });
+        }
+        let mut all = self;
+        for i in 0..others.len() {
+            all = all.push(alloc, others.get(i))?;
+        }
+        Ok(all)
+    }
+
+    /// The width, the count and the bytes themselves.
+    pub(crate) fn into_parts(self) -> (Width, usize, Vec<u8>)
+        ensures width { width_bytes result.0 ≡ width_for self }
+        ensures count { result.1 ≡ length self }
+        ensures bytes { result.2.items ≡ spelled (width_for self) self }
+        ensures small { greatest self < 2 ^ 128 }
+    {
+        (self.width, self.count, self.bytes)
+    }
+
+    /// The width in bits, and the bytes.
+    pub(crate) fn lend(&self) -> (u64, &[u8])
+        ensures width { result.0 ≡ 8 * width_for self.now }
+        ensures bytes { result.1.now ≡ spelled (width_for self.now) self.now }
+    {
+        (8 * self.width.bytes() as u64, &self.bytes)
+    }
+
+    /// Equal numbers.
+    pub(crate) fn copy(&self, alloc: Global) -> Result<Numbers, Memory>
+        ensures { IfOk result (λ ns. ns ≡ self.now) }
+    {
+        let bytes = Vec::from_slice(alloc, &self.bytes)?;
+        Ok(Numbers {
+            width: self.width,
+            count: self.count,
+            bytes,
+        })
+    }
+}
+
+// The first numbers of one width, in the greater of the two widths.
+fn widened(
+    alloc: Global,
+    width: Width,
+    count: usize,
+    bytes: Vec<u8>,
+    least: Width,
+) -> Result<(Width, Vec<u8>), Memory>
+    requires spells { bytes.items ≡ spelled (width_bytes width) (numbers_at (width_bytes width) count bytes.items) }
+    requires fits { greatest (numbers_at (width_bytes width) count bytes.items) < 256 ^ width_bytes width }
+    ensures width { IfOk result (λ r. width_bytes r.0 ≡ max (width_bytes width) (width_bytes least)) }
+    ensures bytes { IfOk result (λ r. r.1.items ≡ spelled (width_bytes r.0) (numbers_at (width_bytes width) count bytes.items)) }
+{
+    if least.bytes() <= width.bytes() {
+        return Ok((width, bytes));
+    }
+    let mut wider = Vec::new(alloc);
+    for i in 0..count {
+        put(&mut wider, least, number_at(width, &bytes, i))?;
+    }
+    Ok((least, wider))
+}
