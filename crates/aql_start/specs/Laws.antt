@@ -10,7 +10,7 @@ use Rattle.aql_value.specs.Strict.{Strict}
 use Rattle.aql_types.specs.Types.{Ty, natural, Sort, value, macro, IsType}
 use Rattle.aql_syntax.specs.Size.{size, extents_of}
 use Rattle.aql_syntax.specs.Typing.{Has, DeclHas, IsPrincipal, scope_of}
-use Rattle.nrca_term.specs.Term.{Closed, weight_of}
+use Rattle.nrca_term.specs.Term.{Closed, WellFormed, weight_of}
 use Rattle.nrca_term.specs.Meaning.{Outcomes, cden}
 use Rattle.nrca_term.specs.Turns.{settle}
 use Rattle.nrca_term.specs.Typing.{instances, ctyped}
@@ -34,6 +34,10 @@ StartTurns = (earlier : Earlier) (later : Outcomes) (e : Tree) →
 -- it has no free variable
 abbrev pub StartCloses : Type 0
 StartCloses = (earlier : List Declaration) (e : Tree) → Closed 0 (start e (knowns_of earlier) [])
+
+-- each part of its nodes has the variables that the node's form binds there
+abbrev pub StartIsWellFormed : Type 0
+StartIsWellFormed = (earlier : List Declaration) (e : Tree) → WellFormed (start e (knowns_of earlier) [])
 
 -- each declaration has some sort over those before it, the latest first
 abbrev pub EachHas : List Declaration → Type 0

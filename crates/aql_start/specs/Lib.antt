@@ -14,3 +14,4 @@ pub mod Weight
 pub mod TypedNodes
 pub mod Types
 pub mod TypedPositions
+pub mod WellFormed

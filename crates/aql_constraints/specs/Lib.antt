@@ -1,0 +1,11 @@
+pub mod Complete
+pub mod Constraints
+pub mod Describes
+pub mod Numbering
+pub mod Operations
+pub mod Principal
+pub mod Rows
+pub mod Sound
+pub mod Steps
+pub mod View
+pub mod Written

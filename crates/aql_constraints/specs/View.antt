@@ -1,0 +1,54 @@
+-- What the code keeps is a state of the walk, local names and schemes, and what it answers an answer of the walk.
+use Rattle.std.specs.Prelude.{◌≡◌, List, [], ◌∷◌, take, length, Option, Some, None, Result, Ok, Err}
+use Rattle.aql_types.specs.Types.{Ty}
+use Rattle.aql_types.specs.View.{type_of, types_of, sort_of, equations_of}
+use Rattle.aql_types.specs.declared.ty.Ty as code_ty
+use Rattle.aql_syntax.specs.Typing.{Locals}
+use Rattle.aql_constraints.specs.Constraints.{State, Made, Scheme, Schemes}
+use Rattle.aql_constraints.specs.declared.store.Store.{Store}
+use Rattle.aql_constraints.specs.declared.names.Local.{Local}
+use Rattle.aql_constraints.specs.declared.names.Position.{Position}
+use Rattle.aql_constraints.specs.declared.fault.NoTyping.{NoTyping}
+use Rattle.aql_constraints.specs.declared.fault.NoTyping.TheVariants as faults
+
+abbrev pub state_of : Store → State
+state_of s = record { eqs = equations_of s.equations.items; uses = types_of s.uses.items; next = s.next }
+
+-- local names put before others one after another, so that the last comes first
+abbrev pub locals_onto : List Local → Locals → Locals
+locals_onto [] env = env
+locals_onto (l ∷ ls) env = locals_onto ls ((l.name, type_of l.ty) ∷ env)
+
+-- the local names of a list, the last the innermost
+abbrev pub locals_of : List Local → Locals
+locals_of ls = locals_onto ls []
+
+-- a list and more behind it
+abbrev pub Extends : List Local → List Local → Type 0
+Extends old new = take (length old) new ≡ old
+
+abbrev pub scheme_of : Position → Scheme
+scheme_of p = record { sort = sort_of p.scheme; variables = p.variables }
+
+abbrev pub schemes_onto : List Position → Schemes → Schemes
+schemes_onto [] ss = ss
+schemes_onto (p ∷ ps) ss = schemes_onto ps ((p.name, scheme_of p) ∷ ss)
+
+-- what the positions of a list have, the latest first
+abbrev pub schemes_of : List Position → Schemes
+schemes_of ps = schemes_onto ps []
+
+-- the types of a list, one by one
+abbrev pub types_in : List code_ty.Ty → List Ty
+types_in [] = []
+types_in (t ∷ ts) = type_of t ∷ types_in ts
+
+-- NoType where the walk has no answer
+abbrev pub Fails : {Y : Type 0} → NoTyping → Option Y → Type 0
+Fails faults.Memory o = Unit {0}
+Fails faults.NoType o = o ≡ None
+
+-- what is answered is what the walk makes
+abbrev pub Makes : {X Y : Type 0} → (X → Made Y) → Result X NoTyping → Option (Made Y) → Type 0
+Makes view (Ok x) o = o ≡ Some (view x)
+Makes view (Err e) o = Fails e o

@@ -1,0 +1,129 @@
+//! The types of readers.
+
+ghost use Rattle.std.specs.Prelude.{◌≡◌, ◌∷◌, [], IfOk};
+ghost use Rattle.aql_types.specs.Types as types;
+ghost use Rattle.aql_types.specs.Types.{natural, tys_of, index_type};
+ghost use Rattle.aql_types.specs.View.{type_of, types_of};
+ghost use Rattle.aql_syntax.specs.Typing as typing;
+ghost use Rattle.aql_syntax.specs.Typing.{field_type, field_types, record_type};
+ghost use Rattle.aql_syntax.specs.View.{reader_of};
+ghost use Rattle.aql_constraints.specs.Constraints.{reader_fits};
+
+use crate::operations::{array_of, index, set_of};
+use aql_syntax::ast::{Kind, Reader};
+use aql_types::ty::{Ty, row};
+use aql_value::Memory;
+use std::alloc::Global;
+
+/// Whether a reader's rank is one.
+pub fn has_rank(r: &Reader) -> bool
+    ensures { result ≡ reader_fits (reader_of r.now) }
+{
+    match r {
+        Reader::Plain { rank } => 1 <= *rank && *rank <= 8,
+        Reader::Signed { rank } => 1 <= *rank && *rank <= 8,
+        Reader::Strided { rank } => 1 <= *rank && *rank <= 8,
+        Reader::Csv(_) => true,
+    }
+}
+
+/// The type of what a reader gives.
+pub fn reader_type(alloc: Global, r: &Reader) -> Result<Ty, Memory>
+    ensures { IfOk result (λ t. type_of t ≡ typing.reader_type (reader_of r.now)) }
+{
+    match r {
+        Reader::Plain { rank } => array_of(alloc, *rank, Ty::Nat),
+        Reader::Signed { rank } => {
+            let cell = signed_number(alloc)?;
+            array_of(alloc, *rank, cell)
+        }
+        Reader::Strided { rank } => array_of(alloc, *rank, Ty::Nat),
+        Reader::Csv(c) => {
+            let of = record(alloc, &c.kinds.items)?;
+            set_of(alloc, of)
+        }
+    }
+}
+
+/// The type of a reader's argument.
+pub fn argument_type(alloc: Global, r: &Reader) -> Result<Ty, Memory>
+    ensures { IfOk result (λ t. type_of t ≡ typing.argument_type (reader_of r.now)) }
+{
+    match r {
+        Reader::Plain { rank } => slab(alloc, *rank),
+        Reader::Signed { rank } => slab(alloc, *rank),
+        Reader::Strided { rank } => strided_slab(alloc, *rank),
+        Reader::Csv(_) => Ok(Ty::Text),
+    }
+}
+
+fn signed_number(alloc: Global) -> Result<Ty, Memory>
+    ensures { IfOk result (λ t. type_of t ≡ types.product (types.type types.truth (types.type natural types.no_type))) }
+{
+    let mut parts = Vec::new(alloc);
+    parts.push(Ty::Bool)?;
+    parts.push(Ty::Nat)?;
+    Ok(row(parts))
+}
+
+// File, variable, start and count.
+fn slab(alloc: Global, rank: u64) -> Result<Ty, Memory>
+    ensures { IfOk result (λ t. type_of t ≡ types.product (tys_of (types.text ∷ types.text ∷ index_type rank ∷ index_type rank ∷ []))) }
+{
+    let start = index(alloc, rank)?;
+    let count = index(alloc, rank)?;
+    let mut parts = Vec::new(alloc);
+    parts.push(Ty::Text)?;
+    parts.push(Ty::Text)?;
+    parts.push(start)?;
+    parts.push(count)?;
+    Ok(row(parts))
+}
+
+// File, variable, start, count and stride.
+fn strided_slab(alloc: Global, rank: u64) -> Result<Ty, Memory>
+    ensures { IfOk result (λ t. type_of t ≡ types.product (tys_of (types.text ∷ types.text ∷ index_type rank ∷ index_type rank ∷ index_type rank ∷ []))) }
+{
+    let start = index(alloc, rank)?;
+    let count = index(alloc, rank)?;
+    let stride = index(alloc, rank)?;
+    let mut parts = Vec::new(alloc);
+    parts.push(Ty::Text)?;
+    parts.push(Ty::Text)?;
+    parts.push(start)?;
+    parts.push(count)?;
+    parts.push(stride)?;
+    Ok(row(parts))
+}
+
+// The type of a record: of its one field, or a tuple.
+#[tactic(auto, using(crate::proofs::Lists::record_steps))]
+fn record(alloc: Global, kinds: &[Kind]) -> Result<Ty, Memory>
+    ensures { IfOk result (λ t. type_of t ≡ record_type kinds.now) }
+{
+    if kinds.len() == 1 {
+        return Ok(field(kinds[0]));
+    }
+    let parts = fields(alloc, kinds)?;
+    Ok(row(parts))
+}
+
+#[tactic(auto, using(crate::proofs::Lists::fields_steps))]
+fn fields(alloc: Global, kinds: &[Kind]) -> Result<Vec<Ty>, Memory>
+    ensures { IfOk result (λ made. types_of made.items ≡ field_types kinds.now) }
+{
+    let mut made = Vec::new(alloc);
+    for k in kinds {
+        made.push(field(*k))?;
+    }
+    Ok(made)
+}
+
+fn field(k: Kind) -> Ty
+    ensures { type_of result ≡ field_type k }
+{
+    match k {
+        Kind::Number => Ty::Nat,
+        Kind::Bytes => Ty::Text,
+    }
+}

@@ -1,0 +1,67 @@
+//! Equations as they are written.
+
+ghost use Rattle.std.specs.Prelude.{◌≡◌, IfOk, Some};
+ghost use Rattle.aql_types.specs.View.{type_of, types_of};
+ghost use Rattle.aql_constraints.specs.Constraints.{fresh, equate, within, guard};
+ghost use Rattle.aql_constraints.specs.View.{state_of, Makes};
+
+use crate::fault::NoTyping;
+use aql_types::equation::Equation;
+use aql_types::ty::Ty;
+use aql_value::Memory;
+use std::alloc::Global;
+
+/// The equations so far, the types that are to be within the limits, and the next new variable.
+#[derive(Drop)]
+pub struct Store {
+    pub equations: Vec<Equation>,
+    pub uses: Vec<Ty>,
+    pub next: u64,
+}
+
+/// A new variable.
+#[tactic(auto, unfolding(crate::specs::Constraints::fresh))]
+pub fn new_variable(s: Store) -> Result<(Ty, Store), Memory>
+    ensures { IfOk result (λ x. fresh (state_of s) ≡ Some (record { result = type_of x.0; state = state_of x.1 })) }
+{
+    let mut s = s;
+    let x = s.next;
+    match x.checked_add(1) {
+        None => Err(Memory),
+        Some(next) => {
+            s.next = next;
+            Ok((Ty::Var(x), s))
+        }
+    }
+}
+
+/// Two types are to become one.
+#[tactic(auto, unfolding(crate::specs::Constraints::equate), using(aql_types::specs::ViewLaws::equations_last))]
+pub fn equal_types(alloc: Global, a: &Ty, b: &Ty, s: Store) -> Result<Store, Memory>
+    ensures { IfOk result (λ x. equate (type_of a.now) (type_of b.now) (state_of s) ≡ Some (record { result = tt; state = state_of x })) }
+{
+    let mut s = s;
+    let left = a.copy(alloc)?;
+    let right = b.copy(alloc)?;
+    s.equations.push(Equation { left, right })?;
+    Ok(s)
+}
+
+/// A type is to be within the limits.
+#[tactic(auto, unfolding(crate::specs::Constraints::within), using(aql_types::specs::ViewLaws::types_last))]
+pub fn used(alloc: Global, t: &Ty, s: Store) -> Result<Store, Memory>
+    ensures { IfOk result (λ x. within (type_of t.now) (state_of s) ≡ Some (record { result = tt; state = state_of x })) }
+{
+    let mut s = s;
+    let t = t.copy(alloc)?;
+    s.uses.push(t)?;
+    Ok(s)
+}
+
+/// No type where the test fails.
+#[tactic(auto, unfolding(crate::specs::Constraints::guard))]
+pub fn tested(holds: bool, s: Store) -> Result<Store, NoTyping>
+    ensures { Makes (λ x. record { result = tt; state = state_of x }) result (guard holds (state_of s)) }
+{
+    if holds { Ok(s) } else { Err(NoTyping::NoType) }
+}

@@ -1,0 +1,14 @@
+pub mod SignNumbers
+pub mod Parsing
+pub mod Steps
+pub mod PatternSound
+pub mod Operators
+pub mod Sound
+pub mod First
+pub mod PatternComplete
+pub mod Stops
+pub mod AsExpression
+pub mod Complete
+pub mod Readers
+pub mod Scripts
+pub mod Laws
