@@ -1,0 +1,5 @@
+mod Strings
+pub mod Steps
+pub mod Loops
+mod Fields
+mod Said

@@ -1,0 +1,180 @@
+-- The functions on lists, a turn at a time.
+use Rattle.std.proofs.Common.{ℕ, zero, suc, ◌≡◌, ◌≢◌, length, ◌<◌, ◌≤◌, ◌+◌, ◌-◌, List, [], ◌∷◌, Some, None, if◌then◌else◌, ◌==◌, Bool, true, false, refl, ap, arith, sub-one}
+use Rattle.std.proofs.lemmas.Bool.{eqb-true}
+use Rattle.aql_syntax.specs.declared.sign.Sign.TheVariants as signs
+use Rattle.aql_syntax.specs.Lexis.{Lexeme}
+use Rattle.aql_value.specs.Strict.{Strict}
+use Rattle.aql_syntax.specs.declared.ast.Expr.{Expr}
+use Rattle.aql_syntax.specs.declared.ast.Pattern.{Pattern}
+use Rattle.aql_syntax.specs.declared.ast.Bind.{Bind}
+use Rattle.aql_syntax.specs.Tree.{Tree, Trees, no_tree, Pat, Pats, no_pat, tuple, op, Axes, no_axis, Quals, no_qual, Defs, no_def, count_trees, count_axes}
+use Rattle.aql_syntax.specs.View.{pats_of, trees_of, axes_in}
+use Rattle.aql_grammar.specs.Parsing.{Out, ◌>>=◌, pat_at, pat_in, pats_at, pats_rest, enclosed_pats, enclosed, only, short, Parser, Parsers, parse_at, whole_at, level_at, application_at, chain_rest, chain_step, operator_at, turns, negation_at, sub_rest, sub_step, list_at, list_rest, axes_at, axes_rest, binder_at, quals_at, quals_rest, front_at, defs_at, defs_rest, def_at}
+use Rattle.aql_parse.specs.Words.{with_pats}
+use Rattle.aql_parse.specs.Forms.{with_trees, with_axes, with_quals, with_defs}
+
+pub pat_at_above : (n : ℕ) (s : List Lexeme) → 0 < n → pat_at n s ≡ pat_in (pat_at (n - 1)) (n - 1) s
+unfolding pat_at
+pat_at_above zero s l = absurd (omega arith)
+pat_at_above (suc n) s l = rw sub-one refl
+
+pub pat_at_none : (n : ℕ) (s : List Lexeme) → n ≡ 0 → pat_at n s ≡ None
+unfolding pat_at
+pat_at_none zero s e = refl
+pat_at_none (suc n) s e = cc
+
+pub pats_at_turn : (q : List Lexeme → Out Pat) (d i : ℕ) (s : List Lexeme) → i < d →
+    pats_at q (d - i) s ≡ (q s >>= λ x. pats_rest (pats_at q (d - (i + 1))) x.0 x.1)
+unfolding pats_at
+pats_at_turn q d i s l = let e : d - i ≡ suc (d - (i + 1)) = omega arith in rw e refl
+
+pub pats_at_end : (q : List Lexeme → Out Pat) (d i : ℕ) (s : List Lexeme) → d ≤ i → pats_at q (d - i) s ≡ None
+unfolding pats_at
+pats_at_end q d i s l = let e : d - i ≡ zero = omega arith in rw e refl
+
+pub with_no_pats : (o : Out Pats) → with_pats no_pat o ≡ o
+with_no_pats None = refl
+with_no_pats (Some x) = refl
+
+-- other than one in parentheses make a tuple
+pub enclosed_pats_many : (xs : List Pattern) → length xs ≢ 1 → enclosed_pats (pats_of xs) ≡ tuple (pats_of xs)
+enclosed_pats_many [] h = refl
+enclosed_pats_many (x ∷ []) h = absurd (h refl)
+enclosed_pats_many (x ∷ y ∷ xs) h = refl
+
+pub enclosed_many : (xs : List Expr) → length xs ≢ 1 → enclosed (trees_of xs) ≡ op Strict.tuple (trees_of xs)
+enclosed_many [] h = refl
+enclosed_many (x ∷ []) h = absurd (h refl)
+enclosed_many (x ∷ y ∷ xs) h = refl
+
+pub only_one : (xs : List Expr) → length xs ≢ 1 → only (trees_of xs) ≡ None
+only_one [] h = refl
+only_one (x ∷ []) h = absurd (h refl)
+only_one (x ∷ y ∷ xs) h = refl
+
+-- a list of expressions has as many as its trees
+pub count_trees_of : (xs : List Expr) → count_trees (trees_of xs) ≡ length xs
+count_trees_of [] = refl
+count_trees_of (x ∷ xs) = ap suc (count_trees_of xs)
+
+pub count_axes_in : (xs : List Bind) → count_axes (axes_in xs) ≡ length xs
+count_axes_in [] = refl
+count_axes_in (x ∷ xs) = ap suc (count_axes_in xs)
+
+pub short_ok : {A : Type 0} (n : ℕ) (x : A) → n ≤ 8 → short n x ≡ Some x
+short_ok n x h = grind arith
+
+pub short_long : {A : Type 0} (n : ℕ) (x : A) → 8 < n → short n x ≡ None
+short_long n x h = grind arith
+
+-- levels and depths
+pub parse_at_none : (n h : ℕ) (s : List Lexeme) → n ≡ 0 → parse_at n h s ≡ None
+unfolding parse_at
+parse_at_none zero h s e = refl
+parse_at_none (suc n) h s e = cc
+
+pub parse_at_whole : (n h : ℕ) (s : List Lexeme) → 0 < n → h ≡ 8 → parse_at n h s ≡ whole_at (parse_at (n - 1)) (n - 1) s
+unfolding parse_at
+parse_at_whole zero h s l e = absurd (omega arith)
+parse_at_whole (suc n) h s l e = rw (e, sub-one) refl
+
+pub parse_at_level : (n h : ℕ) (s : List Lexeme) → 0 < n → h ≢ 8 → parse_at n h s ≡ level_at (parse_at (n - 1)) (n - 1) h s
+unfolding parse_at
+parse_at_level zero h s l e = absurd (omega arith)
+parse_at_level (suc n) h s l e = rw sub-one (go (h == 8) refl)
+  where
+    go : (b : Bool) → (h == 8) ≡ b → (if b then whole_at (parse_at n) n s else level_at (parse_at n) n h s) ≡ level_at (parse_at n) n h s
+    go true is = absurd (e (eqb-true h 8 is))
+    go false is = refl
+
+pub level_at_none : (p : Parsers) (k h : ℕ) (s : List Lexeme) → h ≡ 0 → level_at p k h s ≡ application_at p k s
+unfolding level_at
+level_at_none p k zero s e = refl
+level_at_none p k (suc h) s e = cc
+
+pub level_at_five : (p : Parsers) (k h : ℕ) (s : List Lexeme) → h ≡ 5 → level_at p k h s ≡ negation_at p (level_at p k 4) s
+unfolding level_at
+level_at_five p k h s e = rw e refl
+
+pub level_at_above : (p : Parsers) (k h : ℕ) (s : List Lexeme) → h ≢ 0 → h ≢ 5 →
+    level_at p k h s ≡ (level_at p k (h - 1) s >>= λ x. chain_rest (level_at p k (h - 1)) h (turns h k) x.0 x.1)
+unfolding level_at
+level_at_above p k zero s e f = absurd (e refl)
+level_at_above p k (suc h) s e f = rw sub-one (go (suc h == 5) refl)
+  where
+    go : (b : Bool) → (suc h == 5) ≡ b →
+        (if b then negation_at p (level_at p k h) s else (level_at p k h s >>= λ x. chain_rest (level_at p k h) (suc h) (turns (suc h) k) x.0 x.1))
+        ≡ (level_at p k h s >>= λ x. chain_rest (level_at p k h) (suc h) (turns (suc h) k) x.0 x.1)
+    go true is = absurd (f (eqb-true (suc h) 5 is))
+    go false is = refl
+
+-- one turn of each loop, at turn i of d
+pub chain_rest_turn : (q : Parser) (h d i : ℕ) (a : Tree) (s : List Lexeme) → i < d →
+    chain_rest q h (d - i) a s ≡ chain_step q (chain_rest q h (d - (i + 1))) a s (operator_at h s)
+unfolding chain_rest
+chain_rest_turn q h d i a s l = let e : d - i ≡ suc (d - (i + 1)) = omega arith in rw e refl
+
+pub chain_rest_end : (q : Parser) (h d i : ℕ) (a : Tree) (s : List Lexeme) → d ≤ i → chain_rest q h (d - i) a s ≡ Some (a, s)
+unfolding chain_rest
+chain_rest_end q h d i a s l = let e : d - i ≡ zero = omega arith in rw e refl
+
+pub sub_rest_turn : (p : Parsers) (k d i : ℕ) (a : Tree) (s : List Lexeme) → i < d →
+    sub_rest p k (d - i) a s ≡ sub_step p k (sub_rest p k (d - (i + 1))) a s
+unfolding sub_rest
+sub_rest_turn p k d i a s l = let e : d - i ≡ suc (d - (i + 1)) = omega arith in rw e refl
+
+pub sub_rest_end : (p : Parsers) (k d i : ℕ) (a : Tree) (s : List Lexeme) → d ≤ i → sub_rest p k (d - i) a s ≡ Some (a, s)
+unfolding sub_rest
+sub_rest_end p k d i a s l = let e : d - i ≡ zero = omega arith in rw e refl
+
+pub list_at_turn : (p : Parsers) (d i : ℕ) (s : List Lexeme) → i < d →
+    list_at p (d - i) s ≡ (p 8 s >>= λ x. list_rest (list_at p (d - (i + 1))) x.0 x.1)
+unfolding list_at
+list_at_turn p d i s l = let e : d - i ≡ suc (d - (i + 1)) = omega arith in rw e refl
+
+pub list_at_end : (p : Parsers) (d i : ℕ) (s : List Lexeme) → d ≤ i → list_at p (d - i) s ≡ None
+unfolding list_at
+list_at_end p d i s l = let e : d - i ≡ zero = omega arith in rw e refl
+
+pub axes_at_turn : (p : Parsers) (d i : ℕ) (s : List Lexeme) → i < d →
+    axes_at p (d - i) s ≡ (binder_at signs.Less s >>= λ x. p 8 x.1 >>= λ e. axes_rest (axes_at p (d - (i + 1))) x.0 e.0 e.1)
+unfolding axes_at
+axes_at_turn p d i s l = let e : d - i ≡ suc (d - (i + 1)) = omega arith in rw e refl
+
+pub axes_at_end : (p : Parsers) (d i : ℕ) (s : List Lexeme) → d ≤ i → axes_at p (d - i) s ≡ None
+unfolding axes_at
+axes_at_end p d i s l = let e : d - i ≡ zero = omega arith in rw e refl
+
+pub quals_at_turn : (p : Parsers) (n d i : ℕ) (s : List Lexeme) → i < d →
+    quals_at p n (d - i) s ≡ (p 8 (front_at n s).1 >>= λ e. quals_rest (quals_at p n (d - (i + 1))) (front_at n s).0 e.0 e.1)
+unfolding quals_at
+quals_at_turn p n d i s l = let e : d - i ≡ suc (d - (i + 1)) = omega arith in rw e refl
+
+pub quals_at_end : (p : Parsers) (n d i : ℕ) (s : List Lexeme) → d ≤ i → quals_at p n (d - i) s ≡ None
+unfolding quals_at
+quals_at_end p n d i s l = let e : d - i ≡ zero = omega arith in rw e refl
+
+pub defs_at_turn : (p : Parsers) (n d i : ℕ) (s : List Lexeme) → i < d →
+    defs_at p n (d - i) s ≡ (def_at n s >>= λ x. p 8 x.1 >>= λ e. defs_rest (defs_at p n (d - (i + 1))) x.0 e.0 e.1)
+unfolding defs_at
+defs_at_turn p n d i s l = let e : d - i ≡ suc (d - (i + 1)) = omega arith in rw e refl
+
+pub defs_at_end : (p : Parsers) (n d i : ℕ) (s : List Lexeme) → d ≤ i → defs_at p n (d - i) s ≡ None
+unfolding defs_at
+defs_at_end p n d i s l = let e : d - i ≡ zero = omega arith in rw e refl
+
+pub with_no_trees : (o : Out Trees) → with_trees no_tree o ≡ o
+with_no_trees None = refl
+with_no_trees (Some x) = refl
+
+pub with_no_axes : (o : Out Axes) → with_axes no_axis o ≡ o
+with_no_axes None = refl
+with_no_axes (Some x) = refl
+
+pub with_no_quals : (o : Out Quals) → with_quals no_qual o ≡ o
+with_no_quals None = refl
+with_no_quals (Some x) = refl
+
+pub with_no_defs : (o : Out Defs) → with_defs no_def o ≡ o
+with_no_defs None = refl
+with_no_defs (Some x) = refl

@@ -1,0 +1,84 @@
+//! Why tokens have no reading.
+
+use aql_value::Memory;
+use std::alloc::{AllocError, AllocFailed};
+
+/// The first declaration that has no reading, counted from 1.
+#[derive(Debug, Drop)]
+pub enum ParseFault {
+    Syntax { declaration: u64 },
+    Memory,
+}
+
+impl From<Memory> for ParseFault {
+    ghost use Rattle.std.specs.Prelude.{◌≡◌};
+    ghost use Rattle.aql_parse.specs.declared.fault.ParseFault.TheVariants as faults;
+
+    ghost from_gives = { λ _ e. e ≡ faults.Memory };
+
+    fn from(_memory: Memory) -> ParseFault {
+        ParseFault::Memory
+    }
+}
+
+impl From<AllocError> for ParseFault {
+    ghost use Rattle.std.specs.Prelude.{◌≡◌};
+    ghost use Rattle.aql_parse.specs.declared.fault.ParseFault.TheVariants as faults;
+
+    ghost from_gives = { λ _ e. e ≡ faults.Memory };
+
+    fn from(_error: AllocError) -> ParseFault {
+        ParseFault::Memory
+    }
+}
+
+impl<T: Drop> From<AllocFailed<T>> for ParseFault {
+    ghost use Rattle.std.specs.Prelude.{◌≡◌};
+    ghost use Rattle.aql_parse.specs.declared.fault.ParseFault.TheVariants as faults;
+
+    ghost from_gives = { λ _ e. e ≡ faults.Memory };
+
+    fn from(_failed: AllocFailed<T>) -> ParseFault {
+        ParseFault::Memory
+    }
+}
+
+/// Why a part of a script was not read: nothing of its kind stands there, or memory was wanting.
+#[derive(Debug, Drop)]
+pub enum Refusal {
+    Syntax,
+    Memory,
+}
+
+impl From<Memory> for Refusal {
+    ghost use Rattle.std.specs.Prelude.{◌≡◌};
+    ghost use Rattle.aql_parse.specs.declared.fault.Refusal.TheVariants as refusals;
+
+    ghost from_gives = { λ _ e. e ≡ refusals.Memory };
+
+    fn from(_memory: Memory) -> Refusal {
+        Refusal::Memory
+    }
+}
+
+impl From<AllocError> for Refusal {
+    ghost use Rattle.std.specs.Prelude.{◌≡◌};
+    ghost use Rattle.aql_parse.specs.declared.fault.Refusal.TheVariants as refusals;
+
+    ghost from_gives = { λ _ e. e ≡ refusals.Memory };
+
+    fn from(_error: AllocError) -> Refusal {
+        Refusal::Memory
+    }
+}
+
+impl<T: Drop> From<AllocFailed<T>> for Refusal {
+    ghost use Rattle.std.specs.Prelude.{◌≡◌};
+    ghost use Rattle.aql_parse.specs.declared.fault.Refusal.TheVariants as refusals;
+
+    ghost from_gives = { λ _ e. e ≡ refusals.Memory };
+
+    fn from(_failed: AllocFailed<T>) -> Refusal {
+        Refusal::Memory
+    }
+}

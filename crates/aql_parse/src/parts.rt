@@ -1,0 +1,150 @@
+//! Parts of expressions that hold none, and trees with one expression or more in them.
+
+ghost use Rattle.std.specs.Prelude.{◌≡◌, IfOk, Some};
+ghost use Rattle.aql_syntax.specs.Tree as tree;
+ghost use Rattle.aql_syntax.specs.View.{tree_of, pat_of};
+ghost use Rattle.aql_lex.specs.Texts.{text_of};
+ghost use Rattle.aql_grammar.specs.Parsing as grammar;
+ghost use Rattle.aql_grammar.specs.Parsing.{binder_at, def_at, pat_at, front_of, front_at};
+ghost use Rattle.aql_parse.specs.Words.{lexemes, Gives};
+ghost use Rattle.aql_parse.specs.Forms.{front_seen};
+
+use crate::fault::Refusal;
+use crate::forms::Front;
+use crate::patterns::{name, pattern, pattern_then};
+use crate::words::{Word, expect, name_in, next};
+use aql_syntax::ast::{Expr, Pattern};
+use aql_syntax::sign::Sign;
+use aql_syntax::token::Token;
+use aql_value::{Memory, Str};
+use std::alloc::{AllocError, Global};
+
+/// A backslash, a name and that sign.
+#[tactic(auto, unfolding(aql_grammar::specs::Parsing::binder_at))]
+pub fn binder<'a>(
+    alloc: Global,
+    source: &[u8],
+    words: &'a [Word],
+    sign: Sign,
+) -> Result<(Str, &'a [Word]), Refusal>
+    ensures { Gives (λ x. (x.0, lexemes source.now x.1.now)) result (binder_at sign (lexemes source.now words.now)) }
+{
+    let rest = expect(source, words, Sign::Backslash)?;
+    let (name, rest) = name(alloc, source, rest)?;
+    let rest = expect(source, rest, sign)?;
+    Ok((name, rest))
+}
+
+/// The word `val`, a pattern and `=`.
+#[tactic(auto, unfolding(aql_grammar::specs::Parsing::def_at))]
+pub fn definition<'a>(
+    alloc: Global,
+    source: &[u8],
+    words: &'a [Word],
+    depth: u64,
+) -> Result<(Pattern, &'a [Word]), Refusal>
+    ensures { Gives (λ x. (pat_of x.0, lexemes source.now x.1.now)) result (def_at depth (lexemes source.now words.now)) }
+{
+    let rest = expect(source, words, Sign::Val)?;
+    pattern_then(alloc, source, rest, Sign::Equal, depth)
+}
+
+/// Two closing brackets.
+#[tactic(auto, unfolding(aql_grammar::specs::Parsing::closed_twice))]
+pub fn closed_twice<'a>(source: &[u8], words: &'a [Word]) -> Result<&'a [Word], Refusal>
+    ensures { Gives (λ x. lexemes source.now x.now) result (grammar.closed_twice (lexemes source.now words.now)) }
+{
+    let rest = expect(source, words, Sign::CloseBracket)?;
+    expect(source, rest, Sign::CloseBracket)
+}
+
+/// What a qualifier is before its expression. Where no generator and no match begins, it is a test.
+#[tactic(auto, unfolding(aql_grammar::specs::Parsing::front_at))]
+pub fn front<'a>(
+    alloc: Global,
+    source: &[u8],
+    words: &'a [Word],
+    depth: u64,
+) -> Result<(Front, &'a [Word]), Refusal>
+    ensures { Gives (λ x. (front_seen x.0, lexemes source.now x.1.now)) result (Some (front_at depth (lexemes source.now words.now))) }
+{
+    match pattern_front(alloc, source, words, depth) {
+        Ok((front, rest)) => Ok((front, rest)),
+        Err(Refusal::Memory) => Err(Refusal::Memory),
+        Err(Refusal::Syntax) => match cells_front(alloc, source, words, depth) {
+            Ok((front, rest)) => Ok((front, rest)),
+            Err(Refusal::Memory) => Err(Refusal::Memory),
+            Err(Refusal::Syntax) => Ok((Front::Test, words)),
+        },
+    }
+}
+
+// A pattern and `<-` or `==`.
+fn pattern_front<'a>(
+    alloc: Global,
+    source: &[u8],
+    words: &'a [Word],
+    depth: u64,
+) -> Result<(Front, &'a [Word]), Refusal>
+    ensures { Gives (λ x. (front_seen x.0, lexemes source.now x.1.now)) result (front_of (pat_at depth (lexemes source.now words.now))) }
+{
+    let (pattern, rest) = pattern(alloc, source, words, depth)?;
+    match next(rest) {
+        Some((Word::Mark(Sign::Arrow), rest)) => Ok((Front::Set(pattern), rest)),
+        Some((Word::Mark(Sign::DoubleEqual), rest)) => Ok((Front::Match(pattern), rest)),
+        _ => Err(Refusal::Syntax),
+    }
+}
+
+// A generator over an array, up to its expression.
+fn cells_front<'a>(
+    alloc: Global,
+    source: &[u8],
+    words: &'a [Word],
+    depth: u64,
+) -> Result<(Front, &'a [Word]), Refusal>
+    ensures { Gives (λ x. (front_seen x.0, lexemes source.now x.1.now)) result (grammar.cells_front depth (lexemes source.now words.now)) }
+{
+    let rest = expect(source, words, Sign::OpenBracket)?;
+    let (index, rest) = pattern(alloc, source, rest, depth)?;
+    let rest = expect(source, rest, Sign::Colon)?;
+    let (cell, rest) = pattern(alloc, source, rest, depth)?;
+    let rest = expect(source, rest, Sign::CloseBracket)?;
+    let rest = expect(source, rest, Sign::Arrow)?;
+    Ok((Front::Cells(index, cell), rest))
+}
+
+/// A choice by a test.
+pub fn choice(alloc: Global, test: Expr, first: Expr, second: Expr) -> Result<Expr, AllocError>
+    ensures { IfOk result (λ e. tree_of e ≡ tree.choice (tree_of test) (tree_of first) (tree_of second)) }
+{
+    let test = Box::new(alloc, test)?;
+    let first = Box::new(alloc, first)?;
+    let second = Box::new(alloc, second)?;
+    Ok(Expr::If(test, first, second))
+}
+
+/// The first, or else the second where the first is undefined.
+pub fn chosen_else(alloc: Global, first: Expr, second: Expr) -> Result<Expr, AllocError>
+    ensures { IfOk result (λ e. tree_of e ≡ tree.default (tree_of first) (tree_of second)) }
+{
+    let first = Box::new(alloc, first)?;
+    let second = Box::new(alloc, second)?;
+    Ok(Expr::Default(first, second))
+}
+
+/// A negation.
+pub fn negated(alloc: Global, part: Expr) -> Result<Expr, AllocError>
+    ensures { IfOk result (λ e. tree_of e ≡ tree.negation (tree_of part)) }
+{
+    Ok(Expr::Not(Box::new(alloc, part)?))
+}
+
+/// A macro applied.
+pub fn applied(alloc: Global, source: &[u8], token: Token, argument: Expr) -> Result<Expr, Memory>
+    ensures { IfOk result (λ e. tree_of e ≡ tree.apply (text_of source.now token) (tree_of argument)) }
+{
+    let name = name_in(alloc, source, token)?;
+    let argument = Box::new(alloc, argument)?;
+    Ok(Expr::Apply { name, argument })
+}

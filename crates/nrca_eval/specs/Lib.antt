@@ -1,0 +1,4 @@
+pub mod Scope
+pub mod Within
+pub mod Runs
+pub mod Parts
