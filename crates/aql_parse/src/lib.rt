@@ -13,6 +13,8 @@ mod parts;
 mod patterns;
 mod readers;
 mod scripts;
+#[cfg(test)]
+mod tests;
 mod words;
 
 pub use fault::ParseFault;

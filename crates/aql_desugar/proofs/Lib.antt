@@ -1,0 +1,5 @@
+pub mod Scoping
+pub mod Finding
+pub mod Wrapping
+pub mod Uniting
+pub mod Looping

@@ -1,0 +1,36 @@
+use Rattle.std.proofs.Common.{◌+◌, ◌-◌, ap, ◌∙◌, take, arith}
+use Rattle.aql_syntax.specs.Measured.{latest}
+use Rattle.nrca_term.specs.Equations.{term_of-Var}
+use Rattle.nrca_term.specs.View.{term_of}
+use Rattle.aql_start.specs.Start.{knowns_of}
+use Rattle.aql_desugar.specs.Names.{scope, missing_term}
+use Rattle.aql_desugar.proofs.Wrapping.{closed_kept, row_made, rest_smaller, parts_made, parts_kept}
+use Rattle.aql_desugar.proofs.matches.+wrap.Goals as goal
+
+pub close-returns-clause-kept : goal.close-returns-clause-kept
+close-returns-clause-kept t c =
+    closed_kept c.args.names.now.items c.truncate.new.self.items c.push.new.self.items c.wrap.new.names.items c.pop.new.self.items c.args.mark c.truncate.ensures.items c.in_ok-push.ensures.items
+    c.in_ok-matched.ensures.kept (c.pop.ensures.rest ∙ ap (λ n. take (n - 1) c.wrap.new.names.items) c.wrap.new.names.ok.0)
+
+pub wrap-returns-in_ok-parts-in-Row-clause-made : goal.wrap-returns-in_ok-parts-in-Row-clause-made
+wrap-returns-in_ok-parts-in-Row-clause-made t c base =
+    row_made c.args.p.now c.in-Row.ps c.deref-in-Row.result.now c.len-count.result (knowns_of (latest c.args.earlier.now)) (scope (λ x. x.now) c.args.names.now.items base) c.args.at
+    (term_of c.args.inside) (missing_term c.args.other) (term_of c.in_ok-parts-in-Row.parts) c.in-Row.is c.deref-in-Row.ensures.value (c.len-count.ensures ∙ c.in-Row.ps.items.ok.0)
+    (c.in_ok-parts-in-Row.ensures.made base)
+
+pub wrap_parts-wrap_parts-requires : goal.wrap_parts-wrap_parts-requires
+wrap_parts-wrap_parts-requires t c = (omega (arith, rest_smaller c.args.ps.now c.in-Some.rest.now c.in-Some.p.now c.in-Some.ensures.cases.0, c.decreases), tt)
+
+pub wrap_parts-returns-in_ok-bound-in-Some-clause-made : goal.wrap_parts-returns-in_ok-bound-in-Some-clause-made
+wrap_parts-returns-in_ok-bound-in-Some-clause-made t c =
+    parts_made (λ x. x.now) c.args.ps.now c.in-Some.rest.now c.in-Some.p.now (knowns_of (latest c.args.earlier.now)) c.args.names.now.items c.push.new.self.items c.enter.new.names.items c.wrap_parts.new.names.items
+    c.len-mark.result c.args.at c.in_ok-deeper-in-Some.deeper c.args.j c.args.n c.in_ok-next-in-Some.next (term_of c.args.inside) (term_of c.in_ok-inside-in-Some.inside)
+    (term_of c.in_ok-matched-in-Some.matched) (term_of c.in_ok-part-in-Some.part) (missing_term c.args.other) (term_of c.in_ok-bound-in-Some.bound) _
+    c.in-Some.ensures.cases.0 c.in_ok-push-in-Some.ensures.items c.in_ok-enter-in-Some.ensures.inside c.in_ok-enter-in-Some.ensures.around (c.len-mark.ensures ∙ c.args.names.now.ok.0)
+    (c.in_ok-deeper-in-Some.ensures ∙ ap (λ n. c.args.at + (n - c.len-mark.result)) (c.len.ensures ∙ c.enter.new.names.ok.0)) c.in_ok-next-in-Some.ensures c.in_ok-inside-in-Some.ensures.made
+    c.in_ok-inside-in-Some.ensures.kept c.in_ok-matched-in-Some.ensures.made c.in_ok-part-in-Some.ensures (term_of-Var c.args.at) c.in_ok-bound-in-Some.ensures
+
+pub wrap_parts-returns-in_ok-bound-in-Some-clause-kept : goal.wrap_parts-returns-in_ok-bound-in-Some-clause-kept
+wrap_parts-returns-in_ok-bound-in-Some-clause-kept t c =
+    parts_kept c.args.names.now.items c.push.new.self.items c.enter.new.names.items c.wrap_parts.new.names.items c.close.new.names.items c.len-mark.result c.in_ok-push-in-Some.ensures.items
+    c.in_ok-enter-in-Some.ensures.around (c.len-mark.ensures ∙ c.args.names.now.ok.0) c.in_ok-inside-in-Some.ensures.kept c.in_ok-matched-in-Some.ensures.kept

@@ -1,0 +1,9 @@
+use Rattle.std.proofs.Common.{◌/◌, refl, arith}
+use Rattle.nrca_term.specs.View.{term_of}
+use Rattle.aql_desugar.proofs.Uniting.{halves_made}
+use Rattle.aql_desugar.proofs.unions.+unite_last.Goals as goal
+
+pub returns-clause-made : goal.returns-clause-made
+returns-clause-made t c =
+    halves_made c.args.items.now.items c.unite_last.new.items.items c.args.count (c.args.count / 2) (term_of c.in_ok-left.left) (term_of c.in_ok-right.right) (term_of c.in_ok-made.made)
+    c.requires (omega arith) refl c.in_ok-right.ensures.made c.in_ok-right.ensures.left c.in_ok-left.ensures.made c.in_ok-made.ensures
