@@ -1,5 +1,5 @@
 -- Lists of local names that grow, and patterns as the code has them.
-use Rattle.std.proofs.Common.{ℕ, suc, ◌≡◌, ◌+◌, List, [], ◌∷◌, ◌++◌, refl, ap, ◌∙◌, length, take}
+use Rattle.std.proofs.Common.{suc, ◌≡◌, List, [], ◌∷◌, refl, ap, ◌∙◌, length, take}
 use Rattle.aql_types.specs.ViewLaws.{type_of_row, types_last, append_assoc_types, append_none}
 use Rattle.aql_syntax.specs.Tree.{count_pats, axes}
 use Rattle.aql_syntax.specs.View.{pat_of, pats_of}

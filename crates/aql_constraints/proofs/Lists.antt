@@ -1,6 +1,5 @@
 -- The code's lists of types, one by one.
-use Rattle.std.proofs.Common.{ℕ, zero, suc, ◌≡◌, ◌+◌, ◌<◌, ◌≤◌, ◌≢◌, List, [], ◌∷◌, ◌++◌, Option, Some, None, refl, sym, ap, ◌∙◌, arith, length, drop, get_or, add-one}
-use Rattle.std.specs.Prelude.{replicate}
+use Rattle.std.proofs.Common.{ℕ, zero, suc, ◌≡◌, ◌+◌, ◌<◌, ◌≤◌, List, [], ◌∷◌, ◌++◌, Option, Some, None, refl, ap, ◌∙◌, arith, length, drop, get_or, add-one}
 use Rattle.std.proofs.lemmas.List.{at_drop_all}
 use Rattle.std.proofs.Math.Seq.{drop-cons}
 use Rattle.aql_types.specs.Types as types
@@ -10,7 +9,7 @@ use Rattle.aql_types.specs.ViewLaws.{types_last, append_assoc_types, append_none
 use Rattle.aql_types.specs.declared.ty.Ty as code
 use Rattle.aql_syntax.specs.Typing.{field_type, field_types, record_type}
 use Rattle.aql_syntax.specs.declared.ast.Kind.{Kind}
-use Rattle.aql_constraints.specs.Constraints.{State, Made, Making, made, after, equate, equate_each, literal_parts}
+use Rattle.aql_constraints.specs.Constraints.{State, Made, after, equate, equate_each, literal_parts}
 use Rattle.aql_constraints.specs.View.{types_in}
 use Rattle.aql_constraints.specs.Rows.{numbers}
 

@@ -1,5 +1,5 @@
 -- Variables by their places, as a loop goes over them.
-use Rattle.std.proofs.Common.{ℕ, suc, ◌≡◌, ◌+◌, ◌<◌, ◌≤◌, ◌==◌, ◌||◌, Bool, true, false, List, length, drop, get_or, refl, add-one, if◌then◌else◌}
+use Rattle.std.proofs.Common.{ℕ, suc, ◌≡◌, ◌+◌, ◌<◌, ◌≤◌, ◌==◌, ◌||◌, false, List, length, drop, get_or, refl, add-one, if◌then◌else◌}
 use Rattle.std.proofs.lemmas.List.{at_drop_all}
 use Rattle.std.proofs.Math.Seq.{drop-cons}
 use Rattle.aql_constraints.specs.Numbering.{is_one_of, place}

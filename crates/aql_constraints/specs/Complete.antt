@@ -1,5 +1,5 @@
 -- Each typing of a declaration comes from a solution of what it asks.
-use Rattle.std.proofs.Common.{ℕ, ◌≡◌, ◌<◌, Bool, true, false, List, [], ◌∷◌, Option, Some, None, refl, sym, ap, ◌∙◌, subst}
+use Rattle.std.proofs.Common.{ℕ, ◌≡◌, ◌<◌, true, List, [], ◌∷◌, Option, Some, None, refl, sym, ap, ◌∙◌, subst}
 use Rattle.aql_types.specs.Types as types
 use Rattle.aql_types.specs.Types.{Ty, natural, Tys, no_type, type, Subst, apply, apply_all, IsWithin, Sort, value, macro, apply_sort}
 use Rattle.aql_types.specs.TypeLaws.{apply-apply, natural_within, truth_within, member_within, cell_within}
@@ -7,10 +7,10 @@ use Rattle.aql_syntax.specs.Tree.{Name, Pat, bind, any, equals, refers, tuple, P
 use Rattle.aql_syntax.specs.Tree as trees
 use Rattle.aql_syntax.specs.Names.{find}
 use Rattle.aql_syntax.specs.Typing.{Scope, Locals, NameHas, Takes, Fits, FitsAll, FitsAxes, with_indices, Has, HasAll, HasEach, BoundsHave, Rows, Binds, reader_type, argument_type, DeclHas}
-use Rattle.aql_constraints.specs.Constraints.{Scheme, Schemes, State, Made, Making, made, after, opened, fresh, equate, within, guard, is_rank, make_op, make_value, make_global, make_name, called, make_macro, make_call, Matched, MatchedAll, make_pat, make_pats, matched, matched_member, matched_index, matched_cell, make, make_all, make_each, make_bounds, make_rows, make_binds, reader_fits, make_decl}
-use Rattle.aql_constraints.specs.Steps.{Agrees, Later, later_later, Stays, on, Found, found_after, found_made, found_equate, found_within, found_guard, found_fresh, found_opened}
-use Rattle.aql_constraints.specs.Describes.{at, at_some, find_at, instances, SortHas, SortTakes, SchemeHas, SchemeTakes, IsClosed, SchemeClosed, Describes, IsWritten, AreWritten, AxesWritten, QualsWritten, DefsWritten, DeclWritten}
-use Rattle.aql_constraints.specs.Operations.{IsTy, IsEach, EachWithin, op_found, op_parts, true_rank, index_apply}
+use Rattle.aql_constraints.specs.Constraints.{Scheme, Schemes, State, is_rank, make_value, make_global, make_name, make_macro, make_call, Matched, MatchedAll, make_pat, make_pats, matched, matched_member, matched_index, matched_cell, make, make_all, make_each, make_bounds, make_rows, make_binds, reader_fits, make_decl}
+use Rattle.aql_constraints.specs.Steps.{Agrees, later_later, Stays, on, Found, found_after, found_made, found_equate, found_within, found_guard, found_fresh, found_opened}
+use Rattle.aql_constraints.specs.Describes.{at, at_some, find_at, SortHas, SortTakes, SchemeHas, SchemeTakes, IsClosed, SchemeClosed, Describes, IsWritten, AreWritten, AxesWritten, QualsWritten, DefsWritten, DeclWritten}
+use Rattle.aql_constraints.specs.Operations.{IsTy, IsEach, EachWithin, op_found, op_parts, true_rank}
 use Rattle.aql_constraints.specs.Sound.{constant_apply, indices_at, reader_apply, argument_apply}
 
 abbrev pub AreTys : Tys → Subst → Tys → Type 0

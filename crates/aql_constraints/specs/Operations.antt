@@ -1,5 +1,5 @@
 -- The types of operations: by what is asked of their parts, and as the table has them.
-use Rattle.std.proofs.Common.{ℕ, zero, suc, ◌≡◌, ◌+◌, ◌<◌, ◌≤◌, ◌&&◌, Bool, true, false, List, [], ◌∷◌, ◌++◌, length, Option, Some, None, refl, sym, ap, ◌∙◌, arith, subst}
+use Rattle.std.proofs.Common.{ℕ, zero, suc, ◌≡◌, ◌&&◌, Bool, true, false, List, [], ◌∷◌, ◌++◌, length, refl, sym, ap, ◌∙◌, arith, subst}
 use Rattle.std.specs.Prelude.{replicate, nat_le}
 use Rattle.std.proofs.Math.Dec.{leb}
 use Rattle.std.proofs.lemmas.Bool.{leb-true, le-leb}
@@ -7,11 +7,10 @@ use Rattle.aql_value.specs.Strict.{Strict}
 use Rattle.aql_types.specs.Types as types
 use Rattle.aql_types.specs.Types.{Ty, natural, Tys, no_type, type, Subst, apply, apply_all, IsRank, IsWithin, tys_of, index_type}
 use Rattle.aql_types.specs.OperationTypes.{strict_rule}
-use Rattle.aql_types.specs.TypeLaws.{natural_within, truth_within, text_within, member_within, cell_within, PartsWithin, parts_within, first_within, rest_within}
-use Rattle.aql_types.specs.TypeLaws as laws
+use Rattle.aql_types.specs.TypeLaws.{natural_within, member_within, cell_within, PartsWithin, parts_within, first_within, rest_within}
 use Rattle.aql_syntax.specs.Typing.{OperandWithin, FirstWithin}
-use Rattle.aql_constraints.specs.Constraints.{State, Made, Making, made, after, fresh, equate, within, guard, is_rank, equate_each, with_none, with_one, with_two, with_first, literal_parts, pair_type, made_arith, made_compare, made_empty, made_single, made_union, made_gen, made_get, made_sub, made_dim, made_index, made_literal, made_tuple, make_op}
-use Rattle.aql_constraints.specs.Steps.{Sound, sound_after, sound_made, sound_none, weaker, sound_fresh, sound_equate, sound_within, sound_guard, Agrees, Later, later_later, Stays, on, Found, found_after, found_made, found_equate, found_within, found_guard, found_fresh}
+use Rattle.aql_constraints.specs.Constraints.{State, Making, made, fresh, is_rank, equate_each, with_none, with_one, with_two, with_first, literal_parts, pair_type, made_arith, made_compare, made_empty, made_single, made_union, made_gen, made_get, made_sub, made_dim, made_index, make_op}
+use Rattle.aql_constraints.specs.Steps.{Sound, sound_after, sound_made, sound_none, weaker, sound_fresh, sound_equate, sound_within, sound_guard, Agrees, later_later, Stays, on, Found, found_after, found_made, found_equate, found_within, found_guard, found_fresh}
 use Rattle.aql_constraints.specs.Describes.{instances, IsForm}
 
 -- Ranks, indices and lists.

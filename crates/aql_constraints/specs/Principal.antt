@@ -1,13 +1,13 @@
 -- A most general solution of what a declaration asks gives its principal sort, whatever the names of its variables.
-use Rattle.std.proofs.Common.{ℕ, ◌≡◌, ◌<◌, ◌++◌, Bool, true, false, List, [], ◌∷◌, Option, Some, None, refl, sym, ap, ◌∙◌, subst, if◌then◌else◌, length}
+use Rattle.std.proofs.Common.{ℕ, ◌≡◌, ◌<◌, Bool, true, false, [], ◌∷◌, Option, Some, None, refl, sym, ap, ◌∙◌, subst, if◌then◌else◌, length}
 use Rattle.aql_types.specs.Types.{Ty, var, Tys, no_type, type, Subst, apply, IsWithin, Sort, value, macro, apply_sort}
-use Rattle.aql_types.specs.Unifiers.{Equations, AllUnify, AllWithin, SidesWithin, IsSolution, IsBest}
+use Rattle.aql_types.specs.Unifiers.{Equations, AllUnify, AllWithin, IsSolution, IsBest}
 use Rattle.aql_types.specs.TypeLaws.{apply-apply, apply_same, apply_sort-apply}
 use Rattle.aql_syntax.specs.Tree.{Name, Declaration, declared}
 use Rattle.aql_syntax.specs.Names.{names_equal, find}
 use Rattle.aql_syntax.specs.Typing.{Scope, DeclHas, Gives, if_name, extended, scope_of, IsPrincipal}
-use Rattle.aql_constraints.specs.Constraints.{Scheme, Schemes, State, start, Made, make_decl}
-use Rattle.aql_constraints.specs.Steps.{Meets, Alive, SoundIn, FoundIn, Kept}
+use Rattle.aql_constraints.specs.Constraints.{Scheme, Schemes, start, Made, make_decl}
+use Rattle.aql_constraints.specs.Steps.{Alive, SoundIn, FoundIn, Kept}
 use Rattle.aql_constraints.specs.Describes.{SortHas, SortTakes, SchemeHas, SchemeTakes, IsClosed, SchemeClosed, Describes, DeclWritten}
 use Rattle.aql_constraints.specs.Sound.{decl_sound}
 use Rattle.aql_constraints.specs.Complete.{IsSort, decl_found, macros, value_is, left_is, right_is}

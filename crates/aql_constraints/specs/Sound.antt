@@ -1,5 +1,5 @@
 -- Whatever solves what a declaration asks gives it a typing.
-use Rattle.std.proofs.Common.{ℕ, ◌≡◌, ◌<◌, Bool, true, false, List, [], ◌∷◌, Option, Some, None, refl, sym, ap, ◌∙◌, subst}
+use Rattle.std.proofs.Common.{ℕ, ◌≡◌, List, [], ◌∷◌, Option, Some, None, refl, sym, ap, ◌∙◌, subst}
 use Rattle.aql_types.specs.Types as types
 use Rattle.aql_types.specs.Types.{Ty, natural, Tys, no_type, type, Subst, apply, apply_all, index_type, IsRank, IsWithin, Sort, value, macro, apply_sort}
 use Rattle.aql_types.specs.TypeLaws.{apply-apply}
@@ -9,7 +9,7 @@ use Rattle.aql_syntax.specs.Names.{find}
 use Rattle.aql_syntax.specs.Typing.{Scope, Locals, NameHas, Takes, constant_type, Fits, FitsAll, FitsAxes, with_indices, Has, HasAll, HasEach, BoundsHave, Rows, Binds, field_type, field_types, record_type, reader_type, argument_type, DeclHas}
 use Rattle.aql_syntax.specs.declared.ast.Kind.{Kind}
 use Rattle.aql_syntax.specs.declared.ast.Kind.TheVariants as kinds
-use Rattle.aql_constraints.specs.Constraints.{Scheme, Schemes, State, Made, Making, made, after, opened, fresh, equate, within, guard, is_rank, make_op, make_value, make_global, make_name, called, make_macro, make_call, Matched, MatchedAll, make_pat, make_pats, matched, matched_member, matched_index, matched_cell, make, make_all, make_each, make_bounds, make_rows, make_binds, reader_fits, make_decl}
+use Rattle.aql_constraints.specs.Constraints.{Scheme, Schemes, State, is_rank, make_value, make_global, make_name, make_macro, make_call, make_pat, make_pats, matched, matched_member, matched_index, matched_cell, make, make_all, make_each, make_bounds, make_rows, make_binds, reader_fits, make_decl}
 use Rattle.aql_constraints.specs.Steps.{Sound, sound_after, sound_made, sound_none, weaker, sound_fresh, sound_opened, sound_equate, sound_within, sound_guard}
 use Rattle.aql_constraints.specs.Describes.{at, at_some, find_at, instances, SortHas, SortTakes, SchemeHas, SchemeTakes, Describes}
 use Rattle.aql_constraints.specs.Operations.{op_sound, rank_true, index_apply}

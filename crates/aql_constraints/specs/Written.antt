@@ -1,5 +1,4 @@
 -- What the code's trees are is written: no tuple's part is taken by its number.
-use Rattle.std.proofs.Common.{ℕ, List, [], ◌∷◌}
 use Rattle.aql_syntax.specs.Tree as tree
 use Rattle.aql_syntax.specs.Tree.{Trees, no_tree, Quals, append}
 use Rattle.aql_syntax.specs.View.{tree_of, tree_row, qual_row, qual_of, axes_of, axis_row, defs_of, def_row, decl_of}

@@ -113,15 +113,20 @@ fn faults_are_named(rt: HostRuntime) -> Result<(), Fail> {
 #[test]
 fn brackets_nest_to_the_scans_limit(rt: HostRuntime) -> Result<(), Fail> {
     let alloc = rt.alloc();
-    let rows: [(u64, &str); 2] = [(400, "1"), (401, "deep 400")];
-    for (times, expected) in rows {
+    let rows: [(u64, &[u8], &[u8], &str); 4] = [
+        (400, b"(", b")", "1"),
+        (401, b"(", b")", "deep 400"),
+        (400, b"{1|", b"}", "1"),
+        (400, b"a[", b"]", "1"),
+    ];
+    for (times, before, after, expected) in rows {
         let mut source = Vec::new(alloc);
         for _ in 0..times {
-            source.push(b'(')?;
+            source.extend_from_slice(before)?;
         }
         source.push(b'1')?;
         for _ in 0..times {
-            source.push(b')')?;
+            source.extend_from_slice(after)?;
         }
         source.push(b';')?;
         assert_eq!(rt; seen(alloc, &source)?.as_str(), expected);

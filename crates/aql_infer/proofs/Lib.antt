@@ -1,0 +1,3 @@
+pub mod Inferring
+pub mod Progress
+pub mod Walking

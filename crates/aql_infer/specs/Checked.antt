@@ -1,0 +1,63 @@
+-- What `check` answers.
+use Rattle.std.specs.Prelude.{ℕ, zero, suc, List, [], ◌∷◌, Result, Ok, Err, Vec}
+use Rattle.std.specs.Global.{Global}
+use Rattle.aql_types.specs.Types.{Sort}
+use Rattle.aql_types.specs.View.{sort_of}
+use Rattle.aql_types.specs.declared.ty.Scheme as code_scheme
+use Rattle.aql_syntax.specs.Tree.{Declaration}
+use Rattle.aql_syntax.specs.Typing.{DeclHas, scope_of, IsPrincipal}
+use Rattle.aql_constraints.specs.Numbering.{IsNumbered}
+use Rattle.aql_constraints.specs.declared.names.Position.{Position}
+use Rattle.aql_infer.specs.declared.check.Typed.{Typed}
+use Rattle.aql_infer.specs.declared.fault.TypeFault.{TypeFault}
+use Rattle.aql_infer.specs.declared.fault.TypeFault.TheVariants as faults
+
+-- the sorts that the schemes of a list are
+abbrev pub sorts_of : List code_scheme.Scheme → List Sort
+sorts_of [] = []
+sorts_of (s ∷ ss) = sort_of s ∷ sorts_of ss
+
+-- declarations behind others, the latest first
+abbrev pub behind : List Declaration → List Declaration → List Declaration
+behind [] earlier = earlier
+behind (d ∷ ds) earlier = behind ds (d ∷ earlier)
+
+-- principal over the positions before it, the latest first, with its variables numbered by first appearance
+pub record IsPrincipalScheme (d : Declaration) (earlier : List Declaration) (s : Sort) : Type 0 where
+  pub principal : IsPrincipal d (scope_of earlier) s
+  pub numbered : IsNumbered s
+
+-- as many sorts as declarations, each principal for its own over the positions before it
+abbrev pub ArePrincipal : List Declaration → List Declaration → List Sort → Type 0
+ArePrincipal earlier [] [] = Unit {0}
+ArePrincipal earlier [] (s ∷ ss) = ⊥
+ArePrincipal earlier (d ∷ ds) [] = ⊥
+ArePrincipal earlier (d ∷ ds) (s ∷ ss) = IsPrincipalScheme d earlier s × ArePrincipal (d ∷ earlier) ds ss
+
+-- no sort
+abbrev pub HasNoSort : Declaration → List Declaration → Type 0
+HasNoSort d earlier = (s : Sort) → DeclHas d (scope_of earlier) s → ⊥
+
+-- declaration n, counted from 1, has no typing, and each before it has one
+abbrev pub IsFirstUntyped : List Declaration → List Declaration → ℕ → Type 0
+IsFirstUntyped earlier [] n = ⊥
+IsFirstUntyped earlier (d ∷ ds) zero = ⊥
+IsFirstUntyped earlier (d ∷ ds) (suc zero) = HasNoSort d earlier
+IsFirstUntyped earlier (d ∷ ds) (suc (suc k)) = ((s : Sort) × DeclHas d (scope_of earlier) s) × IsFirstUntyped (d ∷ earlier) ds (suc k)
+
+-- a principal scheme a position, or the first position that has no typing
+abbrev pub IsChecked : Result Typed TypeFault → List Declaration → Type 0
+IsChecked (Ok typed) ds = ArePrincipal [] ds (sorts_of typed.items.items)
+IsChecked (Err (faults.NoType n)) ds = IsFirstUntyped [] ds n
+IsChecked (Err faults.Memory) ds = Unit {0}
+
+-- the sorts of positions
+abbrev pub found_sorts : List Position → List Sort
+found_sorts [] = []
+found_sorts (p ∷ ps) = sort_of p.scheme ∷ found_sorts ps
+
+-- the same of positions
+abbrev pub AllFound : Result (Vec Position Global) TypeFault → List Declaration → Type 0
+AllFound (Ok found) ds = ArePrincipal [] ds (found_sorts found.items)
+AllFound (Err (faults.NoType n)) ds = IsFirstUntyped [] ds n
+AllFound (Err faults.Memory) ds = Unit {0}

@@ -1,0 +1,3 @@
+pub mod Checked
+pub mod Inferred
+pub mod Pairs

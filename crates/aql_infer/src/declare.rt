@@ -1,0 +1,175 @@
+//! One declaration after others.
+
+ghost use Rattle.std.specs.Prelude.{◌≡◌, [], IfOk};
+ghost use Rattle.aql_types.specs.View.{sort_of};
+ghost use Rattle.aql_syntax.specs.Tree as tree;
+ghost use Rattle.aql_syntax.specs.Tree.{declared};
+ghost use Rattle.aql_syntax.specs.View.{tree_of, decl_of, reader_of, pat_of};
+ghost use Rattle.aql_constraints.specs.Constraints.{start, make_decl};
+ghost use Rattle.aql_constraints.specs.View.{state_of, schemes_of, Makes};
+ghost use Rattle.aql_infer.specs.Inferred.{Inferred};
+
+use crate::walk::infer;
+use aql_constraints::fault::NoTyping;
+use aql_constraints::names::Position;
+use aql_constraints::numbering::{instance_of, scheme_variables, with_places};
+use aql_constraints::patterns::pattern;
+use aql_constraints::readers::{argument_type, has_rank, reader_type};
+use aql_constraints::store::{Store, equal_types, tested, used};
+use aql_syntax::ast::{Decl, Expr, Pattern, Reader};
+use aql_types::fault::UnifyFault;
+use aql_types::solve::solve;
+use aql_types::ty::Scheme;
+use aql_value::{Memory, Str};
+use std::alloc::Global;
+
+/// What a declaration has over what the earlier positions have: its principal scheme, with its
+/// variables numbered by first appearance. NoType exactly where it has no typing.
+pub fn infer_declaration(
+    alloc: Global,
+    d: &Decl,
+    positions: &[Position],
+) -> Result<Position, NoTyping>
+    ensures { Inferred result (decl_of d.now) (schemes_of positions.now) }
+{
+    let (scheme, s) = asked(alloc, d, positions, begin(alloc))?;
+    let Store {
+        equations,
+        uses,
+        next: _,
+    } = s;
+    match solve(alloc, equations, uses) {
+        Ok(solution) => {
+            let scheme = instance_of(alloc, &solution, &scheme)?;
+            let names = scheme_variables(alloc, &scheme)?;
+            let scheme = with_places(alloc, &scheme, &names)?;
+            let name = declared_name(alloc, d)?;
+            Ok(Position {
+                name,
+                scheme,
+                variables: names.len() as u64,
+            })
+        }
+        Err(UnifyFault::Clash) => Err(NoTyping::NoType),
+        Err(UnifyFault::Memory) => Err(NoTyping::Memory),
+    }
+}
+
+fn begin(alloc: Global) -> Store
+    ensures { state_of result ≡ start }
+{
+    Store {
+        equations: Vec::new(alloc),
+        uses: Vec::new(alloc),
+        next: 0,
+    }
+}
+
+// The name that a declaration binds.
+fn declared_name(alloc: Global, d: &Decl) -> Result<Str, Memory>
+    ensures { IfOk result (λ x. x ≡ declared (decl_of d.now)) }
+{
+    match d {
+        Decl::Val { name, expr: _ } => name.copy(alloc),
+        Decl::Macro {
+            name,
+            pattern: _,
+            body: _,
+        } => name.copy(alloc),
+        Decl::Read {
+            name,
+            reader: _,
+            expr: _,
+        } => name.copy(alloc),
+        Decl::Bare { expr: _ } => {
+            let mut bytes = Vec::new(alloc);
+            bytes.extend_from_slice(b"it")?;
+            Ok(Str { bytes })
+        }
+    }
+}
+
+// What a declaration asks, and what it has then.
+fn asked(
+    alloc: Global,
+    d: &Decl,
+    positions: &[Position],
+    s: Store,
+) -> Result<(Scheme, Store), NoTyping>
+    ensures { Makes (λ r. record { result = sort_of r.0; state = state_of r.1 }) result (make_decl (decl_of d.now) (schemes_of positions.now) (state_of s)) }
+{
+    match d {
+        Decl::Val { name: _, expr } => asked_of_value(alloc, expr, positions, s),
+        Decl::Macro {
+            name: _,
+            pattern,
+            body,
+        } => asked_of_macro(alloc, pattern, body, positions, s),
+        Decl::Read {
+            name: _,
+            reader,
+            expr,
+        } => asked_of_reader(alloc, reader, expr, positions, s),
+        Decl::Bare { expr } => asked_of_value(alloc, expr, positions, s),
+    }
+}
+
+#[tactic(auto, unfolding(aql_constraints::specs::Constraints::after))]
+fn asked_of_value(
+    alloc: Global,
+    e: &Expr,
+    positions: &[Position],
+    s: Store,
+) -> Result<(Scheme, Store), NoTyping>
+    ensures { Makes (λ r. record { result = sort_of r.0; state = state_of r.1 }) result (make_decl (tree.bare (tree_of e.now)) (schemes_of positions.now) (state_of s)) }
+{
+    let mut env = Vec::new(alloc);
+    let (t, s) = infer(alloc, e, u64::MAX, positions, &mut env, s)?;
+    let s = used(alloc, &t, s)?;
+    Ok((Scheme::Value(t), s))
+}
+
+#[tactic(auto, unfolding(aql_constraints::specs::Constraints::after))]
+fn asked_of_macro(
+    alloc: Global,
+    p: &Pattern,
+    body: &Expr,
+    positions: &[Position],
+    s: Store,
+) -> Result<(Scheme, Store), NoTyping>
+    ensures { Makes (λ r. record { result = sort_of r.0; state = state_of r.1 }) result (make_decl (tree.mac [] (pat_of p.now) (tree_of body.now)) (schemes_of positions.now) (state_of s)) }
+{
+    let mut env = Vec::new(alloc);
+    let (a, s) = pattern(alloc, p, positions, &mut env, s)?;
+    let (b, s) = infer(alloc, body, u64::MAX, positions, &mut env, s)?;
+    let s = used(alloc, &a, s)?;
+    let s = used(alloc, &b, s)?;
+    Ok((
+        Scheme::Macro {
+            argument: a,
+            result: b,
+        },
+        s,
+    ))
+}
+
+#[tactic(auto, unfolding(aql_constraints::specs::Constraints::after))]
+fn asked_of_reader(
+    alloc: Global,
+    reader: &Reader,
+    e: &Expr,
+    positions: &[Position],
+    s: Store,
+) -> Result<(Scheme, Store), NoTyping>
+    ensures { Makes (λ r. record { result = sort_of r.0; state = state_of r.1 }) result (make_decl (tree.read [] (reader_of reader.now) (tree_of e.now)) (schemes_of positions.now) (state_of s)) }
+{
+    let s = tested(has_rank(reader), s)?;
+    let mut env = Vec::new(alloc);
+    let (t, s) = infer(alloc, e, u64::MAX, positions, &mut env, s)?;
+    let argument = argument_type(alloc, reader)?;
+    let s = equal_types(alloc, &t, &argument, s)?;
+    let s = used(alloc, &argument, s)?;
+    let given = reader_type(alloc, reader)?;
+    let s = used(alloc, &given, s)?;
+    Ok((Scheme::Value(given), s))
+}

@@ -1,0 +1,13 @@
+//! Type inference: the principal type of each declaration, or the first that has no typing.
+//!
+//! `check` is the one call of the layers above. `walk` writes what an expression asks of types,
+//! `declare` solves it for one declaration, and `check` goes over all of them. Why this is right is
+//! said by the laws of `aql_constraints`.
+//!
+//! Read `specs/Checked`, then `check.rt`, `declare.rt`, `walk.rt`.
+#![tactic(auto)]
+
+pub mod check;
+pub mod declare;
+pub mod fault;
+pub mod walk;

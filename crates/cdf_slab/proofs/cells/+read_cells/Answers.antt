@@ -1,0 +1,50 @@
+use Rattle.std.proofs.Common.{◌≡◌, ◌+◌, ap, sym, subst, ◌∙◌, arith, length, map}
+use Rattle.std.specs.Prelude.{IfOk}
+use Rattle.aql_outside.specs.Contents.{bytes_in}
+use Rattle.cdf_slab.specs.Numbers.{number_at}
+use Rattle.cdf_slab.specs.Walk.{steps_of, walk}
+use Rattle.cdf_slab.specs.Going.{Goes}
+use Rattle.cdf_slab.specs.Window.{IsPiece}
+use Rattle.cdf_slab.proofs.Blocks.{read_next, read_fails, read_done, count_next, count_done, none_is}
+use Rattle.cdf_slab.proofs.cells.+read_cells.Goals as goal
+
+pub returns-in-empty-clause-told : goal.returns-in-empty-clause-told
+returns-in-empty-clause-told t g c = λ bytes there le p.
+    subst (λ l. Goes c.args.reading.signed (map (number_at bytes c.args.reading.kind) (walk (steps_of l) c.args.base)) c.args.cells c.read_cell.result × IfOk c.read_cell.result (λ x. IsPiece bytes c.read_cell.new.window))
+    (sym (none_is c.args.axes.now c.in-empty.len_below)) (c.read_cell.ensures.told bytes there le p)
+
+pub returns-in-empty-clause-many : goal.returns-in-empty-clause-many
+returns-in-empty-clause-many t g c =
+    subst (λ l. IfOk c.read_cell.result (λ all. length all ≡ length c.args.cells + length (walk (steps_of l) c.args.base))) (sym (none_is c.args.axes.now c.in-empty.len_below)) c.read_cell.ensures.many
+
+pub cells-preserved : goal.cells-preserved
+cells-preserved t g c =
+    let s = c.place_along-here.ensures.turn in
+    record {
+      size = c.cells.invariant.size;
+      is = c.cells.invariant.is;
+      small = c.cells.invariant.small;
+      room = s.next;
+      many = count_next _ _ _ _ _ _ _ _ _ _ _ c.cells.invariant.many s c.cells-test.true c.in-Ok.ensures.many;
+      kept = c.in-Ok.ensures.kept ∙ c.cells.invariant.kept;
+      later = omega (arith, c.cells.invariant.later, c.in-Ok.ensures.later);
+      told = λ bytes there le p.
+          let old = c.cells.invariant.told bytes there le p in
+          let r = c.in-Ok.ensures.told bytes (ap (λ h. bytes_in h c.args.name.now) c.cells.invariant.kept ∙ there) le old.0 in
+          (r.1, read_next _ _ _ _ _ _ _ _ _ _ _ _ _ _ old.1 s c.cells-test.true r.0);
+    }
+
+pub returns-in-Err-clause-told : goal.returns-in-Err-clause-told
+returns-in-Err-clause-told t g c = λ bytes there le p.
+    let s = c.place_along-here.ensures.turn in
+    let old = c.cells.invariant.told bytes there le p in
+    let r = c.in-Err.ensures.told bytes (ap (λ h. bytes_in h c.args.name.now) c.cells.invariant.kept ∙ there) le old.0 in
+    (read_fails _ _ _ _ _ _ _ _ _ _ _ _ _ _ old.1 s c.cells-test.true r.0, tt)
+
+pub returns-after-cells-clause-told : goal.returns-after-cells-clause-told
+returns-after-cells-clause-told t g c = λ bytes there le p.
+    let old = c.cells.invariant.told bytes there le p in
+    (read_done _ _ _ _ _ _ _ _ _ _ old.1 c.cells-test.false, old.0)
+
+pub returns-after-cells-clause-many : goal.returns-after-cells-clause-many
+returns-after-cells-clause-many t g c = count_done _ _ _ _ _ _ _ c.cells.invariant.many c.cells-test.false

@@ -1,0 +1,25 @@
+use Rattle.std.proofs.Common.{length, ◌≡◌, ◌≤◌, ◌<◌, ◌^◌, ◌⊎◌, List, ℕ, Some, map}
+use Rattle.aql_outside.specs.Contents.{bytes_in}
+use Rattle.cdf_header.specs.Format.{type_size}
+use Rattle.cdf_slab.specs.Numbers.{number_at}
+use Rattle.cdf_slab.specs.Walk.{step_of, steps_of, walk, RoomSoFar}
+use Rattle.cdf_slab.specs.Window.{IsPiece}
+use Rattle.cdf_slab.proofs.Blocks.{ReadSoFar, CountSoFar}
+use Rattle.cdf_slab.proofs.cells.+read_cells.Given as goal
+
+abbrev pub decreases-read_cells : goal.decreases-read_cells
+decreases-read_cells g l = length l.axes.now
+
+abbrev pub invariant-cells : goal.invariant-cells
+invariant-cells g l = record {
+  size : (l.reading.size ≡ 1) ⊎ ((l.reading.size ≡ 2) ⊎ ((l.reading.size ≡ 4) ⊎ (l.reading.size ≡ 8)));
+  is : l.reading.size ≡ type_size l.reading.kind;
+  small : l.reading.end < 2 ^ 64;
+  room : RoomSoFar (steps_of l.rest) (step_of l.a) l.base l.i l.reading.size l.reading.end;
+  many : CountSoFar (steps_of l.rest) (step_of l.a) l.base l.i (length l.all) (length l.fn.cells) (length (walk (steps_of l.axes) l.base));
+  kept : g.F.Files.holds l.files ≡ g.F.Files.holds l.fn.files;
+  later : g.F.Files.faults l.fn.files ≤ g.F.Files.faults l.files;
+  told : (bytes : List ℕ) → bytes_in (g.F.Files.holds l.fn.files) l.name ≡ Some bytes → l.reading.end ≤ length bytes → IsPiece bytes l.fn.window →
+      IsPiece bytes l.window
+      × ReadSoFar l.reading.signed bytes l.reading.kind (steps_of l.rest) (step_of l.a) l.base l.i (map (number_at bytes l.reading.kind) (walk (steps_of l.axes) l.base)) l.all l.fn.cells;
+}

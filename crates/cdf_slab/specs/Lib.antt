@@ -1,0 +1,5 @@
+pub mod Numbers
+pub mod Slab
+pub mod Walk
+pub mod Window
+pub mod Going

@@ -1,0 +1,62 @@
+-- The offsets of the cells, dimension after dimension.
+use Rattle.std.specs.Prelude.{◌≡◌, ℕ, ◌+◌, ◌-◌, ◌*◌, ◌^◌, ◌≤◌, min, cond, nat_lt, List, [], ◌∷◌, map, Option, Some, None}
+use Rattle.std.specs.List.{flat_map, range_with_len}
+use Rattle.cdf_slab.specs.declared.axes.Axis.{Axis}
+
+-- one dimension of a hyperslab: where it starts, how many, how far apart, and the bytes from one index to the next
+pub record Step : Type 0 where
+  pub start : ℕ
+  pub count : ℕ
+  pub stride : ℕ
+  pub weight : ℕ
+
+abbrev pub step_of : Axis → Step
+step_of a = record { start = a.start; count = a.count; stride = a.stride; weight = a.weight }
+
+abbrev pub steps_of : List Axis → List Step
+steps_of axes = map step_of axes
+
+-- the steps of these lists
+abbrev pub steps : (start count stride weights : List ℕ) → List Step
+steps (s ∷ ss) (c ∷ cs) (t ∷ ts) (w ∷ ws) = record { start = s; count = c; stride = t; weight = w } ∷ steps ss cs ts ws
+steps ss cs ts ws = []
+
+-- the offset of index i of a dimension
+abbrev pub along : Step → ℕ → ℕ → ℕ
+along a base i = base + (a.start + i * a.stride) * a.weight
+
+-- the offsets of the cells from a base on
+abbrev pub walk : List Step → ℕ → List ℕ
+walk [] base = base ∷ []
+walk (a ∷ axes) base = flat_map (λ i. walk axes (along a base i)) (range_with_len 0 a.count)
+
+-- each has room for a number of so many bytes before the end
+abbrev pub AreWithin : (size end : ℕ) → List ℕ → Type 0
+AreWithin size end [] = Unit {0}
+AreWithin size end (p ∷ ps) = (p + size ≤ end) × AreWithin size end ps
+
+-- each that is larger than 2^128-1 as that number
+abbrev pub capped : List ℕ → List ℕ
+capped ps = map (λ p. min p (2 ^ 128 - 1)) ps
+
+-- weights of at most 2^128-1
+abbrev pub capped_weights : List ℕ → List ℕ
+capped_weights ws = map (λ w. min w (2 ^ 128 - 1)) ws
+
+-- the first place whose number passes the end
+abbrev pub first_past : (size end : ℕ) → List ℕ → Option ℕ
+first_past size end [] = None
+first_past size end (p ∷ ps) = cond (nat_lt end (p + size)) (Some p) (first_past size end ps)
+
+-- the places at the index i of the first dimension and behind it
+abbrev pub places_left : (rest : List Step) (a : Step) (base i : ℕ) → List ℕ
+places_left rest a base i = flat_map (λ j. walk rest (along a base j)) (range_with_len i (a.count - i))
+
+-- these have room
+pub record RoomSoFar (rest : List Step) (a : Step) (base i size end : ℕ) : Type 0 where
+  pub within : AreWithin size end (places_left rest a base i)
+
+-- `here` is the place of index i, and those behind it have room
+pub record Turn (rest : List Step) (a : Step) (base i size end here : ℕ) : Type 0 where
+  pub same : walk rest here ≡ walk rest (along a base i)
+  pub next : RoomSoFar rest a base (i + 1) size end

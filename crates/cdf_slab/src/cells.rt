@@ -1,0 +1,125 @@
+//! The cells of a hyperslab, dimension after dimension.
+
+ghost use Rattle.std.specs.Prelude.{◌≡◌, ◌+◌, ◌^◌, ◌≤◌, ◌<◌, ◌⊎◌, List, ℕ, Some, [], ◌∷◌, length, map, IfOk, IsErrOf};
+ghost use Rattle.aql_outside.specs.Causes.{Rose};
+ghost use Rattle.aql_outside.specs.Contents.{bytes_in};
+ghost use Rattle.cdf_header.specs.Format.{type_size};
+ghost use Rattle.cdf_slab.specs.Going.{Goes};
+ghost use Rattle.cdf_slab.specs.Numbers.{number_of, number_at};
+ghost use Rattle.cdf_slab.specs.Walk.{step_of, steps_of, walk, AreWithin, RoomSoFar, Turn};
+ghost use Rattle.cdf_slab.specs.Window.{IsPiece};
+
+use crate::axes::Axis;
+use crate::numbers::number;
+use crate::window::{Window, number_in};
+use aql_outside::Files;
+use cdf_header::CdfFault;
+use nrca_array::Builder;
+use std::alloc::Global;
+
+/// What is read: numbers of a type and so many bytes, before an end; as pairs of whether they are
+/// below 0 and how far from 0, or as naturals.
+#[derive(Clone, Copy, Debug, PartialEq, Eq)]
+pub(crate) struct Reading {
+    pub kind: u32,
+    pub size: u64,
+    pub signed: bool,
+    pub end: u64,
+}
+
+// One cell more, of a number as its bytes spell it.
+fn push_number(alloc: Global, reading: Reading, x: u64, cells: Builder) -> Result<Builder, CdfFault>
+    ensures goes { Goes reading.signed (number_of reading.kind x ∷ []) cells result }
+    ensures many { IfOk result (λ all. length all ≡ length cells + 1) }
+    ensures own { IsErrOf result CdfFault.Device → ⊥ }
+{
+    let (below, far) = number(reading.kind, x);
+    if reading.signed {
+        return Ok(cells.push_pair(alloc, below, u128::from(far))?);
+    }
+    if below {
+        return Err(CdfFault::Negative {
+            cell: cells.len() as u64,
+        });
+    }
+    Ok(cells.push_natural(alloc, u128::from(far))?)
+}
+
+// One cell more, of the number at an offset.
+fn read_cell<F: Files>(
+    alloc: Global,
+    files: &mut F,
+    name: &str,
+    window: &mut Window,
+    reading: Reading,
+    place: u64,
+    cells: Builder,
+) -> Result<Builder, CdfFault>
+    requires size { (reading.size ≡ 1) ⊎ ((reading.size ≡ 2) ⊎ ((reading.size ≡ 4) ⊎ (reading.size ≡ 8))) }
+    requires is { reading.size ≡ type_size reading.kind }
+    requires within { place + reading.size ≤ reading.end }
+    ensures kept { F.holds files.new ≡ F.holds files.old }
+    ensures later { F.faults files.old ≤ F.faults files.new }
+    ensures failed { IsErrOf result CdfFault.Device → Rose (F.faults files.old) (F.faults files.new) }
+    ensures many { IfOk result (λ all. length all ≡ length cells + 1) }
+    ensures told { (bytes : List ℕ) → bytes_in (F.holds files.old) name.now ≡ Some bytes → reading.end ≤ length bytes → IsPiece bytes window.old
+        → Goes reading.signed (number_at bytes reading.kind place ∷ []) cells result × IfOk result (λ _. IsPiece bytes window.new) }
+{
+    match number_in(alloc, files, name, window, reading.end, place, reading.size) {
+        Ok(x) => push_number(alloc, reading, x, cells),
+        Err(fault) => Err(fault),
+    }
+}
+
+// The place of an index of a dimension, where those behind it have room.
+fn place_along(a: Axis, rest: &[Axis], base: u128, i: u64, reading: Reading) -> u128
+    requires room { RoomSoFar (steps_of rest.now) (step_of a) base i reading.size reading.end }
+    requires below { i < a.count }
+    requires small { reading.end < 2 ^ 64 }
+    ensures turn { Turn (steps_of rest.now) (step_of a) base i reading.size reading.end result }
+    ensures within { AreWithin reading.size reading.end (walk (steps_of rest.now) result) }
+{
+    let index = u128::from(i)
+        .saturating_mul(a.stride)
+        .saturating_add(a.start);
+    index.saturating_mul(a.weight).saturating_add(base)
+}
+
+/// The cells at the places that the dimensions lead to from a base, behind those so far. Each place
+/// has room for a number before the end.
+pub(crate) fn read_cells<F: Files>(
+    alloc: Global,
+    files: &mut F,
+    name: &str,
+    window: &mut Window,
+    reading: Reading,
+    axes: &[Axis],
+    base: u128,
+    cells: Builder,
+) -> Result<Builder, CdfFault>
+    requires size { (reading.size ≡ 1) ⊎ ((reading.size ≡ 2) ⊎ ((reading.size ≡ 4) ⊎ (reading.size ≡ 8))) }
+    requires is { reading.size ≡ type_size reading.kind }
+    requires small { reading.end < 2 ^ 64 }
+    requires within { AreWithin reading.size reading.end (walk (steps_of axes.now) base) }
+    ensures kept { F.holds files.new ≡ F.holds files.old }
+    ensures later { F.faults files.old ≤ F.faults files.new }
+    ensures failed { IsErrOf result CdfFault.Device → Rose (F.faults files.old) (F.faults files.new) }
+    ensures many { IfOk result (λ all. length all ≡ length cells + length (walk (steps_of axes.now) base)) }
+    ensures told { (bytes : List ℕ) → bytes_in (F.holds files.old) name.now ≡ Some bytes → reading.end ≤ length bytes → IsPiece bytes window.old
+        → Goes reading.signed (map (number_at bytes reading.kind) (walk (steps_of axes.now) base)) cells result × IfOk result (λ _. IsPiece bytes window.new) }
+{
+    match axes {
+        [] => read_cell(alloc, files, name, window, reading, base as u64, cells),
+        [a, rest @ ..] => {
+            let mut all = cells;
+            'cells: for i in 0..a.count {
+                let here = place_along(*a, rest, base, i, reading);
+                match read_cells(alloc, files, name, window, reading, rest, here, all) {
+                    Ok(more) => all = more,
+                    Err(fault) => return Err(fault),
+                }
+            }
+            Ok(all)
+        }
+    }
+}

@@ -1,0 +1,108 @@
+//! The faults of a hyperslab that the header tells.
+
+ghost use Rattle.std.specs.Prelude.{◌≡◌, ◌<◌, ◌≤◌, ◌^◌, length};
+ghost use Rattle.cdf_header.specs.Places.{variable_at, shape};
+ghost use Rattle.cdf_slab.specs.Slab.{first_zero, first_outside, passes, wrong_variable, is_floating};
+ghost use Rattle.cdf_slab.specs.Walk.{steps_of, walk, first_past, capped};
+
+use crate::axes::Axis;
+use cdf_header::{CdfFault, Header};
+
+/// The variable has another rank, or its numbers are floating.
+pub(crate) fn variable_fault(header: &Header, v: u64, rank: u64) -> Option<CdfFault>
+    requires { v < length header.now.vars }
+    ensures { result ≡ wrong_variable (variable_at header.now v) rank }
+{
+    let found = header.rank(v);
+    if found != rank {
+        return Some(CdfFault::Rank { found });
+    }
+    if floating(header.kind(v)) {
+        return Some(CdfFault::FloatVariable);
+    }
+    None
+}
+
+fn floating(kind: u32) -> bool
+    ensures { result ≡ is_floating kind }
+{
+    kind == 5 || kind == 6
+}
+
+/// The first stride that is 0, counted from 1.
+#[tactic(auto, using(crate::proofs::Firsts::zero_steps))]
+pub(crate) fn zero_stride(stride: &[u128]) -> Option<u64>
+    ensures { result ≡ first_zero 1 stride.now }
+{
+    'strides: for j in 0..stride.len() {
+        if stride[j] == 0 {
+            return Some(j as u64 + 1);
+        }
+    }
+    None
+}
+
+// Whether a dimension of a length lacks one of the indices from a start on, so many, so far apart.
+fn passes_length(length: u128, start: u128, count: u128, stride: u128) -> bool
+    ensures { result ≡ passes length start count stride }
+{
+    if count == 0 {
+        length < start
+    } else {
+        let last = (count - 1).saturating_mul(stride).saturating_add(start);
+        last >= length
+    }
+}
+
+/// The first dimension, counted from 1, that lacks one of the indices.
+#[tactic(auto, using(crate::proofs::Firsts::outside_steps))]
+pub(crate) fn outside_dimension(
+    header: &Header,
+    v: u64,
+    start: &[u128],
+    count: &[u128],
+    stride: &[u128],
+) -> Option<u64>
+    requires variable { v < length header.now.vars }
+    requires rank { length (variable_at header.now v).ids ≡ length start.now }
+    requires counts { length count.now ≡ length start.now }
+    requires strides { length stride.now ≡ length start.now }
+    ensures { result ≡ first_outside 1 (shape header.now (variable_at header.now v)) start.now count.now stride.now }
+{
+    'dimensions: for j in 0..start.len() {
+        let length = header.length(v, j as u64);
+        if passes_length(length, start[j], count[j], stride[j]) {
+            return Some(j as u64 + 1);
+        }
+    }
+    None
+}
+
+/// The first place in row-major order whose number passes the end, or 2^128-1 where it is larger.
+pub(crate) fn cut_from(end: u64, size: u64, axes: &[Axis], base: u128) -> Option<u128>
+    requires size { size ≤ 8 }
+    ensures { result ≡ first_past size end (capped (walk (steps_of axes.now) base)) }
+{
+    match axes {
+        [] => {
+            if u128::from(end) < base.saturating_add(u128::from(size)) {
+                Some(base)
+            } else {
+                None
+            }
+        }
+        [a, rest @ ..] => {
+            'cells: for i in 0..a.count {
+                let index = u128::from(i)
+                    .saturating_mul(a.stride)
+                    .saturating_add(a.start);
+                let here = index.saturating_mul(a.weight).saturating_add(base);
+                match cut_from(end, size, rest, here) {
+                    Some(found) => return Some(found),
+                    None => {}
+                }
+            }
+            None
+        }
+    }
+}

@@ -1,0 +1,17 @@
+//! Hyperslabs of variables of netCDF classic files.
+//!
+//! The contract that the layers above use: where the file is told, `read_slab` answers the array
+//! `slab`, whose cell at an index is the number spelled at its place, or the first fault
+//! `slab_fault`; the faults that the header tells alone come whatever the files tell.
+//!
+//! Read `specs/Numbers` and `specs/Slab`; then `slab`, `faults`, `axes`, `cells`, `window`, `numbers`.
+#![tactic(auto)]
+
+mod axes;
+mod cells;
+mod faults;
+mod numbers;
+mod slab;
+mod window;
+
+pub use slab::read_slab;

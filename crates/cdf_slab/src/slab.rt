@@ -1,0 +1,200 @@
+//! Reading a hyperslab.
+
+ghost use Rattle.std.specs.Prelude.{◌≡◌, ◌≢◌, ◌≤◌, ◌<◌, List, ℕ, Some, None, Err, length, IfOk, IsErrOf};
+ghost use Rattle.std.specs.Str.{IsUtf8};
+ghost use Rattle.aql_outside.specs.Causes.{Rose};
+ghost use Rattle.aql_outside.specs.Contents.{bytes_in};
+ghost use Rattle.aql_value.specs.Indices.{product};
+ghost use Rattle.cdf_header.specs.Places.{variable_at};
+ghost use Rattle.cdf_slab.specs.Slab.{slab_numbers, slab, or_else, cut_fault, index_fault, early_fault, negative_fault, slab_fault, Answers, AnswersEarly};
+
+use crate::axes::axes_of;
+use crate::cells::{Reading, read_cells};
+use crate::faults::{cut_from, outside_dimension, variable_fault, zero_stride};
+use crate::window::Window;
+use aql_outside::Files;
+use aql_value::{Dims, Index, Memory, Str, saturating_product};
+use cdf_header::{CdfFault, Header};
+use nrca_array::{Builder, Flat};
+use std::alloc::Global;
+use std::str;
+
+/// The cells of a variable at start + i * stride for each index i below the counts, as an array of the
+/// counts as dimensions: naturals, or with `signed` pairs of whether a number is below 0 and how far it
+/// is from 0.
+///
+/// The faults are tested in this order: `Rank`, `FloatVariable`, `Stride`, `Outside`, `Cut`, `Negative`;
+/// the file's size is the header's. With a count of 0 no cell is read. The file is read in pieces of at
+/// most 64 KiB, and never past its end. Where the files do not tell their bytes, a read that gives
+/// fewer bytes than asked is the end of the file: `Cut`.
+pub fn read_slab<F: Files>(
+    alloc: Global,
+    files: &mut F,
+    name: &Str,
+    header: &Header,
+    v: u64,
+    start: &Index,
+    count: &Index,
+    stride: &Index,
+    signed: bool,
+) -> Result<Flat, CdfFault>
+    requires variable { v < length header.now.vars }
+    requires some { 1 ≤ length start.now.items }
+    requires few { length start.now.items ≤ 8 }
+    requires counts { length count.now.items ≡ length start.now.items }
+    requires strides { length stride.now.items ≡ length start.now.items }
+    requires cells { product count.now.items ≤ 50000000 }
+    ensures kept { F.holds files.new ≡ F.holds files.old }
+    ensures later { F.faults files.old ≤ F.faults files.new }
+    ensures failed { IsErrOf result CdfFault.Device → Rose (F.faults files.old) (F.faults files.new) }
+    // A fault that the header tells is answered, whatever the files tell.
+    ensures early { IsUtf8 name.now → AnswersEarly (early_fault header.now (variable_at header.now v) start.now.items count.now.items stride.now.items) result }
+    // Where the file is told, the hyperslab is answered, or the first fault.
+    ensures told { (bytes : List ℕ) → IsUtf8 name.now → bytes_in (F.holds files.old) name.now ≡ Some bytes → header.now.bytes ≡ length bytes
+        → Answers (slab_fault bytes header.now (variable_at header.now v) start.now.items count.now.items stride.now.items signed) (slab bytes header.now (variable_at header.now v) start.now.items count.now.items stride.now.items signed) result }
+    // A name that is not UTF-8 names no file.
+    ensures unnamed { (IsUtf8 name.now → ⊥) → result ≡ Err CdfFault.Absent }
+{
+    match str::from_utf8(&name.bytes) {
+        Ok(text) => read_named(alloc, files, text, header, v, start, count, stride, signed),
+        Err(_) => Err(CdfFault::Absent),
+    }
+}
+
+// The same of a file by its name as text.
+fn read_named<F: Files>(
+    alloc: Global,
+    files: &mut F,
+    name: &str,
+    header: &Header,
+    v: u64,
+    start: &[u128],
+    count: &[u128],
+    stride: &[u128],
+    signed: bool,
+) -> Result<Flat, CdfFault>
+    requires variable { v < length header.now.vars }
+    requires some { 1 ≤ length start.now }
+    requires few { length start.now ≤ 8 }
+    requires counts { length count.now ≡ length start.now }
+    requires strides { length stride.now ≡ length start.now }
+    requires cells { product count.now ≤ 50000000 }
+    ensures kept { F.holds files.new ≡ F.holds files.old }
+    ensures later { F.faults files.old ≤ F.faults files.new }
+    ensures failed { IsErrOf result CdfFault.Device → Rose (F.faults files.old) (F.faults files.new) }
+    ensures early { AnswersEarly (early_fault header.now (variable_at header.now v) start.now count.now stride.now) result }
+    ensures told { (bytes : List ℕ) → bytes_in (F.holds files.old) name.now ≡ Some bytes → header.now.bytes ≡ length bytes
+        → Answers (slab_fault bytes header.now (variable_at header.now v) start.now count.now stride.now signed) (slab bytes header.now (variable_at header.now v) start.now count.now stride.now signed) result }
+{
+    if let Some(fault) = first_fault(header, v, start, count, stride) {
+        return Err(fault);
+    }
+    if saturating_product(count) == 0 {
+        return Ok(shaped(alloc, Builder::new(alloc), count)?);
+    }
+    read_some(alloc, files, name, header, v, start, count, stride, signed)
+}
+
+// The hyperslab, where the indices are the variable's and no count is 0.
+fn read_some<F: Files>(
+    alloc: Global,
+    files: &mut F,
+    name: &str,
+    header: &Header,
+    v: u64,
+    start: &[u128],
+    count: &[u128],
+    stride: &[u128],
+    signed: bool,
+) -> Result<Flat, CdfFault>
+    requires variable { v < length header.now.vars }
+    requires some { 1 ≤ length start.now }
+    requires few { length start.now ≤ 8 }
+    requires counts { length count.now ≡ length start.now }
+    requires strides { length stride.now ≡ length start.now }
+    requires rank { length (variable_at header.now v).ids ≡ length start.now }
+    requires cells { product count.now ≤ 50000000 }
+    requires full { product count.now ≢ 0 }
+    ensures kept { F.holds files.new ≡ F.holds files.old }
+    ensures later { F.faults files.old ≤ F.faults files.new }
+    ensures failed { IsErrOf result CdfFault.Device → Rose (F.faults files.old) (F.faults files.new) }
+    ensures early { AnswersEarly (cut_fault header.now (variable_at header.now v) start.now count.now stride.now) result }
+    ensures told { (bytes : List ℕ) → bytes_in (F.holds files.old) name.now ≡ Some bytes → header.now.bytes ≡ length bytes
+        → Answers (or_else (cut_fault header.now (variable_at header.now v) start.now count.now stride.now) (negative_fault signed (slab_numbers bytes header.now (variable_at header.now v) start.now count.now stride.now))) (slab bytes header.now (variable_at header.now v) start.now count.now stride.now signed) result }
+{
+    let axes = axes_of(alloc, header, v, start, count, stride)?;
+    let size = header.width(v);
+    let end = header.bytes();
+    let base = u128::from(header.begin(v));
+    if let Some(at) = cut_from(end, size, &axes, base) {
+        return Err(CdfFault::Cut { at });
+    }
+    let reading = Reading {
+        kind: header.kind(v),
+        size,
+        signed,
+        end,
+    };
+    let mut window = Window::new(alloc);
+    match read_cells(
+        alloc,
+        files,
+        name,
+        &mut window,
+        reading,
+        &axes,
+        base,
+        Builder::new(alloc),
+    ) {
+        Ok(cells) => Ok(shaped(alloc, cells, count)?),
+        Err(fault) => Err(fault),
+    }
+}
+
+// The array of these dimensions and cells.
+fn shaped(alloc: Global, cells: Builder, count: &[u128]) -> Result<Flat, Memory>
+    requires some { 1 ≤ length count.now }
+    requires few { length count.now ≤ 8 }
+    requires many { product count.now ≡ length cells }
+    ensures { IfOk result (λ found. found ≡ record { dims = count.now; cells = cells }) }
+{
+    let dims = dims_of(alloc, count)?;
+    match cells.finish(dims)? {
+        Some(found) => Ok(found),
+        None => unreachable!(),
+    }
+}
+
+// The first fault of the variable, the strides and the dimensions.
+fn first_fault(
+    header: &Header,
+    v: u64,
+    start: &[u128],
+    count: &[u128],
+    stride: &[u128],
+) -> Option<CdfFault>
+    requires variable { v < length header.now.vars }
+    requires counts { length count.now ≡ length start.now }
+    requires strides { length stride.now ≡ length start.now }
+    ensures which { result ≡ index_fault header.now (variable_at header.now v) start.now count.now stride.now }
+    ensures rank { result ≡ None → length (variable_at header.now v).ids ≡ length start.now }
+{
+    if let Some(fault) = variable_fault(header, v, start.len() as u64) {
+        return Some(fault);
+    }
+    if let Some(dimension) = zero_stride(stride) {
+        return Some(CdfFault::Stride { dimension });
+    }
+    match outside_dimension(header, v, start, count, stride) {
+        Some(dimension) => Some(CdfFault::Outside { dimension }),
+        None => None,
+    }
+}
+
+fn dims_of(alloc: Global, count: &[u128]) -> Result<Dims, Memory>
+    ensures { IfOk result (λ dims. dims ≡ count.now) }
+{
+    let mut dims = Vec::new(alloc);
+    dims.extend_from_slice(count)?;
+    Ok(Dims { dims })
+}

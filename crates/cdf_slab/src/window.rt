@@ -1,0 +1,130 @@
+//! A piece of a file, read where its numbers are asked for.
+
+ghost use Rattle.std.specs.Prelude.{◌≡◌, ◌+◌, ◌≤◌, ◌<◌, ◌⊎◌, List, ℕ, Some, false, length, drop, min, IfOk, IfErr, IsErrOf, IsTrue};
+ghost use Rattle.aql_outside.specs.Causes.{Rose};
+ghost use Rattle.aql_outside.specs.Contents.{bytes_in};
+ghost use Rattle.byteorder.specs.Endian.{big_number};
+ghost use Rattle.cdf_slab.specs.Window.{IsPiece, Holds, IsOutside};
+
+use crate::numbers::spelled_at;
+use aql_outside::Files;
+use cdf_header::CdfFault;
+use std::alloc::Global;
+
+/// The most bytes that one read asks for.
+const PIECE: u64 = 65536;
+
+/// The bytes of a file from an offset on that were read last, and whether fewer came than were asked.
+#[derive(Drop)]
+pub(crate) struct Window {
+    pub at: u64,
+    pub bytes: Vec<u8>,
+    pub short: bool,
+}
+
+impl Window {
+    /// No bytes.
+    pub fn new(alloc: Global) -> Window
+        ensures { (bytes : List ℕ) → IsPiece bytes result }
+    {
+        Window {
+            at: 0,
+            bytes: Vec::new(alloc),
+            short: false,
+        }
+    }
+
+    // Whether a number of so many bytes at an offset stands in the piece.
+    fn has(&self, place: u64, size: u64) -> bool
+        ensures yes { IsTrue result → Holds self.now place size }
+        ensures no { Holds self.now place size → IsTrue result }
+    {
+        if place < self.at {
+            return false;
+        }
+        match (place - self.at).checked_add(size) {
+            None => false,
+            Some(to) => to <= self.bytes.len() as u64,
+        }
+    }
+
+    // The number of so many bytes at an offset.
+    fn get(&self, place: u64, size: u64) -> u64
+        requires size { (size ≡ 1) ⊎ ((size ≡ 2) ⊎ ((size ≡ 4) ⊎ (size ≡ 8))) }
+        requires holds { Holds self.now place size }
+        ensures told { (bytes : List ℕ) → IsPiece bytes self.now → result ≡ big_number size (drop place bytes) }
+    {
+        spelled_at(&self.bytes, size, (place - self.at) as usize)
+    }
+}
+
+// Reads so many bytes from an offset on.
+fn load<F: Files>(
+    alloc: Global,
+    files: &mut F,
+    name: &str,
+    at: u64,
+    room: usize,
+) -> Result<Window, CdfFault>
+    requires { room ≤ 65536 }
+    ensures kept { F.holds files.new ≡ F.holds files.old }
+    ensures later { F.faults files.old ≤ F.faults files.new }
+    ensures failed { IsErrOf result CdfFault.Device → Rose (F.faults files.old) (F.faults files.new) }
+    ensures causes { IfErr result IsOutside }
+    ensures told { (bytes : List ℕ) → bytes_in (F.holds files.old) name.now ≡ Some bytes → at + room ≤ length bytes
+        → IfOk result (λ w. IsPiece bytes w × (w.at ≡ at) × (length w.bytes.items ≡ room)) }
+{
+    let mut piece = [0u8; 65536];
+    match files.read_at(name, at, &mut piece[..room]) {
+        Ok(count) => {
+            let mut bytes = Vec::new(alloc);
+            match bytes.extend_from_slice(&piece[..count]) {
+                Ok(()) => Ok(Window {
+                    at,
+                    bytes,
+                    short: count < room,
+                }),
+                Err(_) => Err(CdfFault::Memory),
+            }
+        }
+        Err(_) => Err(CdfFault::Device),
+    }
+}
+
+/// The number of so many bytes at an offset. Reads on where it does not stand in the piece, and never
+/// past the end. A read that gives fewer bytes than asked is the end of the file: `Cut`.
+pub(crate) fn number_in<F: Files>(
+    alloc: Global,
+    files: &mut F,
+    name: &str,
+    window: &mut Window,
+    end: u64,
+    place: u64,
+    size: u64,
+) -> Result<u64, CdfFault>
+    requires size { (size ≡ 1) ⊎ ((size ≡ 2) ⊎ ((size ≡ 4) ⊎ (size ≡ 8))) }
+    requires within { place + size ≤ end }
+    ensures kept { F.holds files.new ≡ F.holds files.old }
+    ensures later { F.faults files.old ≤ F.faults files.new }
+    ensures failed { IsErrOf result CdfFault.Device → Rose (F.faults files.old) (F.faults files.new) }
+    ensures told { (bytes : List ℕ) → bytes_in (F.holds files.old) name.now ≡ Some bytes → end ≤ length bytes → IsPiece bytes window.old
+        → IfErr result IsOutside × IfOk result (λ x. (x ≡ big_number size (drop place bytes)) × IsPiece bytes window.new) }
+{
+    if window.has(place, size) {
+        return Ok(window.get(place, size));
+    }
+    if window.short {
+        return Err(CdfFault::Cut {
+            at: u128::from(place),
+        });
+    }
+    let room = (end - place).min(PIECE);
+    *window = load(alloc, files, name, place, room as usize)?;
+    if window.has(place, size) {
+        Ok(window.get(place, size))
+    } else {
+        Err(CdfFault::Cut {
+            at: u128::from(place),
+        })
+    }
+}
