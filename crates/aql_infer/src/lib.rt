@@ -10,4 +10,6 @@
 pub mod check;
 pub mod declare;
 pub mod fault;
+#[cfg(test)]
+mod tests;
 pub mod walk;
