@@ -64,3 +64,6 @@ position_some x ds d before t e h =
     let z : length before + 1 ≡ suc (length (latest before)) = omega (arith, length-latest before) in
     h (knowns_of (latest before)) ∙ ap (λ n. position_term (Some (known_of (decl_of d) (knowns_of (latest before)) n))) z
     ∙ sym (ap position_term (known_some x (latest ds) (decl_of d) (latest before) e))
+
+pub known_none : (x : Name) (ds : List Declaration) → None ≡ declaration_of x ds → find x (knowns_of ds) ≡ None
+known_none x ds e = find-known x ds ∙ ap (option_map (λ r. known_of r.0 (knowns_of r.1) (suc (length r.1)))) (sym e)

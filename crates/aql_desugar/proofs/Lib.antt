@@ -3,3 +3,4 @@ pub mod Finding
 pub mod Wrapping
 pub mod Uniting
 pub mod Looping
+pub mod Querying

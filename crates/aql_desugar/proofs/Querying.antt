@@ -1,0 +1,187 @@
+-- The terms of the code's expressions, by those of their parts.
+use Rattle.std.proofs.Common.{◌≡◌, ◌<◌, ◌≤◌, ℕ, suc, ◌+◌, ◌-◌, List, [], ◌∷◌, ◌++◌, length, map, take, drop, get_or, max, Option, Some, None, option_map, refl, sym, ap, ◌∙◌, arith, append_assoc, if◌then◌else◌, true, false}
+use Rattle.aql_value.specs.Strict.{Strict}
+use Rattle.aql_syntax.specs.Tree as tree
+use Rattle.aql_syntax.specs.Tree.{Name, Pat, Pats, Trees, Axes, Quals, Declaration, declared, append, count_trees, count_pats}
+use Rattle.aql_syntax.specs.Names.{names_equal, find}
+use Rattle.aql_syntax.specs.Size.{Extents, extent, extents_of, greatest, axes_greatest, levels}
+use Rattle.aql_syntax.specs.View.{tree_of, trees_of, quals_of, axes_in, defs_in, pats_of}
+use Rattle.aql_syntax.specs.ViewLaws.{trees_from, trees_past, axes_from, axes_past}
+use Rattle.aql_syntax.specs.declared.ast.Expr.{Expr}
+use Rattle.aql_syntax.specs.declared.ast.Bind.{Bind}
+use Rattle.aql_syntax.specs.declared.ast.Qual.{Qual}
+use Rattle.aql_syntax.specs.declared.ast.LetBind.{LetBind}
+use Rattle.aql_syntax.specs.declared.ast.Pattern.{Pattern}
+use Rattle.nrca_term.specs.Term.{Term, node, none, plain, Form}
+use Rattle.nrca_term.specs.Nodes.{let_term, tab_term, sub_term, literal_term}
+use Rattle.nrca_term.specs.Variants.{literal-parts}
+use Rattle.nrca_term.specs.View.{term_of}
+use Rattle.nrca_term.specs.declared.term.Core.{Core}
+use Rattle.aql_start.specs.Start.{Scope, Knowns, bound, match_term, matching, under, under_axes, bound_axes, grown_axes, axes_term, loops_term, cell_term, array_term, start, starts, bound_terms}
+use Rattle.aql_start.specs.Scopes.{length-bound_axes}
+use Rattle.aql_desugar.specs.Names.{scope, declaration_of}
+use Rattle.aql_desugar.proofs.Scoping.{scope_last, length-scope, count_pats-list, goes_on, extends_all, take_all}
+
+-- a node over two parts, the second made under the names that the first leaves
+pub two_made : {A : Type 0} (xs ys : List (Option A)) (c w : Expr) (T : Term → Term → Term) (B : List (Option A) → Expr → Term) (a m b t whole : Term) →
+    a ≡ m → b ≡ B ys c → ys ≡ xs → c ≡ w → t ≡ T a b → whole ≡ T m (B xs w) → t ≡ whole
+two_made xs ys c w T B a m b t whole h i k j l r = l ∙ ap (λ x. T x b) h ∙ ap (T m) (i ∙ ap (λ us. B us c) k ∙ ap (B xs) j) ∙ sym r
+
+-- a node over three parts
+pub three_made : {A : Type 0} (xs ys zs : List (Option A)) (c w d v : Expr) (T : Term → Term → Term → Term) (B : List (Option A) → Expr → Term) (a m b e t whole : Term) →
+    a ≡ m → b ≡ B ys c → ys ≡ xs → c ≡ w → e ≡ B zs d → zs ≡ ys → d ≡ v → t ≡ T a b e → whole ≡ T m (B xs w) (B xs v) → t ≡ whole
+three_made xs ys zs c w d v T B a m b e t whole h i k j n o q l r =
+    l ∙ ap (λ x. T x b e) h ∙ ap (λ y. T m y e) (i ∙ ap (λ us. B us c) k ∙ ap (B xs) j) ∙ ap (T m (B xs w)) (n ∙ ap (λ us. B us d) (o ∙ k) ∙ ap (B xs) q) ∙ sym r
+
+-- a subscript
+pub sub_made : {A : Type 0} (f : A → Name) (known : Knowns) (xs ys : List (Option A)) (base : ℕ) (d v : Expr) (es fs : List Expr) (a t : Term) (us : List Term) →
+    a ≡ start (tree_of d) known (scope f xs base) → d ≡ v → ys ≡ xs → us ≡ starts (trees_of es) known (scope f ys base) → es ≡ fs → t ≡ sub_term a us →
+    t ≡ sub_term (start (tree_of v) known (scope f xs base)) (starts (trees_of fs) known (scope f xs base))
+sub_made f known xs ys base d v es fs a t us h k n i j l =
+    l ∙ ap (λ x. sub_term x us) (h ∙ ap (λ x. start (tree_of x) known (scope f xs base)) k)
+    ∙ ap (sub_term (start (tree_of v) known (scope f xs base))) (i ∙ ap (λ ws. starts (trees_of es) known (scope f ws base)) n ∙ ap (λ ts. starts (trees_of ts) known (scope f xs base)) j)
+
+-- the two lists of a literal array
+pub lists_made : {A : Type 0} (f : A → Name) (known : Knowns) (xs ys : List (Option A)) (base : ℕ) (es fs cs gs : List Expr) (t : Term) (us ws : List Term) →
+    us ≡ starts (trees_of es) known (scope f xs base) → es ≡ fs → ys ≡ xs → ws ≡ starts (trees_of cs) known (scope f ys base) → cs ≡ gs → t ≡ literal_term us ws →
+    t ≡ literal_term (starts (trees_of fs) known (scope f xs base)) (starts (trees_of gs) known (scope f xs base))
+lists_made f known xs ys base es fs cs gs t us ws h k n i j l =
+    l ∙ ap (λ ts. literal_term ts ws) (h ∙ ap (λ ts. starts (trees_of ts) known (scope f xs base)) k)
+    ∙ ap (literal_term (starts (trees_of fs) known (scope f xs base))) (i ∙ ap (λ zs. starts (trees_of cs) known (scope f zs base)) n ∙ ap (λ ts. starts (trees_of ts) known (scope f xs base)) j)
+
+-- the match of the variable that a node binds, around what is made in the scope inside
+pub matched_made : {A : Type 0} (f : A → Name) (p : Pat) (known : Knowns) (xs zs ws : List (Option A)) (mark base : ℕ) (T : Scope → Term) (inner other t : Term) →
+    ((b : ℕ) → scope f zs b ≡ bound p (None ∷ scope f xs b)) → take (length xs) zs ≡ xs → mark ≡ length xs → inner ≡ T (scope f zs base) → ws ≡ zs →
+    ((b : ℕ) → t ≡ match_term p known (None ∷ scope f (take mark ws) b) 0 inner other) → t ≡ matching p known (scope f xs base) T other
+matched_made f p known xs zs ws mark base T inner other t k around m i w c =
+    let kept : take mark ws ≡ xs = ap (λ n. take n ws) m ∙ ap (take (length xs)) w ∙ around in
+    c base ∙ ap (λ l. match_term p known (None ∷ scope f l base) 0 inner other) kept ∙ ap (λ u. match_term p known (None ∷ scope f xs base) 0 u other) (i ∙ ap T (k base))
+
+pub matched_kept : {A : Type 0} (xs zs ws vs : List (Option A)) (mark : ℕ) → take (length xs) zs ≡ xs → mark ≡ length xs → ws ≡ zs → vs ≡ take mark ws → vs ≡ xs
+matched_kept xs zs ws vs mark around m w v = v ∙ ap (λ n. take n ws) m ∙ ap (take (length xs)) w ∙ around
+
+map_last : (l : List Core) (x : Core) → map term_of (l ++ x ∷ []) ≡ map term_of l ++ term_of x ∷ []
+map_last [] x = refl
+map_last (y ∷ l) x = ap (λ zs. term_of y ∷ zs) (map_last l x)
+
+append_none : {A : Type 0} (xs : List A) → xs ++ [] ≡ xs
+append_none [] = refl
+append_none (x ∷ xs) = ap (λ ys. x ∷ ys) (append_none xs)
+
+list_next : (xs ys : List Core) (x : Core) (u : Term) (us all : List Term) → ys ≡ xs ++ x ∷ [] → term_of x ≡ u → map term_of xs ++ (u ∷ us) ≡ all → map term_of ys ++ us ≡ all
+list_next xs ys x u us all e h k =
+    ap (λ zs. map term_of zs ++ us) e ∙ ap (λ zs. zs ++ us) (map_last xs x) ∙ append_assoc (map term_of xs) (term_of x ∷ []) us ∙ ap (λ v. map term_of xs ++ (v ∷ us)) h ∙ k
+
+trees_next : (es : List Expr) (i : ℕ) (e : Expr) → i < length es → e ≡ get_or es i e → trees_of (drop i es) ≡ tree.tree (tree_of e) (trees_of (drop (i + 1) es))
+trees_next es i e l h = trees_from es i e l ∙ ap (λ x. tree.tree (tree_of x) (trees_of (drop (i + 1) es))) (sym h)
+
+-- one term more of a list
+pub starts_next : (known : Knowns) (s : Scope) (es : List Expr) (i : ℕ) (e : Expr) (xs ys : List Core) (x : Core) → i < length es → e ≡ get_or es i e → ys ≡ xs ++ x ∷ [] → term_of x ≡ start (tree_of e) known s →
+    map term_of xs ++ starts (trees_of (drop i es)) known s ≡ starts (trees_of es) known s → map term_of ys ++ starts (trees_of (drop (i + 1) es)) known s ≡ starts (trees_of es) known s
+starts_next known s es i e xs ys x l h p t k =
+    list_next xs ys x (start (tree_of e) known s) (starts (trees_of (drop (i + 1) es)) known s) (starts (trees_of es) known s) p t
+    (ap (λ ts. map term_of xs ++ starts ts known s) (sym (trees_next es i e l h)) ∙ k)
+
+pub greatest_next : (ms : Extents) (es : List Expr) (i : ℕ) (e : Expr) → i < length es → e ≡ get_or es i e → greatest (trees_of (drop i es)) ms ≡ max (levels (tree_of e) ms) (greatest (trees_of (drop (i + 1) es)) ms)
+greatest_next ms es i e l h = ap (λ ts. greatest ts ms) (trees_next es i e l h)
+
+pub starts_done : (known : Knowns) (s : Scope) (es : List Expr) (i : ℕ) (xs : List Core) → length es ≤ i → map term_of xs ++ starts (trees_of (drop i es)) known s ≡ starts (trees_of es) known s →
+    map term_of xs ≡ starts (trees_of es) known s
+starts_done known s es i xs l k = sym (append_none (map term_of xs)) ∙ sym (ap (λ ts. map term_of xs ++ starts ts known s) (trees_past es i l)) ∙ k
+
+axes_next : (bs : List Bind) (i : ℕ) (b : Bind) → i < length bs → b ≡ get_or bs i b → axes_in (drop i bs) ≡ tree.axis b.name (tree_of b.bound) (axes_in (drop (i + 1) bs))
+axes_next bs i b l h = axes_from bs i b l ∙ ap (λ x. tree.axis x.name (tree_of x.bound) (axes_in (drop (i + 1) bs))) (sym h)
+
+pub bounds_next : (known : Knowns) (s : Scope) (bs : List Bind) (i : ℕ) (b : Bind) (xs ys : List Core) (x : Core) → i < length bs → b ≡ get_or bs i b → ys ≡ xs ++ x ∷ [] → term_of x ≡ start (tree_of b.bound) known s →
+    map term_of xs ++ bound_terms (axes_in (drop i bs)) known s ≡ bound_terms (axes_in bs) known s → map term_of ys ++ bound_terms (axes_in (drop (i + 1) bs)) known s ≡ bound_terms (axes_in bs) known s
+bounds_next known s bs i b xs ys x l h p t k =
+    list_next xs ys x (start (tree_of b.bound) known s) (bound_terms (axes_in (drop (i + 1) bs)) known s) (bound_terms (axes_in bs) known s) p t
+    (ap (λ ts. map term_of xs ++ bound_terms ts known s) (sym (axes_next bs i b l h)) ∙ k)
+
+pub bounds_greatest : (ms : Extents) (bs : List Bind) (i : ℕ) (b : Bind) → i < length bs → b ≡ get_or bs i b →
+    axes_greatest (axes_in (drop i bs)) ms ≡ max (levels (tree_of b.bound) ms) (axes_greatest (axes_in (drop (i + 1) bs)) ms)
+bounds_greatest ms bs i b l h = ap (λ ts. axes_greatest ts ms) (axes_next bs i b l h)
+
+pub bounds_done : (known : Knowns) (s : Scope) (bs : List Bind) (i : ℕ) (xs : List Core) → length bs ≤ i → map term_of xs ++ bound_terms (axes_in (drop i bs)) known s ≡ bound_terms (axes_in bs) known s →
+    map term_of xs ≡ bound_terms (axes_in bs) known s
+bounds_done known s bs i xs l k = sym (append_none (map term_of xs)) ∙ sym (ap (λ ts. map term_of xs ++ bound_terms ts known s) (axes_past bs i l)) ∙ k
+
+pub axis_next : {A : Type 0} (f : A → Name) (bs : List Bind) (i : ℕ) (b : Bind) (v : A) (xs0 xs ys : List (Option A)) → i < length bs → b ≡ get_or bs i b → f v ≡ b.name → ys ≡ xs ++ Some v ∷ [] →
+    ((base : ℕ) → under_axes (axes_in (drop i bs)) (scope f xs base) ≡ under_axes (axes_in bs) (scope f xs0 base)) → (base : ℕ) →
+    under_axes (axes_in (drop (i + 1) bs)) (scope f ys base) ≡ under_axes (axes_in bs) (scope f xs0 base)
+axis_next f bs i b v xs0 xs ys l h n e k base =
+    ap (under_axes (axes_in (drop (i + 1) bs))) (ap (λ zs. scope f zs base) e ∙ scope_last f xs (Some v) base ∙ ap (λ y. Some y ∷ scope f xs base) n)
+    ∙ sym (ap (λ a. under_axes a (scope f xs base)) (axes_next bs i b l h)) ∙ k base
+
+-- a tabulation
+pub tab_made : {A : Type 0} (f : A → Name) (known : Knowns) (xs ys zs : List (Option A)) (base : ℕ) (ax : Axes) (bs : List Core) (e v : Expr) (b t : Term) →
+    map term_of bs ≡ bound_terms ax known (scope f xs base) → ys ≡ xs → ((c : ℕ) → scope f zs c ≡ under_axes ax (scope f ys c)) → b ≡ start (tree_of e) known (scope f zs base) → e ≡ v →
+    t ≡ tab_term (map term_of bs) b → t ≡ tab_term (bound_terms ax known (scope f xs base)) (start (tree_of v) known (under_axes ax (scope f xs base)))
+tab_made f known xs ys zs base ax bs e v b t h k n i j l =
+    l ∙ ap (λ us. tab_term us b) h
+    ∙ ap (tab_term (bound_terms ax known (scope f xs base))) (i ∙ ap (start (tree_of e) known) (n base ∙ ap (λ us. under_axes ax (scope f us base)) k)
+    ∙ ap (λ x. start (tree_of x) known (under_axes ax (scope f xs base))) j)
+
+length-starts : (es : Trees) (known : Knowns) (s : Scope) → length (starts es known s) ≡ count_trees es
+length-starts tree.no_tree known s = refl
+length-starts (tree.tree e es) known s = ap suc (length-starts es known s)
+
+starts-append : (a b : Trees) (known : Knowns) (s : Scope) → starts (append a b) known s ≡ starts a known s ++ starts b known s
+starts-append tree.no_tree b known s = refl
+starts-append (tree.tree e a) b known s = ap (λ l. start e known s ∷ l) (starts-append a b known s)
+
+pub greatest-append : (a b : Trees) (ms : Extents) → greatest (append a b) ms ≡ max (greatest a ms) (greatest b ms)
+greatest-append tree.no_tree b ms = omega arith
+greatest-append (tree.tree e a) b ms = omega (arith, greatest-append a b ms)
+
+-- a literal array
+pub literal_made : (ds cs : Trees) (known : Knowns) (s : Scope) → literal_term (starts ds known s) (starts cs known s) ≡ start (tree.op (Strict.literal (count_trees ds)) (append ds cs)) known s
+literal_made ds cs known s =
+    literal-parts (starts ds known s) (starts cs known s) ∙ ap (λ n. node (Form.strict (Strict.literal n)) (plain (starts ds known s ++ starts cs known s) none)) (length-starts ds known s)
+    ∙ ap (λ us. node (Form.strict (Strict.literal (count_trees ds))) (plain us none)) (sym (starts-append ds cs known s))
+
+-- the extent of what a name stands for is that of its latest declaration
+find-extent : (x : Name) (ds : List Declaration) → find x (extents_of ds) ≡ option_map (λ r. extent r.0 (extents_of r.1)) (declaration_of x ds)
+find-extent x [] = refl
+find-extent x (d ∷ ds) =
+    elim (names_equal x (declared d)) as (λ b. (if b then Some (extent d (extents_of ds)) else find x (extents_of ds)) ≡ option_map (λ r. extent r.0 (extents_of r.1)) (if b then Some (d, ds) else declaration_of x ds)) [
+      | true ↦ refl
+      | false ↦ find-extent x ds
+    ]
+
+pub extent_some : (x : Name) (ds : List Declaration) (d : Declaration) (before : List Declaration) → Some (d, before) ≡ declaration_of x ds → find x (extents_of ds) ≡ Some (extent d (extents_of before))
+extent_some x ds d before e = find-extent x ds ∙ ap (option_map (λ r. extent r.0 (extents_of r.1))) (sym e)
+
+-- the loops over an array
+pub grid_made : {A : Type 0} (f : A → Name) (ps : List Pattern) (q : Pat) (known : Knowns) (xs ys hs zs ws vs : List (Option A)) (base low rank added : ℕ) (T : Scope → Term) (array body found bound ax walked other t : Term) →
+    ys ≡ xs ++ None ∷ [] → ((b : ℕ) → scope f hs b ≡ under (length ps) (scope f ys b)) → ((b : ℕ) → scope f zs b ≡ bound_axes (pats_of ps) (scope f hs b)) → take (length hs) zs ≡ hs → low ≡ length hs →
+    added ≡ length zs - low → rank ≡ length ps → body ≡ matching q known (scope f zs base) T other → ws ≡ zs → vs ≡ take low ws → found ≡ cell_term rank added → bound ≡ let_term found body →
+    ((b : ℕ) → ax ≡ axes_term (pats_of ps) known (scope f vs b) 0 bound other) → walked ≡ loops_term (rank - 0) 0 rank ax → t ≡ let_term array walked →
+    t ≡ array_term (pats_of ps) known (scope f xs base) array (λ inner. matching q known inner T other) other
+grid_made f ps q known xs ys hs zs ws vs base low rank added T array body found bound ax walked other t e h k around m d r i w v c l a o p =
+    let mid : scope f hs base ≡ under (count_pats (pats_of ps)) (None ∷ scope f xs base) =
+    h base ∙ ap (under (length ps)) (ap (λ us. scope f us base) e ∙ scope_last f xs None base) ∙ ap (λ n. under n (None ∷ scope f xs base)) (sym (count_pats-list ps)) in
+    let inside : scope f zs base ≡ bound_axes (pats_of ps) (under (count_pats (pats_of ps)) (None ∷ scope f xs base)) = k base ∙ ap (bound_axes (pats_of ps)) mid in
+    let kept : vs ≡ hs = v ∙ ap (λ n. take n ws) m ∙ ap (take (length hs)) w ∙ around in
+    let more : added ≡ grown_axes (pats_of ps) = omega (arith, d, m, length-scope f zs 0, length-scope f hs 0, ap length (k 0), length-bound_axes (pats_of ps) (scope f hs 0)) in
+    let many : rank ≡ count_pats (pats_of ps) = r ∙ sym (count_pats-list ps) in
+    let zero : rank - 0 ≡ rank = omega arith in
+    let F : ℕ → ℕ → Scope → Scope → Term = λ n g outer inner. let_term array (loops_term n 0 n (axes_term (pats_of ps) known outer 0 (let_term (cell_term n g) (matching q known inner T other)) other)) in
+    p ∙ ap (let_term array) (o ∙ ap (λ n. loops_term n 0 rank ax) zero
+    ∙ ap (loops_term rank 0 rank) (a base ∙ ap (λ us. axes_term (pats_of ps) known (scope f us base) 0 bound other) kept
+    ∙ ap (λ u. axes_term (pats_of ps) known (scope f hs base) 0 u other) (l ∙ ap (λ u. let_term u body) c ∙ ap (let_term (cell_term rank added)) i)))
+    ∙ (λ j. F (many j) (more j) (mid j) (inside j))
+
+pub grid_kept : {A : Type 0} (xs ys hs zs ws vs us rs : List (Option A)) (low mark : ℕ) → ys ≡ xs ++ None ∷ [] → take (length ys) hs ≡ ys → take (length hs) zs ≡ hs → low ≡ length hs → mark ≡ length xs → ws ≡ zs → vs ≡ take low ws →
+    us ≡ vs → rs ≡ take mark us → rs ≡ xs
+grid_kept xs ys hs zs ws vs us rs low mark e h k l m w v u r =
+    r ∙ ap (λ n. take n us) m ∙ ap (take (length xs)) (u ∙ v ∙ ap (λ n. take n ws) l ∙ ap (take (length hs)) w ∙ k) ∙ extends_all xs ys hs h (goes_on xs xs ys None e (take_all xs))
+
+-- one part of a list that has a first
+pub no_quals : (qs : List Qual) → length qs ≡ 0 → quals_of qs ≡ tree.no_qual
+no_quals [] e = refl
+no_quals (q ∷ qs) e = let bad : ⊥ = omega (arith, e) in absurd bad
+
+pub no_defs : (ds : List LetBind) → length ds ≡ 0 → defs_in ds ≡ tree.no_def
+no_defs [] e = refl
+no_defs (d ∷ ds) e = let bad : ⊥ = omega (arith, e) in absurd bad

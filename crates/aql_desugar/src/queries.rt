@@ -1,0 +1,471 @@
+//! The terms of expressions.
+
+ghost use Rattle.std.specs.Prelude.{◌≡◌, ℕ, length, take, map, OnOk, IfOk, Some};
+ghost use Rattle.aql_syntax.specs.Names as surface_names;
+ghost use Rattle.aql_syntax.specs.View.{tree_of, trees_of, quals_of, axes_in, defs_in, pat_of, pats_of, decl_of};
+ghost use Rattle.aql_syntax.specs.Tree.{axes};
+ghost use Rattle.aql_syntax.specs.Measured.{latest};
+ghost use Rattle.nrca_term.specs.Nodes.{empty_term};
+ghost use Rattle.nrca_term.specs.View.{term_of};
+ghost use Rattle.aql_start.specs.Start as start_term;
+ghost use Rattle.aql_start.specs.Start.{knowns_of, matching, starts, bound_terms, under_axes, quals_term, defs_term, array_term};
+ghost use Rattle.aql_desugar.specs.Names.{scope, missing_term};
+
+use crate::arrays::{cell, enter_axes, hide, loops, wrap_axes};
+use crate::matches::{Missing, close, name_term, open, plus};
+use crate::names::index_of;
+use crate::nodes::{
+    arith, big_union, choose, compare, default, dim, generated, get, index, let_in, literal,
+    single, sub, sum, tab, tuple, union,
+};
+use crate::positions::find;
+use crate::unions::united;
+use aql_syntax::ast::{Bind, Decl, Expr, LetBind, Pattern, Qual};
+use aql_syntax::build::{bindings_in, indices_in};
+use aql_value::{Memory, Str};
+use nrca_term::Core;
+use std::alloc::Global;
+use std::slice;
+
+/// The start term of an expression after these declarations, under the names and, around them, `base` variables
+/// without a name.
+#[cycle(start)]
+#[tactic(auto, using(aql_syntax::specs::ViewLaws::tree_views))]
+pub(crate) fn start<'a>(
+    alloc: Global,
+    e: &'a Expr,
+    earlier: &'a [Decl],
+    base: u64,
+    names: &mut Vec<Option<&'a Str>>,
+) -> Result<Core, Memory>
+    ensures made { IfOk result (λ c. term_of c ≡ start_term.start (tree_of e.now) (knowns_of (latest earlier.now)) (scope (λ x. x.now) names.old.items base)) }
+    ensures kept { OnOk result (names.new.items ≡ names.old.items) }
+{
+    match e {
+        Expr::Nat(n) => Ok(Core::Nat(*n)),
+        Expr::Bool(b) => Ok(Core::Bool(*b)),
+        Expr::Text(s) => {
+            let text = s.copy(alloc)?;
+            Ok(Core::Text(text))
+        }
+        Expr::Name(x) => Ok(name_term(x, earlier, names)),
+        Expr::Row(es) => {
+            let parts = all(alloc, &es.items, earlier, base, names)?;
+            Ok(tuple(parts))
+        }
+        Expr::Empty => Ok(Core::Empty),
+        Expr::Members(es) => {
+            let parts = all(alloc, &es.items, earlier, base, names)?;
+            let made = united(alloc, parts)?;
+            Ok(made)
+        }
+        Expr::Comp { head, quals } => {
+            let made = comprehend(alloc, &quals.items, head, earlier, base, names)?;
+            Ok(made)
+        }
+        Expr::Tab { body, binds } => {
+            let axes = indices_in(binds);
+            let limits = bounds(alloc, axes, earlier, base, names)?;
+            let mark = names.len();
+            enter_binds(axes, names)?;
+            let inner = start(alloc, body, earlier, base, names)?;
+            names.truncate(mark);
+            let made = tab(alloc, limits, inner)?;
+            Ok(made)
+        }
+        Expr::Literal { dims, cells } => {
+            let dims = all(alloc, &dims.items, earlier, base, names)?;
+            let cells = all(alloc, &cells.items, earlier, base, names)?;
+            Ok(literal(dims, cells))
+        }
+        Expr::Let { binds, body } => {
+            let defs = bindings_in(binds);
+            let made = bind_all(alloc, defs, body, earlier, base, names)?;
+            Ok(made)
+        }
+        Expr::Sub { array, at } => {
+            let array = start(alloc, array, earlier, base, names)?;
+            let at = all(alloc, &at.items, earlier, base, names)?;
+            let made = sub(alloc, array, at)?;
+            Ok(made)
+        }
+        Expr::If(c, a, b) => {
+            let c = start(alloc, c, earlier, base, names)?;
+            let a = start(alloc, a, earlier, base, names)?;
+            let b = start(alloc, b, earlier, base, names)?;
+            let made = choose(alloc, c, a, b)?;
+            Ok(made)
+        }
+        Expr::And(a, b) => {
+            let a = start(alloc, a, earlier, base, names)?;
+            let b = start(alloc, b, earlier, base, names)?;
+            let made = choose(alloc, a, b, Core::Bool(false))?;
+            Ok(made)
+        }
+        Expr::Or(a, b) => {
+            let a = start(alloc, a, earlier, base, names)?;
+            let b = start(alloc, b, earlier, base, names)?;
+            let made = choose(alloc, a, Core::Bool(true), b)?;
+            Ok(made)
+        }
+        Expr::Not(a) => {
+            let a = start(alloc, a, earlier, base, names)?;
+            let made = choose(alloc, a, Core::Bool(false), Core::Bool(true))?;
+            Ok(made)
+        }
+        Expr::Compare(op, a, b) => {
+            let a = start(alloc, a, earlier, base, names)?;
+            let b = start(alloc, b, earlier, base, names)?;
+            let made = compare(alloc, *op, a, b)?;
+            Ok(made)
+        }
+        Expr::Arith(op, a, b) => {
+            let a = start(alloc, a, earlier, base, names)?;
+            let b = start(alloc, b, earlier, base, names)?;
+            let made = arith(alloc, *op, a, b)?;
+            Ok(made)
+        }
+        Expr::Union(a, b) => {
+            let a = start(alloc, a, earlier, base, names)?;
+            let b = start(alloc, b, earlier, base, names)?;
+            let made = union(alloc, a, b)?;
+            Ok(made)
+        }
+        Expr::Gen(a) => {
+            let a = start(alloc, a, earlier, base, names)?;
+            let made = generated(alloc, a)?;
+            Ok(made)
+        }
+        Expr::Get(a) => {
+            let a = start(alloc, a, earlier, base, names)?;
+            let made = get(alloc, a)?;
+            Ok(made)
+        }
+        Expr::Len(a) => {
+            let a = start(alloc, a, earlier, base, names)?;
+            let made = dim(alloc, 1, a)?;
+            Ok(made)
+        }
+        Expr::Dim { rank, array } => {
+            let a = start(alloc, array, earlier, base, names)?;
+            let made = dim(alloc, *rank, a)?;
+            Ok(made)
+        }
+        Expr::Index { rank, pairs } => {
+            let a = start(alloc, pairs, earlier, base, names)?;
+            let made = index(alloc, *rank, a)?;
+            Ok(made)
+        }
+        Expr::Apply { name, argument } => {
+            let a = start(alloc, argument, earlier, base, names)?;
+            let body = call(alloc, name, earlier, base, names)?;
+            let made = let_in(alloc, a, body)?;
+            Ok(made)
+        }
+        Expr::Fun {
+            pattern,
+            body,
+            argument,
+        } => {
+            let a = start(alloc, argument, earlier, base, names)?;
+            let body = within(alloc, pattern, body, earlier, base, names)?;
+            let made = let_in(alloc, a, body)?;
+            Ok(made)
+        }
+        Expr::SumMap {
+            pattern,
+            body,
+            over,
+        } => {
+            let a = start(alloc, over, earlier, base, names)?;
+            let body = within(alloc, pattern, body, earlier, base, names)?;
+            let made = sum(alloc, a, body)?;
+            Ok(made)
+        }
+        Expr::Default(a, b) => {
+            let a = start(alloc, a, earlier, base, names)?;
+            let b = start(alloc, b, earlier, base, names)?;
+            let made = default(alloc, a, b)?;
+            Ok(made)
+        }
+    }
+}
+
+// The terms of a list.
+#[cycle(start)]
+#[tactic(auto, using(aql_syntax::specs::ViewLaws::trees_steps))]
+fn all<'a>(
+    alloc: Global,
+    es: &'a [Expr],
+    earlier: &'a [Decl],
+    base: u64,
+    names: &mut Vec<Option<&'a Str>>,
+) -> Result<Vec<Core>, Memory>
+    ensures made { IfOk result (λ ts. map term_of ts.items ≡ starts (trees_of es.now) (knowns_of (latest earlier.now)) (scope (λ x. x.now) names.old.items base)) }
+    ensures kept { OnOk result (names.new.items ≡ names.old.items) }
+{
+    let mut made = Vec::new(alloc);
+    for e in es {
+        let term = start(alloc, e, earlier, base, names)?;
+        made.push(term)?;
+    }
+    Ok(made)
+}
+
+// The bounds of a tabulation.
+#[cycle(start)]
+#[tactic(auto, using(aql_syntax::specs::ViewLaws::axes_steps))]
+fn bounds<'a>(
+    alloc: Global,
+    binds: &'a [Bind],
+    earlier: &'a [Decl],
+    base: u64,
+    names: &mut Vec<Option<&'a Str>>,
+) -> Result<Vec<Core>, Memory>
+    ensures made { IfOk result (λ ts. map term_of ts.items ≡ bound_terms (axes_in binds.now) (knowns_of (latest earlier.now)) (scope (λ x. x.now) names.old.items base)) }
+    ensures kept { OnOk result (names.new.items ≡ names.old.items) }
+{
+    let mut made = Vec::new(alloc);
+    for b in binds {
+        let term = start(alloc, &b.bound, earlier, base, names)?;
+        made.push(term)?;
+    }
+    Ok(made)
+}
+
+// Puts on the indices of a tabulation.
+fn enter_binds<'a>(binds: &'a [Bind], names: &mut Vec<Option<&'a Str>>) -> Result<(), Memory>
+    ensures inside { OnOk result ((base : ℕ) → scope (λ x. x.now) names.new.items base ≡ under_axes (axes_in binds.now) (scope (λ x. x.now) names.old.items base)) }
+    ensures around { OnOk result (take (length names.old.items) names.new.items ≡ names.old.items) }
+{
+    for b in binds {
+        names.push(Some(&b.name))?;
+    }
+    Ok(())
+}
+
+// A body under the match of the variable that the node around it binds.
+#[cycle(start)]
+fn within<'a>(
+    alloc: Global,
+    p: &'a Pattern,
+    body: &'a Expr,
+    earlier: &'a [Decl],
+    base: u64,
+    names: &mut Vec<Option<&'a Str>>,
+) -> Result<Core, Memory>
+    ensures made { IfOk result (λ c. term_of c ≡ matching (pat_of p.now) (knowns_of (latest earlier.now)) (scope (λ x. x.now) names.old.items base) (start_term.start (tree_of body.now) (knowns_of (latest earlier.now))) (missing_term Missing.Undefined)) }
+    ensures kept { OnOk result (names.new.items ≡ names.old.items) }
+{
+    let mark = names.len();
+    open(p, names)?;
+    let term = start(alloc, body, earlier, base, names)?;
+    let made = close(alloc, p, earlier, names, mark, term, Missing::Undefined)?;
+    Ok(made)
+}
+
+// What a name in head position stands for, under the variable of its argument.
+#[cycle(start)]
+fn call<'a>(
+    alloc: Global,
+    name: &Str,
+    earlier: &'a [Decl],
+    base: u64,
+    names: &[Option<&Str>],
+) -> Result<Core, Memory>
+    ensures { IfOk result (λ c. term_of c ≡ start_term.call_term (start_term.index_of name.now (scope (λ x. x.now) names.now base)) (surface_names.find name.now (knowns_of (latest earlier.now))) (length (scope (λ x. x.now) names.now base))) }
+{
+    match index_of(names, name) {
+        Some(_) => Ok(Core::Bottom),
+        None => {
+            let depth = plus(base, names.len() as u64)?;
+            let made = expand(alloc, name, earlier, depth)?;
+            Ok(made)
+        }
+    }
+}
+
+// A macro's body under the match of its argument, which is the innermost of `depth` variables without a name and one more.
+#[cycle(start)]
+fn expand<'a>(alloc: Global, name: &Str, earlier: &'a [Decl], depth: u64) -> Result<Core, Memory>
+    ensures { IfOk result (λ c. term_of c ≡ start_term.macro_term (surface_names.find name.now (knowns_of (latest earlier.now))) depth) }
+{
+    match find(name, earlier) {
+        None => Ok(Core::Bottom),
+        Some((d, before)) => match d {
+            Decl::Val { name: _, expr: _ } => Ok(Core::Bottom),
+            Decl::Macro {
+                name: _,
+                pattern,
+                body,
+            } => {
+                let mut names = Vec::new(alloc);
+                let made = within(alloc, pattern, body, before, depth, &mut names)?;
+                Ok(made)
+            }
+            Decl::Read {
+                name: _,
+                reader: _,
+                expr: _,
+            } => Ok(Core::Bottom),
+            Decl::Bare { expr: _ } => Ok(Core::Bottom),
+        },
+    }
+}
+
+// Qualifiers around the set of the head.
+#[cycle(start)]
+fn comprehend<'a>(
+    alloc: Global,
+    quals: &'a [Qual],
+    head: &'a Expr,
+    earlier: &'a [Decl],
+    base: u64,
+    names: &mut Vec<Option<&'a Str>>,
+) -> Result<Core, Memory>
+    ensures made { IfOk result (λ c. term_of c ≡ quals_term (quals_of quals.now) (start_term.start (tree_of head.now) (knowns_of (latest earlier.now))) (knowns_of (latest earlier.now)) (scope (λ x. x.now) names.old.items base)) }
+    ensures kept { OnOk result (names.new.items ≡ names.old.items) }
+{
+    match quals.split_first() {
+        None => {
+            let member = start(alloc, head, earlier, base, names)?;
+            let made = single(alloc, member)?;
+            Ok(made)
+        }
+        Some((q, rest)) => match q {
+            Qual::From { pattern, over } => {
+                let members = start(alloc, over, earlier, base, names)?;
+                let body = continued(alloc, pattern, rest, head, earlier, base, names)?;
+                let made = big_union(alloc, members, body)?;
+                Ok(made)
+            }
+            Qual::Cells { index, cell, over } => {
+                let array = start(alloc, over, earlier, base, names)?;
+                let ps = index_parts(index);
+                let made = grid(alloc, ps, cell, array, rest, head, earlier, base, names)?;
+                Ok(made)
+            }
+            Qual::Match { pattern, of } => {
+                let value = start(alloc, of, earlier, base, names)?;
+                let body = continued(alloc, pattern, rest, head, earlier, base, names)?;
+                let made = let_in(alloc, value, body)?;
+                Ok(made)
+            }
+            Qual::Test(e) => {
+                let test = start(alloc, e, earlier, base, names)?;
+                let body = comprehend(alloc, rest, head, earlier, base, names)?;
+                let made = choose(alloc, test, body, Core::Empty)?;
+                Ok(made)
+            }
+        },
+    }
+}
+
+// The patterns of the parts of an index: those of a tuple pattern, or any other pattern alone.
+#[tactic(auto, using(aql_syntax::specs::ViewLaws::pat_of_row))]
+fn index_parts(index: &Pattern) -> &[Pattern]
+    ensures { pats_of result.now ≡ axes (pat_of index.now) }
+{
+    match index {
+        Pattern::Bind(_) => slice::from_ref(index),
+        Pattern::Any => slice::from_ref(index),
+        Pattern::Nat(_) => slice::from_ref(index),
+        Pattern::Bool(_) => slice::from_ref(index),
+        Pattern::Text(_) => slice::from_ref(index),
+        Pattern::Name(_) => slice::from_ref(index),
+        Pattern::Row(ps) => &ps.items,
+    }
+}
+
+// Qualifiers under the match of the variable that the node around them binds.
+#[cycle(start)]
+fn continued<'a>(
+    alloc: Global,
+    p: &'a Pattern,
+    rest: &'a [Qual],
+    head: &'a Expr,
+    earlier: &'a [Decl],
+    base: u64,
+    names: &mut Vec<Option<&'a Str>>,
+) -> Result<Core, Memory>
+    ensures made { IfOk result (λ c. term_of c ≡ matching (pat_of p.now) (knowns_of (latest earlier.now)) (scope (λ x. x.now) names.old.items base) (quals_term (quals_of rest.now) (start_term.start (tree_of head.now) (knowns_of (latest earlier.now))) (knowns_of (latest earlier.now))) (missing_term Missing.Empty)) }
+    ensures kept { OnOk result (names.new.items ≡ names.old.items) }
+{
+    let mark = names.len();
+    open(p, names)?;
+    let term = comprehend(alloc, rest, head, earlier, base, names)?;
+    let made = close(alloc, p, earlier, names, mark, term, Missing::Empty)?;
+    Ok(made)
+}
+
+// The loops over an array, whose index parts match ps and whose cells match p.
+#[cycle(start)]
+fn grid<'a>(
+    alloc: Global,
+    ps: &'a [Pattern],
+    p: &'a Pattern,
+    array: Core,
+    rest: &'a [Qual],
+    head: &'a Expr,
+    earlier: &'a [Decl],
+    base: u64,
+    names: &mut Vec<Option<&'a Str>>,
+) -> Result<Core, Memory>
+    ensures made { IfOk result (λ c. term_of c ≡ array_term (pats_of ps.now) (knowns_of (latest earlier.now)) (scope (λ x. x.now) names.old.items base) (term_of array) (λ inner. matching (pat_of p.now) (knowns_of (latest earlier.now)) inner (quals_term (quals_of rest.now) (start_term.start (tree_of head.now) (knowns_of (latest earlier.now))) (knowns_of (latest earlier.now))) empty_term) empty_term) }
+    ensures kept { OnOk result (names.new.items ≡ names.old.items) }
+{
+    let rank = ps.len() as u64;
+    let mark = names.len();
+    names.push(None)?;
+    hide(names, ps.len())?;
+    let low = names.len();
+    enter_axes(ps, names)?;
+    let added = (names.len() - low) as u64;
+    let body = continued(alloc, p, rest, head, earlier, base, names)?;
+    names.truncate(low);
+    let found = cell(alloc, rank, added)?;
+    let bound = let_in(alloc, found, body)?;
+    let axes = wrap_axes(alloc, ps, earlier, names, 0, bound, Missing::Empty)?;
+    names.truncate(mark);
+    let walked = loops(alloc, 0, rank, axes)?;
+    let made = let_in(alloc, array, walked)?;
+    Ok(made)
+}
+
+// The bindings of a let around its body.
+#[cycle(start)]
+fn bind_all<'a>(
+    alloc: Global,
+    binds: &'a [LetBind],
+    body: &'a Expr,
+    earlier: &'a [Decl],
+    base: u64,
+    names: &mut Vec<Option<&'a Str>>,
+) -> Result<Core, Memory>
+    ensures made { IfOk result (λ c. term_of c ≡ defs_term (defs_in binds.now) (start_term.start (tree_of body.now) (knowns_of (latest earlier.now))) (knowns_of (latest earlier.now)) (scope (λ x. x.now) names.old.items base)) }
+    ensures kept { OnOk result (names.new.items ≡ names.old.items) }
+{
+    match binds.split_first() {
+        None => {
+            let made = start(alloc, body, earlier, base, names)?;
+            Ok(made)
+        }
+        Some((b, rest)) => {
+            let value = start(alloc, &b.expr, earlier, base, names)?;
+            let mark = names.len();
+            open(&b.pattern, names)?;
+            let term = bind_all(alloc, rest, body, earlier, base, names)?;
+            let matched = close(
+                alloc,
+                &b.pattern,
+                earlier,
+                names,
+                mark,
+                term,
+                Missing::Undefined,
+            )?;
+            let made = let_in(alloc, value, matched)?;
+            Ok(made)
+        }
+    }
+}
