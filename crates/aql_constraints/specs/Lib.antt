@@ -7,5 +7,6 @@ pub mod Principal
 pub mod Rows
 pub mod Sound
 pub mod Steps
+pub mod Typed
 pub mod View
 pub mod Written

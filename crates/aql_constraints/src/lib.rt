@@ -16,3 +16,4 @@ pub mod operations;
 pub mod patterns;
 pub mod readers;
 pub mod store;
+pub mod typed;

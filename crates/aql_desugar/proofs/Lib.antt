@@ -4,3 +4,5 @@ pub mod Wrapping
 pub mod Uniting
 pub mod Looping
 pub mod Querying
+pub mod Writing
+pub mod Translating

@@ -15,7 +15,8 @@ use Rattle.aql_constraints.specs.Principal.{IsInferred, IsNotInferred, untyped, 
 use Rattle.aql_constraints.specs.View.{scheme_of, schemes_onto, schemes_of}
 use Rattle.aql_constraints.specs.Written.{decl_written}
 use Rattle.aql_constraints.specs.declared.names.Position.{Position}
-use Rattle.aql_infer.specs.Checked.{behind, IsPrincipalScheme, ArePrincipal, HasNoSort, IsFirstUntyped, sorts_of, found_sorts}
+use Rattle.aql_constraints.specs.Typed.{IsPrincipalScheme, ArePrincipal, sorts_of}
+use Rattle.aql_infer.specs.Checked.{behind, HasNoSort, IsFirstUntyped, found_sorts}
 
 -- each declaration gone over has its sort, and the schemes describe them all
 pub record Progress (done : List Declaration) (ps : List Position) : Type 0 where

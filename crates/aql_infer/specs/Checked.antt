@@ -3,36 +3,18 @@ use Rattle.std.specs.Prelude.{ℕ, zero, suc, List, [], ◌∷◌, Result, Ok, E
 use Rattle.std.specs.Global.{Global}
 use Rattle.aql_types.specs.Types.{Sort}
 use Rattle.aql_types.specs.View.{sort_of}
-use Rattle.aql_types.specs.declared.ty.Scheme as code_scheme
 use Rattle.aql_syntax.specs.Tree.{Declaration}
-use Rattle.aql_syntax.specs.Typing.{DeclHas, scope_of, IsPrincipal}
-use Rattle.aql_constraints.specs.Numbering.{IsNumbered}
+use Rattle.aql_syntax.specs.Typing.{DeclHas, scope_of}
+use Rattle.aql_constraints.specs.Typed.{sorts_of, ArePrincipal}
 use Rattle.aql_constraints.specs.declared.names.Position.{Position}
-use Rattle.aql_infer.specs.declared.check.Typed.{Typed}
+use Rattle.aql_constraints.specs.declared.typed.Typed.{Typed}
 use Rattle.aql_infer.specs.declared.fault.TypeFault.{TypeFault}
 use Rattle.aql_infer.specs.declared.fault.TypeFault.TheVariants as faults
-
--- the sorts that the schemes of a list are
-abbrev pub sorts_of : List code_scheme.Scheme → List Sort
-sorts_of [] = []
-sorts_of (s ∷ ss) = sort_of s ∷ sorts_of ss
 
 -- declarations behind others, the latest first
 abbrev pub behind : List Declaration → List Declaration → List Declaration
 behind [] earlier = earlier
 behind (d ∷ ds) earlier = behind ds (d ∷ earlier)
-
--- principal over the positions before it, the latest first, with its variables numbered by first appearance
-pub record IsPrincipalScheme (d : Declaration) (earlier : List Declaration) (s : Sort) : Type 0 where
-  pub principal : IsPrincipal d (scope_of earlier) s
-  pub numbered : IsNumbered s
-
--- as many sorts as declarations, each principal for its own over the positions before it
-abbrev pub ArePrincipal : List Declaration → List Declaration → List Sort → Type 0
-ArePrincipal earlier [] [] = Unit {0}
-ArePrincipal earlier [] (s ∷ ss) = ⊥
-ArePrincipal earlier (d ∷ ds) [] = ⊥
-ArePrincipal earlier (d ∷ ds) (s ∷ ss) = IsPrincipalScheme d earlier s × ArePrincipal (d ∷ earlier) ds ss
 
 -- no sort
 abbrev pub HasNoSort : Declaration → List Declaration → Type 0

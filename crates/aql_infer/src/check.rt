@@ -2,22 +2,18 @@
 
 ghost use Rattle.std.specs.Prelude.{◌≡◌, IfOk};
 ghost use Rattle.aql_syntax.specs.View.{decls_of};
-ghost use Rattle.aql_infer.specs.Checked.{IsChecked, AllFound, sorts_of, found_sorts};
+ghost use Rattle.aql_constraints.specs.Typed.{sorts_of};
+ghost use Rattle.aql_infer.specs.Checked.{IsChecked, AllFound, found_sorts};
 
 use crate::declare::infer_declaration;
 use crate::fault::TypeFault;
 use aql_constraints::fault::NoTyping;
 use aql_constraints::names::Position;
+pub use aql_constraints::typed::Typed;
 use aql_syntax::ast::{Decl, Decls};
 use aql_types::ty::Scheme;
 use aql_value::Memory;
 use std::alloc::Global;
-
-/// The schemes of declarations, one a position.
-#[derive(Drop)]
-pub struct Typed {
-    pub items: Vec<Scheme>,
-}
 
 /// The principal scheme of each declaration over those before it, with its variables numbered by
 /// first appearance; or the first declaration that has no typing.

@@ -1,2 +1,6 @@
+pub mod Chains
+pub mod CoreEquations
+mod Examples
 pub mod Prefixes
 pub mod Variables
+pub mod Weights

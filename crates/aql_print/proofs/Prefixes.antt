@@ -1,7 +1,7 @@
 -- A prefix of a text is a prefix of a longer one; texts that are written one after another.
-use Rattle.std.proofs.Common.{◌≡◌, ℕ, zero, suc, ◌+◌, ◌<◌, List, [], ◌∷◌, ◌++◌, length, map, take, drop, get_or, refl, sym, ap, ◌∙◌, arith, append_assoc, append-nil}
+use Rattle.std.proofs.Common.{◌≡◌, ℕ, zero, suc, ◌+◌, ◌<◌, List, [], ◌∷◌, ◌++◌, length, map, take, drop, get_or, refl, sym, ap, ◌∙◌, arith, append_assoc, append-nil, Some}
 use Rattle.std.specs.Prelude.{decimal}
-use Rattle.std.specs.List.{flat_map}
+use Rattle.std.specs.List.{flat_map, slice_get}
 use Rattle.std.proofs.Math.ListN.{get_or-map}
 use Rattle.aql_value.specs.Datum.{Datum, data_of}
 use Rattle.aql_value.specs.Meaning.{datum}
@@ -143,3 +143,9 @@ text_at vs xs i v p e = ap text (sym (get_or_meaning vs xs i v p e)) ∙ sym (ge
 -- the text of a number in its place
 pub number_at : (ds es : List ℕ) (i d : ℕ) → ds ≡ es → decimal (get_or ds i d) ≡ get_or (map decimal es) i (decimal d)
 number_at ds es i d p = sym (get_or-map decimal ds i d) ∙ ap (λ l. get_or (map decimal l) i (decimal d)) p
+
+-- the text of a value that stands in a list
+pub text_in : (vs : List Datum) (i : ℕ) (v : Datum) → slice_get vs i ≡ Some v → text v ≡ get_or (texts (data_of vs)) i (text v)
+text_in [] i v e = cc
+text_in (w ∷ vs) zero v e = let k : w ≡ v = cc in ap text (sym k)
+text_in (w ∷ vs) (suc i) v e = text_in vs i v e

@@ -1,4 +1,6 @@
 pub mod Joined
 pub mod TypeText
 pub mod ValueText
+pub mod CoreText
+pub mod TraceText
 pub mod Appends

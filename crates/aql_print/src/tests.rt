@@ -1,9 +1,14 @@
 ghost use Rattle.std.specs.Prelude.{◌≡◌, ◌≤◌, length, IfOk};
 
+use crate::held::print_held;
 use crate::scheme::print_scheme;
+use crate::term::print_core;
+use crate::trace::print_trace;
 use crate::value::print_value;
 use aql_types::ty::{Scheme, Ty, row};
-use aql_value::{Cells, Dims, Items, Memory, Parts, Str, Value, canon};
+use aql_value::{ArithOp, Cells, CompareOp, Dims, Items, Memory, Parts, Str, Value, canon};
+use nrca_array::{Flat, Held};
+use nrca_term::{Core, Path, Rule, Step, Terms, Trace};
 use std::alloc::Global;
 
 // 2 to the power of 127.
@@ -246,5 +251,124 @@ fn letters_begin_anew_with_a_number(rt: HostRuntime) -> Result<(), Memory> {
     }
     let wide = scheme_printed(alloc, &Scheme::Value(row(parts)))?;
     assert!(rt; wide.as_slice().ends_with(b" * 'y * 'z * 'a1 * 'b1"));
+    Ok(())
+}
+
+#[test]
+fn packed_arrays(rt: HostRuntime) -> Result<(), Memory> {
+    let alloc = rt.alloc();
+    let mut out = Vec::new(alloc);
+    let cells = Cells::new(dims(alloc, &[1, 3])?, numbers(alloc, &[7, 300, 0])?).ok_or(Memory)?;
+    print_held(
+        alloc,
+        &Held::Flat(Flat::from_cells(alloc, cells)?),
+        &mut out,
+    )?;
+    print_held(alloc, &Held::Value(Value::Bool(true)), &mut out)?;
+    assert_eq!(rt; out.as_slice(), b"[[1,3; 7, 300, 0]]true".as_slice());
+    Ok(())
+}
+
+fn boxed(alloc: Global, term: Core) -> Result<Box<Core>, Memory> {
+    Ok(Box::new(alloc, term)?)
+}
+
+fn one_of(alloc: Global, term: Core) -> Result<Terms, Memory> {
+    let mut terms = Vec::new(alloc);
+    terms.push(term)?;
+    Ok(Terms(terms))
+}
+
+fn core_printed(alloc: Global, term: &Core) -> Result<Vec<u8>, Memory> {
+    let mut out = Vec::new(alloc);
+    print_core(alloc, term, &mut out)?;
+    Ok(out)
+}
+
+// The members below 5 of a loop in a loop over the numbers below 10,000.
+fn filtered(alloc: Global) -> Result<Core, Memory> {
+    let test = Core::Compare(
+        CompareOp::Less,
+        boxed(alloc, Core::Var(1))?,
+        boxed(alloc, Core::Nat(5))?,
+    );
+    let member = Core::Single(boxed(alloc, Core::Var(1))?);
+    let inner = Core::BigUnion {
+        over: boxed(alloc, Core::Gen(boxed(alloc, Core::Nat(10000))?))?,
+        body: boxed(
+            alloc,
+            Core::If(
+                boxed(alloc, test)?,
+                boxed(alloc, member)?,
+                boxed(alloc, Core::Empty)?,
+            ),
+        )?,
+    };
+    Ok(Core::BigUnion {
+        over: boxed(alloc, Core::Gen(boxed(alloc, Core::Nat(10000))?))?,
+        body: boxed(alloc, inner)?,
+    })
+}
+
+#[test]
+fn core_terms(rt: HostRuntime) -> Result<(), Memory> {
+    let alloc = rt.alloc();
+    let want = b"U{U{(if (x0 < 5) then {x0} else {}) | x1 in gen(10000)} | x0 in gen(10000)}";
+    assert_eq!(rt;
+        core_printed(alloc, &filtered(alloc)?)?.as_slice(),
+        want.as_slice()
+    );
+    let tenth = Core::Arith(
+        ArithOp::Quotient,
+        boxed(alloc, Core::Nat(10))?,
+        boxed(alloc, Core::Var(0))?,
+    );
+    let table = Core::Tab {
+        bounds: one_of(alloc, Core::Nat(3))?,
+        body: boxed(alloc, tenth)?,
+    };
+    let length = Core::Dim {
+        rank: 1,
+        array: boxed(alloc, table)?,
+    };
+    let either = Core::Default(boxed(alloc, length)?, boxed(alloc, Core::Global(27))?);
+    let want = b"(dim_1([[(10 / x0) | x0<3]]) default @3)";
+    assert_eq!(rt; core_printed(alloc, &either)?.as_slice(), want.as_slice());
+    let sub = Core::Sub {
+        array: boxed(
+            alloc,
+            Core::Literal {
+                dims: one_of(alloc, Core::Nat(1))?,
+                cells: one_of(alloc, Core::Bottom)?,
+            },
+        )?,
+        at: one_of(alloc, Core::Nat(0))?,
+    };
+    let bound = Core::Let(boxed(alloc, sub)?, boxed(alloc, Core::Var(0))?);
+    let want = b"(let x0 = sub([[1; undefined]]; 0) in x0)";
+    assert_eq!(rt; core_printed(alloc, &bound)?.as_slice(), want.as_slice());
+    Ok(())
+}
+
+fn trace_printed(alloc: Global, rules: &[Rule]) -> Result<Vec<u8>, Memory> {
+    let mut steps = Vec::new(alloc);
+    for rule in rules {
+        let path = Path(Vec::new(alloc));
+        steps.push(Step { rule: *rule, path })?;
+    }
+    let mut out = Vec::new(alloc);
+    print_trace(alloc, &Trace(steps), &mut out)?;
+    Ok(out)
+}
+
+#[test]
+fn traces(rt: HostRuntime) -> Result<(), Memory> {
+    let alloc = rt.alloc();
+    assert_eq!(rt; trace_printed(alloc, &[])?.as_slice(), b"none".as_slice());
+    let rules = [Rule::A1, Rule::L1, Rule::K1, Rule::I1];
+    assert_eq!(rt;
+        trace_printed(alloc, &rules)?.as_slice(),
+        b"A1 L1 K1 I1".as_slice()
+    );
     Ok(())
 }

@@ -4,8 +4,8 @@ use Rattle.aql_value.specs.Strict.{Strict}
 use Rattle.aql_value.specs.declared.ops.ArithOp.TheVariants as arith_op
 use Rattle.aql_value.specs.declared.ops.CompareOp.TheVariants as compare_op
 use Rattle.aql_syntax.specs.Tree as tree
-use Rattle.aql_syntax.specs.Tree.{Name, Pat, bind, any, equals, refers, tuple, no_pat, pat, Tree, name, op, members, comp, tab, bindings, conjunction, negation, default, apply, function, summap, no_tree, no_axis, axis, no_qual, from, cells, same, test, no_def, def, Declaration, val, mac}
-use Rattle.nrca_term.specs.Nodes.{variable, position, number, truth_term, bottom_term, let_term, if_term, default_term, tuple_term, proj_term, arith_term, less_term, empty_term, single_term, union_term, big_union_term, sum_term, gen_term, tab_term, sub_term, dim_term}
+use Rattle.aql_syntax.specs.Tree.{Name, Pat, bind, any, equals, refers, tuple, no_pat, pat, Tree, name, op, members, comp, tab, bindings, choice, conjunction, disjunction, negation, default, apply, function, summap, no_tree, no_axis, axis, no_qual, from, cells, same, test, no_def, def, Declaration, val, mac}
+use Rattle.nrca_term.specs.Nodes.{variable, position, number, truth_term, text_term, bottom_term, let_term, if_term, default_term, tuple_term, proj_term, arith_term, less_term, empty_term, single_term, union_term, big_union_term, sum_term, gen_term, get_term, tab_term, sub_term, dim_term, index_term, literal_term}
 use Rattle.aql_start.specs.Start.{equal_term, start, knowns_of}
 
 abbrev a : Name
@@ -31,9 +31,23 @@ three = op Strict.gen (tree.tree (numeral 3) no_tree)
 sum_of_two : start (op (Strict.arith arith_op.Add) (tree.tree (numeral 1) (tree.tree (numeral 2) no_tree))) [] [] ≡ arith_term arith_op.Add (number 1) (number 2)
 sum_of_two = refl
 
--- `true and false`, `not true`
+-- `"a"`, `{}`
+a_text : start (op (Strict.text (97 ∷ [])) no_tree) [] [] ≡ text_term (97 ∷ [])
+a_text = refl
+
+no_member : start (op Strict.empty no_tree) [] [] ≡ empty_term
+no_member = refl
+
+-- `if true then 1 else 2`
+a_choice : start (choice (op (Strict.bool true) no_tree) (numeral 1) (numeral 2)) [] [] ≡ if_term (truth_term true) (number 1) (number 2)
+a_choice = refl
+
+-- `true and false`, `true or false`, `not true`
 of_truths : start (conjunction (op (Strict.bool true) no_tree) (op (Strict.bool false) no_tree)) [] [] ≡ if_term (truth_term true) (truth_term false) (truth_term false)
 of_truths = refl
+
+or_truths : start (disjunction (op (Strict.bool true) no_tree) (op (Strict.bool false) no_tree)) [] [] ≡ if_term (truth_term true) (truth_term true) (truth_term false)
+or_truths = refl
 
 not_true : start (negation (op (Strict.bool true) no_tree)) [] [] ≡ if_term (truth_term true) (truth_term false) (truth_term true)
 not_true = refl
@@ -42,6 +56,29 @@ not_true = refl
 three_members : start (members (tree.tree (numeral 1) (tree.tree (numeral 2) (tree.tree (numeral 3) no_tree)))) [] []
     ≡ union_term (single_term (number 1)) (union_term (single_term (number 2)) (single_term (number 3)))
 three_members = refl
+
+-- `{1} union {}`, `get!{1}`
+a_union : start (op Strict.union (tree.tree (members (tree.tree (numeral 1) no_tree)) (tree.tree (op Strict.empty no_tree) no_tree))) [] []
+    ≡ union_term (single_term (number 1)) empty_term
+a_union = refl
+
+the_member : start (op Strict.get (tree.tree (members (tree.tree (numeral 1) no_tree)) no_tree)) [] [] ≡ get_term (single_term (number 1))
+the_member = refl
+
+-- `[[2; 3, 4]]`, `[[2; 3, 4]][1]`
+a_literal : start (op (Strict.literal 1) (tree.tree (numeral 2) (tree.tree (numeral 3) (tree.tree (numeral 4) no_tree)))) [] []
+    ≡ literal_term (number 2 ∷ []) (number 3 ∷ number 4 ∷ [])
+a_literal = refl
+
+a_cell : start (op Strict.sub (tree.tree (name x) (tree.tree (numeral 1) no_tree))) (knowns_of (val x (numeral 1) ∷ [])) [] ≡ sub_term (position 1) (number 1 ∷ [])
+a_cell = refl
+
+-- `dim_2!x`, `index_2!x`
+dimensions : start (op (Strict.dim 2) (tree.tree (name x) no_tree)) (knowns_of (val x (numeral 1) ∷ [])) [] ≡ dim_term 2 (position 1)
+dimensions = refl
+
+groups : start (op (Strict.index 2) (tree.tree (name x) no_tree)) (knowns_of (val x (numeral 1) ∷ [])) [] ≡ index_term 2 (position 1)
+groups = refl
 
 -- `val \x = 1; x`
 a_position : start (name x) (knowns_of (val x (numeral 1) ∷ [])) [] ≡ position 1
@@ -78,6 +115,12 @@ a_sum = refl
 a_comprehension : start (comp (name x) (from (bind x) three (test (op (Strict.compare compare_op.Less) (tree.tree (name x) (tree.tree (numeral 2) no_tree))) no_qual))) [] []
     ≡ big_union_term (gen_term (number 3)) (let_term (variable 0) (if_term (less_term (variable 0) (number 2)) (single_term (variable 0)) empty_term))
 a_comprehension = refl
+
+-- `{x | (\x, 2) <- gen!3}`
+a_tuple_row : start (comp (name x) (from (tuple (pat (bind x) (pat (equals (tree.number 2)) no_pat))) three no_qual)) [] []
+    ≡ big_union_term (gen_term (number 3))
+    (let_term (proj_term 1 2 (variable 0)) (let_term (variable 0) (let_term (proj_term 2 2 (variable 2)) (if_term (equal_term 0 (number 2)) (single_term (variable 1)) empty_term))))
+a_tuple_row = refl
 
 -- `{1 | \x <- gen!3, x == 2}`: a name in a pattern is compared
 a_match : start (comp (numeral 1) (from (bind x) three (same (refers x) (numeral 2) no_qual))) [] []

@@ -12,6 +12,8 @@ mod cells;
 mod faults;
 mod numbers;
 mod slab;
+#[cfg(test)]
+mod tests;
 mod window;
 
 pub use slab::read_slab;

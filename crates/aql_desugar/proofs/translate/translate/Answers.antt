@@ -1,0 +1,29 @@
+use Rattle.std.proofs.Common.{◌-◌, take, refl, ap, arith}
+use Rattle.aql_constraints.specs.Typed.{sorts_of}
+use Rattle.nrca_term.specs.View.{term_of}
+use Rattle.aql_desugar.proofs.Translating.{Chosen, chosen, chosen_some, translated_here, within_here, fault_here, ok_map, err_map}
+use Rattle.aql_desugar.proofs.translate.translate.Goals as goal
+
+-- the declaration that is translated, and those before it
+here : (c : goal.After-limited) → Chosen c.args.decls.now.items.items (take (c.args.n - 1) c.deref.result.now) c.args.n c.in-Some.e.now
+here c = record {
+  query = chosen c.args.decls.now.items.items c.args.n (c.args.n - 1) c.index.result.now c.in-Some.e.now refl (omega arith) c.index.ensures c.in-Some.ensures;
+  front = ap (take (c.args.n - 1)) c.deref.ensures.value;
+}
+
+pub unreachable-requires : goal.unreachable-requires
+unreachable-requires c =
+    chosen_some c.args.decls.now.items.items c.args.n (c.args.n - 1) c.index.result.now refl (omega arith) c.index.ensures c.in-None.ensures c.requires.query
+
+pub returns-clause-translated : goal.returns-clause-translated
+returns-clause-translated c =
+    ok_map c.limited.result _ _ (λ t is. translated_here c.args.decls.now.items.items (take (c.args.n - 1) c.deref.result.now) c.args.n c.in-Some.e.now (here c) (sorts_of c.args.typed.now.items.items) (term_of t) is)
+    c.limited.ensures.made
+
+pub returns-clause-within : goal.returns-clause-within
+returns-clause-within c =
+    ok_map c.limited.result _ _ (λ t w. within_here c.args.decls.now.items.items (take (c.args.n - 1) c.deref.result.now) c.args.n c.in-Some.e.now (here c) w) c.limited.ensures.within
+
+pub returns-clause-fault : goal.returns-clause-fault
+returns-clause-fault c =
+    err_map c.limited.result _ _ (λ f w. fault_here c.args.decls.now.items.items (take (c.args.n - 1) c.deref.result.now) c.args.n c.in-Some.e.now (here c) f w) c.limited.ensures.fault

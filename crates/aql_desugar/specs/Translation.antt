@@ -1,0 +1,70 @@
+-- What translation answers for a declaration.
+use Rattle.std.specs.Prelude.{◌≡◌, ℕ, ◌-◌, ◌*◌, ◌^◌, ◌<◌, ◌≤◌, ◌⊎◌, ◌++◌, min, List, [], map, take, Option, Some, None}
+use Rattle.std.specs.List.{slice_get}
+use Rattle.aql_types.specs.Types.{Ty, Sort, IsType}
+use Rattle.aql_syntax.specs.Tree.{Tree, Declaration}
+use Rattle.aql_syntax.specs.Denotation.{den}
+use Rattle.aql_syntax.specs.Work.{work}
+use Rattle.aql_syntax.specs.Script.{Earlier, globals_of}
+use Rattle.aql_syntax.specs.Sound.{declarations_of}
+use Rattle.aql_syntax.specs.Typing.{Has, scope_of}
+use Rattle.aql_syntax.specs.Size.{before, expanded_size, expanded_levels}
+use Rattle.aql_constraints.specs.Typed.{ArePrincipal}
+use Rattle.nrca_term.specs.Term.{Term, Closed, WellFormed, weight_of}
+use Rattle.nrca_term.specs.Meaning.{Outcomes, cden}
+use Rattle.nrca_term.specs.Turns.{settle}
+use Rattle.nrca_term.specs.Typing.{instances, ctyped}
+use Rattle.aql_start.specs.Start.{start, knowns_of, query}
+use Rattle.aql_start.specs.Laws.{outcomes_of, value_type}
+use Rattle.aql_desugar.specs.declared.fault.Fault.{Fault}
+use Rattle.aql_desugar.specs.declared.fault.Fault.TheVariants as faults
+
+abbrev pub query_at : Option Declaration → Option Tree
+query_at None = None
+query_at (Some d) = query d
+
+-- the expression of declaration n, counted from 1: of a readval its argument. A macro has none.
+abbrev pub query_of : List Declaration → ℕ → Option Tree
+query_of ds n = query_at (slice_get ds (n - 1))
+
+-- the types of the positions before declaration n, in order
+abbrev pub types_before : List Sort → ℕ → List Ty
+types_before sorts n = map value_type (take (n - 1) sorts)
+
+-- What the term is that translates the expression e of declaration n. What it says of types is said of the answer of inference,
+-- a principal sort for each declaration.
+pub record IsTranslated (ds : List Declaration) (sorts : List Sort) (n : ℕ) (e : Tree) (t : Term) : Type 0 where
+  -- it is the start term, and nothing else
+  pub exact : t ≡ start e (knowns_of (before ds n)) []
+  -- it has no free variable, and each part of its nodes has the variables that the node's form binds there
+  pub closed : Closed 0 t
+  pub well_formed : WellFormed t
+  -- It is worth what the expression denotes and undefined where that is, whatever outcomes the declarations before it have,
+  -- and those after it.
+  pub meaning : (earlier : Earlier) (later : Outcomes) → declarations_of earlier ≡ before ds n →
+      cden (outcomes_of earlier ++ later) [] t ≡ den e (globals_of earlier) []
+  -- it takes the turns of the expression as written
+  pub turns : (earlier : Earlier) (later : Outcomes) → declarations_of earlier ≡ before ds n →
+      settle (outcomes_of earlier ++ later) [] t ≡ work e (globals_of earlier) []
+  -- it weighs at most 64 times the expanded size
+  pub weight : ArePrincipal [] ds sorts → weight_of t ≤ 64 * expanded_size ds n
+  -- each type of the expression that is one of the language is a type of it, over the principal types of the positions
+  pub types : ArePrincipal [] ds sorts → (later : List Ty) (T : Ty) → IsType T → Has e (scope_of (before ds n)) [] T →
+      ctyped (instances (types_before sorts n ++ later)) [] t T
+
+-- at most 20,000 nodes and 1,000 levels
+abbrev pub AreWithin : (size levels : ℕ) → Type 0
+AreWithin size levels = (size ≤ 20000) × (levels ≤ 1000)
+
+-- the fault of what passes a limit, with both numbers up to the greatest of 64 bits; nothing is said of want of memory
+abbrev pub IsFaultAt : (size levels : ℕ) → Fault → Type 0
+IsFaultAt size levels (faults.Large s l) = ((20000 < size) ⊎ (1000 < levels)) × (s ≡ min size (2 ^ 64 - 1)) × (l ≡ min levels (2 ^ 64 - 1))
+IsFaultAt size levels faults.Memory = Unit {0}
+
+-- declaration n is within the limits, every macro in its place
+abbrev pub IsWithinLimits : List Declaration → ℕ → Type 0
+IsWithinLimits ds n = AreWithin (expanded_size ds n) (expanded_levels ds n)
+
+-- the fault is that of declaration n
+abbrev pub IsFaultOf : List Declaration → ℕ → Fault → Type 0
+IsFaultOf ds n f = IsFaultAt (expanded_size ds n) (expanded_levels ds n) f

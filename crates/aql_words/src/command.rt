@@ -1,0 +1,51 @@
+//! The command that reads the words.
+
+ghost use Rattle.std.specs.Prelude.{◌≡◌, false, IfOk};
+ghost use Rattle.aql_words.specs.Words.{aql, flag_rule, number_rule};
+ghost use Rattle.clap.specs.Words.{app_of, rule_of};
+
+use clap::builder::ValueParser;
+use clap::{Arg, ArgAction, Command};
+use std::alloc::{AllocError, Global};
+
+/// The greatest numbers that the options take; each takes 1 as its least.
+pub(crate) const MOST_WORKERS: u64 = 64;
+
+pub(crate) const MOST_BUDGET: u64 = 50_000_000;
+
+pub(crate) const MOST_SAMPLE: u64 = 1_000_000;
+
+/// The command, which has the four options and no subcommand.
+pub(crate) fn command<'a>(alloc: Global) -> Result<Command<'a>, AllocError>
+    ensures { IfOk result (λ c. app_of c ≡ aql) }
+{
+    let workers = number_option(alloc, "workers", MOST_WORKERS);
+    let budget = number_option(alloc, "budget", MOST_BUDGET);
+    let plan = flag_option(alloc, "plan");
+    let sample = number_option(alloc, "sample", MOST_SAMPLE);
+    let start = Command::new(alloc, "aql");
+    let one = start.arg(workers)?;
+    let two = one.arg(budget)?;
+    let three = two.arg(plan)?;
+    let four = three.arg(sample)?;
+    Ok(four)
+}
+
+// An option that takes a number from 1 on.
+fn number_option<'a>(alloc: Global, name: &'a str, most: u64) -> Arg<'a>
+    ensures rule { rule_of result ≡ number_rule name.entry.now most }
+    ensures local { result.global ≡ false }
+{
+    Arg::new(alloc, name)
+        .long(name)
+        .action(ArgAction::Set)
+        .value_parser(ValueParser::Unsigned(1, most))
+}
+
+// An option that is given or not.
+fn flag_option<'a>(alloc: Global, name: &'a str) -> Arg<'a>
+    ensures rule { rule_of result ≡ flag_rule name.entry.now }
+    ensures local { result.global ≡ false }
+{
+    Arg::new(alloc, name).long(name).action(ArgAction::SetTrue)
+}
