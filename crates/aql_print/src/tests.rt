@@ -293,31 +293,23 @@ fn filtered(alloc: Global) -> Result<Core, Memory> {
         boxed(alloc, Core::Nat(5))?,
     );
     let member = Core::Single(boxed(alloc, Core::Var(1))?);
-    let inner = Core::BigUnion {
-        over: boxed(alloc, Core::Gen(boxed(alloc, Core::Nat(10000))?))?,
-        body: boxed(
-            alloc,
-            Core::If(
-                boxed(alloc, test)?,
-                boxed(alloc, member)?,
-                boxed(alloc, Core::Empty)?,
-            ),
-        )?,
-    };
-    Ok(Core::BigUnion {
-        over: boxed(alloc, Core::Gen(boxed(alloc, Core::Nat(10000))?))?,
-        body: boxed(alloc, inner)?,
-    })
+    let filter = Core::If(
+        boxed(alloc, test)?,
+        boxed(alloc, member)?,
+        boxed(alloc, Core::Empty)?,
+    );
+    loop_over(alloc, loop_over(alloc, filter)?)
 }
 
-#[test]
-fn core_terms(rt: HostRuntime) -> Result<(), Memory> {
-    let alloc = rt.alloc();
-    let want = b"U{U{(if (x0 < 5) then {x0} else {}) | x1 in gen(10000)} | x0 in gen(10000)}";
-    assert_eq!(rt;
-        core_printed(alloc, &filtered(alloc)?)?.as_slice(),
-        want.as_slice()
-    );
+fn loop_over(alloc: Global, body: Core) -> Result<Core, Memory> {
+    let body = boxed(alloc, body)?;
+    let many = boxed(alloc, Core::Nat(10000))?;
+    let over = boxed(alloc, Core::Gen(many))?;
+    Ok(Core::BigUnion { over, body })
+}
+
+// The length of a table of 10 by each number below 3, and else declaration 3.
+fn otherwise(alloc: Global) -> Result<Core, Memory> {
     let tenth = Core::Arith(
         ArithOp::Quotient,
         boxed(alloc, Core::Nat(10))?,
@@ -327,26 +319,36 @@ fn core_terms(rt: HostRuntime) -> Result<(), Memory> {
         bounds: one_of(alloc, Core::Nat(3))?,
         body: boxed(alloc, tenth)?,
     };
-    let length = Core::Dim {
-        rank: 1,
-        array: boxed(alloc, table)?,
+    let array = boxed(alloc, table)?;
+    let length = boxed(alloc, Core::Dim { rank: 1, array })?;
+    Ok(Core::Default(length, boxed(alloc, Core::Global(27))?))
+}
+
+// A cell of a literal array under a name.
+fn bound(alloc: Global) -> Result<Core, Memory> {
+    let literal = Core::Literal {
+        dims: one_of(alloc, Core::Nat(1))?,
+        cells: one_of(alloc, Core::Bottom)?,
     };
-    let either = Core::Default(boxed(alloc, length)?, boxed(alloc, Core::Global(27))?);
-    let want = b"(dim_1([[(10 / x0) | x0<3]]) default @3)";
-    assert_eq!(rt; core_printed(alloc, &either)?.as_slice(), want.as_slice());
-    let sub = Core::Sub {
-        array: boxed(
-            alloc,
-            Core::Literal {
-                dims: one_of(alloc, Core::Nat(1))?,
-                cells: one_of(alloc, Core::Bottom)?,
-            },
-        )?,
+    let cell = Core::Sub {
+        array: boxed(alloc, literal)?,
         at: one_of(alloc, Core::Nat(0))?,
     };
-    let bound = Core::Let(boxed(alloc, sub)?, boxed(alloc, Core::Var(0))?);
+    Ok(Core::Let(boxed(alloc, cell)?, boxed(alloc, Core::Var(0))?))
+}
+
+#[test]
+fn core_terms(rt: HostRuntime) -> Result<(), Memory> {
+    let alloc = rt.alloc();
+    let nested = core_printed(alloc, &filtered(alloc)?)?;
+    let want = b"U{U{(if (x0 < 5) then {x0} else {}) | x1 in gen(10000)} | x0 in gen(10000)}";
+    assert_eq!(rt; nested.as_slice(), want.as_slice());
+    let either = core_printed(alloc, &otherwise(alloc)?)?;
+    let want = b"(dim_1([[(10 / x0) | x0<3]]) default @3)";
+    assert_eq!(rt; either.as_slice(), want.as_slice());
+    let named = core_printed(alloc, &bound(alloc)?)?;
     let want = b"(let x0 = sub([[1; undefined]]; 0) in x0)";
-    assert_eq!(rt; core_printed(alloc, &bound)?.as_slice(), want.as_slice());
+    assert_eq!(rt; named.as_slice(), want.as_slice());
     Ok(())
 }
 
