@@ -1,4 +1,0 @@
-pub mod Scope
-pub mod Within
-pub mod Runs
-pub mod Parts

@@ -1,25 +1,45 @@
-//! What the evaluation of core terms is made of: the values that variables and positions have, the
-//! members of loops, and what each strict form makes of the values of its parts.
+//! The evaluation of core terms.
 //!
-//! `Within` in `specs/Within.antt` is what is said of an answer: its value and its turns, exactly,
-//! and that it is Spent exactly where the turns pass the budget.
-//!
-//! Read `specs/Within.antt`, `Scope`, `Runs` and `Parts`; then `env.rt`, `members.rt`, `strict.rt`
-//! and `runs.rt`.
+//! `evaluate` answers the value and the turns of a term exactly, and Spent exactly where the turns
+//! pass the budget, whatever the number of workers. One thread evaluates the whole term today: the
+//! workers and the gate are taken, and no piece is cut.
 #![tactic(auto)]
 
-mod done;
-mod env;
-mod members;
-mod runs;
-mod strict;
+ghost use Rattle.std.specs.Prelude.{[], ◌≤◌};
+ghost use Rattle.nrca_term.specs.Meaning.{cden};
+ghost use Rattle.nrca_term.specs.Turns.{settle};
+ghost use Rattle.nrca_term.specs.View.{term_of};
+ghost use Rattle.nrca_serial.specs.Within.{AnswersWithin};
 
-pub use done::Done;
-pub use env::Globals;
+use aql_outside::Gate;
+use nrca_par::EvalFault;
+use nrca_serial::{Env, eval};
+pub use nrca_serial::{Done, Globals};
+use nrca_term::Core;
+use std::alloc::Global;
+use std::thread::Threads;
 
-// Values may be sent to another thread, and lent to several.
-fn crosses_threads<T: Send + Sync>(_value: &T) {}
-
-fn globals_cross_threads(globals: &Globals) {
-    crosses_threads(globals);
+/// The value of a closed term over the outcomes of the positions, none where it is undefined, and the
+/// turns that it took. Spent comes exactly where these pass the budget.
+pub fn evaluate<R: Threads + Sync, G: Gate>(
+    rt: &R,
+    alloc: Global,
+    term: &Core,
+    globals: &Globals,
+    budget: u64,
+    workers: u64,
+    gate: &G,
+) -> Result<Done, EvalFault>
+    requires budget { budget ≤ 50000000 }
+    requires workers { (1 ≤ workers) × (workers ≤ 64) }
+    ensures { AnswersWithin budget (cden globals.now [] (term_of term.now)) (settle globals.now [] (term_of term.now)) result }
+{
+    let _ = rt;
+    let _ = workers;
+    let _ = gate;
+    let found = eval(alloc, term, globals, &Env::Empty, budget)?;
+    Ok(Done {
+        value: found.answer,
+        turns: u128::from(found.turns),
+    })
 }

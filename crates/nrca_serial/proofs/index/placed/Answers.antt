@@ -1,0 +1,34 @@
+use Rattle.std.proofs.Common.{rules, ◌≡◌, ◌≤◌, ◌<◌, ◌+◌, ◌-◌, ◌*◌, ◌∷◌, ◌++◌, [], suc, length, map, take, drop, get_or, max, min, Some, None, Option, ℕ, List, Bool, true, false, refl, sym, ap, ◌∙◌, arith}
+use Rattle.std.specs.Prelude.{slice_get, replicate, if◌then◌else◌, nat_eq, nat_lt}
+use Rattle.std.specs.Option.{option_map}
+use Rattle.aql_value.specs.Datum.{Datum, natural}
+use Rattle.aql_value.specs.Indices.{product, indices}
+use Rattle.aql_value.specs.Meaning.{datum}
+use Rattle.aql_value.specs.Operations.{as_natural, as_tuple, as_indexed, as_array, array_of, dims_above, greater_each, index_numbers, index_of, set_of, values_at, all_in_range}
+use Rattle.aql_value.specs.Partial.{each, ◌>>=◌}
+use Rattle.nrca_array.specs.Held.{held_datum}
+use Rattle.nrca_serial.specs.Indexing.{pair_of, pairs_of, pairs_run, pairs_value, pairs_turns, extent, pairs_with, indexed_pair, AreRanked, ranked_numbers, values_of}
+use Rattle.nrca_serial.specs.Scope.{held_value}
+use Rattle.nrca_serial.specs.Within.{Within}
+use Rattle.std.specs.Cmp.Lexicographic.{pointwise}
+use Rattle.aql_value.specs.IndicesLaws.{offset}
+use Rattle.nrca_serial.proofs.Grouping.{offset_within}
+use Rattle.nrca_serial.proofs.index.placed.Goals as goal
+
+pub overflow_cast-place : goal.overflow_cast-place
+overflow_cast-place c =
+    let at = c.as_slice.ensures.value ∙ c.at.view_is in
+    let ds = c.as_slice-2.ensures.value ∙ c.dims.view_is in
+    let below = (λ k. pointwise nat_lt (sym at k) (sym ds k)) ∙ sym c.if-not-is_below.ensures in
+    let within = offset_within c.args.dims.now c.args.at.now below in
+    let place = c.place-place.ensures ∙ (λ k. offset ((c.as_slice-4.ensures.value ∙ c.dims.view_is) k) ((c.as_slice-3.ensures.value ∙ c.at.view_is) k)) in
+    omega (arith, place, within, c.requires, c.args.groups.ok.0, c.args.groups.ok.1, c.args.groups.small)
+
+pub push_at-requires : goal.push_at-requires
+push_at-requires c =
+    let at = c.as_slice.ensures.value ∙ c.at.view_is in
+    let ds = c.as_slice-2.ensures.value ∙ c.dims.view_is in
+    let below = (λ k. pointwise nat_lt (sym at k) (sym ds k)) ∙ sym c.if-not-is_below.ensures in
+    let within = offset_within c.args.dims.now c.args.at.now below in
+    let place = c.place-place.ensures ∙ (λ k. offset ((c.as_slice-4.ensures.value ∙ c.dims.view_is) k) ((c.as_slice-3.ensures.value ∙ c.at.view_is) k)) in
+    omega (arith, place, within, c.requires)

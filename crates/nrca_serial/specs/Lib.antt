@@ -1,0 +1,9 @@
+pub mod Scope
+pub mod Within
+pub mod WithinLaws
+pub mod Runs
+pub mod RunLaws
+pub mod Parts
+pub mod Indexing
+pub mod FormLaws
+pub mod IndexLaws

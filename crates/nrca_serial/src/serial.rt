@@ -1,0 +1,443 @@
+//! The evaluation of a term in one thread: one function a form.
+
+ghost use Rattle.std.specs.Prelude.{◌≡◌, ◌≤◌, true, length};
+ghost use Rattle.aql_value.specs.Indices.{product};
+ghost use Rattle.aql_value.specs.Partial.{each, total};
+ghost use Rattle.nrca_term.specs.Meaning.{cden};
+ghost use Rattle.nrca_term.specs.Nodes.{let_term, if_term, default_term, big_union_term, sum_term, tab_term};
+ghost use Rattle.nrca_term.specs.Term.{form_of, parts_of};
+ghost use Rattle.nrca_term.specs.Turns.{settle};
+ghost use Rattle.nrca_term.specs.View.{term_of, terms_of};
+ghost use Rattle.nrca_serial.specs.Parts.{children, is_strict_form, parts_value};
+ghost use Rattle.nrca_serial.specs.Scope.{values, held_value, set_in};
+ghost use Rattle.nrca_serial.specs.Within.{Within, itself};
+ghost use Rattle.nrca_serial.specs.Runs.{member_list, members_value, run_values, run_turns, cell_values, cell_turns, sum_value, union_value};
+
+use crate::done::Counted;
+use crate::env::{Env, Globals, position, variable};
+use crate::forms::strict;
+use crate::members::{Members, as_members, members_below, members_of_both, truth};
+use crate::operations::{numbers, sum_of, table_of, union_of};
+use crate::runs::{canon_of, cells_and, members_and, parts_and, set_index, sum_and, zeros};
+use aql_value::{Ascending, Dims, Items, saturating_product};
+use nrca_array::{Builder, Held};
+use nrca_par::EvalFault;
+use nrca_term::{Core, Terms};
+use std::alloc::Global;
+
+/// The value of a term and its turns, among the outcomes of the positions and the values of the
+/// variables. Spent exactly where the turns pass the budget; a loop, tabulation or `index` whose
+/// members or cells pass what is left is Spent before its first turn.
+#[cycle(serial)]
+pub fn eval(
+    alloc: Global,
+    term: &Core,
+    globals: &Globals,
+    env: &Env,
+    budget: u64,
+) -> Result<Counted<Option<Held>>, EvalFault>
+    ensures { Within held_value budget (cden globals.now (values env.now) (term_of term.now)) (settle globals.now (values env.now) (term_of term.now)) result }
+{
+    match term {
+        Core::Var(at) => variable(alloc, env, *at, budget),
+        Core::Global(n) => position(alloc, globals, *n, budget),
+        Core::Let(bound, body) => eval_let(alloc, bound, body, globals, env, budget),
+        Core::If(test, yes, no) => eval_if(alloc, test, yes, no, globals, env, budget),
+        Core::Default(first, second) => eval_default(alloc, first, second, globals, env, budget),
+        Core::BigUnion { over, body } => eval_union(alloc, over, body, globals, env, budget),
+        Core::Sum { over, body } => eval_sum(alloc, over, body, globals, env, budget),
+        Core::Tab { bounds, body } => eval_tab(alloc, bounds, body, globals, env, budget),
+        _ => eval_strict(alloc, term, globals, env, budget),
+    }
+}
+
+// A form that evaluates all its parts and binds nothing.
+#[cycle(serial)]
+fn eval_strict(
+    alloc: Global,
+    term: &Core,
+    globals: &Globals,
+    env: &Env,
+    budget: u64,
+) -> Result<Counted<Option<Held>>, EvalFault>
+    requires { is_strict_form (form_of (term_of term.now)) ≡ true }
+    ensures { Within held_value budget (cden globals.now (values env.now) (term_of term.now)) (settle globals.now (values env.now) (term_of term.now)) result }
+{
+    let parts = eval_parts(alloc, term, globals, env, budget)?;
+    let whole = strict(alloc, term, parts.answer, budget - parts.turns)?;
+    Ok(Counted {
+        answer: whole.answer,
+        turns: parts.turns + whole.turns,
+    })
+}
+
+// Every part of a node, from the left, under the variables around the node.
+#[cycle(serial)]
+fn eval_parts(
+    alloc: Global,
+    term: &Core,
+    globals: &Globals,
+    env: &Env,
+    budget: u64,
+) -> Result<Counted<Option<Vec<Held>>>, EvalFault>
+    ensures { Within parts_value budget (each (cden globals.now (values env.now)) (children (parts_of (term_of term.now)))) (total (settle globals.now (values env.now)) (children (parts_of (term_of term.now)))) result }
+{
+    let mut parts = Some(Vec::new(alloc));
+    let mut turns = 0;
+    for i in 0..term.parts() {
+        match term.part(i) {
+            Some(part) => {
+                let done = eval(alloc, part, globals, env, budget - turns)?;
+                parts = parts_and(parts, done.answer)?;
+                turns += done.turns;
+            }
+            None => unreachable!(),
+        }
+    }
+    Ok(Counted {
+        answer: parts,
+        turns,
+    })
+}
+
+// Terms in a row, from the left.
+#[cycle(serial)]
+fn eval_all(
+    alloc: Global,
+    terms: &Terms,
+    globals: &Globals,
+    env: &Env,
+    budget: u64,
+) -> Result<Counted<Option<Vec<Held>>>, EvalFault>
+    ensures { Within parts_value budget (each (cden globals.now (values env.now)) (terms_of terms.now)) (total (settle globals.now (values env.now)) (terms_of terms.now)) result }
+{
+    let mut parts = Some(Vec::new(alloc));
+    let mut turns = 0;
+    for term in &terms.0 {
+        let done = eval(alloc, term, globals, env, budget - turns)?;
+        parts = parts_and(parts, done.answer)?;
+        turns += done.turns;
+    }
+    Ok(Counted {
+        answer: parts,
+        turns,
+    })
+}
+
+#[cycle(serial)]
+fn eval_let(
+    alloc: Global,
+    bound: &Core,
+    body: &Core,
+    globals: &Globals,
+    env: &Env,
+    budget: u64,
+) -> Result<Counted<Option<Held>>, EvalFault>
+    ensures { Within held_value budget (cden globals.now (values env.now) (let_term (term_of bound.now) (term_of body.now))) (settle globals.now (values env.now) (let_term (term_of bound.now) (term_of body.now))) result }
+{
+    let Counted { answer, turns } = eval(alloc, bound, globals, env, budget)?;
+    match answer {
+        Some(value) => {
+            let inner = Env::Bound(&value, &*env);
+            let done = eval(alloc, body, globals, &inner, budget - turns)?;
+            Ok(Counted {
+                answer: done.answer,
+                turns: turns + done.turns,
+            })
+        }
+        None => Ok(Counted {
+            answer: None,
+            turns,
+        }),
+    }
+}
+
+#[cycle(serial)]
+fn eval_if(
+    alloc: Global,
+    test: &Core,
+    yes: &Core,
+    no: &Core,
+    globals: &Globals,
+    env: &Env,
+    budget: u64,
+) -> Result<Counted<Option<Held>>, EvalFault>
+    ensures { Within held_value budget (cden globals.now (values env.now) (if_term (term_of test.now) (term_of yes.now) (term_of no.now))) (settle globals.now (values env.now) (if_term (term_of test.now) (term_of yes.now) (term_of no.now))) result }
+{
+    let Counted { answer, turns } = eval(alloc, test, globals, env, budget)?;
+    let left = budget - turns;
+    match truth(answer) {
+        Some(true) => {
+            let done = eval(alloc, yes, globals, env, left)?;
+            Ok(Counted {
+                answer: done.answer,
+                turns: turns + done.turns,
+            })
+        }
+        Some(false) => {
+            let done = eval(alloc, no, globals, env, left)?;
+            Ok(Counted {
+                answer: done.answer,
+                turns: turns + done.turns,
+            })
+        }
+        None => Ok(Counted {
+            answer: None,
+            turns,
+        }),
+    }
+}
+
+#[cycle(serial)]
+fn eval_default(
+    alloc: Global,
+    first: &Core,
+    second: &Core,
+    globals: &Globals,
+    env: &Env,
+    budget: u64,
+) -> Result<Counted<Option<Held>>, EvalFault>
+    ensures { Within held_value budget (cden globals.now (values env.now) (default_term (term_of first.now) (term_of second.now))) (settle globals.now (values env.now) (default_term (term_of first.now) (term_of second.now))) result }
+{
+    let Counted { answer, turns } = eval(alloc, first, globals, env, budget)?;
+    match answer {
+        Some(value) => Ok(Counted {
+            answer: Some(value),
+            turns,
+        }),
+        None => {
+            let done = eval(alloc, second, globals, env, budget - turns)?;
+            Ok(Counted {
+                answer: done.answer,
+                turns: turns + done.turns,
+            })
+        }
+    }
+}
+
+// The members of a loop's operand. Those of `gen` and of `union` are not made into a set.
+#[cycle(serial)]
+fn eval_members(
+    alloc: Global,
+    over: &Core,
+    globals: &Globals,
+    env: &Env,
+    budget: u64,
+) -> Result<Counted<Option<Members>>, EvalFault>
+    ensures { Within members_value budget (set_in (cden globals.now (values env.now) (term_of over.now))) (settle globals.now (values env.now) (term_of over.now)) result }
+{
+    match over {
+        Core::Gen(number) => {
+            let Counted { answer, turns } = eval(alloc, number, globals, env, budget)?;
+            let members = members_below(answer, budget - turns)?;
+            Ok(Counted {
+                answer: members.answer,
+                turns: turns + members.turns,
+            })
+        }
+        Core::Union(first, second) => {
+            let Counted { answer, turns } = eval(alloc, first, globals, env, budget)?;
+            let other = eval(alloc, second, globals, env, budget - turns)?;
+            Ok(Counted {
+                answer: members_of_both(alloc, answer, other.answer)?,
+                turns: turns + other.turns,
+            })
+        }
+        _ => {
+            let set = eval(alloc, over, globals, env, budget)?;
+            Ok(Counted {
+                answer: as_members(set.answer),
+                turns: set.turns,
+            })
+        }
+    }
+}
+
+#[cycle(serial)]
+fn eval_sum(
+    alloc: Global,
+    over: &Core,
+    body: &Core,
+    globals: &Globals,
+    env: &Env,
+    budget: u64,
+) -> Result<Counted<Option<Held>>, EvalFault>
+    ensures { Within held_value budget (cden globals.now (values env.now) (sum_term (term_of over.now) (term_of body.now))) (settle globals.now (values env.now) (sum_term (term_of over.now) (term_of body.now))) result }
+{
+    let Counted { answer, turns } = eval_members(alloc, over, globals, env, budget)?;
+    let left = budget - turns;
+    let Some(members) = answer else {
+        return Ok(Counted {
+            answer: None,
+            turns,
+        });
+    };
+    let count = members.len();
+    if count > u128::from(left) {
+        return Err(EvalFault::Spent);
+    }
+    let count = count as u64;
+    let run = sum_run(alloc, body, globals, env, &members, 0, count, left - count)?;
+    Ok(Counted {
+        answer: sum_of(run.answer),
+        turns: turns + count + run.turns,
+    })
+}
+
+#[cycle(serial)]
+fn eval_union(
+    alloc: Global,
+    over: &Core,
+    body: &Core,
+    globals: &Globals,
+    env: &Env,
+    budget: u64,
+) -> Result<Counted<Option<Held>>, EvalFault>
+    ensures { Within held_value budget (cden globals.now (values env.now) (big_union_term (term_of over.now) (term_of body.now))) (settle globals.now (values env.now) (big_union_term (term_of over.now) (term_of body.now))) result }
+{
+    let Counted { answer, turns } = eval_members(alloc, over, globals, env, budget)?;
+    let left = budget - turns;
+    let Some(members) = answer else {
+        return Ok(Counted {
+            answer: None,
+            turns,
+        });
+    };
+    let count = members.len();
+    if count > u128::from(left) {
+        return Err(EvalFault::Spent);
+    }
+    let count = count as u64;
+    let run = union_run(alloc, body, globals, env, &members, 0, count, left - count)?;
+    Ok(Counted {
+        answer: union_of(run.answer),
+        turns: turns + count + run.turns,
+    })
+}
+
+#[cycle(serial)]
+fn eval_tab(
+    alloc: Global,
+    bounds: &Terms,
+    body: &Core,
+    globals: &Globals,
+    env: &Env,
+    budget: u64,
+) -> Result<Counted<Option<Held>>, EvalFault>
+    ensures { Within held_value budget (cden globals.now (values env.now) (tab_term (terms_of bounds.now) (term_of body.now))) (settle globals.now (values env.now) (tab_term (terms_of bounds.now) (term_of body.now))) result }
+{
+    let Counted { answer, turns } = eval_all(alloc, bounds, globals, env, budget)?;
+    let left = budget - turns;
+    let Some(dims) = numbers(alloc, answer)? else {
+        return Ok(Counted {
+            answer: None,
+            turns,
+        });
+    };
+    let count = saturating_product(dims.dims.as_slice());
+    if count > u128::from(left) {
+        return Err(EvalFault::Spent);
+    }
+    let count = count as u64;
+    let run = cells_run(alloc, body, globals, env, &dims, 0, count, left - count)?;
+    Ok(Counted {
+        answer: table_of(dims, run.answer)?,
+        turns: turns + count + run.turns,
+    })
+}
+
+/// The sum of a body over the members from one number up to another, and what the body takes
+/// there. The members themselves are not counted.
+#[cycle(serial)]
+pub fn sum_run(
+    alloc: Global,
+    body: &Core,
+    globals: &Globals,
+    env: &Env,
+    members: &Members,
+    from: u64,
+    to: u64,
+    budget: u64,
+) -> Result<Counted<Option<u128>>, EvalFault>
+    requires order { from ≤ to }
+    requires within { to ≤ length (member_list members.now) }
+    ensures { Within itself budget (sum_value (run_values globals.now (values env.now) (term_of body.now) (member_list members.now) from to)) (run_turns globals.now (values env.now) (term_of body.now) (member_list members.now) from to) result }
+{
+    let mut sum = Some(0);
+    let mut turns = 0;
+    for i in from..to {
+        let member = members.get(alloc, i)?;
+        let inner = Env::Bound(&member, &*env);
+        let done = eval(alloc, body, globals, &inner, budget - turns)?;
+        sum = sum_and(sum, done.answer);
+        turns += done.turns;
+    }
+    Ok(Counted { answer: sum, turns })
+}
+
+/// The set of the members that a body gives at the members from one number up to another, and
+/// what the body takes there. The members of the loop are not counted.
+#[cycle(serial)]
+pub fn union_run(
+    alloc: Global,
+    body: &Core,
+    globals: &Globals,
+    env: &Env,
+    members: &Members,
+    from: u64,
+    to: u64,
+    budget: u64,
+) -> Result<Counted<Option<Ascending>>, EvalFault>
+    requires order { from ≤ to }
+    requires within { to ≤ length (member_list members.now) }
+    ensures { Within itself budget (union_value (run_values globals.now (values env.now) (term_of body.now) (member_list members.now) from to)) (run_turns globals.now (values env.now) (term_of body.now) (member_list members.now) from to) result }
+{
+    let mut all = Some(Items {
+        items: Vec::new(alloc),
+    });
+    let mut turns = 0;
+    for i in from..to {
+        let member = members.get(alloc, i)?;
+        let inner = Env::Bound(&member, &*env);
+        let done = eval(alloc, body, globals, &inner, budget - turns)?;
+        all = members_and(all, done.answer)?;
+        turns += done.turns;
+    }
+    Ok(Counted {
+        answer: canon_of(alloc, all)?,
+        turns,
+    })
+}
+
+/// The values of a body at the indices below the dimensions, from one row-major number up to
+/// another, and what the body takes there. The cells are not counted. They are packed as they come.
+#[cycle(serial)]
+pub fn cells_run(
+    alloc: Global,
+    body: &Core,
+    globals: &Globals,
+    env: &Env,
+    dims: &Dims,
+    from: u64,
+    to: u64,
+    budget: u64,
+) -> Result<Counted<Option<Builder>>, EvalFault>
+    requires order { from ≤ to }
+    requires within { to ≤ product dims.now }
+    ensures { Within itself budget (cell_values globals.now (values env.now) (term_of body.now) dims.now from to) (cell_turns globals.now (values env.now) (term_of body.now) dims.now from to) result }
+{
+    let mut cells = Some(Builder::new(alloc));
+    let mut turns = 0;
+    let mut at = zeros(alloc, dims.dims.len())?;
+    for place in from..to {
+        set_index(dims.dims.as_slice(), u128::from(place), at.as_mut_slice());
+        let inner = Env::Indices(at.as_slice(), &*env);
+        let done = eval(alloc, body, globals, &inner, budget - turns)?;
+        cells = cells_and(alloc, cells, done.answer)?;
+        turns += done.turns;
+    }
+    Ok(Counted {
+        answer: cells,
+        turns,
+    })
+}
