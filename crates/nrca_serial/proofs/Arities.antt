@@ -1,14 +1,14 @@
 -- The strict forms, by the number of their parts.
-use Rattle.std.proofs.Common.{◌≡◌, ℕ, suc, ◌<◌, ◌≤◌, List, [], ◌∷◌, length, map, take, drop, get_or, Option, Some, None, Box, Global, vec_len, refl, sym, ◌∙◌, ap, arith}
-use Rattle.std.specs.Prelude.{slice_get, nat_eq, if◌then◌else◌}
+use Rattle.std.proofs.Common.{◌≡◌, ℕ, ◌<◌, List, [], ◌∷◌, length, take, drop, Option, None, Box, Global, vec_len, refl, ◌∙◌, ap, arith}
+use Rattle.std.specs.Prelude.{nat_eq, if◌then◌else◌}
 use Rattle.std.proofs.lemmas.Bool.{ne_eqb}
 use Rattle.std.proofs.lemmas.List.{length-take}
 use Rattle.aql_value.specs.Datum.{Datum}
-use Rattle.aql_value.specs.Operations.{as_natural, array_of, only, literal_of, index_of, gen_of}
+use Rattle.aql_value.specs.Operations.{as_natural, array_of, only, literal_of}
 use Rattle.aql_value.specs.Partial.{◌>>=◌, each, if_some}
 use Rattle.aql_value.specs.PartialLaws.{each-length, then-none}
 use Rattle.aql_value.specs.Strict.{Strict, unary, binary, gen_turns, index_turns}
-use Rattle.nrca_term.specs.Term.{Form, form_of}
+use Rattle.nrca_term.specs.Term.{form_of}
 use Rattle.nrca_term.specs.View.{term_of}
 use Rattle.nrca_term.specs.Equations.{term_of-Tuple, term_of-Tab, term_of-Sub, term_of-Literal, length-terms_of}
 use Rattle.nrca_term.specs.declared.term.Core.{Core}

@@ -1,13 +1,13 @@
 -- The array that pairs make.
-use Rattle.std.proofs.Common.{◌≡◌, ℕ, suc, ◌+◌, ◌<◌, ◌≤◌, Bool, true, false, List, [], ◌∷◌, length, map, Option, Some, None, refl, sym, ◌∙◌, ap, arith, ◌⊎◌, inl, inr}
+use Rattle.std.proofs.Common.{◌≡◌, ℕ, ◌<◌, ◌≤◌, Bool, true, false, List, length, map, Some, None, refl, sym, ◌∙◌, ap, arith, ◌⊎◌, inl, inr}
 use Rattle.std.specs.Prelude.{nat_lt, nat_eq, ◌&&◌, if◌then◌else◌}
 use Rattle.std.proofs.lemmas.List.{length-map}
 use Rattle.std.proofs.lemmas.Bool.{le-ltb}
-use Rattle.aql_value.specs.Datum.{Datum, array, data_of, list_of, list_of-data_of}
+use Rattle.aql_value.specs.Datum.{Datum, array, data_of, list_of-data_of}
 use Rattle.aql_value.specs.Indices.{product, indices}
 use Rattle.aql_value.specs.IndicesLaws.{length_indices}
-use Rattle.aql_value.specs.Lists.{Every, Every-onto}
-use Rattle.aql_value.specs.Operations.{as_array, array_of, is_rank, dims_above, indexed, all_in_range, set_of, values_at}
+use Rattle.aql_value.specs.Lists.{Every-onto}
+use Rattle.aql_value.specs.Operations.{as_array, array_of, is_rank, dims_above, all_in_range, set_of, values_at}
 use Rattle.aql_value.specs.OperationsLaws.{array_of-made}
 use Rattle.aql_value.specs.Partial.{◌>>=◌, if_some}
 use Rattle.nrca_serial.specs.Indexing.{pairs_value, pairs_turns, AreRanked}

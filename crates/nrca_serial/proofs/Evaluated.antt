@@ -1,12 +1,11 @@
 -- Steps of the evaluation: weights, parts and runs over plain variables.
-use Rattle.std.proofs.Common.{◌≡◌, ℕ, zero, suc, ◌+◌, ◌-◌, ◌*◌, ◌<◌, ◌≤◌, Bool, true, false, List, [], ◌∷◌, ◌++◌, length, map, take, drop, get_or, Option, Some, None, refl, sym, ◌∙◌, ap, arith}
+use Rattle.std.proofs.Common.{◌≡◌, ℕ, zero, suc, ◌+◌, ◌-◌, ◌*◌, ◌<◌, ◌≤◌, true, List, [], ◌∷◌, ◌++◌, length, map, take, get_or, Some, None, refl, sym, ◌∙◌, ap, arith}
 use Rattle.std.specs.Prelude.{slice_get}
 use Rattle.std.specs.List.{slice_range}
 use Rattle.std.specs.Option.{option_map}
 use Rattle.std.proofs.lemmas.Option.{slice_get-map, slice_get_read}
 use Rattle.std.proofs.Math.Seq.{take-append_seam}
-use Rattle.aql_value.specs.Datum.{Datum}
-use Rattle.aql_value.specs.Partial.{each, total}
+use Rattle.aql_value.specs.Partial.{total}
 use Rattle.nrca_term.specs.Term.{Term, Parts, none, part, Form, count, child_of, weight_of, list_weight}
 use Rattle.nrca_term.specs.Nodes.{tab_term}
 use Rattle.nrca_term.specs.Variants.{parts_weight-plain}

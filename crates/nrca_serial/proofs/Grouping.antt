@@ -1,5 +1,5 @@
 -- The values paired with each index, as pairs come.
-use Rattle.std.proofs.Common.{◌≡◌, ℕ, zero, suc, ◌+◌, ◌<◌, ◌≤◌, Bool, true, false, List, [], ◌∷◌, ◌++◌, length, map, get_or, Option, Some, None, refl, sym, ◌∙◌, ap, arith, subst}
+use Rattle.std.proofs.Common.{◌≡◌, ℕ, zero, suc, ◌<◌, true, false, List, [], ◌∷◌, ◌++◌, length, map, Some, refl, sym, ◌∙◌, ap, arith}
 use Rattle.std.specs.Prelude.{nat_eq, nat_lt, slice_get, replicate, if◌then◌else◌}
 use Rattle.std.specs.List.{filter}
 use Rattle.std.specs.Cmp.Lexicographic.{pointwise, bytes_decides}
@@ -8,12 +8,12 @@ use Rattle.std.proofs.lemmas.Bool.{cases_Bool}
 use Rattle.std.specs.Option.{option_map}
 use Rattle.std.proofs.lemmas.Option.{slice_get-map, get_or_from_slice_get}
 use Rattle.std.proofs.Common.{inl, inr}
-use Rattle.std.proofs.lemmas.List.{map-append, append-nil, map-set}
+use Rattle.std.proofs.lemmas.List.{map-append, append-nil}
 use Rattle.std.proofs.lemmas.List.Elements.{filter-append}
 use Rattle.aql_value.specs.Datum.{Datum}
 use Rattle.aql_value.specs.Indices.{product, indices, offset_of}
 use Rattle.aql_value.specs.IndicesLaws.{offset}
-use Rattle.aql_value.specs.Lists.{Every, Every-get}
+use Rattle.aql_value.specs.Lists.{Every-get}
 use Rattle.aql_value.specs.Operations.{values_at}
 use Rattle.aql_value.specs.RowMajorLaws.{place_of_index, indices_below, row_major, offset_of_below, offset_of_within}
 use Rattle.nrca_serial.specs.Indexing.{push_group, put_group}

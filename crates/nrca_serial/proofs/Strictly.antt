@@ -1,5 +1,5 @@
 -- What the strict forms make of values, step by step.
-use Rattle.std.proofs.Common.{◌≡◌, ℕ, zero, suc, ◌+◌, ◌-◌, ◌<◌, ◌≤◌, List, [], ◌∷◌, ◌++◌, length, map, take, drop, get_or, Option, Some, None, vec_len, refl, sym, ◌∙◌, ap, arith, eq-eqb}
+use Rattle.std.proofs.Common.{◌≡◌, ℕ, zero, suc, ◌+◌, ◌-◌, ◌<◌, ◌≤◌, List, [], ◌∷◌, ◌++◌, length, map, take, drop, get_or, Option, Some, None, refl, sym, ◌∙◌, ap, arith, eq-eqb}
 use Rattle.std.specs.Prelude.{slice_get, nat_eq, if◌then◌else◌}
 use Rattle.std.specs.Option.{option_map}
 use Rattle.std.proofs.lemmas.List.{length-map, map-append, length-take, take-map, drop-map}
@@ -11,15 +11,9 @@ use Rattle.aql_value.specs.OperationsLaws.{tuple_of-if}
 use Rattle.aql_value.specs.Partial.{◌>>=◌, each}
 use Rattle.aql_value.specs.PartialLaws.{each-append, each-length}
 use Rattle.aql_value.specs.Strict.{Strict, strict_turns}
-use Rattle.nrca_term.specs.Term.{count, parts_of, form_of, plain, none}
-use Rattle.nrca_term.specs.View.{term_of, terms_of}
-use Rattle.nrca_term.specs.Equations.{term_of-Literal, length-terms_of}
-use Rattle.nrca_term.specs.Variants.{count-plain}
-use Rattle.nrca_term.specs.declared.term.Terms.{Terms}
-use Rattle.nrca_term.specs.declared.term.Core.TheVariants.{Literal}
 use Rattle.nrca_array.specs.declared.held.Held.{Held}
 use Rattle.nrca_array.specs.Held.{held_datum}
-use Rattle.nrca_serial.specs.Parts.{numbers_with, strict_of}
+use Rattle.nrca_serial.specs.Parts.{numbers_with}
 
 pub then_map : {A B : Type 0} (f : A → B) (o : Option A) → (o >>= λ x. Some (f x)) ≡ option_map f o
 then_map f None = refl

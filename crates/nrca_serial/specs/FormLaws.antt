@@ -1,7 +1,7 @@
 -- The value and the turns of a node, by what its parts come to.
-use Rattle.std.specs.Prelude.{◌≡◌, ℕ, zero, suc, ◌+◌, ◌-◌, ◌^◌, Bool, true, false, nat_lt, sum, List, [], ◌∷◌, ◌++◌, length, map, take, drop, Option, Some, None, refl, if◌then◌else◌}
+use Rattle.std.specs.Prelude.{◌≡◌, ℕ, zero, suc, ◌+◌, ◌^◌, Bool, true, false, nat_lt, sum, List, [], ◌∷◌, ◌++◌, length, Option, Some, None, refl, if◌then◌else◌}
 use Rattle.std.specs.Option.{option_map}
-use Rattle.std.specs.List.{slice_range, slice_get}
+use Rattle.std.specs.List.{slice_get}
 use Rattle.std.proofs.Common.{ap, sym, ◌∙◌, subst, arith}
 use Rattle.aql_value.specs.Arith.{if_fits}
 use Rattle.aql_value.specs.Canon.{canon}
@@ -16,9 +16,9 @@ use Rattle.nrca_term.specs.Nodes.{let_term, if_term, default_term, big_union_ter
 use Rattle.nrca_term.specs.Meaning.{Outcomes, cden}
 use Rattle.nrca_term.specs.Places.{indices_of}
 use Rattle.nrca_term.specs.Turns.{settle}
-use Rattle.nrca_term.specs.Variants.{cden-strict, cden-tab, numbers_of, settle-strict, settle-let, settle-if, settle-default_none, settle-default_some, settle-big_union, settle-sum, settle-tab}
+use Rattle.nrca_term.specs.Variants.{cden-strict, cden-tab, settle-strict, settle-let, settle-if, settle-big_union, settle-sum, settle-tab}
 use Rattle.nrca_serial.specs.Parts.{children, numbers_in, table_in}
-use Rattle.nrca_serial.specs.Runs.{run_values, run_turns, cell_values, cell_turns, sum_value, all_members, union_value}
+use Rattle.nrca_serial.specs.Runs.{run_values, run_turns, cell_values, cell_turns, sum_value, union_value}
 use Rattle.nrca_serial.specs.RunLaws.{range_whole}
 
 -- parts by their number

@@ -1,14 +1,14 @@
 -- The pairs that the members of a set are, and the array that they make.
-use Rattle.std.specs.Prelude.{◌≡◌, ℕ, zero, suc, ◌+◌, ◌≤◌, Bool, true, false, nat_eq, List, [], ◌∷◌, ◌++◌, length, map, Option, Some, None, refl, if◌then◌else◌}
+use Rattle.std.specs.Prelude.{◌≡◌, ℕ, zero, suc, ◌+◌, ◌≤◌, Bool, true, false, nat_eq, List, [], ◌∷◌, length, map, Option, Some, None, refl, if◌then◌else◌}
 use Rattle.std.specs.List.{slice_range, slice_get}
-use Rattle.std.proofs.Common.{ap, sym, ◌∙◌, subst, arith, eqb-true}
-use Rattle.aql_value.specs.Datum.{Datum, tuple, data_of}
-use Rattle.aql_value.specs.Lists.{Every, Every-all}
+use Rattle.std.proofs.Common.{ap, sym, ◌∙◌, eqb-true}
+use Rattle.aql_value.specs.Datum.{Datum}
+use Rattle.aql_value.specs.Lists.{Every-all}
 use Rattle.aql_value.specs.Operations.{as_natural, as_tuple, as_set, as_array, as_indexed, part_of, index_numbers, index_of, dims_above, indexed}
 use Rattle.aql_value.specs.Partial.{◌>>=◌, each, if_some}
-use Rattle.aql_value.specs.PartialLaws.{each-append, each-values, then-is}
+use Rattle.aql_value.specs.PartialLaws.{each-values, then-is}
 use Rattle.aql_value.specs.Strict.{index_turns}
-use Rattle.nrca_serial.specs.Indexing.{pairs_run, pairs_with, pairs_value, pairs_turns, ranked_numbers, AreRanked}
+use Rattle.nrca_serial.specs.Indexing.{pairs_run, pairs_with, pairs_value, pairs_turns, AreRanked}
 use Rattle.nrca_serial.specs.Runs.{lists_join}
 use Rattle.nrca_serial.specs.RunLaws.{range_whole, range_none, range_more, each-range_split, each-more}
 

@@ -1,4 +1,4 @@
-use Rattle.std.proofs.Common.{sym, arith, length}
+use Rattle.std.proofs.Common.{sym, arith}
 use Rattle.std.proofs.lemmas.List.{length-map}
 use Rattle.nrca_array.specs.Held.{held_datum}
 use Rattle.nrca_serial.specs.Parts.{held_values}

@@ -1,15 +1,8 @@
-use Rattle.std.proofs.Common.{rules, ◌≡◌, ◌≤◌, ◌<◌, ◌+◌, ◌-◌, ◌*◌, ◌∷◌, ◌++◌, [], suc, length, map, take, drop, get_or, max, min, Some, None, Option, ℕ, List, Bool, true, false, refl, sym, ap, ◌∙◌, arith}
-use Rattle.std.specs.Prelude.{slice_get, replicate, if◌then◌else◌, nat_eq, nat_lt}
-use Rattle.std.specs.Option.{option_map}
-use Rattle.aql_value.specs.Datum.{Datum, natural}
-use Rattle.aql_value.specs.Indices.{product, indices}
+use Rattle.std.proofs.Common.{◌∷◌, [], length, map, sym, ap, ◌∙◌, arith}
+use Rattle.aql_value.specs.Indices.{indices}
 use Rattle.aql_value.specs.Meaning.{datum}
-use Rattle.aql_value.specs.Operations.{as_natural, as_tuple, as_indexed, as_array, array_of, dims_above, greater_each, index_numbers, index_of, set_of, values_at, all_in_range}
-use Rattle.aql_value.specs.Partial.{each, ◌>>=◌}
-use Rattle.nrca_array.specs.Held.{held_datum}
-use Rattle.nrca_serial.specs.Indexing.{pair_of, pairs_of, pairs_run, pairs_value, pairs_turns, extent, pairs_with, indexed_pair, AreRanked, ranked_numbers, values_of}
-use Rattle.nrca_serial.specs.Scope.{held_value}
-use Rattle.nrca_serial.specs.Within.{Within}
+use Rattle.aql_value.specs.Operations.{values_at}
+use Rattle.nrca_serial.specs.Indexing.{pair_of, values_of}
 use Rattle.std.proofs.lemmas.List.{length-map, map-append}
 use Rattle.aql_value.specs.IndicesLaws.{length_indices}
 use Rattle.nrca_serial.specs.Indexing.{put_group}

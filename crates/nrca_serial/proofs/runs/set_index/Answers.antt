@@ -1,4 +1,4 @@
-use Rattle.std.proofs.Common.{◌≡◌, ◌-◌, ◌+◌, ◌<◌, ◌%◌, suc, length, get_or, arith}
+use Rattle.std.proofs.Common.{◌-◌, ◌+◌, ◌%◌, length, get_or, arith}
 use Rattle.std.proofs.lemmas.List.{length-set}
 use Rattle.nrca_serial.proofs.Walked.{dimension_some, reached_next, reached_all}
 use Rattle.nrca_serial.proofs.runs.set_index.Goals as goal

@@ -1,5 +1,5 @@
 -- The arms of the cycle.
-use Rattle.std.proofs.Common.{◌≡◌, ◌≤◌, ◌<◌, ◌+◌, ◌-◌, ◌∷◌, ◌++◌, [], length, map, Some, ℕ, List, drop, refl, sym, ap, ◌∙◌, arith}
+use Rattle.std.proofs.Common.{◌≡◌, ◌<◌, ◌∷◌, ◌++◌, [], length, Some, ℕ, List, drop, sym, ap, ◌∙◌, arith}
 use Rattle.std.specs.Option.{option_map}
 use Rattle.std.specs.Prelude.{slice_get}
 use Rattle.std.proofs.lemmas.Option.{slice_get_within}
@@ -12,7 +12,7 @@ use Rattle.nrca_array.specs.Held.{held_datum}
 use Rattle.nrca_term.specs.Equations.{term_of-BigUnion, term_of-Sum, term_of-Tab}
 use Rattle.nrca_term.specs.Meaning.{cden}
 use Rattle.nrca_term.specs.MeasureLaws.{weight_of-child}
-use Rattle.nrca_term.specs.Nodes.{big_union_term, sum_term, tab_term}
+use Rattle.nrca_term.specs.Nodes.{big_union_term, sum_term}
 use Rattle.nrca_term.specs.Term.{form_of, parts_of, weight_of}
 use Rattle.nrca_term.specs.Turns.{settle}
 use Rattle.nrca_term.specs.Variants.{settle-tab}
