@@ -1,5 +1,6 @@
 -- What the start term of a declaration is, by the laws of start terms and what inference answers.
-use Rattle.std.proofs.Common.{◌≡◌, ◌<◌, ◌≤◌, ◌*◌, ℕ, zero, suc, ◌-◌, List, [], ◌∷◌, ◌++◌, length, map, take, get_or, Option, Some, None, IsSome, Result, Ok, Err, IfOk, IfErr, refl, sym, ap, ◌∙◌, subst, reverse, append-nil, append_assoc}
+use Rattle.std.proofs.Common.{◌≡◌, ◌<◌, ◌≤◌, ◌*◌, ℕ, zero, suc, ◌+◌, ◌-◌, List, [], ◌∷◌, ◌++◌, length, map, take, get_or, Option, Some, None, IsSome, Result, Ok, Err, IfOk, IfErr, refl, sym, ap, ◌∙◌, subst, reverse, arith, append-nil, append_assoc, length-append}
+use Rattle.std.proofs.lemmas.Grind.{get_or_at_push}
 use Rattle.std.specs.List.{slice_get}
 use mathlib.Core.List.{reverse_aux}
 use Rattle.aql_types.specs.Types.{Ty, Sort, value, macro}
@@ -11,6 +12,7 @@ use Rattle.aql_syntax.specs.Typing.{Scope, Has, DeclHas, scope_of, argument_type
 use Rattle.aql_syntax.specs.Size as sizes
 use Rattle.aql_syntax.specs.Size.{before, expanded_size, expanded_levels, size_at, levels_at, decl_size, decl_levels, size, levels, extents_of}
 use Rattle.aql_syntax.specs.declared.ast.Decl.{Decl}
+use Rattle.aql_syntax.specs.declared.ast.Decl.TheVariants.{Bare}
 use Rattle.aql_syntax.specs.declared.ast.Expr.{Expr}
 use Rattle.aql_constraints.specs.Typed.{ArePrincipal}
 use Rattle.nrca_term.specs.Term.{Term, Closed, WellFormed, weight_of}
@@ -197,3 +199,12 @@ ok_map (Err e) P Q f h = tt
 pub err_map : {T E : Type 0} (r : Result T E) (P Q : E → Type 0) → ((x : E) → P x → Q x) → IfErr r P → IfErr r Q
 err_map (Ok x) P Q f h = tt
 err_map (Err e) P Q f h = f e h
+
+-- a bare expression at the end
+pub query_last : (ds all : List Decl) (e : Expr) (n : ℕ) → all ≡ ds ++ Bare e ∷ [] → n ≡ length all → IsSome (query_of (decls_of all) n)
+query_last ds all e n h k =
+    let count : length all ≡ length ds + 1 = ap length h ∙ length-append ds (Bare e ∷ []) in
+    let room : length ds < length (ds ++ Bare e ∷ []) = omega (arith, length-append ds (Bare e ∷ [])) in
+    let found : query_of (decls_of (ds ++ Bare e ∷ [])) n ≡ Some (tree_of e) =
+    query_here (ds ++ Bare e ∷ []) n (length ds) (Bare e) (omega (arith, count, k)) room (sym (get_or_at_push ds (Bare e)).1) in
+    subst IsSome (sym (ap (λ l. query_of (decls_of l) n) h ∙ found)) refl

@@ -14,5 +14,7 @@ mod names;
 mod nodes;
 mod positions;
 mod queries;
+#[cfg(test)]
+mod tests;
 pub mod translate;
 mod unions;

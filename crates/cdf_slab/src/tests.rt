@@ -82,15 +82,15 @@ fn read_over<F: Files>(
     files: &mut F,
     bytes: Vec<u8>,
     variable: &[u8],
-    asked: Asked,
+    request: Asked,
 ) -> Result<Result<(u64, Vec<u8>), CdfFault>, Fail> {
     let mut sure = SureFiles::new(folder(alloc, bytes)?);
     let name = name_of(alloc, b"s")?;
     let header = read_header(alloc, &mut sure, &name).ok().ok_or("a header")?;
     let v = header.find(&name_of(alloc, variable)?).ok_or("a variable")?;
-    let start = Index::from_slice(alloc, asked.start)?;
-    let count = Index::from_slice(alloc, asked.count)?;
-    let stride = Index::from_slice(alloc, asked.stride)?;
+    let start = Index::from_slice(alloc, request.start)?;
+    let count = Index::from_slice(alloc, request.count)?;
+    let stride = Index::from_slice(alloc, request.stride)?;
     let rank = start.len();
     if rank == 0 || rank > 8 || count.len() != rank || stride.len() != rank {
         return Ok(Err(CdfFault::Memory));
@@ -107,7 +107,7 @@ fn read_over<F: Files>(
         &start,
         &count,
         &stride,
-        asked.signed,
+        request.signed,
     );
     match found {
         Ok(flat) => Ok(Ok(packed(alloc, &flat)?)),
@@ -132,7 +132,7 @@ type Case<'a> = (
     Result<(u64, &'a [u8]), CdfFault>,
 );
 
-fn asked<'a>(start: &'a [u128], count: &'a [u128], stride: &'a [u128]) -> Asked<'a> {
+fn naturals<'a>(start: &'a [u128], count: &'a [u128], stride: &'a [u128]) -> Asked<'a> {
     Asked {
         start,
         count,
@@ -141,7 +141,7 @@ fn asked<'a>(start: &'a [u128], count: &'a [u128], stride: &'a [u128]) -> Asked<
     }
 }
 
-fn signed<'a>(start: &'a [u128], count: &'a [u128], stride: &'a [u128]) -> Asked<'a> {
+fn pairs<'a>(start: &'a [u128], count: &'a [u128], stride: &'a [u128]) -> Asked<'a> {
     Asked {
         start,
         count,
@@ -182,7 +182,7 @@ fn hyperslabs(rt: HostRuntime) -> Result<(), Fail> {
             None,
             108,
             b"v",
-            asked(&[0, 0], &[2, 3], ones),
+            naturals(&[0, 0], &[2, 3], ones),
             Ok((8, &[1, 2, 3, 4, 5, 6])),
         ),
         (
@@ -190,7 +190,7 @@ fn hyperslabs(rt: HostRuntime) -> Result<(), Fail> {
             Some((1, 0xffffffff)),
             108,
             b"v",
-            asked(&[0, 0], &[2, 3], ones),
+            naturals(&[0, 0], &[2, 3], ones),
             Ok((8, &[1, 2, 3, 4, 5, 6])),
         ),
         (
@@ -198,7 +198,7 @@ fn hyperslabs(rt: HostRuntime) -> Result<(), Fail> {
             None,
             156,
             b"v",
-            asked(&[0, 0], &[2, 3], ones),
+            naturals(&[0, 0], &[2, 3], ones),
             Ok((8, &[1, 2, 3, 4, 5, 6])),
         ),
         (
@@ -206,7 +206,7 @@ fn hyperslabs(rt: HostRuntime) -> Result<(), Fail> {
             None,
             108,
             b"v",
-            asked(&[0, 0], &[2, 2], &[1, 2]),
+            naturals(&[0, 0], &[2, 2], &[1, 2]),
             Ok((8, &[1, 3, 4, 6])),
         ),
         (
@@ -214,7 +214,7 @@ fn hyperslabs(rt: HostRuntime) -> Result<(), Fail> {
             None,
             108,
             b"v",
-            asked(&[2, 0], &[0, 3], ones),
+            naturals(&[2, 0], &[0, 3], ones),
             Ok((0, &[])),
         ),
         (
@@ -222,7 +222,7 @@ fn hyperslabs(rt: HostRuntime) -> Result<(), Fail> {
             None,
             108,
             b"v",
-            asked(&[0, 0], &[2, 4], ones),
+            naturals(&[0, 0], &[2, 4], ones),
             Err(CdfFault::Outside { dimension: 2 }),
         ),
         (
@@ -230,7 +230,7 @@ fn hyperslabs(rt: HostRuntime) -> Result<(), Fail> {
             None,
             108,
             b"v",
-            asked(&[0, 0], &[HUGE, 0], ones),
+            naturals(&[0, 0], &[HUGE, 0], ones),
             Err(CdfFault::Outside { dimension: 1 }),
         ),
         (
@@ -238,7 +238,7 @@ fn hyperslabs(rt: HostRuntime) -> Result<(), Fail> {
             None,
             107,
             b"v",
-            asked(&[0, 0], &[2, 3], ones),
+            naturals(&[0, 0], &[2, 3], ones),
             Err(CdfFault::Cut { at: 106 }),
         ),
         (
@@ -246,7 +246,7 @@ fn hyperslabs(rt: HostRuntime) -> Result<(), Fail> {
             None,
             96,
             b"v",
-            asked(&[0, 0], &[2, 3], ones),
+            naturals(&[0, 0], &[2, 3], ones),
             Err(CdfFault::Cut { at: 96 }),
         ),
         (
@@ -254,7 +254,7 @@ fn hyperslabs(rt: HostRuntime) -> Result<(), Fail> {
             Some((23, 0xfffffff0)),
             108,
             b"v",
-            asked(&[0, 0], &[2, 3], ones),
+            naturals(&[0, 0], &[2, 3], ones),
             Err(CdfFault::Cut { at: 4294967280 }),
         ),
         (
@@ -262,7 +262,7 @@ fn hyperslabs(rt: HostRuntime) -> Result<(), Fail> {
             None,
             108,
             b"v",
-            asked(&[0], &[1], &[1]),
+            naturals(&[0], &[1], &[1]),
             Err(CdfFault::Rank { found: 2 }),
         ),
         (
@@ -270,7 +270,7 @@ fn hyperslabs(rt: HostRuntime) -> Result<(), Fail> {
             None,
             156,
             b"w",
-            asked(&[0], &[2], &[1]),
+            naturals(&[0], &[2], &[1]),
             Err(CdfFault::Negative { cell: 0 }),
         ),
         (
@@ -278,7 +278,7 @@ fn hyperslabs(rt: HostRuntime) -> Result<(), Fail> {
             None,
             156,
             b"w",
-            signed(&[0], &[2], &[1]),
+            pairs(&[0], &[2], &[1]),
             Ok((8, &[1, 2, 1, 0])),
         ),
         (
@@ -286,7 +286,7 @@ fn hyperslabs(rt: HostRuntime) -> Result<(), Fail> {
             None,
             348,
             b"lat",
-            asked(&[0], &[2], &[1]),
+            naturals(&[0], &[2], &[1]),
             Err(CdfFault::FloatVariable),
         ),
         (
@@ -294,7 +294,7 @@ fn hyperslabs(rt: HostRuntime) -> Result<(), Fail> {
             None,
             348,
             b"temp",
-            signed(&[1, 0, 0], &[2, 2, 3], &[1, 1, 1]),
+            pairs(&[1, 0, 0], &[2, 2, 3], &[1, 1, 1]),
             Ok((
                 8,
                 &[
@@ -307,7 +307,7 @@ fn hyperslabs(rt: HostRuntime) -> Result<(), Fail> {
             None,
             152,
             b"u",
-            asked(&[0], &[3], &[1]),
+            naturals(&[0], &[3], &[1]),
             Ok((
                 64,
                 &[
@@ -321,7 +321,7 @@ fn hyperslabs(rt: HostRuntime) -> Result<(), Fail> {
             None,
             152,
             b"u",
-            asked(&[0], &[2], &[2]),
+            naturals(&[0], &[2], &[2]),
             Ok((8, &[1, 7])),
         ),
         (
@@ -329,7 +329,7 @@ fn hyperslabs(rt: HostRuntime) -> Result<(), Fail> {
             None,
             152,
             b"u",
-            asked(&[0], &[3], &[2]),
+            naturals(&[0], &[3], &[2]),
             Err(CdfFault::Outside { dimension: 1 }),
         ),
         (
@@ -337,7 +337,7 @@ fn hyperslabs(rt: HostRuntime) -> Result<(), Fail> {
             None,
             152,
             b"u",
-            asked(&[0], &[1], &[0]),
+            naturals(&[0], &[1], &[0]),
             Err(CdfFault::Stride { dimension: 1 }),
         ),
         (
@@ -345,14 +345,14 @@ fn hyperslabs(rt: HostRuntime) -> Result<(), Fail> {
             Some((27, 0xa)),
             152,
             b"u",
-            signed(&[0], &[3], &[1]),
+            pairs(&[0], &[3], &[1]),
             Ok((8, &[1, 1, 7, 0, 1, 0])),
         ),
     ];
-    for (words, change, size, variable, asked, expected) in cases {
+    for (words, change, size, variable, request, expected) in cases {
         let bytes = changed(alloc, words, change, size)?;
         let mut files = SureFiles::new(folder(alloc, bytes.clone()?)?);
-        let found = read_over(alloc, &mut files, bytes, variable, asked)?;
+        let found = read_over(alloc, &mut files, bytes, variable, request)?;
         assert!(rt; agrees(&found, expected));
     }
     Ok(())
@@ -381,8 +381,8 @@ fn eight_dimensions(rt: HostRuntime) -> Result<(), Fail> {
     let count: [u128; 8] = [2, 1, 1, 1, 1, 1, 1, 2];
     let strides: [u128; 8] = [1; 8];
     let mut files = SureFiles::new(folder(alloc, bytes.clone()?)?);
-    let asked = asked(&start, &count, &strides);
-    let found = read_over(alloc, &mut files, bytes, b"c", asked)?;
+    let request = naturals(&start, &count, &strides);
+    let found = read_over(alloc, &mut files, bytes, b"c", request)?;
     assert!(rt; agrees(&found, Ok((8, &[126, 127, 254, 255]))));
     Ok(())
 }
@@ -420,7 +420,7 @@ fn devices(rt: HostRuntime) -> Result<(), Fail> {
     let start: [u128; 2] = [0, 0];
     let count: [u128; 2] = [2, 3];
     let stride: [u128; 2] = [1, 1];
-    let all = asked(&start, &count, &stride);
+    let all = naturals(&start, &count, &stride);
     let cells: &[u8] = &[1, 2, 3, 4, 5, 6];
     for (fails, expected) in [(1, Err(CdfFault::Device)), (2, Ok((8, cells)))] {
         let bytes = bytes_of(alloc, &ONE_RECORD_VARIABLE)?;

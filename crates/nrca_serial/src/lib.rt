@@ -18,6 +18,8 @@ mod members;
 mod operations;
 mod runs;
 mod serial;
+#[cfg(test)]
+mod tests;
 
 pub use done::{Counted, Done};
 pub use env::{Env, Globals, lookup};
