@@ -1,9 +1,19 @@
-//! The evaluation of core terms.
+//! The evaluation of core terms, whose loops run in pieces beside each other.
 //!
 //! `evaluate` answers the value and the turns of a term exactly, and Spent exactly where the turns
-//! pass the budget, whatever the number of workers. One thread evaluates the whole term today: the
-//! workers and the gate are taken, and no piece is cut.
+//! pass the budget, whatever the number of workers. A sum, big union, tabulation or `index` that is
+//! not inside a piece is cut into pieces, each of which runs in a thread of its own; a loop inside
+//! a piece runs there.
+//!
+//! Read `wide.rt`, one function a form, then `index.rt`, `loops.rt` and `joins.rt`.
 #![tactic(auto)]
+
+mod index;
+mod joins;
+mod loops;
+#[cfg(test)]
+mod tests;
+mod wide;
 
 ghost use Rattle.std.specs.Prelude.{[], ◌≤◌};
 ghost use Rattle.nrca_term.specs.Meaning.{cden};
@@ -11,9 +21,10 @@ ghost use Rattle.nrca_term.specs.Turns.{settle};
 ghost use Rattle.nrca_term.specs.View.{term_of};
 ghost use Rattle.nrca_serial.specs.Within.{AnswersWithin};
 
+use crate::wide::wide;
 use aql_outside::Gate;
 use nrca_par::EvalFault;
-use nrca_serial::{Env, eval};
+use nrca_serial::Env;
 pub use nrca_serial::{Done, Globals};
 use nrca_term::Core;
 use std::alloc::Global;
@@ -34,10 +45,7 @@ pub fn evaluate<R: Threads + Sync, G: Gate>(
     requires workers { (1 ≤ workers) × (workers ≤ 64) }
     ensures { AnswersWithin budget (cden globals.now [] (term_of term.now)) (settle globals.now [] (term_of term.now)) result }
 {
-    let _ = rt;
-    let _ = workers;
-    let _ = gate;
-    let found = eval(alloc, term, globals, &Env::Empty, budget)?;
+    let found = wide(rt, alloc, term, globals, &Env::Empty, budget, workers, gate)?;
     Ok(Done {
         value: found.answer,
         turns: u128::from(found.turns),

@@ -7,3 +7,4 @@ pub mod Grouping
 pub mod Extents
 pub mod Arrays
 pub mod Evaluated
+pub mod Merged

@@ -3,6 +3,7 @@ pub mod Within
 pub mod WithinLaws
 pub mod Runs
 pub mod RunLaws
+pub mod Walks
 pub mod Parts
 pub mod Indexing
 pub mod FormLaws

@@ -13,12 +13,13 @@ use Rattle.nrca_term.specs.Term.{Term}
 use Rattle.nrca_term.specs.Meaning.{Outcomes, cden}
 use Rattle.nrca_term.specs.Turns.{settle}
 use Rattle.nrca_serial.specs.declared.members.Members.{Members}
-use Rattle.nrca_serial.specs.declared.members.Members.TheVariants.{Below, Listed}
+use Rattle.nrca_serial.specs.declared.members.Members.TheVariants.{Below, Listed, Both}
 
 -- the members of a loop, ascending
 abbrev pub member_list : Members → List Datum
 member_list (Below n) = map natural (below n)
 member_list (Listed set) = set
+member_list (Both a b) = canon (a ++ b)
 
 -- the body at each member from one number up to another, and what it takes there
 abbrev pub run_values : Outcomes → List Datum → Term → List Datum → ℕ → ℕ → Option (List Datum)

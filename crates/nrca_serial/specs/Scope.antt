@@ -1,6 +1,7 @@
 -- The values that an evaluation stands among.
 use Rattle.std.specs.Prelude.{ℕ, Bool, List, [], ◌∷◌, ◌++◌, Option}
 use Rattle.std.specs.Option.{option_map}
+use Rattle.std.proofs.Common.{Box, Global}
 use Rattle.aql_value.specs.Datum.{Datum}
 use Rattle.aql_value.specs.Operations.{as_natural, as_truth, as_set, gen_of, union_of, walked}
 use Rattle.aql_value.specs.Partial.{◌>>=◌}
@@ -18,6 +19,10 @@ values (Indices' at p rest) = walked at.now [] ++ values rest
 -- the value, where there is one
 abbrev pub held_value : Option Held → Option Datum
 held_value o = option_map held_datum o
+
+-- the value on the heap, where there is one
+abbrev pub boxed_value : Option (Box Held Global) → Option Datum
+boxed_value o = option_map (λ b. held_datum b.value) o
 
 -- the members, the number and the truth value, where the outcome is one
 abbrev pub set_in : Option Datum → Option (List Datum)

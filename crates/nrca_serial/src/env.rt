@@ -2,9 +2,10 @@ ghost use Rattle.std.specs.Prelude.{◌≡◌, ◌++◌, [], List, Some, IfOk, M
 ghost use Rattle.aql_value.specs.Datum.{Datum, natural};
 ghost use Rattle.aql_value.specs.Operations.{walked};
 ghost use Rattle.nrca_term.specs.Meaning.{outcome};
-ghost use Rattle.nrca_serial.specs.Scope.{values, held_value};
+ghost use Rattle.nrca_serial.specs.Scope.{values, held_value, boxed_value};
 ghost use Rattle.nrca_serial.specs.Within.{Within};
 
+use crate::boxes::boxed;
 use crate::done::Counted;
 use aql_value::{Memory, Value};
 use nrca_array::Held;
@@ -106,33 +107,35 @@ fn index_variable(numbers: &[u128], at: u64) -> Result<u128, u64>
 }
 
 /// The value of a variable, without turns.
+#[inline(never)]
 pub(crate) fn variable(
     alloc: Global,
     env: &Env,
     at: u64,
     budget: u64,
-) -> Result<Counted<Option<Held>>, EvalFault>
-    ensures { Within held_value budget (slice_get (values env.now) at) 0 result }
+) -> Result<Counted<Option<Box<Held>>>, EvalFault>
+    ensures { Within boxed_value budget (slice_get (values env.now) at) 0 result }
 {
     let value = lookup(alloc, env, at)?;
     Ok(Counted {
-        answer: value,
+        answer: boxed(alloc, value)?,
         turns: 0,
     })
 }
 
 /// The outcome of a position, without turns.
+#[inline(never)]
 pub(crate) fn position(
     alloc: Global,
     globals: &Globals,
     n: u64,
     budget: u64,
-) -> Result<Counted<Option<Held>>, EvalFault>
-    ensures { Within held_value budget (outcome globals.now n) 0 result }
+) -> Result<Counted<Option<Box<Held>>>, EvalFault>
+    ensures { Within boxed_value budget (outcome globals.now n) 0 result }
 {
     let value = globals.outcome(alloc, n)?;
     Ok(Counted {
-        answer: value,
+        answer: boxed(alloc, value)?,
         turns: 0,
     })
 }

@@ -1,6 +1,6 @@
 //! `index`: the array of the sets of values that a set of pairs has at each index.
 
-ghost use Rattle.std.specs.Prelude.{◌≡◌, ◌<◌, ◌≤◌, ◌^◌, ◌∷◌, ◌++◌, [], suc, length, map, max, replicate, slice_get, Some, None, IfOk, if◌then◌else◌};
+ghost use Rattle.std.specs.Prelude.{◌≡◌, ◌<◌, ◌≤◌, ◌^◌, ◌∷◌, ◌++◌, [], suc, length, map, max, replicate, Some, None, IfOk, if◌then◌else◌};
 ghost use Rattle.std.specs.Option.{option_map};
 ghost use Rattle.aql_value.specs.Indices.{product, indices};
 ghost use Rattle.aql_value.specs.Lists.{below};
@@ -16,6 +16,7 @@ ghost use Rattle.nrca_serial.specs.Within.{Within};
 use crate::done::Counted;
 use crate::members::set_of;
 use crate::operations::{free, table_of};
+use crate::walk::member_at;
 use aql_value::{
     Ascending, Dims, Items, Memory, Value, canon, is_below, place, saturating_product,
 };
@@ -75,13 +76,6 @@ pub fn index_run(
         pairs = pairs_and(pairs, pair)?;
     }
     Ok(pairs)
-}
-
-fn member_at(members: &Items, at: usize) -> &Value
-    requires { at < length members.now }
-    ensures { slice_get members.now at ≡ Some (datum result.now) }
-{
-    &members.items[at]
 }
 
 // The pairs so far, and one more.

@@ -6,9 +6,10 @@
 //! that follow each other, by the laws in `specs/RunLaws.antt` and `IndexLaws.antt`.
 //!
 //! Read `specs/Within.antt`, `Scope`, `Runs`, `Parts`, `Indexing`; then `env.rt`, `members.rt`,
-//! `serial.rt`, `forms.rt`, `operations.rt`, `index.rt`, `runs.rt` and `joins.rt`.
+//! `walk.rt`, `serial.rt`, `forms.rt`, `operations.rt`, `index.rt`, `runs.rt` and `joins.rt`.
 #![tactic(auto)]
 
+mod boxes;
 mod done;
 mod env;
 mod forms;
@@ -20,6 +21,7 @@ mod runs;
 mod serial;
 #[cfg(test)]
 mod tests;
+mod walk;
 
 pub use done::{Counted, Done};
 pub use env::{Env, Globals, lookup};

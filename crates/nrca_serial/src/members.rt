@@ -1,4 +1,4 @@
-ghost use Rattle.std.specs.Prelude.{◌≡◌, ◌<◌, IfOk, slice_get, Some, length, option_map};
+ghost use Rattle.std.specs.Prelude.{◌≡◌, ◌+◌, ◌<◌, IfOk, slice_get, Some, length, option_map};
 ghost use Rattle.aql_value.specs.Meaning.{datum};
 ghost use Rattle.aql_value.specs.Operations.{as_set, as_tuple};
 ghost use Rattle.nrca_array.specs.Held.{held_datum};
@@ -6,18 +6,29 @@ ghost use Rattle.aql_value.specs.Partial.{if_some};
 ghost use Rattle.nrca_serial.specs.Scope.{held_value, set_in, natural_in, truth_in, generated, united};
 ghost use Rattle.nrca_serial.specs.Within.{Within};
 ghost use Rattle.nrca_serial.specs.Runs.{member_list, members_value};
+ghost use Rattle.nrca_serial.specs.Walks.{IsAt};
 
 use crate::done::Counted;
-use aql_value::{Ascending, Items, Memory, Value, merge};
+use crate::walk::{Sides, count, sides_before, take};
+use aql_value::{Ascending, Items, Memory, Value};
 use nrca_array::Held;
 use nrca_par::EvalFault;
 use std::alloc::Global;
 
-/// The members of a loop: the naturals below a number, which are not kept, or those of a set.
+/// The members of a loop: the naturals below a number and those of two sets, which are not kept as
+/// a set, or those of a set.
 #[derive(Drop)]
 pub enum Members {
     Below(u128),
     Listed(Ascending),
+    Both(Ascending, Ascending),
+}
+
+/// A member, and how far a walk over two sets has come behind it.
+#[derive(Drop)]
+pub(crate) struct Next {
+    pub(crate) member: Held,
+    pub(crate) sides: Sides,
 }
 
 impl Members {
@@ -29,20 +40,42 @@ impl Members {
         match self {
             Members::Below(n) => *n,
             Members::Listed(set) => set.items().items.len() as u128,
+            Members::Both(left, right) => count(left.items(), right.items()),
         }
     }
 
-    /// A member by its place in ascending order.
-    #[tactic(auto, using(crate::proofs::Ranges::ranges))]
-    pub fn get(&self, alloc: Global, at: u64) -> Result<Held, Memory>
-        requires { at < length (member_list self.now) }
-        ensures { IfOk result (λ v. slice_get (member_list self.now) at ≡ Some (held_datum v)) }
+    /// How far a walk has come before the member of a number.
+    pub(crate) fn sides(&self, number: u64) -> Sides
+        ensures { IsAt self.now number result }
     {
         match self {
-            Members::Below(_) => Ok(Held::Value(Value::Nat(u128::from(at)))),
+            Members::Both(left, right) => sides_before(left.items(), right.items(), number),
+            _ => Sides { left: 0, right: 0 },
+        }
+    }
+
+    /// A member by its place in ascending order, before which a walk has come so far.
+    #[tactic(auto, using(crate::proofs::Ranges::ranges))]
+    pub(crate) fn get(&self, alloc: Global, at: u64, sides: Sides) -> Result<Next, Memory>
+        requires within { at < length (member_list self.now) }
+        requires place { IsAt self.now at sides }
+        ensures { IfOk result (λ n. (slice_get (member_list self.now) at ≡ Some (held_datum n.member)) × IsAt self.now (at + 1) n.sides) }
+    {
+        match self {
+            Members::Below(_) => {
+                let member = Held::Value(Value::Nat(u128::from(at)));
+                Ok(Next { member, sides })
+            }
             Members::Listed(set) => {
-                let member = item(alloc, set.items(), at as usize)?;
-                Ok(Held::Value(member))
+                let member = Held::Value(item(alloc, set.items(), at as usize)?);
+                Ok(Next { member, sides })
+            }
+            Members::Both(left, right) => {
+                let taken = take(alloc, left.items(), right.items(), sides)?;
+                Ok(Next {
+                    member: Held::Value(taken.member),
+                    sides: taken.sides,
+                })
             }
         }
     }
@@ -95,16 +128,12 @@ pub fn members_below(
 
 /// The members of the two sets that values are.
 #[tactic(auto, using(aql_value::specs::Datum::data_lists))]
-pub fn members_of_both(
-    alloc: Global,
-    first: Option<Held>,
-    second: Option<Held>,
-) -> Result<Option<Members>, Memory>
-    ensures { IfOk result (λ ms. members_value ms ≡ set_in (united (held_value first) (held_value second))) }
+pub fn members_of_both(first: Option<Held>, second: Option<Held>) -> Option<Members>
+    ensures { members_value result ≡ set_in (united (held_value first) (held_value second)) }
 {
     match (ascending(first), ascending(second)) {
-        (Some(first), Some(second)) => Ok(Some(Members::Listed(merge(alloc, first, second)?))),
-        _ => Ok(None),
+        (Some(first), Some(second)) => Some(Members::Both(first, second)),
+        _ => None,
     }
 }
 

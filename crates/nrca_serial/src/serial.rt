@@ -9,16 +9,16 @@ ghost use Rattle.nrca_term.specs.Term.{form_of, parts_of};
 ghost use Rattle.nrca_term.specs.Turns.{settle};
 ghost use Rattle.nrca_term.specs.View.{term_of, terms_of};
 ghost use Rattle.nrca_serial.specs.Parts.{children, is_strict_form, parts_value};
-ghost use Rattle.nrca_serial.specs.Scope.{values, held_value, set_in};
+ghost use Rattle.nrca_serial.specs.Scope.{values, held_value, boxed_value, set_in};
 ghost use Rattle.nrca_serial.specs.Within.{Within, itself};
 ghost use Rattle.nrca_serial.specs.Runs.{member_list, members_value, run_values, run_turns, cell_values, cell_turns, sum_value, union_value};
 
+use crate::boxes::{boxed, keep_part, parts_kept, strict_boxed, truth_kept, unboxed};
 use crate::done::Counted;
 use crate::env::{Env, Globals, position, variable};
-use crate::forms::strict;
-use crate::members::{Members, as_members, members_below, members_of_both, truth};
+use crate::members::{Members, Next, as_members, members_below, members_of_both};
 use crate::operations::{numbers, sum_of, table_of, union_of};
-use crate::runs::{canon_of, cells_and, members_and, parts_and, set_index, sum_and, zeros};
+use crate::runs::{canon_of, cells_and, members_and, set_index, sum_and, zeros};
 use aql_value::{Ascending, Dims, Items, saturating_product};
 use nrca_array::{Builder, Held};
 use nrca_par::EvalFault;
@@ -28,7 +28,6 @@ use std::alloc::Global;
 /// The value of a term and its turns, among the outcomes of the positions and the values of the
 /// variables. Spent exactly where the turns pass the budget; a loop, tabulation or `index` whose
 /// members or cells pass what is left is Spent before its first turn.
-#[cycle(serial)]
 pub fn eval(
     alloc: Global,
     term: &Core,
@@ -37,6 +36,25 @@ pub fn eval(
     budget: u64,
 ) -> Result<Counted<Option<Held>>, EvalFault>
     ensures { Within held_value budget (cden globals.now (values env.now) (term_of term.now)) (settle globals.now (values env.now) (term_of term.now)) result }
+{
+    let done = node(alloc, term, globals, env, budget)?;
+    Ok(Counted {
+        answer: unboxed(done.answer),
+        turns: done.turns,
+    })
+}
+
+// The same, with the value on the heap, so that a level of the recursion keeps little on the stack.
+#[cycle(serial)]
+#[inline(never)]
+fn node(
+    alloc: Global,
+    term: &Core,
+    globals: &Globals,
+    env: &Env,
+    budget: u64,
+) -> Result<Counted<Option<Box<Held>>>, EvalFault>
+    ensures { Within boxed_value budget (cden globals.now (values env.now) (term_of term.now)) (settle globals.now (values env.now) (term_of term.now)) result }
 {
     match term {
         Core::Var(at) => variable(alloc, env, *at, budget),
@@ -53,18 +71,19 @@ pub fn eval(
 
 // A form that evaluates all its parts and binds nothing.
 #[cycle(serial)]
+#[inline(never)]
 fn eval_strict(
     alloc: Global,
     term: &Core,
     globals: &Globals,
     env: &Env,
     budget: u64,
-) -> Result<Counted<Option<Held>>, EvalFault>
+) -> Result<Counted<Option<Box<Held>>>, EvalFault>
     requires { is_strict_form (form_of (term_of term.now)) ≡ true }
-    ensures { Within held_value budget (cden globals.now (values env.now) (term_of term.now)) (settle globals.now (values env.now) (term_of term.now)) result }
+    ensures { Within boxed_value budget (cden globals.now (values env.now) (term_of term.now)) (settle globals.now (values env.now) (term_of term.now)) result }
 {
     let parts = eval_parts(alloc, term, globals, env, budget)?;
-    let whole = strict(alloc, term, parts.answer, budget - parts.turns)?;
+    let whole = strict_boxed(alloc, term, parts.answer, budget - parts.turns)?;
     Ok(Counted {
         answer: whole.answer,
         turns: parts.turns + whole.turns,
@@ -73,6 +92,7 @@ fn eval_strict(
 
 // Every part of a node, from the left, under the variables around the node.
 #[cycle(serial)]
+#[inline(never)]
 fn eval_parts(
     alloc: Global,
     term: &Core,
@@ -87,8 +107,8 @@ fn eval_parts(
     for i in 0..term.parts() {
         match term.part(i) {
             Some(part) => {
-                let done = eval(alloc, part, globals, env, budget - turns)?;
-                parts = parts_and(parts, done.answer)?;
+                let done = node(alloc, part, globals, env, budget - turns)?;
+                keep_part(&mut parts, done.answer)?;
                 turns += done.turns;
             }
             None => unreachable!(),
@@ -102,6 +122,7 @@ fn eval_parts(
 
 // Terms in a row, from the left.
 #[cycle(serial)]
+#[inline(never)]
 fn eval_all(
     alloc: Global,
     terms: &Terms,
@@ -114,8 +135,8 @@ fn eval_all(
     let mut parts = Some(Vec::new(alloc));
     let mut turns = 0;
     for term in &terms.0 {
-        let done = eval(alloc, term, globals, env, budget - turns)?;
-        parts = parts_and(parts, done.answer)?;
+        let done = node(alloc, term, globals, env, budget - turns)?;
+        parts = parts_kept(parts, done.answer)?;
         turns += done.turns;
     }
     Ok(Counted {
@@ -125,6 +146,7 @@ fn eval_all(
 }
 
 #[cycle(serial)]
+#[inline(never)]
 fn eval_let(
     alloc: Global,
     bound: &Core,
@@ -132,14 +154,14 @@ fn eval_let(
     globals: &Globals,
     env: &Env,
     budget: u64,
-) -> Result<Counted<Option<Held>>, EvalFault>
-    ensures { Within held_value budget (cden globals.now (values env.now) (let_term (term_of bound.now) (term_of body.now))) (settle globals.now (values env.now) (let_term (term_of bound.now) (term_of body.now))) result }
+) -> Result<Counted<Option<Box<Held>>>, EvalFault>
+    ensures { Within boxed_value budget (cden globals.now (values env.now) (let_term (term_of bound.now) (term_of body.now))) (settle globals.now (values env.now) (let_term (term_of bound.now) (term_of body.now))) result }
 {
-    let Counted { answer, turns } = eval(alloc, bound, globals, env, budget)?;
+    let Counted { answer, turns } = node(alloc, bound, globals, env, budget)?;
     match answer {
         Some(value) => {
             let inner = Env::Bound(&value, &*env);
-            let done = eval(alloc, body, globals, &inner, budget - turns)?;
+            let done = node(alloc, body, globals, &inner, budget - turns)?;
             Ok(Counted {
                 answer: done.answer,
                 turns: turns + done.turns,
@@ -153,6 +175,7 @@ fn eval_let(
 }
 
 #[cycle(serial)]
+#[inline(never)]
 fn eval_if(
     alloc: Global,
     test: &Core,
@@ -161,21 +184,21 @@ fn eval_if(
     globals: &Globals,
     env: &Env,
     budget: u64,
-) -> Result<Counted<Option<Held>>, EvalFault>
-    ensures { Within held_value budget (cden globals.now (values env.now) (if_term (term_of test.now) (term_of yes.now) (term_of no.now))) (settle globals.now (values env.now) (if_term (term_of test.now) (term_of yes.now) (term_of no.now))) result }
+) -> Result<Counted<Option<Box<Held>>>, EvalFault>
+    ensures { Within boxed_value budget (cden globals.now (values env.now) (if_term (term_of test.now) (term_of yes.now) (term_of no.now))) (settle globals.now (values env.now) (if_term (term_of test.now) (term_of yes.now) (term_of no.now))) result }
 {
-    let Counted { answer, turns } = eval(alloc, test, globals, env, budget)?;
+    let Counted { answer, turns } = node(alloc, test, globals, env, budget)?;
     let left = budget - turns;
-    match truth(answer) {
+    match truth_kept(answer) {
         Some(true) => {
-            let done = eval(alloc, yes, globals, env, left)?;
+            let done = node(alloc, yes, globals, env, left)?;
             Ok(Counted {
                 answer: done.answer,
                 turns: turns + done.turns,
             })
         }
         Some(false) => {
-            let done = eval(alloc, no, globals, env, left)?;
+            let done = node(alloc, no, globals, env, left)?;
             Ok(Counted {
                 answer: done.answer,
                 turns: turns + done.turns,
@@ -189,6 +212,7 @@ fn eval_if(
 }
 
 #[cycle(serial)]
+#[inline(never)]
 fn eval_default(
     alloc: Global,
     first: &Core,
@@ -196,17 +220,17 @@ fn eval_default(
     globals: &Globals,
     env: &Env,
     budget: u64,
-) -> Result<Counted<Option<Held>>, EvalFault>
-    ensures { Within held_value budget (cden globals.now (values env.now) (default_term (term_of first.now) (term_of second.now))) (settle globals.now (values env.now) (default_term (term_of first.now) (term_of second.now))) result }
+) -> Result<Counted<Option<Box<Held>>>, EvalFault>
+    ensures { Within boxed_value budget (cden globals.now (values env.now) (default_term (term_of first.now) (term_of second.now))) (settle globals.now (values env.now) (default_term (term_of first.now) (term_of second.now))) result }
 {
-    let Counted { answer, turns } = eval(alloc, first, globals, env, budget)?;
+    let Counted { answer, turns } = node(alloc, first, globals, env, budget)?;
     match answer {
         Some(value) => Ok(Counted {
             answer: Some(value),
             turns,
         }),
         None => {
-            let done = eval(alloc, second, globals, env, budget - turns)?;
+            let done = node(alloc, second, globals, env, budget - turns)?;
             Ok(Counted {
                 answer: done.answer,
                 turns: turns + done.turns,
@@ -217,6 +241,7 @@ fn eval_default(
 
 // The members of a loop's operand. Those of `gen` and of `union` are not made into a set.
 #[cycle(serial)]
+#[inline(never)]
 fn eval_members(
     alloc: Global,
     over: &Core,
@@ -228,25 +253,25 @@ fn eval_members(
 {
     match over {
         Core::Gen(number) => {
-            let Counted { answer, turns } = eval(alloc, number, globals, env, budget)?;
-            let members = members_below(answer, budget - turns)?;
+            let Counted { answer, turns } = node(alloc, number, globals, env, budget)?;
+            let members = members_below(unboxed(answer), budget - turns)?;
             Ok(Counted {
                 answer: members.answer,
                 turns: turns + members.turns,
             })
         }
         Core::Union(first, second) => {
-            let Counted { answer, turns } = eval(alloc, first, globals, env, budget)?;
-            let other = eval(alloc, second, globals, env, budget - turns)?;
+            let Counted { answer, turns } = node(alloc, first, globals, env, budget)?;
+            let other = node(alloc, second, globals, env, budget - turns)?;
             Ok(Counted {
-                answer: members_of_both(alloc, answer, other.answer)?,
+                answer: members_of_both(unboxed(answer), unboxed(other.answer)),
                 turns: turns + other.turns,
             })
         }
         _ => {
-            let set = eval(alloc, over, globals, env, budget)?;
+            let set = node(alloc, over, globals, env, budget)?;
             Ok(Counted {
-                answer: as_members(set.answer),
+                answer: as_members(unboxed(set.answer)),
                 turns: set.turns,
             })
         }
@@ -254,6 +279,7 @@ fn eval_members(
 }
 
 #[cycle(serial)]
+#[inline(never)]
 fn eval_sum(
     alloc: Global,
     over: &Core,
@@ -261,8 +287,8 @@ fn eval_sum(
     globals: &Globals,
     env: &Env,
     budget: u64,
-) -> Result<Counted<Option<Held>>, EvalFault>
-    ensures { Within held_value budget (cden globals.now (values env.now) (sum_term (term_of over.now) (term_of body.now))) (settle globals.now (values env.now) (sum_term (term_of over.now) (term_of body.now))) result }
+) -> Result<Counted<Option<Box<Held>>>, EvalFault>
+    ensures { Within boxed_value budget (cden globals.now (values env.now) (sum_term (term_of over.now) (term_of body.now))) (settle globals.now (values env.now) (sum_term (term_of over.now) (term_of body.now))) result }
 {
     let Counted { answer, turns } = eval_members(alloc, over, globals, env, budget)?;
     let left = budget - turns;
@@ -279,12 +305,13 @@ fn eval_sum(
     let count = count as u64;
     let run = sum_run(alloc, body, globals, env, &members, 0, count, left - count)?;
     Ok(Counted {
-        answer: sum_of(run.answer),
+        answer: boxed(alloc, sum_of(run.answer))?,
         turns: turns + count + run.turns,
     })
 }
 
 #[cycle(serial)]
+#[inline(never)]
 fn eval_union(
     alloc: Global,
     over: &Core,
@@ -292,8 +319,8 @@ fn eval_union(
     globals: &Globals,
     env: &Env,
     budget: u64,
-) -> Result<Counted<Option<Held>>, EvalFault>
-    ensures { Within held_value budget (cden globals.now (values env.now) (big_union_term (term_of over.now) (term_of body.now))) (settle globals.now (values env.now) (big_union_term (term_of over.now) (term_of body.now))) result }
+) -> Result<Counted<Option<Box<Held>>>, EvalFault>
+    ensures { Within boxed_value budget (cden globals.now (values env.now) (big_union_term (term_of over.now) (term_of body.now))) (settle globals.now (values env.now) (big_union_term (term_of over.now) (term_of body.now))) result }
 {
     let Counted { answer, turns } = eval_members(alloc, over, globals, env, budget)?;
     let left = budget - turns;
@@ -310,12 +337,13 @@ fn eval_union(
     let count = count as u64;
     let run = union_run(alloc, body, globals, env, &members, 0, count, left - count)?;
     Ok(Counted {
-        answer: union_of(run.answer),
+        answer: boxed(alloc, union_of(run.answer))?,
         turns: turns + count + run.turns,
     })
 }
 
 #[cycle(serial)]
+#[inline(never)]
 fn eval_tab(
     alloc: Global,
     bounds: &Terms,
@@ -323,8 +351,8 @@ fn eval_tab(
     globals: &Globals,
     env: &Env,
     budget: u64,
-) -> Result<Counted<Option<Held>>, EvalFault>
-    ensures { Within held_value budget (cden globals.now (values env.now) (tab_term (terms_of bounds.now) (term_of body.now))) (settle globals.now (values env.now) (tab_term (terms_of bounds.now) (term_of body.now))) result }
+) -> Result<Counted<Option<Box<Held>>>, EvalFault>
+    ensures { Within boxed_value budget (cden globals.now (values env.now) (tab_term (terms_of bounds.now) (term_of body.now))) (settle globals.now (values env.now) (tab_term (terms_of bounds.now) (term_of body.now))) result }
 {
     let Counted { answer, turns } = eval_all(alloc, bounds, globals, env, budget)?;
     let left = budget - turns;
@@ -341,7 +369,7 @@ fn eval_tab(
     let count = count as u64;
     let run = cells_run(alloc, body, globals, env, &dims, 0, count, left - count)?;
     Ok(Counted {
-        answer: table_of(dims, run.answer)?,
+        answer: boxed(alloc, table_of(dims, run.answer)?)?,
         turns: turns + count + run.turns,
     })
 }
@@ -365,11 +393,16 @@ pub fn sum_run(
 {
     let mut sum = Some(0);
     let mut turns = 0;
+    let mut sides = members.sides(from);
     for i in from..to {
-        let member = members.get(alloc, i)?;
+        let Next {
+            member,
+            sides: after,
+        } = members.get(alloc, i, sides)?;
+        sides = after;
         let inner = Env::Bound(&member, &*env);
-        let done = eval(alloc, body, globals, &inner, budget - turns)?;
-        sum = sum_and(sum, done.answer);
+        let done = node(alloc, body, globals, &inner, budget - turns)?;
+        sum = sum_and(sum, unboxed(done.answer));
         turns += done.turns;
     }
     Ok(Counted { answer: sum, turns })
@@ -396,11 +429,16 @@ pub fn union_run(
         items: Vec::new(alloc),
     });
     let mut turns = 0;
+    let mut sides = members.sides(from);
     for i in from..to {
-        let member = members.get(alloc, i)?;
+        let Next {
+            member,
+            sides: after,
+        } = members.get(alloc, i, sides)?;
+        sides = after;
         let inner = Env::Bound(&member, &*env);
-        let done = eval(alloc, body, globals, &inner, budget - turns)?;
-        all = members_and(all, done.answer)?;
+        let done = node(alloc, body, globals, &inner, budget - turns)?;
+        all = members_and(all, unboxed(done.answer))?;
         turns += done.turns;
     }
     Ok(Counted {
@@ -432,8 +470,8 @@ pub fn cells_run(
     for place in from..to {
         set_index(dims.dims.as_slice(), u128::from(place), at.as_mut_slice());
         let inner = Env::Indices(at.as_slice(), &*env);
-        let done = eval(alloc, body, globals, &inner, budget - turns)?;
-        cells = cells_and(alloc, cells, done.answer)?;
+        let done = node(alloc, body, globals, &inner, budget - turns)?;
+        cells = cells_and(alloc, cells, unboxed(done.answer))?;
         turns += done.turns;
     }
     Ok(Counted {

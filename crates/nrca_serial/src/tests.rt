@@ -66,14 +66,16 @@ fn naturals(alloc: Global, numbers: &[u128]) -> Result<Items, Memory> {
 }
 
 fn grid(alloc: Global, dims: &[u128], items: Items) -> Result<Value, Memory> {
-    if dims.is_empty() || dims.len() > 8 {
-        return Err(Memory);
-    }
     let mut sizes = Vec::new(alloc);
     for d in dims {
         sizes.push(*d)?;
     }
-    match Cells::new(Dims { dims: sizes }, items) {
+    let dims = Dims { dims: sizes };
+    let rank = dims.dims.len();
+    if rank == 0 || rank > 8 {
+        return Err(Memory);
+    }
+    match Cells::new(dims, items) {
         Some(cells) => Ok(Value::Grid(cells)),
         None => Err(Memory),
     }

@@ -22,29 +22,29 @@ use Rattle.nrca_serial.specs.FormLaws.{count-children, child_of-children, strict
 use Rattle.nrca_serial.specs.Parts.{children, numbers_in, parts_value, strict_of, strict_in, table_in}
 use Rattle.nrca_serial.specs.RunLaws.{range_whole, each-range_more, total-range_more, sum_value-with, all_members-with}
 use Rattle.nrca_serial.specs.Runs.{member_list, members_value, members_with, list_with, run_values, run_turns, cell_values, cell_turns, all_members, sum_value, sum_with, union_value}
-use Rattle.nrca_serial.specs.Scope.{values, held_value}
+use Rattle.nrca_serial.specs.Scope.{values, boxed_value}
 use Rattle.nrca_serial.specs.Within.{itself}
 use Rattle.nrca_serial.specs.WithinLaws.{err_within, same_within}
 use Rattle.nrca_serial.proofs.Evaluated.{term_at, member_weight, tab_weight, child_there, strict_form, spent_within, spent_whole, written}
 use Rattle.nrca_serial.proofs.serial.+serial.Goals as goal
 
-pub eval-eval_tab-requires : goal.eval-eval_tab-requires
-eval-eval_tab-requires t c =
+pub node-eval_tab-requires : goal.node-eval_tab-requires
+node-eval_tab-requires t c =
     let w = ap (λ x. weight_of (term_of x)) c.in-Tab.is ∙ ap weight_of (term_of-Tab c.in-Tab.bounds c.in-Tab.body) in
     (omega (arith, c.decreases, w, tab_weight (terms_of c.in-Tab.bounds) (term_of c.in-Tab.body.value), ap (λ x. weight_of (term_of x)) c.deref-in-Tab.ensures), tt)
 
-pub eval-returns-in-BigUnion : goal.eval-returns-in-BigUnion
-eval-returns-in-BigUnion t c =
+pub node-returns-in-BigUnion : goal.node-returns-in-BigUnion
+node-returns-in-BigUnion t c =
     let whole = ap term_of c.in-BigUnion.is ∙ term_of-BigUnion c.in-BigUnion.over c.in-BigUnion.body ∙ (λ k. big_union_term (term_of (sym c.deref-in-BigUnion.ensures k)) (term_of (sym c.deref-in-BigUnion-2.ensures k))) in
-    same_within held_value c.eval_union.result c.args.budget _ _ _ _ (ap (cden c.args.globals.now (values c.args.env.now)) (sym whole)) (ap (settle c.args.globals.now (values c.args.env.now)) (sym whole)) c.eval_union.ensures
+    same_within boxed_value c.eval_union.result c.args.budget _ _ _ _ (ap (cden c.args.globals.now (values c.args.env.now)) (sym whole)) (ap (settle c.args.globals.now (values c.args.env.now)) (sym whole)) c.eval_union.ensures
 
-pub eval-returns-in-Sum : goal.eval-returns-in-Sum
-eval-returns-in-Sum t c =
+pub node-returns-in-Sum : goal.node-returns-in-Sum
+node-returns-in-Sum t c =
     let whole = ap term_of c.in-Sum.is ∙ term_of-Sum c.in-Sum.over c.in-Sum.body ∙ (λ k. sum_term (term_of (sym c.deref-in-Sum.ensures k)) (term_of (sym c.deref-in-Sum-2.ensures k))) in
-    same_within held_value c.eval_sum.result c.args.budget _ _ _ _ (ap (cden c.args.globals.now (values c.args.env.now)) (sym whole)) (ap (settle c.args.globals.now (values c.args.env.now)) (sym whole)) c.eval_sum.ensures
+    same_within boxed_value c.eval_sum.result c.args.budget _ _ _ _ (ap (cden c.args.globals.now (values c.args.env.now)) (sym whole)) (ap (settle c.args.globals.now (values c.args.env.now)) (sym whole)) c.eval_sum.ensures
 
-pub eval_all-eval-requires : goal.eval_all-eval-requires
-eval_all-eval-requires t c =
+pub eval_all-node-requires : goal.eval_all-node-requires
+eval_all-node-requires t c =
     (omega (arith, c.decreases, member_weight c.deref-term-items.result.now c.args.terms.now.0.items c.loop-term.term-index c.term-item.result c.deref-term-items.ensures.value (omega arith) c.term-item.is), tt)
 
 pub eval_all-returns-in_err-done : goal.eval_all-returns-in_err-done
@@ -69,8 +69,8 @@ eval_all-loop-term-preserved t c =
       omega (arith, inv.2, done.1, done.2),
     )
 
-pub eval_parts-eval-requires : goal.eval_parts-eval-requires
-eval_parts-eval-requires t c =
+pub eval_parts-node-requires : goal.eval_parts-node-requires
+eval_parts-node-requires t c =
     (omega (arith, c.decreases, weight_of-child (term_of c.args.term.now) c.loop-i.i (term_of c.in-Some.part.now) (sym c.in-Some.ensures)), tt)
 
 pub eval_parts-unreachable-requires : goal.eval_parts-unreachable-requires
@@ -95,7 +95,7 @@ eval_parts-loop-i-preserved t c =
     let done = c.in_ok-done-in-Some.ensures in
     let ts = children (parts_of (term_of c.args.term.now)) in
     let at : slice_get ts c.loop-i.i ≡ Some (term_of c.in-Some.part.now) = sym (child_of-children (parts_of (term_of c.args.term.now)) c.loop-i.i) ∙ sym c.in-Some.ensures in (
-      c.in_ok-parts-in-Some.ensures ∙ (λ k. list_with (inv.0 k) (done.0 k)) ∙ sym (each-range_more f g ts 0 c.loop-i.i (term_of c.in-Some.part.now) (omega arith) at),
+      c.in_ok-keep_part-in-Some.ensures ∙ (λ k. list_with (inv.0 k) (done.0 k)) ∙ sym (each-range_more f g ts 0 c.loop-i.i (term_of c.in-Some.part.now) (omega arith) at),
       omega (arith, total-range_more f g ts 0 c.loop-i.i (term_of c.in-Some.part.now) (omega arith) at, inv.1, done.1),
       omega (arith, inv.2, done.1, done.2),
     )
@@ -116,7 +116,7 @@ eval_strict-returns-in_err-parts t c =
     let s = strict_of (form_of (term_of c.args.term.now)) in
     let form = strict_form (form_of (term_of c.args.term.now)) c.requires in
     let taken = strict_taken V vals (term_of c.args.term.now) s (well_formed-Core c.args.term.now) form in
-    err_within held_value _ _ _ _ c.in_err-parts.field-0.0 c.from_residual.ensures.0 c.from_residual.ensures.1 (λ e. let h = c.in_err-parts.ensures e in omega (arith, h, taken))
+    err_within boxed_value _ _ _ _ c.in_err-parts.field-0.0 c.from_residual.ensures.0 c.from_residual.ensures.1 (λ e. let h = c.in_err-parts.ensures e in omega (arith, h, taken))
 
 pub eval_strict-returns : goal.eval_strict-returns
 eval_strict-returns t c =
@@ -144,7 +144,7 @@ eval_sum-returns-in_err-run t c =
     let is = sym found.0 ∙ ap members_value some in
     let taken = sum_taken V vals e b ms is in
     let inner = ap (λ n. run_turns V vals b ms 0 n) c.len-count.ensures in
-    err_within held_value _ _ _ _ c.in_err-run.field-0.0 c.from_residual-in_err-run.ensures.0 c.from_residual-in_err-run.ensures.1
+    err_within boxed_value _ _ _ _ c.in_err-run.field-0.0 c.from_residual-in_err-run.ensures.0 c.from_residual-in_err-run.ensures.1
     (λ s. let h = c.in_err-run.ensures s in omega (arith, h, taken, inner, found.1, found.2, c.len-count.ensures, c.in_ok-answer.turns-is, c.if-count-from.false, c.from.ensures))
 
 pub eval_sum-returns : goal.eval_sum-returns
@@ -160,7 +160,7 @@ eval_sum-returns t c =
     let taken = sum_taken V vals e b ms is in
     let inner = ap (λ n. run_turns V vals b ms 0 n) c.len-count.ensures in
     let run = c.in_ok-run.ensures in (
-      c.sum_of.ensures ∙ ap (option_map natural) (run.0 ∙ ap (λ n. sum_value (run_values V vals b ms 0 n)) c.len-count.ensures) ∙ sym (sum_whole V vals e b ms is),
+      c.in_ok-boxed.ensures ∙ c.sum_of.ensures ∙ ap (option_map natural) (run.0 ∙ ap (λ n. sum_value (run_values V vals b ms 0 n)) c.len-count.ensures) ∙ sym (sum_whole V vals e b ms is),
       omega (arith, run.1, taken, inner, found.1, c.len-count.ensures),
       omega (arith, run.1, run.2, taken, inner, found.1, found.2, c.len-count.ensures, c.in_ok-answer.turns-is, c.if-count-from.false, c.from.ensures),
     )
@@ -177,7 +177,7 @@ eval_union-returns-in_err-run t c =
     let is = sym found.0 ∙ ap members_value some in
     let taken = union_taken V vals e b ms is in
     let inner = ap (λ n. run_turns V vals b ms 0 n) c.len-count.ensures in
-    err_within held_value _ _ _ _ c.in_err-run.field-0.0 c.from_residual-in_err-run.ensures.0 c.from_residual-in_err-run.ensures.1
+    err_within boxed_value _ _ _ _ c.in_err-run.field-0.0 c.from_residual-in_err-run.ensures.0 c.from_residual-in_err-run.ensures.1
     (λ s. let h = c.in_err-run.ensures s in omega (arith, h, taken, inner, found.1, found.2, c.len-count.ensures, c.in_ok-answer.turns-is, c.if-count-from.false, c.from.ensures))
 
 pub eval_union-returns : goal.eval_union-returns
@@ -193,7 +193,7 @@ eval_union-returns t c =
     let taken = union_taken V vals e b ms is in
     let inner = ap (λ n. run_turns V vals b ms 0 n) c.len-count.ensures in
     let run = c.in_ok-run.ensures in (
-      c.union_of.ensures ∙ ap (option_map (λ xs. set (data_of xs))) (run.0 ∙ ap (λ n. union_value (run_values V vals b ms 0 n)) c.len-count.ensures) ∙ sym (union_whole V vals e b ms is),
+      c.in_ok-boxed.ensures ∙ c.union_of.ensures ∙ ap (option_map (λ xs. set (data_of xs))) (run.0 ∙ ap (λ n. union_value (run_values V vals b ms 0 n)) c.len-count.ensures) ∙ sym (union_whole V vals e b ms is),
       omega (arith, run.1, taken, inner, found.1, c.len-count.ensures),
       omega (arith, run.1, run.2, taken, inner, found.1, found.2, c.len-count.ensures, c.in_ok-answer.turns-is, c.if-count-from.false, c.from.ensures),
     )
@@ -204,7 +204,7 @@ eval_tab-returns-in_err-answer t c =
     let vals = values c.args.env.now in
     let ds = terms_of c.args.bounds.now in
     let b = term_of c.args.body.now in
-    err_within held_value _ _ _ _ c.in_err-answer.field-0.0 c.from_residual.ensures.0 c.from_residual.ensures.1
+    err_within boxed_value _ _ _ _ c.in_err-answer.field-0.0 c.from_residual.ensures.0 c.from_residual.ensures.1
     (λ s. let h = c.in_err-answer.ensures s in omega (arith, h, settle-tab V vals ds b))
 
 pub eval_tab-returns-in_default : goal.eval_tab-returns-in_default
@@ -247,7 +247,7 @@ eval_tab-returns-in_err-run t c =
     let all = ap product (c.as_slice.ensures.value ∙ c.dims.view_is) in
     let count : c.saturating_product-count.result ≡ product ms = omega (arith, all, c.saturating_product-count.ensures, c.if-count-from.false, c.from.ensures) in
     let inner = ap (λ n. cell_turns V vals b ms 0 n) count in
-    err_within held_value _ _ _ _ c.in_err-run.field-0.0 c.from_residual-in_err-run.ensures.0 c.from_residual-in_err-run.ensures.1
+    err_within boxed_value _ _ _ _ c.in_err-run.field-0.0 c.from_residual-in_err-run.ensures.0 c.from_residual-in_err-run.ensures.1
     (λ s. let h = c.in_err-run.ensures s in omega (arith, h, taken, inner, count, found.1, found.2, c.in_ok-answer.turns-is, c.if-count-from.false, c.from.ensures))
 
 pub eval_tab-returns : goal.eval_tab-returns
@@ -265,7 +265,7 @@ eval_tab-returns t c =
     let count : c.saturating_product-count.result ≡ product ms = omega (arith, all, c.saturating_product-count.ensures, c.if-count-from.false, c.from.ensures) in
     let inner = ap (λ n. cell_turns V vals b ms 0 n) count in
     let run = c.in_ok-run.ensures in (
-      c.in_ok-table_of.ensures ∙ ap (table_in ms) (run.0 ∙ ap (λ n. cell_values V vals b ms 0 n) count) ∙ sym (tab_whole V vals ds b ms is),
+      c.in_ok-boxed.ensures ∙ c.in_ok-table_of.ensures ∙ ap (table_in ms) (run.0 ∙ ap (λ n. cell_values V vals b ms 0 n) count) ∙ sym (tab_whole V vals ds b ms is),
       omega (arith, run.1, taken, inner, count, found.1),
       omega (arith, run.1, run.2, taken, inner, count, found.1, found.2, c.in_ok-answer.turns-is, c.if-count-from.false, c.from.ensures),
     )
@@ -278,9 +278,9 @@ sum_run-returns-in_err-done t c =
     let ms = member_list c.args.members.now in
     let f = λ (m : Datum). cden V (m ∷ vals) b in
     let g = λ (m : Datum). settle V (m ∷ vals) b in
-    let m = held_datum c.in_ok-member.member in
+    let m = held_datum c.in_ok-member.field-0.member in
     let inv = c.loop-i.invariant in
-    let at = c.in_ok-member.ensures in
+    let at = c.in_ok-member.ensures.0 in
     err_within itself _ _ _ _ c.in_err-done.field-0.0 c.from_residual-in_err-done.ensures.0 c.from_residual-in_err-done.ensures.1
     (λ s. spent_within g ms c.args.from c.loop-i.i c.args.to m c.args.budget c.loop-i.turns (omega arith) (omega arith) at inv.1 inv.2 (c.in_err-done.ensures s))
 
@@ -292,13 +292,14 @@ sum_run-loop-i-preserved t c =
     let ms = member_list c.args.members.now in
     let f = λ (m : Datum). cden V (m ∷ vals) b in
     let g = λ (m : Datum). settle V (m ∷ vals) b in
-    let m = held_datum c.in_ok-member.member in
+    let m = held_datum c.in_ok-member.field-0.member in
     let inv = c.loop-i.invariant in
-    let at = c.in_ok-member.ensures in
+    let at = c.in_ok-member.ensures.0 in
     let done = c.in_ok-done.ensures in (
-      c.sum_and-sum.ensures ∙ (λ k. sum_with (inv.0 k) (done.0 k)) ∙ sym (sum_value-with (run_values V vals b ms c.args.from c.loop-i.i) (f m)) ∙ ap sum_value (sym (each-range_more f g ms c.args.from c.loop-i.i m (omega arith) at)),
+      c.sum_and-sum.ensures ∙ (λ k. sum_with (inv.0 k) ((c.unboxed.ensures ∙ done.0) k)) ∙ sym (sum_value-with (run_values V vals b ms c.args.from c.loop-i.i) (f m)) ∙ ap sum_value (sym (each-range_more f g ms c.args.from c.loop-i.i m (omega arith) at)),
       omega (arith, total-range_more f g ms c.args.from c.loop-i.i m (omega arith) at, inv.1, done.1),
       omega (arith, inv.2, done.1, done.2),
+      c.in_ok-member.ensures.1,
     )
 
 pub union_run-returns-in_err-done : goal.union_run-returns-in_err-done
@@ -309,9 +310,9 @@ union_run-returns-in_err-done t c =
     let ms = member_list c.args.members.now in
     let f = λ (m : Datum). cden V (m ∷ vals) b in
     let g = λ (m : Datum). settle V (m ∷ vals) b in
-    let m = held_datum c.in_ok-member.member in
+    let m = held_datum c.in_ok-member.field-0.member in
     let inv = c.loop-i.invariant in
-    let at = c.in_ok-member.ensures in
+    let at = c.in_ok-member.ensures.0 in
     err_within itself _ _ _ _ c.in_err-done.field-0.0 c.from_residual-in_err-done.ensures.0 c.from_residual-in_err-done.ensures.1
     (λ s. spent_within g ms c.args.from c.loop-i.i c.args.to m c.args.budget c.loop-i.turns (omega arith) (omega arith) at inv.1 inv.2 (c.in_err-done.ensures s))
 
@@ -323,13 +324,14 @@ union_run-loop-i-preserved t c =
     let ms = member_list c.args.members.now in
     let f = λ (m : Datum). cden V (m ∷ vals) b in
     let g = λ (m : Datum). settle V (m ∷ vals) b in
-    let m = held_datum c.in_ok-member.member in
+    let m = held_datum c.in_ok-member.field-0.member in
     let inv = c.loop-i.invariant in
-    let at = c.in_ok-member.ensures in
+    let at = c.in_ok-member.ensures.0 in
     let done = c.in_ok-done.ensures in (
-      c.in_ok-all.ensures ∙ (λ k. members_with (inv.0 k) (done.0 k)) ∙ sym (all_members-with (run_values V vals b ms c.args.from c.loop-i.i) (f m)) ∙ ap all_members (sym (each-range_more f g ms c.args.from c.loop-i.i m (omega arith) at)),
+      c.in_ok-all.ensures ∙ (λ k. members_with (inv.0 k) ((c.unboxed.ensures ∙ done.0) k)) ∙ sym (all_members-with (run_values V vals b ms c.args.from c.loop-i.i) (f m)) ∙ ap all_members (sym (each-range_more f g ms c.args.from c.loop-i.i m (omega arith) at)),
       omega (arith, total-range_more f g ms c.args.from c.loop-i.i m (omega arith) at, inv.1, done.1),
       omega (arith, inv.2, done.1, done.2),
+      c.in_ok-member.ensures.1,
     )
 
 pub cells_run-returns-in_err-done : goal.cells_run-returns-in_err-done
@@ -363,7 +365,7 @@ cells_run-loop-place-preserved t c =
     let at : slice_get (indices c.args.dims.now) c.loop-place.place ≡ Some here =
     (λ k. slice_get (indices ((sym c.dims.view_is ∙ sym c.as_slice.ensures.value) k)) (sym c.from.ensures k)) ∙ c.set_index.ensures in
     let done = c.in_ok-done.ensures in (
-      c.in_ok-cells.ensures ∙ (λ k. list_with (inv.0 k) ((done.0 ∙ ap f seen) k)) ∙ sym (each-range_more f g (indices c.args.dims.now) c.args.from c.loop-place.place here (omega arith) at),
+      c.in_ok-cells.ensures ∙ (λ k. list_with (inv.0 k) ((c.unboxed.ensures ∙ done.0 ∙ ap f seen) k)) ∙ sym (each-range_more f g (indices c.args.dims.now) c.args.from c.loop-place.place here (omega arith) at),
       omega (arith, total-range_more f g (indices c.args.dims.now) c.args.from c.loop-place.place here (omega arith) at, inv.1, done.1, ap g seen),
       omega (arith, inv.2, done.1, done.2),
       ap length whole ∙ omega (arith, c.set_index.auto.at, c.as_mut_slice.ensures.value, inv.3),

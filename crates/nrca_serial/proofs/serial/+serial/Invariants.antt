@@ -8,10 +8,11 @@ use Rattle.std.specs.List.{slice_range}
 use Rattle.nrca_serial.specs.Parts.{children, parts_value}
 use Rattle.nrca_serial.specs.Scope.{values}
 use Rattle.nrca_serial.specs.Runs.{member_list, run_values, run_turns, cell_values, cell_turns, sum_value, all_members}
+use Rattle.nrca_serial.specs.Walks.{IsAt}
 use Rattle.nrca_serial.proofs.serial.+serial.Given as goal
 
-abbrev pub decreases-eval : goal.decreases-eval
-decreases-eval l = 4 * weight_of (term_of l.term.now) + 2
+abbrev pub decreases-node : goal.decreases-node
+decreases-node l = 4 * weight_of (term_of l.term.now) + 2
 
 abbrev pub decreases-eval_strict : goal.decreases-eval_strict
 decreases-eval_strict l = 4 * weight_of (term_of l.term.now) + 1
@@ -69,12 +70,14 @@ invariant-sum_run-loop-i l =
     (l.sum ≡ sum_value (run_values l.globals (values l.env) (term_of l.body) (member_list l.members) l.from l.i))
     × (l.turns ≡ run_turns l.globals (values l.env) (term_of l.body) (member_list l.members) l.from l.i)
     × (l.turns ≤ l.budget)
+    × IsAt l.members l.i l.sides
 
 abbrev pub invariant-union_run-loop-i : goal.invariant-union_run-loop-i
 invariant-union_run-loop-i l =
     (l.all ≡ all_members (run_values l.globals (values l.env) (term_of l.body) (member_list l.members) l.from l.i))
     × (l.turns ≡ run_turns l.globals (values l.env) (term_of l.body) (member_list l.members) l.from l.i)
     × (l.turns ≤ l.budget)
+    × IsAt l.members l.i l.sides
 
 abbrev pub invariant-cells_run-loop-place : goal.invariant-cells_run-loop-place
 invariant-cells_run-loop-place l =

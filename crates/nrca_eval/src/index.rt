@@ -1,0 +1,122 @@
+//! What the forms that evaluate all their parts make of them: the members of `index` run in pieces.
+
+ghost use Rattle.std.specs.Prelude.{◌≡◌, ◌≤◌, ◌∷◌, [], None};
+ghost use Rattle.aql_value.specs.Operations.{as_set, index_of, only};
+ghost use Rattle.aql_value.specs.Strict.{unary, strict_turns, index_turns};
+ghost use Rattle.nrca_array.specs.Held.{held_datum};
+ghost use Rattle.nrca_term.specs.Term.{form_of};
+ghost use Rattle.nrca_term.specs.View.{term_of};
+ghost use Rattle.nrca_serial.specs.Parts.{held_values, parts_value, strict_of, strict_in};
+ghost use Rattle.nrca_serial.specs.Scope.{held_value};
+ghost use Rattle.nrca_serial.specs.Within.{Within};
+
+use crate::loops::index_pieces;
+use aql_outside::Gate;
+use aql_value::{Ascending, Value};
+use nrca_array::Held;
+use nrca_par::EvalFault;
+use nrca_serial::{Counted, index_pairs, strict};
+use nrca_term::Core;
+use std::alloc::Global;
+use std::thread::Threads;
+
+/// What a form that evaluates all its parts and binds nothing makes of their values, as `strict`
+/// answers it. The members that `index` reads run in pieces.
+pub(crate) fn strict_pieces<R: Threads + Sync, G: Gate>(
+    rt: &R,
+    alloc: Global,
+    term: &Core,
+    parts: Option<Vec<Held>>,
+    budget: u64,
+    workers: u64,
+    gate: &G,
+) -> Result<Counted<Option<Held>>, EvalFault>
+    requires { (budget ≤ 50000000) × (1 ≤ workers) × (workers ≤ 64) }
+    ensures { Within held_value budget (strict_in (strict_of (form_of (term_of term.now))) (parts_value parts)) (strict_turns (strict_of (form_of (term_of term.now))) (parts_value parts)) result }
+{
+    match term {
+        Core::Index { rank, pairs: _ } => match parts {
+            Some(parts) => index_parts(rt, alloc, *rank, parts, budget, workers, gate),
+            None => Ok(undefined()),
+        },
+        _ => strict(alloc, term, parts, budget),
+    }
+}
+
+fn undefined() -> Counted<Option<Held>>
+    ensures answer { result.answer ≡ None }
+    ensures turns { result.turns ≡ 0 }
+{
+    Counted {
+        answer: None,
+        turns: 0,
+    }
+}
+
+#[tactic(auto, using(crate::proofs::Steps::arities))]
+fn index_parts<R: Threads + Sync, G: Gate>(
+    rt: &R,
+    alloc: Global,
+    rank: u64,
+    parts: Vec<Held>,
+    budget: u64,
+    workers: u64,
+    gate: &G,
+) -> Result<Counted<Option<Held>>, EvalFault>
+    requires { (budget ≤ 50000000) × (1 ≤ workers) × (workers ≤ 64) }
+    ensures { Within held_value budget (unary (index_of rank) (held_values parts)) (index_turns rank (held_values parts)) result }
+{
+    match one_part(parts) {
+        Some(value) => index_value(rt, alloc, rank, value, budget, workers, gate),
+        None => Ok(undefined()),
+    }
+}
+
+// The one part: none where there is another number of parts.
+#[tactic(auto, using(crate::proofs::Steps::parts))]
+fn one_part(parts: Vec<Held>) -> Option<Held>
+    ensures { held_value result ≡ only (held_values parts) }
+{
+    let mut parts = parts;
+    if parts.len() == 1 { parts.pop() } else { None }
+}
+
+// What `index` makes of a value: a turn for each member, and one for each cell of the array.
+// Spent where the members, or the members and the cells, pass the budget.
+fn index_value<R: Threads + Sync, G: Gate>(
+    rt: &R,
+    alloc: Global,
+    rank: u64,
+    value: Held,
+    budget: u64,
+    workers: u64,
+    gate: &G,
+) -> Result<Counted<Option<Held>>, EvalFault>
+    requires { (budget ≤ 50000000) × (1 ≤ workers) × (workers ≤ 64) }
+    ensures { Within held_value budget (index_of rank (held_datum value)) (index_turns rank (held_datum value ∷ [])) result }
+{
+    let Some(set) = set_of(value) else {
+        return Ok(undefined());
+    };
+    let count = set.items().items.len() as u64;
+    if count > budget {
+        return Err(EvalFault::Spent);
+    }
+    let pairs = index_pieces(rt, alloc, rank, &set, count, workers, gate)?;
+    let made = index_pairs(alloc, rank, pairs, budget - count)?;
+    Ok(Counted {
+        answer: made.answer,
+        turns: count + made.turns,
+    })
+}
+
+// The set that a value is.
+#[tactic(auto, using(aql_value::specs::Datum::data_lists))]
+fn set_of(value: Held) -> Option<Ascending>
+    ensures { result ≡ as_set (held_datum value) }
+{
+    match value {
+        Held::Value(Value::Members(set)) => Some(set),
+        _ => None,
+    }
+}

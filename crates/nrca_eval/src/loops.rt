@@ -1,0 +1,126 @@
+//! The loops in pieces: each piece runs in a thread of its own, is lent the whole budget, and runs
+//! there as in one thread.
+
+ghost use Rattle.std.specs.Prelude.{◌≡◌, ◌^◌, ◌≤◌, length, MatchResult};
+ghost use Rattle.aql_value.specs.Indices.{product};
+ghost use Rattle.nrca_term.specs.View.{term_of};
+ghost use Rattle.nrca_serial.specs.Indexing.{pairs_of, pairs_run};
+ghost use Rattle.nrca_serial.specs.Runs.{member_list, run_values, run_turns, cell_values, cell_turns, sum_value, union_value};
+ghost use Rattle.nrca_serial.specs.Scope.{values};
+ghost use Rattle.nrca_serial.specs.Within.{Within, itself};
+
+use crate::joins::{joined_cells, joined_pairs, joined_sets, joined_sums};
+use aql_outside::Gate;
+use aql_value::{Ascending, Dims};
+use nrca_array::Builder;
+use nrca_par::{EvalFault, map_pieces};
+use nrca_serial::{
+    Counted, Env, Globals, Indexed, Members, cells_run, index_run, sum_run, union_run,
+};
+use nrca_term::Core;
+use std::alloc::Global;
+use std::thread::Threads;
+
+/// The sum of a body over the first members of a loop, and what the body takes there.
+pub(crate) fn sum_pieces<R: Threads + Sync, G: Gate>(
+    rt: &R,
+    alloc: Global,
+    body: &Core,
+    globals: &Globals,
+    env: &Env,
+    members: &Members,
+    count: u64,
+    budget: u64,
+    workers: u64,
+    gate: &G,
+) -> Result<Counted<Option<u128>>, EvalFault>
+    requires length { count ≤ 2 ^ 32 }
+    requires within { count ≤ length (member_list members.now) }
+    requires workers { (1 ≤ workers) × (workers ≤ 64) }
+    ensures { Within itself budget (sum_value (run_values globals.now (values env.now) (term_of body.now) (member_list members.now) 0 count)) (run_turns globals.now (values env.now) (term_of body.now) (member_list members.now) 0 count) result }
+{
+    let run = move |from: u64, to: u64| -> Result<Counted<Option<u128>>, EvalFault>
+        requires { (from ≤ to) × (to ≤ length (member_list members.now)) }
+        ensures { Within itself budget (sum_value (run_values globals.entry.now (values env.entry.now) (term_of body.entry.now) (member_list members.entry.now) from to)) (run_turns globals.entry.now (values env.entry.now) (term_of body.entry.now) (member_list members.entry.now) from to) result }
+    { sum_run(alloc, body, globals, env, members, from, to, budget) };
+    let sums = map_pieces(rt, alloc, count, workers, gate, run)?;
+    joined_sums(&sums, budget)
+}
+
+/// The set of the members that a body gives at the first members of a loop, and what the body
+/// takes there.
+pub(crate) fn union_pieces<R: Threads + Sync, G: Gate>(
+    rt: &R,
+    alloc: Global,
+    body: &Core,
+    globals: &Globals,
+    env: &Env,
+    members: &Members,
+    count: u64,
+    budget: u64,
+    workers: u64,
+    gate: &G,
+) -> Result<Counted<Option<Ascending>>, EvalFault>
+    requires length { count ≤ 2 ^ 32 }
+    requires within { count ≤ length (member_list members.now) }
+    requires workers { (1 ≤ workers) × (workers ≤ 64) }
+    ensures { Within itself budget (union_value (run_values globals.now (values env.now) (term_of body.now) (member_list members.now) 0 count)) (run_turns globals.now (values env.now) (term_of body.now) (member_list members.now) 0 count) result }
+{
+    let run = move |from: u64, to: u64| -> Result<Counted<Option<Ascending>>, EvalFault>
+        requires { (from ≤ to) × (to ≤ length (member_list members.now)) }
+        ensures { Within itself budget (union_value (run_values globals.entry.now (values env.entry.now) (term_of body.entry.now) (member_list members.entry.now) from to)) (run_turns globals.entry.now (values env.entry.now) (term_of body.entry.now) (member_list members.entry.now) from to) result }
+    { union_run(alloc, body, globals, env, members, from, to, budget) };
+    let sets = map_pieces(rt, alloc, count, workers, gate, run)?;
+    joined_sets(alloc, sets, budget)
+}
+
+/// The values of a body at the first indices below the dimensions, in row-major order, and what
+/// the body takes there.
+pub(crate) fn cells_pieces<R: Threads + Sync, G: Gate>(
+    rt: &R,
+    alloc: Global,
+    body: &Core,
+    globals: &Globals,
+    env: &Env,
+    dims: &Dims,
+    count: u64,
+    budget: u64,
+    workers: u64,
+    gate: &G,
+) -> Result<Counted<Option<Builder>>, EvalFault>
+    requires length { count ≤ 2 ^ 32 }
+    requires within { count ≤ product dims.now }
+    requires workers { (1 ≤ workers) × (workers ≤ 64) }
+    ensures { Within itself budget (cell_values globals.now (values env.now) (term_of body.now) dims.now 0 count) (cell_turns globals.now (values env.now) (term_of body.now) dims.now 0 count) result }
+{
+    let run = move |from: u64, to: u64| -> Result<Counted<Option<Builder>>, EvalFault>
+        requires { (from ≤ to) × (to ≤ product dims.now) }
+        ensures { Within itself budget (cell_values globals.entry.now (values env.entry.now) (term_of body.entry.now) dims.entry.now from to) (cell_turns globals.entry.now (values env.entry.now) (term_of body.entry.now) dims.entry.now from to) result }
+    { cells_run(alloc, body, globals, env, dims, from, to, budget) };
+    let runs = map_pieces(rt, alloc, count, workers, gate, run)?;
+    joined_cells(alloc, runs, budget)
+}
+
+/// The pairs that the first members of a set are: none where one is no pair of an index of that
+/// rank and a value. It is never Spent.
+pub(crate) fn index_pieces<R: Threads + Sync, G: Gate>(
+    rt: &R,
+    alloc: Global,
+    rank: u64,
+    set: &Ascending,
+    count: u64,
+    workers: u64,
+    gate: &G,
+) -> Result<Option<Vec<Indexed>>, EvalFault>
+    requires length { count ≤ 2 ^ 32 }
+    requires within { count ≤ length set.now }
+    requires workers { (1 ≤ workers) × (workers ≤ 64) }
+    ensures { MatchResult result (λ ps. pairs_of ps ≡ pairs_run rank set.now 0 count) (λ e. e ≡ EvalFault.Memory) }
+{
+    let run = move |from: u64, to: u64| -> Result<Option<Vec<Indexed>>, EvalFault>
+        requires { (from ≤ to) × (to ≤ length set.now) }
+        ensures { MatchResult result (λ ps. pairs_of ps ≡ pairs_run rank set.entry.now from to) (λ e. e ≡ EvalFault.Memory) }
+    { Ok(index_run(alloc, rank, set, from, to)?) };
+    let pairs = map_pieces(rt, alloc, count, workers, gate, run)?;
+    Ok(joined_pairs(alloc, pairs)?)
+}

@@ -1,0 +1,482 @@
+//! The evaluation of a term whose loops run in pieces: one function a form.
+
+ghost use Rattle.std.specs.Prelude.{◌≡◌, ◌≤◌, true, length};
+ghost use Rattle.aql_value.specs.Partial.{each, total};
+ghost use Rattle.nrca_term.specs.Meaning.{cden};
+ghost use Rattle.nrca_term.specs.Nodes.{let_term, if_term, default_term, big_union_term, sum_term, tab_term};
+ghost use Rattle.nrca_term.specs.Term.{form_of, parts_of};
+ghost use Rattle.nrca_term.specs.Turns.{settle};
+ghost use Rattle.nrca_term.specs.View.{term_of, terms_of};
+ghost use Rattle.nrca_serial.specs.Parts.{children, is_strict_form, parts_value};
+ghost use Rattle.nrca_serial.specs.Runs.{members_value};
+ghost use Rattle.nrca_serial.specs.Scope.{values, held_value, set_in};
+ghost use Rattle.nrca_serial.specs.Within.{Within};
+
+use crate::index::strict_pieces;
+use crate::loops::{cells_pieces, sum_pieces, union_pieces};
+use aql_outside::Gate;
+use aql_value::saturating_product;
+use nrca_array::Held;
+use nrca_par::EvalFault;
+use nrca_serial::{
+    Counted, Env, Globals, Members, as_members, eval, members_below, members_of_both, numbers,
+    parts_and, sum_of, table_of, truth, union_of,
+};
+use nrca_term::{Core, Terms};
+use std::alloc::Global;
+use std::thread::Threads;
+
+/// The value of a term and its turns, among the outcomes of the positions and the values of the
+/// variables. Spent exactly where the turns pass the budget; a loop whose members pass what is
+/// left is Spent before its first turn. Each loop runs in pieces, each in a thread of its own; a
+/// loop inside a piece runs there.
+#[cycle(wide)]
+pub(crate) fn wide<R: Threads + Sync, G: Gate>(
+    rt: &R,
+    alloc: Global,
+    term: &Core,
+    globals: &Globals,
+    env: &Env,
+    budget: u64,
+    workers: u64,
+    gate: &G,
+) -> Result<Counted<Option<Held>>, EvalFault>
+    requires { (budget ≤ 50000000) × (1 ≤ workers) × (workers ≤ 64) }
+    ensures { Within held_value budget (cden globals.now (values env.now) (term_of term.now)) (settle globals.now (values env.now) (term_of term.now)) result }
+{
+    match term {
+        Core::Var(_) | Core::Global(_) => eval(alloc, term, globals, env, budget),
+        Core::Let(bound, body) => wide_let(
+            rt, alloc, bound, body, globals, env, budget, workers, gate,
+        ),
+        Core::If(test, yes, no) => wide_if(
+            rt, alloc, test, yes, no, globals, env, budget, workers, gate,
+        ),
+        Core::Default(first, second) => wide_default(
+            rt, alloc, first, second, globals, env, budget, workers, gate,
+        ),
+        Core::Sum { over, body } => wide_sum(
+            rt, alloc, over, body, globals, env, budget, workers, gate,
+        ),
+        Core::BigUnion { over, body } => wide_union(
+            rt, alloc, over, body, globals, env, budget, workers, gate,
+        ),
+        Core::Tab { bounds, body } => wide_tab(
+            rt, alloc, bounds, body, globals, env, budget, workers, gate,
+        ),
+        _ => wide_strict(rt, alloc, term, globals, env, budget, workers, gate),
+    }
+}
+
+// A form that evaluates all its parts and binds nothing.
+#[cycle(wide)]
+fn wide_strict<R: Threads + Sync, G: Gate>(
+    rt: &R,
+    alloc: Global,
+    term: &Core,
+    globals: &Globals,
+    env: &Env,
+    budget: u64,
+    workers: u64,
+    gate: &G,
+) -> Result<Counted<Option<Held>>, EvalFault>
+    requires form { is_strict_form (form_of (term_of term.now)) ≡ true }
+    requires limits { (budget ≤ 50000000) × (1 ≤ workers) × (workers ≤ 64) }
+    ensures { Within held_value budget (cden globals.now (values env.now) (term_of term.now)) (settle globals.now (values env.now) (term_of term.now)) result }
+{
+    let parts = wide_parts(rt, alloc, term, globals, env, budget, workers, gate)?;
+    let whole = strict_pieces(
+        rt,
+        alloc,
+        term,
+        parts.answer,
+        budget - parts.turns,
+        workers,
+        gate,
+    )?;
+    Ok(Counted {
+        answer: whole.answer,
+        turns: parts.turns + whole.turns,
+    })
+}
+
+// Every part of a node, from the left, under the variables around the node.
+#[cycle(wide)]
+fn wide_parts<R: Threads + Sync, G: Gate>(
+    rt: &R,
+    alloc: Global,
+    term: &Core,
+    globals: &Globals,
+    env: &Env,
+    budget: u64,
+    workers: u64,
+    gate: &G,
+) -> Result<Counted<Option<Vec<Held>>>, EvalFault>
+    requires { (budget ≤ 50000000) × (1 ≤ workers) × (workers ≤ 64) }
+    ensures { Within parts_value budget (each (cden globals.now (values env.now)) (children (parts_of (term_of term.now)))) (total (settle globals.now (values env.now)) (children (parts_of (term_of term.now)))) result }
+{
+    let mut parts = Some(Vec::new(alloc));
+    let mut turns = 0;
+    for i in 0..term.parts() {
+        match term.part(i) {
+            Some(part) => {
+                let done = wide(rt, alloc, part, globals, env, budget - turns, workers, gate)?;
+                parts = parts_and(parts, done.answer)?;
+                turns += done.turns;
+            }
+            None => unreachable!(),
+        }
+    }
+    Ok(Counted {
+        answer: parts,
+        turns,
+    })
+}
+
+// Terms in a row, from the left.
+#[cycle(wide)]
+fn wide_all<R: Threads + Sync, G: Gate>(
+    rt: &R,
+    alloc: Global,
+    terms: &Terms,
+    globals: &Globals,
+    env: &Env,
+    budget: u64,
+    workers: u64,
+    gate: &G,
+) -> Result<Counted<Option<Vec<Held>>>, EvalFault>
+    requires { (budget ≤ 50000000) × (1 ≤ workers) × (workers ≤ 64) }
+    ensures { Within parts_value budget (each (cden globals.now (values env.now)) (terms_of terms.now)) (total (settle globals.now (values env.now)) (terms_of terms.now)) result }
+{
+    let mut parts = Some(Vec::new(alloc));
+    let mut turns = 0;
+    for term in &terms.0 {
+        let done = wide(rt, alloc, term, globals, env, budget - turns, workers, gate)?;
+        parts = parts_and(parts, done.answer)?;
+        turns += done.turns;
+    }
+    Ok(Counted {
+        answer: parts,
+        turns,
+    })
+}
+
+#[cycle(wide)]
+fn wide_let<R: Threads + Sync, G: Gate>(
+    rt: &R,
+    alloc: Global,
+    bound: &Core,
+    body: &Core,
+    globals: &Globals,
+    env: &Env,
+    budget: u64,
+    workers: u64,
+    gate: &G,
+) -> Result<Counted<Option<Held>>, EvalFault>
+    requires { (budget ≤ 50000000) × (1 ≤ workers) × (workers ≤ 64) }
+    ensures { Within held_value budget (cden globals.now (values env.now) (let_term (term_of bound.now) (term_of body.now))) (settle globals.now (values env.now) (let_term (term_of bound.now) (term_of body.now))) result }
+{
+    let Counted { answer, turns } = wide(rt, alloc, bound, globals, env, budget, workers, gate)?;
+    match answer {
+        Some(value) => {
+            let inner = Env::Bound(&value, &*env);
+            let done = wide(
+                rt,
+                alloc,
+                body,
+                globals,
+                &inner,
+                budget - turns,
+                workers,
+                gate,
+            )?;
+            Ok(Counted {
+                answer: done.answer,
+                turns: turns + done.turns,
+            })
+        }
+        None => Ok(Counted {
+            answer: None,
+            turns,
+        }),
+    }
+}
+
+#[cycle(wide)]
+fn wide_if<R: Threads + Sync, G: Gate>(
+    rt: &R,
+    alloc: Global,
+    test: &Core,
+    yes: &Core,
+    no: &Core,
+    globals: &Globals,
+    env: &Env,
+    budget: u64,
+    workers: u64,
+    gate: &G,
+) -> Result<Counted<Option<Held>>, EvalFault>
+    requires { (budget ≤ 50000000) × (1 ≤ workers) × (workers ≤ 64) }
+    ensures { Within held_value budget (cden globals.now (values env.now) (if_term (term_of test.now) (term_of yes.now) (term_of no.now))) (settle globals.now (values env.now) (if_term (term_of test.now) (term_of yes.now) (term_of no.now))) result }
+{
+    let Counted { answer, turns } = wide(rt, alloc, test, globals, env, budget, workers, gate)?;
+    let left = budget - turns;
+    match truth(answer) {
+        Some(true) => {
+            let done = wide(rt, alloc, yes, globals, env, left, workers, gate)?;
+            Ok(Counted {
+                answer: done.answer,
+                turns: turns + done.turns,
+            })
+        }
+        Some(false) => {
+            let done = wide(rt, alloc, no, globals, env, left, workers, gate)?;
+            Ok(Counted {
+                answer: done.answer,
+                turns: turns + done.turns,
+            })
+        }
+        None => Ok(Counted {
+            answer: None,
+            turns,
+        }),
+    }
+}
+
+#[cycle(wide)]
+fn wide_default<R: Threads + Sync, G: Gate>(
+    rt: &R,
+    alloc: Global,
+    first: &Core,
+    second: &Core,
+    globals: &Globals,
+    env: &Env,
+    budget: u64,
+    workers: u64,
+    gate: &G,
+) -> Result<Counted<Option<Held>>, EvalFault>
+    requires { (budget ≤ 50000000) × (1 ≤ workers) × (workers ≤ 64) }
+    ensures { Within held_value budget (cden globals.now (values env.now) (default_term (term_of first.now) (term_of second.now))) (settle globals.now (values env.now) (default_term (term_of first.now) (term_of second.now))) result }
+{
+    let Counted { answer, turns } = wide(rt, alloc, first, globals, env, budget, workers, gate)?;
+    match answer {
+        Some(value) => Ok(Counted {
+            answer: Some(value),
+            turns,
+        }),
+        None => {
+            let done = wide(
+                rt,
+                alloc,
+                second,
+                globals,
+                env,
+                budget - turns,
+                workers,
+                gate,
+            )?;
+            Ok(Counted {
+                answer: done.answer,
+                turns: turns + done.turns,
+            })
+        }
+    }
+}
+
+// The members of a loop's operand. Those of `gen` and of `union` are not made into a set.
+#[cycle(wide)]
+fn wide_members<R: Threads + Sync, G: Gate>(
+    rt: &R,
+    alloc: Global,
+    over: &Core,
+    globals: &Globals,
+    env: &Env,
+    budget: u64,
+    workers: u64,
+    gate: &G,
+) -> Result<Counted<Option<Members>>, EvalFault>
+    requires { (budget ≤ 50000000) × (1 ≤ workers) × (workers ≤ 64) }
+    ensures { Within members_value budget (set_in (cden globals.now (values env.now) (term_of over.now))) (settle globals.now (values env.now) (term_of over.now)) result }
+{
+    match over {
+        Core::Gen(number) => {
+            let Counted { answer, turns } = wide(
+                rt, alloc, number, globals, env, budget, workers, gate,
+            )?;
+            let members = members_below(answer, budget - turns)?;
+            Ok(Counted {
+                answer: members.answer,
+                turns: turns + members.turns,
+            })
+        }
+        Core::Union(first, second) => {
+            let Counted { answer, turns } = wide(
+                rt, alloc, first, globals, env, budget, workers, gate,
+            )?;
+            let other = wide(
+                rt,
+                alloc,
+                second,
+                globals,
+                env,
+                budget - turns,
+                workers,
+                gate,
+            )?;
+            Ok(Counted {
+                answer: members_of_both(answer, other.answer),
+                turns: turns + other.turns,
+            })
+        }
+        _ => {
+            let set = wide(rt, alloc, over, globals, env, budget, workers, gate)?;
+            Ok(Counted {
+                answer: as_members(set.answer),
+                turns: set.turns,
+            })
+        }
+    }
+}
+
+#[cycle(wide)]
+fn wide_sum<R: Threads + Sync, G: Gate>(
+    rt: &R,
+    alloc: Global,
+    over: &Core,
+    body: &Core,
+    globals: &Globals,
+    env: &Env,
+    budget: u64,
+    workers: u64,
+    gate: &G,
+) -> Result<Counted<Option<Held>>, EvalFault>
+    requires { (budget ≤ 50000000) × (1 ≤ workers) × (workers ≤ 64) }
+    ensures { Within held_value budget (cden globals.now (values env.now) (sum_term (term_of over.now) (term_of body.now))) (settle globals.now (values env.now) (sum_term (term_of over.now) (term_of body.now))) result }
+{
+    let Counted { answer, turns } = wide_members(
+        rt, alloc, over, globals, env, budget, workers, gate,
+    )?;
+    let left = budget - turns;
+    let Some(members) = answer else {
+        return Ok(Counted {
+            answer: None,
+            turns,
+        });
+    };
+    let count = members.len();
+    if count > u128::from(left) {
+        return Err(EvalFault::Spent);
+    }
+    let count = count as u64;
+    let run = sum_pieces(
+        rt,
+        alloc,
+        body,
+        globals,
+        env,
+        &members,
+        count,
+        left - count,
+        workers,
+        gate,
+    )?;
+    Ok(Counted {
+        answer: sum_of(run.answer),
+        turns: turns + count + run.turns,
+    })
+}
+
+#[cycle(wide)]
+fn wide_union<R: Threads + Sync, G: Gate>(
+    rt: &R,
+    alloc: Global,
+    over: &Core,
+    body: &Core,
+    globals: &Globals,
+    env: &Env,
+    budget: u64,
+    workers: u64,
+    gate: &G,
+) -> Result<Counted<Option<Held>>, EvalFault>
+    requires { (budget ≤ 50000000) × (1 ≤ workers) × (workers ≤ 64) }
+    ensures { Within held_value budget (cden globals.now (values env.now) (big_union_term (term_of over.now) (term_of body.now))) (settle globals.now (values env.now) (big_union_term (term_of over.now) (term_of body.now))) result }
+{
+    let Counted { answer, turns } = wide_members(
+        rt, alloc, over, globals, env, budget, workers, gate,
+    )?;
+    let left = budget - turns;
+    let Some(members) = answer else {
+        return Ok(Counted {
+            answer: None,
+            turns,
+        });
+    };
+    let count = members.len();
+    if count > u128::from(left) {
+        return Err(EvalFault::Spent);
+    }
+    let count = count as u64;
+    let run = union_pieces(
+        rt,
+        alloc,
+        body,
+        globals,
+        env,
+        &members,
+        count,
+        left - count,
+        workers,
+        gate,
+    )?;
+    Ok(Counted {
+        answer: union_of(run.answer),
+        turns: turns + count + run.turns,
+    })
+}
+
+#[cycle(wide)]
+fn wide_tab<R: Threads + Sync, G: Gate>(
+    rt: &R,
+    alloc: Global,
+    bounds: &Terms,
+    body: &Core,
+    globals: &Globals,
+    env: &Env,
+    budget: u64,
+    workers: u64,
+    gate: &G,
+) -> Result<Counted<Option<Held>>, EvalFault>
+    requires { (budget ≤ 50000000) × (1 ≤ workers) × (workers ≤ 64) }
+    ensures { Within held_value budget (cden globals.now (values env.now) (tab_term (terms_of bounds.now) (term_of body.now))) (settle globals.now (values env.now) (tab_term (terms_of bounds.now) (term_of body.now))) result }
+{
+    let Counted { answer, turns } = wide_all(
+        rt, alloc, bounds, globals, env, budget, workers, gate,
+    )?;
+    let left = budget - turns;
+    let Some(dims) = numbers(alloc, answer)? else {
+        return Ok(Counted {
+            answer: None,
+            turns,
+        });
+    };
+    let count = saturating_product(dims.dims.as_slice());
+    if count > u128::from(left) {
+        return Err(EvalFault::Spent);
+    }
+    let count = count as u64;
+    let run = cells_pieces(
+        rt,
+        alloc,
+        body,
+        globals,
+        env,
+        &dims,
+        count,
+        left - count,
+        workers,
+        gate,
+    )?;
+    Ok(Counted {
+        answer: table_of(dims, run.answer)?,
+        turns: turns + count + run.turns,
+    })
+}

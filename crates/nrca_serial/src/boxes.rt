@@ -1,0 +1,94 @@
+//! Values on the heap.
+
+ghost use Rattle.std.specs.Prelude.{◌≡◌, IfOk, OnOk};
+ghost use Rattle.aql_value.specs.Strict.{strict_turns};
+ghost use Rattle.nrca_term.specs.Term.{form_of};
+ghost use Rattle.nrca_term.specs.View.{term_of};
+ghost use Rattle.nrca_serial.specs.Parts.{parts_value, strict_of, strict_in};
+ghost use Rattle.nrca_serial.specs.Runs.{list_with};
+ghost use Rattle.nrca_serial.specs.Scope.{held_value, boxed_value, truth_in};
+ghost use Rattle.nrca_serial.specs.Within.{Within};
+
+use crate::done::Counted;
+use crate::forms::strict;
+use crate::members::truth;
+use crate::runs::parts_and;
+use aql_value::Memory;
+use nrca_array::Held;
+use nrca_par::EvalFault;
+use nrca_term::Core;
+use std::alloc::Global;
+
+/// The value on the heap.
+#[inline(never)]
+pub(crate) fn boxed(alloc: Global, value: Option<Held>) -> Result<Option<Box<Held>>, Memory>
+    ensures { IfOk result (λ v. boxed_value v ≡ held_value value) }
+{
+    match value {
+        Some(held) => {
+            let kept = Box::new(alloc, held)?;
+            Ok(Some(kept))
+        }
+        None => Ok(None),
+    }
+}
+
+/// The value itself.
+#[inline(never)]
+pub(crate) fn unboxed(value: Option<Box<Held>>) -> Option<Held>
+    ensures { held_value result ≡ boxed_value value }
+{
+    match value {
+        Some(kept) => Some(Box::into_inner(kept)),
+        None => None,
+    }
+}
+
+/// The truth value that a value is.
+#[inline(never)]
+pub(crate) fn truth_kept(value: Option<Box<Held>>) -> Option<bool>
+    ensures { result ≡ truth_in (boxed_value value) }
+{
+    truth(unboxed(value))
+}
+
+/// The parts so far, and one more.
+#[inline(never)]
+pub(crate) fn parts_kept(
+    parts: Option<Vec<Held>>,
+    value: Option<Box<Held>>,
+) -> Result<Option<Vec<Held>>, Memory>
+    ensures { IfOk result (λ vs. parts_value vs ≡ list_with (parts_value parts) (boxed_value value)) }
+{
+    parts_and(parts, unboxed(value))
+}
+
+/// The same in place.
+#[inline(never)]
+pub(crate) fn keep_part(
+    parts: &mut Option<Vec<Held>>,
+    value: Option<Box<Held>>,
+) -> Result<(), Memory>
+    ensures { OnOk result (parts_value parts.new ≡ list_with (parts_value parts.old) (boxed_value value)) }
+{
+    let before = parts.take();
+    *parts = parts_kept(before, value)?;
+    Ok(())
+}
+
+/// What a strict form makes of its parts' values, on the heap.
+#[inline(never)]
+pub(crate) fn strict_boxed(
+    alloc: Global,
+    term: &Core,
+    parts: Option<Vec<Held>>,
+    budget: u64,
+) -> Result<Counted<Option<Box<Held>>>, EvalFault>
+    ensures { Within boxed_value budget (strict_in (strict_of (form_of (term_of term.now))) (parts_value parts)) (strict_turns (strict_of (form_of (term_of term.now))) (parts_value parts)) result }
+{
+    let made = strict(alloc, term, parts, budget)?;
+    Ok(Counted {
+        answer: boxed(alloc, made.answer)?,
+        turns: made.turns,
+    })
+}
