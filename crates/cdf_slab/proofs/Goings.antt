@@ -6,7 +6,9 @@ use Rattle.aql_value.specs.Partial.{◌>>=◌, each}
 use Rattle.aql_value.specs.PartialLaws.{then-is, each-length}
 use Rattle.cdf_header.specs.declared.fault.CdfFault.{CdfFault}
 use Rattle.cdf_header.specs.declared.fault.CdfFault.TheVariants as faults
-use Rattle.cdf_slab.specs.Numbers.{Number, cell_of}
+use Rattle.std.specs.Prelude.{IfOk}
+use Rattle.aql_value.specs.Lists.{Every, Every-append}
+use Rattle.cdf_slab.specs.Numbers.{Number, IsCell, cell_of}
 use Rattle.cdf_slab.specs.Slab.{first_negative}
 use Rattle.cdf_slab.specs.Going.{Goes}
 
@@ -90,3 +92,16 @@ goes-fails signed ns ms before faults.FloatVariable h = h
 goes-fails signed ns ms before (faults.Stride d) h = h
 goes-fails signed ns ms before (faults.Outside d) h = h
 goes-fails signed ns ms before (faults.Cut a) h = h
+
+-- each cell that is given is one of a number
+cells-given : (signed : Bool) (ns : List Number) (xs : List Datum) → each (cell_of signed) ns ≡ Some xs → Every (IsCell signed) xs
+cells-given signed [] xs e = let z : [] ≡ xs = cc in subst (Every (IsCell signed)) z tt
+cells-given signed (n ∷ ns) xs e =
+    let a = then-is (cell_of signed n) (λ y. each (cell_of signed) ns >>= λ l. Some (y ∷ l)) xs e in
+    let b = then-is (each (cell_of signed) ns) (λ l. Some (a.0 ∷ l)) xs a.2 in
+    let z : a.0 ∷ b.0 ≡ xs = cc in
+    subst (Every (IsCell signed)) z ((n, a.1), cells-given signed ns b.0 b.1)
+
+pub goes-kinds : (signed : Bool) (ns : List Number) (before : List Datum) (r : Result (List Datum) CdfFault) → Goes signed ns before r → Every (IsCell signed) before → IfOk r (Every (IsCell signed))
+goes-kinds signed ns before (Ok all) h k = subst (Every (IsCell signed)) (sym h.2) (Every-append (IsCell signed) before h.0 k (cells-given signed ns h.0 h.1))
+goes-kinds signed ns before (Err e) h k = tt

@@ -1,5 +1,5 @@
 -- The numbers of a variable, and the cells that they give.
-use Rattle.std.specs.Prelude.{ℕ, ◌-◌, ◌*◌, ◌^◌, Bool, true, false, ◌||◌, nat_eq, nat_lt, List, [], ◌∷◌, drop, Option, Some, None, if◌then◌else◌}
+use Rattle.std.specs.Prelude.{◌≡◌, ℕ, ◌-◌, ◌*◌, ◌^◌, Bool, true, false, ◌||◌, nat_eq, nat_lt, List, [], ◌∷◌, drop, Option, Some, None, if◌then◌else◌}
 use Rattle.byteorder.specs.Endian.{big_number}
 use Rattle.aql_value.specs.Datum.{Datum, natural, truth, tuple, data_of}
 use Rattle.cdf_header.specs.Format.{type_size}
@@ -27,3 +27,7 @@ number_at bytes kind p = number_of kind (big_number (type_size kind) (drop p byt
 -- the cell of a number: for a signed reader whether it is below 0 and how far from 0, for another the natural, and none below 0
 abbrev pub cell_of : (signed : Bool) → Number → Option Datum
 cell_of signed n = if signed then Some (tuple (data_of (truth n.0 ∷ natural n.1 ∷ []))) else (if n.0 then None else Some (natural n.1))
+
+-- the cell of some number
+abbrev pub IsCell : (signed : Bool) → Datum → Type 0
+IsCell signed v = (n : Number) × (cell_of signed n ≡ Some v)

@@ -1,14 +1,15 @@
 -- The hyperslab of a variable: its cells, and why it has none.
 use Rattle.std.specs.Prelude.{◌≡◌, ℕ, ◌+◌, ◌-◌, ◌*◌, ◌^◌, min, Bool, not, ◌||◌, nat_eq, nat_lt, List, [], ◌∷◌, length, map, Option, Some, None, option_map, Result, Ok, Err, ◌⊎◌, if◌then◌else◌}
 use Rattle.aql_value.specs.Datum.{Table}
-use Rattle.aql_value.specs.Indices.{indices}
+use Rattle.aql_value.specs.Indices.{indices, product}
+use Rattle.aql_value.specs.Lists.{Every}
 use Rattle.aql_value.specs.Partial.{◌>>=◌, each}
 use Rattle.cdf_header.specs.declared.fault.CdfFault.{CdfFault}
 use Rattle.cdf_header.specs.declared.fault.CdfFault.TheVariants as faults
 use Rattle.cdf_header.specs.Format.{type_size}
 use Rattle.cdf_header.specs.Header.{Head, Var}
 use Rattle.cdf_header.specs.Places.{place, shape}
-use Rattle.cdf_slab.specs.Numbers.{Number, number_at, cell_of}
+use Rattle.cdf_slab.specs.Numbers.{Number, IsCell, number_at, cell_of}
 
 -- start + i * stride, dimension by dimension
 abbrev pub point : (start stride at : List ℕ) → List ℕ
@@ -101,3 +102,9 @@ abbrev pub AnswersEarly : Option CdfFault → Result Table CdfFault → Type 0
 AnswersEarly None result = Unit {0}
 AnswersEarly (Some f) (Ok found) = ⊥
 AnswersEarly (Some f) (Err e) = (e ≡ f) ⊎ (e ≡ faults.Memory)
+
+-- an array of these dimensions and of cells of numbers
+pub record IsShaped (count : List ℕ) (signed : Bool) (t : Table) : Type 0 where
+  pub dims : t.dims ≡ count
+  pub full : product count ≡ length t.cells
+  pub kinds : Every (IsCell signed) t.cells

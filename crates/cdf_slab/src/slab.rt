@@ -1,12 +1,14 @@
 //! Reading a hyperslab.
 
-ghost use Rattle.std.specs.Prelude.{◌≡◌, ◌≢◌, ◌≤◌, ◌<◌, List, ℕ, Some, None, Err, length, IfOk, IsErrOf};
+ghost use Rattle.std.specs.Prelude.{◌≡◌, ◌≢◌, ◌≤◌, ◌<◌, Bool, List, ℕ, Some, None, Err, length, IfOk, IsErrOf};
 ghost use Rattle.std.specs.Str.{IsUtf8};
 ghost use Rattle.aql_outside.specs.Causes.{Rose};
 ghost use Rattle.aql_outside.specs.Contents.{bytes_in};
 ghost use Rattle.aql_value.specs.Indices.{product};
+ghost use Rattle.aql_value.specs.Lists.{Every};
 ghost use Rattle.cdf_header.specs.Places.{variable_at};
-ghost use Rattle.cdf_slab.specs.Slab.{slab_numbers, slab, or_else, cut_fault, index_fault, early_fault, negative_fault, slab_fault, Answers, AnswersEarly};
+ghost use Rattle.cdf_slab.specs.Numbers.{IsCell};
+ghost use Rattle.cdf_slab.specs.Slab.{slab_numbers, slab, or_else, cut_fault, index_fault, early_fault, negative_fault, slab_fault, Answers, AnswersEarly, IsShaped};
 
 use crate::axes::axes_of;
 use crate::cells::{Reading, read_cells};
@@ -47,6 +49,8 @@ pub fn read_slab<F: Files>(
     ensures kept { F.holds files.new ≡ F.holds files.old }
     ensures later { F.faults files.old ≤ F.faults files.new }
     ensures failed { IsErrOf result CdfFault.Device → Rose (F.faults files.old) (F.faults files.new) }
+    // An array has the counts as dimensions and a cell for each index, whatever the files tell.
+    ensures shaped { IfOk result (IsShaped count.now.items signed) }
     // A fault that the header tells is answered, whatever the files tell.
     ensures early { IsUtf8 name.now → AnswersEarly (early_fault header.now (variable_at header.now v) start.now.items count.now.items stride.now.items) result }
     // Where the file is told, the hyperslab is answered, or the first fault.
@@ -82,6 +86,7 @@ fn read_named<F: Files>(
     ensures kept { F.holds files.new ≡ F.holds files.old }
     ensures later { F.faults files.old ≤ F.faults files.new }
     ensures failed { IsErrOf result CdfFault.Device → Rose (F.faults files.old) (F.faults files.new) }
+    ensures shaped { IfOk result (IsShaped count.now signed) }
     ensures early { AnswersEarly (early_fault header.now (variable_at header.now v) start.now count.now stride.now) result }
     ensures told { (bytes : List ℕ) → bytes_in (F.holds files.old) name.now ≡ Some bytes → header.now.bytes ≡ length bytes
         → Answers (slab_fault bytes header.now (variable_at header.now v) start.now count.now stride.now signed) (slab bytes header.now (variable_at header.now v) start.now count.now stride.now signed) result }
@@ -118,6 +123,7 @@ fn read_some<F: Files>(
     ensures kept { F.holds files.new ≡ F.holds files.old }
     ensures later { F.faults files.old ≤ F.faults files.new }
     ensures failed { IsErrOf result CdfFault.Device → Rose (F.faults files.old) (F.faults files.new) }
+    ensures shaped { IfOk result (IsShaped count.now signed) }
     ensures early { AnswersEarly (cut_fault header.now (variable_at header.now v) start.now count.now stride.now) result }
     ensures told { (bytes : List ℕ) → bytes_in (F.holds files.old) name.now ≡ Some bytes → header.now.bytes ≡ length bytes
         → Answers (or_else (cut_fault header.now (variable_at header.now v) start.now count.now stride.now) (negative_fault signed (slab_numbers bytes header.now (variable_at header.now v) start.now count.now stride.now))) (slab bytes header.now (variable_at header.now v) start.now count.now stride.now signed) result }
@@ -156,7 +162,8 @@ fn shaped(alloc: Global, cells: Builder, count: &[u128]) -> Result<Flat, Memory>
     requires some { 1 ≤ length count.now }
     requires few { length count.now ≤ 8 }
     requires many { product count.now ≡ length cells }
-    ensures { IfOk result (λ found. found ≡ record { dims = count.now; cells = cells }) }
+    ensures made { IfOk result (λ found. found ≡ record { dims = count.now; cells = cells }) }
+    ensures shaped { (signed : Bool) → Every (IsCell signed) cells → IfOk result (IsShaped count.now signed) }
 {
     let dims = dims_of(alloc, count)?;
     match cells.finish(dims)? {

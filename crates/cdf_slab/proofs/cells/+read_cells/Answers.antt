@@ -26,6 +26,7 @@ cells-preserved t g c =
       small = c.cells.invariant.small;
       room = s.next;
       many = count_next _ _ _ _ _ _ _ _ _ _ _ c.cells.invariant.many s c.cells-test.true c.in-Ok.ensures.many;
+      kinds = λ h. c.in-Ok.ensures.kinds (c.cells.invariant.kinds h);
       kept = c.in-Ok.ensures.kept ∙ c.cells.invariant.kept;
       later = omega (arith, c.cells.invariant.later, c.in-Ok.ensures.later);
       told = λ bytes there le p.

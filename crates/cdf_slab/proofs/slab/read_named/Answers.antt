@@ -14,7 +14,7 @@ pub returns-then-saturating_product-eq0-clause-told : goal.returns-then-saturati
 returns-then-saturating_product-eq0-clause-told g c = λ bytes there is.
     let zero : product c.args.count.now ≡ 0 = omega (arith, c.saturating_product.ensures, c.if-saturating_product-eq0.true) in
     let r = empty_told bytes c.args.header.now (variable_at c.args.header.now c.args.v) c.args.start.now c.args.count.now c.args.stride.now c.args.signed zero (sym c.first_fault.ensures.which ∙ c.in_default.is) in
-    (r.0, r.1 ∙ ap (λ cells. Some (record { dims = c.args.count.now; cells = cells })) (sym c.new.ensures) ∙ ap Some (sym c.in_ok-shaped.ensures))
+    (r.0, r.1 ∙ ap (λ cells. Some (record { dims = c.args.count.now; cells = cells })) (sym c.new.ensures) ∙ ap Some (sym c.in_ok-shaped.ensures.made))
 
 pub returns-clause-early : goal.returns-clause-early
 returns-clause-early g c =

@@ -84,7 +84,7 @@ returns-in-Ok-clause-told g c = λ bytes there is.
     c.deref-2.ensures.value c.bytes-end.ensures (c.from-base.ensures ∙ c.begin.ensures) small none in
     let r = c.in-Ok.ensures.told bytes there (omega (arith, is, c.bytes-end.ensures)) (c.new-window.ensures bytes) in
     let a = read_all c.args.signed (slab_numbers bytes h v c.args.start.now c.args.count.now c.args.stride.now) c.args.count.now c.in-Ok.cells (goes_as c.args.signed bytes c.kind.result v.kind _ (cell_places h v c.args.start.now c.args.count.now c.args.stride.now) c.new.result (Ok c.in-Ok.cells) c.kind.ensures visited c.new.ensures r.0) in
-    (ap (λ o. or_else (option_map faults.Cut o) (negative_fault c.args.signed (slab_numbers bytes h v c.args.start.now c.args.count.now c.args.stride.now))) none ∙ a.0, a.1 ∙ ap Some (sym c.in_ok-shaped-in-Ok.ensures))
+    (ap (λ o. or_else (option_map faults.Cut o) (negative_fault c.args.signed (slab_numbers bytes h v c.args.start.now c.args.count.now c.args.stride.now))) none ∙ a.0, a.1 ∙ ap Some (sym c.in_ok-shaped-in-Ok.ensures.made))
 
 pub returns-clause-early : goal.returns-clause-early
 returns-clause-early g c =

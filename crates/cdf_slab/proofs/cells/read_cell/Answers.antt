@@ -1,0 +1,8 @@
+use Rattle.std.proofs.Common.{◌∷◌, []}
+use Rattle.cdf_slab.specs.Numbers.{number_of}
+use Rattle.cdf_slab.proofs.Goings.{goes-kinds}
+use Rattle.cdf_slab.proofs.cells.read_cell.Goals as goal
+
+pub returns-in-Ok-clause-kinds : goal.returns-in-Ok-clause-kinds
+returns-in-Ok-clause-kinds g c = λ h.
+    goes-kinds c.args.reading.signed (number_of c.args.reading.kind c.in-Ok.x ∷ []) c.args.cells c.push_number.result c.push_number.ensures.goes h
