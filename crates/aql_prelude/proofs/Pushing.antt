@@ -1,0 +1,31 @@
+-- Declarations pushed one by one.
+use Rattle.std.proofs.Common.{ℕ, suc, ◌≡◌, List, [], ◌∷◌, ◌++◌, length, refl, sym, ap, ◌∙◌, append-nil, append_assoc}
+use Rattle.aql_syntax.specs.Tree.{Declaration}
+use Rattle.aql_syntax.specs.View.{decl_of, decls_of}
+use Rattle.aql_syntax.specs.declared.ast.Decl.{Decl}
+use Rattle.aql_prelude.specs.Prelude.{prelude_decls, of_pairs_and_counts, of_sets, of_numbers, of_arrays}
+
+decls_last : (ds : List Decl) (d : Decl) → decls_of (ds ++ d ∷ []) ≡ decls_of ds ++ decl_of d ∷ []
+decls_last [] d = refl
+decls_last (x ∷ ds) d = ap (λ l. decl_of x ∷ l) (decls_last ds d)
+
+-- none is pushed yet
+pub none_pushed : (ds : List Decl) → decls_of ds ≡ decls_of ds ++ []
+none_pushed ds = sym (append-nil (decls_of ds))
+
+-- one more
+pub pushed : (ds now next : List Decl) (d : Decl) (xs : List Declaration) (x : Declaration) → decls_of now ≡ decls_of ds ++ xs → next ≡ now ++ d ∷ [] → decl_of d ≡ x →
+    decls_of next ≡ decls_of ds ++ (xs ++ x ∷ [])
+pushed ds now next d xs x h e k =
+    ap decls_of e ∙ decls_last now d ∙ ap (λ l. l ++ decl_of d ∷ []) h ∙ ap (λ y. (decls_of ds ++ xs) ++ y ∷ []) k ∙ append_assoc (decls_of ds) xs (x ∷ [])
+
+-- the four groups
+pub all_pushed : (none first second third fourth : List Decl) → none ≡ [] → decls_of first ≡ decls_of none ++ of_pairs_and_counts →
+    decls_of second ≡ decls_of first ++ of_sets → decls_of third ≡ decls_of second ++ of_numbers → decls_of fourth ≡ decls_of third ++ of_arrays →
+    decls_of fourth ≡ prelude_decls
+all_pushed none first second third fourth z a b c d =
+    d ∙ ap (λ l. l ++ of_arrays) (c ∙ ap (λ l. l ++ of_numbers) (b ∙ ap (λ l. l ++ of_sets) (a ∙ ap (λ l. decls_of l ++ of_pairs_and_counts) z)))
+
+pub count_decls : (ds : List Decl) → length ds ≡ length (decls_of ds)
+count_decls [] = refl
+count_decls (d ∷ ds) = ap suc (count_decls ds)

@@ -1,0 +1,157 @@
+-- Why what is prepared is a script's one reading behind the prelude.
+use Rattle.std.proofs.Common.{ℕ, zero, suc, ◌≡◌, ◌+◌, ◌-◌, ◌<◌, ◌≤◌, ◌⊎◌, inl, inr, List, [], ◌∷◌, ◌++◌, refl, sym, ap, ◌∙◌, subst, length, take, drop, append_assoc, length-append, length-drop, arith, Bool, true, false}
+use Rattle.std.specs.Prelude.{◌&&◌, nat_le, Err}
+use Rattle.std.proofs.lemmas.Bool.{leb-true, cases_lt}
+use Rattle.std.proofs.lemmas.List.{take_all}
+use Rattle.aql_syntax.specs.declared.token.Token.{Token}
+use Rattle.aql_syntax.specs.Lexis.{Lexeme, AreTokens}
+use Rattle.aql_syntax.specs.Grammar.{ReadsScript, SyntaxFaultAt}
+use Rattle.aql_syntax.specs.Size.{expanded_size, expanded_levels}
+use Rattle.aql_syntax.specs.Tree.{Declaration}
+use Rattle.aql_syntax.specs.View.{decl_of, decls_of}
+use Rattle.aql_syntax.specs.declared.ast.Decl.{Decl}
+use Rattle.aql_lex.specs.Lexed.{IsShallow, OneList}
+use Rattle.aql_grammar.specs.Scripts.{OneReading}
+use Rattle.aql_infer.specs.Checked.{IsChecked, IsFirstUntyped}
+use Rattle.aql_infer.specs.declared.fault.TypeFault.{TypeFault}
+use Rattle.aql_infer.specs.declared.fault.TypeFault.TheVariants as type_faults
+use Rattle.aql_prelude.specs.Prelude.{prelude_decls}
+use Rattle.aql_prelude.specs.Typing.{HaveSorts, prelude_typed}
+use Rattle.aql_script.specs.PositionLaws.{positions_are, length_positions, drop_prelude}
+use Rattle.aql_script.specs.Limits.{IsLarge, WithinBetween}
+use Rattle.aql_script.specs.Script.{Spells, ReadsAlone, positions, IsWithinLimits, AreWithinLimits, IsFirstLarge}
+
+-- what the parser reads of the tokens is the one reading of the bytes
+pub alone : OneList → OneReading → (bytes : List ℕ) (ts : List Token) (ds : List Declaration) → IsShallow bytes ts →
+    ((ls : List Lexeme) → AreTokens bytes ts ls → ReadsScript ds ls) → ReadsAlone bytes ds
+alone one reading bytes ts ds (ls, (tokens, shallow)) h =
+    ((ls, (ts, tokens, shallow), h ls tokens), λ others other. same others other)
+  where
+    same : (others : List Declaration) → ((ms : List Lexeme) × Spells bytes ms × ReadsScript others ms) → others ≡ ds
+    same others (ms, (us, t, s), r) =
+        let list = one bytes ts us ls ms tokens t in
+        reading others ds ms r (subst (λ l. ReadsScript ds l) list.lexemes (h ls tokens))
+
+pub refused : (bytes : List ℕ) (ts : List Token) (n : ℕ) → IsShallow bytes ts → ((ls : List Lexeme) → AreTokens bytes ts ls → SyntaxFaultAt n ls) →
+    (ls : List Lexeme) × Spells bytes ls × SyntaxFaultAt n ls
+refused bytes ts n (ls, (tokens, shallow)) h = (ls, (ts, tokens, shallow), h ls tokens)
+
+-- a declaration without a typing stands behind those that have one
+behind_typed : (front ds earlier : List Declaration) (k : ℕ) → HaveSorts earlier front → IsFirstUntyped earlier (front ++ ds) k → length front < k
+behind_typed [] [] earlier k h u = absurd u
+behind_typed [] (d ∷ ds) earlier zero h u = absurd u
+behind_typed [] (d ∷ ds) earlier (suc k) h u = omega arith
+behind_typed (a ∷ front) ds earlier zero h u = absurd u
+behind_typed (a ∷ front) ds earlier (suc zero) h u = absurd (u h.0.0 h.0.1)
+behind_typed (a ∷ front) ds earlier (suc (suc k)) h u = omega (arith, behind_typed front ds (a ∷ earlier) (suc k) h.1 u.1)
+
+pub behind_prelude : (ds : List Declaration) (k : ℕ) → IsFirstUntyped [] (positions ds) k → 24 < k
+unfolding positions
+behind_prelude ds k u = behind_typed prelude_decls ds [] k prelude_typed u
+
+pub untyped_own : (ds : List Declaration) (k : ℕ) → IsFirstUntyped [] (positions ds) k → (1 ≤ k - 24) × IsFirstUntyped [] (positions ds) (24 + (k - 24))
+untyped_own ds k u =
+    let lt = behind_prelude ds k u in
+    let same : 24 + (k - 24) ≡ k = omega (arith, lt) in
+    (omega (arith, lt), subst (λ n. IsFirstUntyped [] (positions ds) n) (sym same) u)
+
+-- the test of the limits, at a position and at each up to one
+abbrev within : List Declaration → ℕ → Bool
+within all n = nat_le (expanded_size all n) 20000 && nat_le (expanded_levels all n) 1000
+
+abbrev within_all : List Declaration → ℕ → Bool
+within_all all zero = true
+within_all all (suc n) = within all (suc n) && within_all all n
+
+prelude_tested : (ds : List Declaration) → within_all (positions ds) 24 ≡ true
+unfolding positions
+prelude_tested ds = refl
+
+both : (a b : Bool) → (a && b) ≡ true → (a ≡ true) × (b ≡ true)
+both true true e = (refl, refl)
+both true false e = absurd cc
+both false b e = absurd cc
+
+within_is : (all : List Declaration) (n : ℕ) → within all n ≡ true → IsWithinLimits all n
+within_is all n e =
+    let own = both (nat_le (expanded_size all n) 20000) (nat_le (expanded_levels all n) 1000) e in
+    (leb-true (expanded_size all n) 20000 own.0, leb-true (expanded_levels all n) 1000 own.1)
+
+-- one position more
+pub within_more : (all : List Declaration) (n : ℕ) → IsWithinLimits all (suc n) → AreWithinLimits all n → AreWithinLimits all (suc n)
+within_more all n own before k one last = at (cases_lt k (suc n))
+  where
+    at : (k < suc n) ⊎ (suc n ≤ k) → IsWithinLimits all k
+    at (inl lt) = before k one (omega (arith, lt))
+    at (inr le) = subst (IsWithinLimits all) (omega (arith, le, last)) own
+
+tested_within : (all : List Declaration) (n : ℕ) → within_all all n ≡ true → AreWithinLimits all n
+tested_within all zero e = λ k one last. absurd (omega (arith, one, last))
+tested_within all (suc n) e =
+    let parts = both (within all (suc n)) (within_all all n) e in
+    within_more all n (within_is all (suc n) parts.0) (tested_within all n parts.1)
+
+-- the prelude is within the limits, whatever follows
+pub prelude_within : (ds : List Declaration) → AreWithinLimits (positions ds) 24
+prelude_within ds = tested_within (positions ds) 24 (prelude_tested ds)
+
+decls_last : (ds : List Decl) (d : Decl) → decls_of (ds ++ d ∷ []) ≡ decls_of ds ++ decl_of d ∷ []
+decls_last [] d = refl
+decls_last (e ∷ ds) d = ap (λ l. decl_of e ∷ l) (decls_last ds d)
+
+decls_length : (ds : List Decl) → length (decls_of ds) ≡ length ds
+decls_length [] = refl
+decls_length (d ∷ ds) = ap suc (decls_length ds)
+
+-- the first of the declarations that are left was put behind those so far
+pub one_behind : (all : List Decl) (d : Decl) (rest : List Decl) → decls_of (all ++ d ∷ []) ++ decls_of rest ≡ decls_of all ++ decls_of (d ∷ rest)
+one_behind all d rest = ap (λ l. l ++ decls_of rest) (decls_last all d) ∙ append_assoc (decls_of all) (decl_of d ∷ []) (decls_of rest)
+
+pub many : (all : List Decl) (ds : List Declaration) → decls_of all ≡ positions ds → length all ≡ 24 + length ds
+many all ds e = sym (decls_length all) ∙ (ap length e ∙ length_positions ds)
+
+decls_drop : (n : ℕ) (ds : List Decl) → decls_of (drop n ds) ≡ drop n (decls_of ds)
+decls_drop zero ds = refl
+decls_drop (suc n) [] = refl
+decls_drop (suc n) (d ∷ ds) = decls_drop n ds
+
+-- the script's own declarations stand behind the first 24
+pub own : (all : List Decl) (ds : List Declaration) → decls_of all ≡ positions ds → decls_of (drop 24 all) ≡ ds
+own all ds e = decls_drop 24 all ∙ (ap (drop 24) e ∙ drop_prelude ds)
+
+within_join : (all : List Declaration) (n m : ℕ) → AreWithinLimits all n → WithinBetween all n m → AreWithinLimits all m
+within_join all n m a b k one last = at (cases_lt n k)
+  where
+    at : (n < k) ⊎ (k ≤ n) → IsWithinLimits all k
+    at (inl lt) = b k lt last
+    at (inr le) = a k one le
+
+-- all positions are within the limits
+pub all_within : (all : List Decl) (ds : List Declaration) → decls_of all ≡ positions ds → WithinBetween (decls_of all) 24 (length all) →
+    AreWithinLimits (positions ds) (24 + length ds)
+all_within all ds e h =
+    let between = subst (λ (l : List Declaration). WithinBetween l 24 (length all)) e h in
+    within_join (positions ds) 24 (24 + length ds) (prelude_within ds) (subst (WithinBetween (positions ds) 24) (many all ds e) between)
+
+-- the first that passes a limit
+pub is_first_large : (all : List Decl) (ds : List Declaration) (n : ℕ) → decls_of all ≡ positions ds → (1 ≤ n) → (24 + n ≤ length all) →
+    WithinBetween (decls_of all) 24 (23 + n) → IsLarge (decls_of all) (24 + n) → IsFirstLarge ds n
+is_first_large all ds n e one last within_before large = record {
+  first = one;
+  last = let count = many all ds e in omega (arith, count, last);
+  before = within_join (positions ds) 24 (23 + n) (prelude_within ds) (subst (λ (l : List Declaration). WithinBetween l 24 (23 + n)) e within_before);
+  large = subst (λ (l : List Declaration). IsLarge l (24 + n)) e large;
+}
+
+-- what inference answers of the positions
+pub first_untyped : (all ds : List Declaration) (f : TypeFault) (k : ℕ) → all ≡ ds → f ≡ type_faults.NoType k → IsChecked (Err f) all → IsFirstUntyped [] ds k
+first_untyped all ds f k e is h =
+    subst (λ (l : List Declaration). IsFirstUntyped [] l k) e (subst (λ (g : TypeFault). IsChecked (Err g) all) is h)
+
+-- the same of the slice behind the first 24
+pub own_slice : (all rest : List Decl) (ds : List Declaration) → rest ≡ all → decls_of all ≡ positions ds →
+    decls_of (take (length rest - 24) (drop 24 rest)) ≡ ds
+own_slice all rest ds same e =
+    ap decls_of (take_all (length rest - 24) (drop 24 rest) (omega (arith, length-drop 24 rest))) ∙ (ap (λ l. decls_of (drop 24 l)) same ∙ own all ds e)
+
+pub ruleset preparing = (one_behind, positions_are, many, own, all_within, is_first_large)

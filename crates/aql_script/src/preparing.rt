@@ -1,0 +1,120 @@
+//! From the bytes of a script to its positions.
+
+ghost use Rattle.std.specs.Prelude.{◌≡◌, ◌++◌, ◌+◌, ◌≤◌, List, length, IfOk, Result, Ok, Err};
+ghost use Rattle.aql_syntax.specs.Tree.{Declaration};
+ghost use Rattle.aql_syntax.specs.View.{decls_of};
+ghost use Rattle.aql_prelude.specs.Prelude.{prelude_decls};
+ghost use Rattle.aql_script.specs.Script.{Prepares, Declares, Types, Refuses, Settles, positions};
+
+use crate::fault::ScriptFault;
+use crate::limits::{first_large, first_of_records};
+use aql_constraints::typed::Typed;
+use aql_grammar::laws::one_reading;
+use aql_infer::check::check;
+use aql_infer::fault::TypeFault;
+use aql_lex::fault::LexFault;
+use aql_lex::laws::one_answer;
+use aql_lex::lexer::tokens;
+use aql_parse::{ParseFault, script as parsed};
+use aql_prelude::prelude;
+use aql_syntax::ast::Decls;
+use aql_value::Memory;
+use std::alloc::Global;
+
+/// How many declarations the prelude has.
+const PRELUDE: u64 = 24;
+
+/// The positions of a script, those of the prelude first, each with its principal type.
+#[derive(Drop)]
+pub struct Prepared {
+    pub decls: Decls,
+    pub typed: Typed,
+}
+
+/// The positions of a script.
+///
+/// The faults are looked for in this order: `Text`, `Deep`, `Syntax`, `Type`, `Large`, `Unbuilt`.
+pub fn prepare(alloc: Global, script: &[u8]) -> Result<Prepared, ScriptFault>
+    ensures { Prepares script.now result }
+{
+    match declared(alloc, script) {
+        Ok(own) => settled(alloc, own),
+        Err(fault) => Err(fault),
+    }
+}
+
+// The declarations that the bytes are.
+fn declared(alloc: Global, script: &[u8]) -> Result<Decls, ScriptFault>
+    ensures { Declares script.now result }
+{
+    match tokens(alloc, script) {
+        Ok(found) => {
+            let own = parsed(alloc, &found, script);
+            one_answer();
+            one_reading();
+            match own {
+                Ok(decls) => Ok(decls),
+                Err(ParseFault::Syntax { declaration }) => Err(ScriptFault::Syntax { declaration }),
+                Err(ParseFault::Memory) => Err(ScriptFault::Memory),
+            }
+        }
+        Err(LexFault::Text { at }) => Err(ScriptFault::Text { at }),
+        Err(LexFault::Deep { at }) => Err(ScriptFault::Deep { at }),
+        Err(LexFault::Memory) => Err(ScriptFault::Memory),
+    }
+}
+
+// The positions of a script with these declarations.
+fn settled(alloc: Global, own: Decls) -> Result<Prepared, ScriptFault>
+    ensures { Settles (decls_of own.items.items) result }
+{
+    let decls = behind_prelude(alloc, own)?;
+    match typed(alloc, &decls) {
+        Ok(typed) => match refused(&decls) {
+            Some(fault) => Err(fault),
+            None => Ok(Prepared { decls, typed }),
+        },
+        Err(fault) => Err(fault),
+    }
+}
+
+// The prelude's declarations and then these.
+#[tactic(auto, using(crate::proofs::Positions::preparing))]
+fn behind_prelude(alloc: Global, own: Decls) -> Result<Decls, Memory>
+    ensures { IfOk result (λ all. decls_of all.items.items ≡ positions (decls_of own.items.items)) }
+{
+    let mut all = prelude(alloc)?;
+    for d in own.items {
+        all.items.push(d)?;
+    }
+    Ok(all)
+}
+
+// The principal types of positions, or the first declaration behind the prelude without a typing.
+fn typed(alloc: Global, decls: &Decls) -> Result<Typed, ScriptFault>
+    requires { (ds : List Declaration) × (decls_of decls.now.items.items ≡ positions ds) }
+    ensures { (ds : List Declaration) → decls_of decls.now.items.items ≡ positions ds → Types ds result }
+{
+    match check(alloc, decls) {
+        Ok(typed) => Ok(typed),
+        Err(TypeFault::NoType { declaration }) => Err(ScriptFault::Type {
+            declaration: declaration - PRELUDE,
+        }),
+        Err(TypeFault::Memory) => Err(ScriptFault::Memory),
+    }
+}
+
+// The first declaration that passes a limit, and else the first that reads records.
+#[tactic(auto, using(crate::proofs::Positions::preparing))]
+fn refused(decls: &Decls) -> Option<ScriptFault>
+    requires { (ds : List Declaration) × (decls_of decls.now.items.items ≡ positions ds) }
+    ensures { (ds : List Declaration) → decls_of decls.now.items.items ≡ positions ds → Refuses ds result }
+{
+    if let Some(declaration) = first_large(decls) {
+        return Some(ScriptFault::Large { declaration });
+    }
+    match first_of_records(&decls.items[24..]) {
+        Some(declaration) => Some(ScriptFault::Unbuilt { declaration }),
+        None => None,
+    }
+}
