@@ -1,0 +1,153 @@
+-- What the argument of a reader asks for: step by step, and where the argument has its type.
+use Rattle.std.proofs.Common.{◌≡◌, ℕ, zero, suc, ◌≤◌, Bool, true, false, List, [], ◌∷◌, ◌++◌, length, map, replicate, Option, Some, None, refl, sym, ap, ◌∙◌, arith, nat_eq, eq-eqb, if◌then◌else◌}
+use Rattle.std.proofs.lemmas.List.{map-append, length-replicate}
+use Rattle.aql_value.specs.Datum as datum
+use Rattle.aql_value.specs.Datum.{Datum, data_of, list_of, list_of-data_of}
+use Rattle.aql_value.specs.Meaning as meaning
+use Rattle.aql_value.specs.Operations.{as_natural, as_tuple, index_numbers}
+use Rattle.aql_value.specs.Partial.{◌>>=◌, each}
+use Rattle.aql_value.specs.PartialLaws.{each-append}
+use Rattle.aql_value.specs.declared.value.Value.{Value}
+use Rattle.aql_types.specs.Types as types
+use Rattle.aql_types.specs.Types.{IsRank, IsWithin, index_type, tys_of}
+use Rattle.aql_types.specs.ValueTypes.{HasType, AllHaveTypes}
+use Rattle.aql_syntax.specs.Tree as tree
+use Rattle.aql_syntax.specs.Tree.{Reader}
+use Rattle.aql_syntax.specs.Typing.{reader_type, argument_type}
+use Rattle.aql_session.specs.Asked.{Asked, asked, asked_of, unstrided, with_strides}
+use Rattle.aql_session.specs.Runs.{HasRank, cell_type, numbers_with}
+use Rattle.aql_session.specs.Step.{IsOfArrays}
+
+-- the numbers of one value more
+pub numbers_push : (vs : List Value) (v : Value) → each as_natural (map meaning.datum (vs ++ v ∷ [])) ≡ numbers_with (each as_natural (map meaning.datum vs)) (meaning.datum v)
+numbers_push vs v =
+    ap (each as_natural) (map-append meaning.datum vs (v ∷ [])) ∙ each-append as_natural (map meaning.datum vs) (meaning.datum v ∷ [])
+    ∙ go (each as_natural (map meaning.datum vs)) (as_natural (meaning.datum v))
+  where
+    go : (o : Option (List ℕ)) (p : Option ℕ) → (o >>= λ ys. (p >>= λ y. Some (y ∷ [])) >>= λ zs. Some (ys ++ zs)) ≡ (o >>= λ ys. p >>= λ y. Some (ys ++ y ∷ []))
+    go None p = refl
+    go (Some ys) None = refl
+    go (Some ys) (Some y) = refl
+
+-- an index of another rank than 1 is a tuple of numbers
+pub index-tuple : (rank : ℕ) (v : Datum) → (rank ≡ 1 → ⊥) → index_numbers rank v ≡ (as_tuple v >>= each as_natural >>= λ at. if nat_eq (length at) rank then Some at else None)
+index-tuple zero v h = refl
+index-tuple (suc zero) v h = absurd (h refl)
+index-tuple (suc (suc k)) v h = refl
+
+naturals-typed : (k : ℕ) (vs : List Datum) → AllHaveTypes (tys_of (replicate k types.natural)) vs → (ns : List ℕ) × (each as_natural vs ≡ Some ns) × (length ns ≡ k)
+naturals-typed zero [] h = ([], refl, refl)
+naturals-typed zero (v ∷ vs) h = absurd h
+naturals-typed (suc k) [] h = absurd h
+naturals-typed (suc k) (v ∷ vs) h =
+    let r = naturals-typed k vs h.1 in
+    (h.0.0 ∷ r.0, ap (λ w. as_natural w >>= λ y. each as_natural vs >>= λ ys. Some (y ∷ ys)) h.0.1 ∙ ap (λ o. o >>= λ ys. Some (h.0.0 ∷ ys)) r.1, omega (arith, r.2))
+
+-- an index that has its type
+pub record IsIndex (k : ℕ) (v : Datum) : Type 0 where
+  pub numbers : List ℕ
+  pub is : index_numbers k v ≡ Some numbers
+  pub many : length numbers ≡ k
+
+pub index-typed : (k : ℕ) (v : Datum) → 1 ≤ k → HasType (index_type k) v → IsIndex k v
+index-typed zero v l h = absurd (omega (arith, l))
+index-typed (suc zero) v l h = record { numbers = h.0 ∷ []; is = ap (index_numbers 1) h.1; many = refl }
+index-typed (suc (suc k)) v l h =
+    let r = naturals-typed (suc (suc k)) h.0 h.2 in
+    record {
+      numbers = r.0;
+      is =
+          ap (index_numbers (suc (suc k))) h.1
+          ∙ ap (λ vs. each as_natural vs >>= λ at. if nat_eq (length at) (suc (suc k)) then Some at else None) (list_of-data_of h.0)
+          ∙ ap (λ o. o >>= λ at. if nat_eq (length at) (suc (suc k)) then Some at else None) r.1
+          ∙ ap (λ b. if b then Some r.0 else None) (eq-eqb (length r.0) (suc (suc k)) r.2);
+      many = r.2;
+    }
+
+-- what an argument that has its type asks for
+pub record AsksFor (r : Reader) (v : Datum) : Type 0 where
+  pub asked : Asked
+  pub is : asked_of r v ≡ Some asked
+  pub rank : HasRank asked
+  pub type : reader_type r ≡ types.array_of (length asked.count) (cell_type asked.signed)
+
+same-parts : (k : ℕ) (sign : Bool) (f x s c : Datum) (stride : Option (List ℕ)) (file variable starts counts strides : List ℕ) → f ≡ datum.text file → x ≡ datum.text variable →
+    index_numbers k s ≡ Some starts → index_numbers k c ≡ Some counts → stride ≡ Some strides →
+    asked k sign f x s c stride ≡ Some (record { file = file; variable = variable; start = starts; count = counts; stride = strides; signed = sign })
+same-parts k sign f x s c stride file variable starts counts strides e g h i j = rw (e, g, h, i, j) refl
+
+without : (k : ℕ) (sign : Bool) (v : Datum) → IsRank k → HasType (types.product (tys_of (types.text ∷ types.text ∷ index_type k ∷ index_type k ∷ []))) v →
+    (a : Asked) × ((as_tuple v >>= unstrided k sign) ≡ Some a) × HasRank a × (length a.count ≡ k) × (a.signed ≡ sign)
+without k sign v rank ([], e, h) = absurd h
+without k sign v rank (f ∷ [], e, h) = absurd h.1
+without k sign v rank (f ∷ x ∷ [], e, h) = absurd h.1.1
+without k sign v rank (f ∷ x ∷ s ∷ [], e, h) = absurd h.1.1.1
+without k sign v rank (f ∷ x ∷ s ∷ c ∷ y ∷ vs, e, h) = absurd h.1.1.1.1
+without k sign v rank (f ∷ x ∷ s ∷ c ∷ [], e, h) =
+    let i = index-typed k s rank.0 h.1.1.0 in
+    let j = index-typed k c rank.0 h.1.1.1.0 in
+    let a : Asked = record { file = h.0.0; variable = h.1.0.0; start = i.numbers; count = j.numbers; stride = replicate k 1; signed = sign } in (
+      a,
+      ap (λ w. as_tuple w >>= unstrided k sign) e ∙ same-parts k sign f x s c (Some (replicate k 1)) h.0.0 h.1.0.0 i.numbers j.numbers (replicate k 1) h.0.1 h.1.0.1 i.is j.is refl,
+      record {
+        some = omega (arith, i.many, rank.0);
+        few = omega (arith, i.many, rank.1);
+        counts = omega (arith, i.many, j.many);
+        strides = omega (arith, i.many, length-replicate {A = ℕ} k 1);
+      },
+      j.many,
+      refl,
+    )
+
+with : (k : ℕ) (v : Datum) → IsRank k → HasType (types.product (tys_of (types.text ∷ types.text ∷ index_type k ∷ index_type k ∷ index_type k ∷ []))) v →
+    (a : Asked) × ((as_tuple v >>= with_strides k) ≡ Some a) × HasRank a × (length a.count ≡ k) × (a.signed ≡ false)
+with k v rank ([], e, h) = absurd h
+with k v rank (f ∷ [], e, h) = absurd h.1
+with k v rank (f ∷ x ∷ [], e, h) = absurd h.1.1
+with k v rank (f ∷ x ∷ s ∷ [], e, h) = absurd h.1.1.1
+with k v rank (f ∷ x ∷ s ∷ c ∷ [], e, h) = absurd h.1.1.1.1
+with k v rank (f ∷ x ∷ s ∷ c ∷ t ∷ y ∷ vs, e, h) = absurd h.1.1.1.1.1
+with k v rank (f ∷ x ∷ s ∷ c ∷ t ∷ [], e, h) =
+    let i = index-typed k s rank.0 h.1.1.0 in
+    let j = index-typed k c rank.0 h.1.1.1.0 in
+    let l = index-typed k t rank.0 h.1.1.1.1.0 in
+    let a : Asked = record { file = h.0.0; variable = h.1.0.0; start = i.numbers; count = j.numbers; stride = l.numbers; signed = false } in (
+      a,
+      ap (λ w. as_tuple w >>= with_strides k) e ∙ same-parts k false f x s c (index_numbers k t) h.0.0 h.1.0.0 i.numbers j.numbers l.numbers h.0.1 h.1.0.1 i.is j.is l.is,
+      record {
+        some = omega (arith, i.many, rank.0);
+        few = omega (arith, i.many, rank.1);
+        counts = omega (arith, i.many, j.many);
+        strides = omega (arith, i.many, l.many);
+      },
+      j.many,
+      refl,
+    )
+
+-- the rank of a reader's arrays is 1 to 8, since its type is one of the language
+pub asks-typed : (r : Reader) (v : Datum) → IsOfArrays r → IsWithin (reader_type r) → HasType (argument_type r) v → AsksFor r v
+asks-typed (tree.plain k) v u w h =
+    let r = without k false v w.2.0 h in
+    record {
+      asked = r.0;
+      is = r.1;
+      rank = r.2;
+      type = ap (λ n. types.array_of n types.natural) (sym r.3) ∙ ap (λ b. types.array_of (length r.0.count) (cell_type b)) (sym r.4);
+    }
+asks-typed (tree.signed k) v u w h =
+    let r = without k true v w.2.0 h in
+    record {
+      asked = r.0;
+      is = r.1;
+      rank = r.2;
+      type = ap (λ n. types.array_of n (cell_type true)) (sym r.3) ∙ ap (λ b. types.array_of (length r.0.count) (cell_type b)) (sym r.4);
+    }
+asks-typed (tree.strided k) v u w h =
+    let r = with k v w.2.0 h in
+    record {
+      asked = r.0;
+      is = r.1;
+      rank = r.2;
+      type = ap (λ n. types.array_of n types.natural) (sym r.3) ∙ ap (λ b. types.array_of (length r.0.count) (cell_type b)) (sym r.4);
+    }
+asks-typed (tree.records header ks) v u w h = absurd u

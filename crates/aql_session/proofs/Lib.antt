@@ -1,0 +1,11 @@
+pub mod Translated
+pub mod Binding
+pub mod Latest
+pub mod Positions
+pub mod Evaluating
+pub mod Asking
+pub mod Heads
+pub mod Headers
+pub mod Opening
+pub mod Obtaining
+pub mod Running

@@ -1,0 +1,243 @@
+-- The run of a declaration, beside what `step` says of it.
+use Rattle.std.proofs.Common.{◌≡◌, ℕ, zero, suc, ◌+◌, ◌-◌, ◌^◌, ◌<◌, ◌≤◌, List, [], ◌∷◌, ◌++◌, length, take, Option, Some, None, refl, sym, ap, ◌∙◌, subst, arith, length-take, inl, inr}
+use Rattle.std.specs.Prelude.{slice_get, get_or, option_map}
+use Rattle.std.specs.Option.{ForSome}
+use Rattle.std.proofs.lemmas.Option.{slice_get-get_or}
+use Rattle.std.proofs.lemmas.List.{length-map}
+use Rattle.aql_outside.specs.Contents.{Content}
+use Rattle.aql_value.specs.Datum.{Datum}
+use Rattle.aql_value.specs.Partial.{◌>>=◌, if_some}
+use Rattle.aql_types.specs.Types.{Ty, Sort, Subst, apply, value, macro, IsWithin}
+use Rattle.aql_types.specs.ValueTypes.{HasType}
+use Rattle.aql_types.specs.View.{sort_of}
+use Rattle.aql_types.specs.declared.ty.Scheme.{Scheme}
+use Rattle.aql_constraints.specs.Typed.{ArePrincipal, sorts_of}
+use Rattle.aql_syntax.specs.Denotation.{den}
+use Rattle.aql_syntax.specs.Script.{Earlier, globals_of, Reading, read_outcome, outcome_after}
+use Rattle.aql_syntax.specs.Size.{before}
+use Rattle.aql_syntax.specs.Sound.{OutcomesHave, typed-value, ReadsHave, outcome-has, apply-reader_type}
+use Rattle.aql_syntax.specs.Tree.{Name, Tree, Reader, Declaration, val, mac, read, bare, declared}
+use Rattle.aql_syntax.specs.Typing.{Has, DeclHas, IsPrincipal, scope_of, reader_type, argument_type}
+use Rattle.aql_syntax.specs.View.{decl_of, decls_of}
+use Rattle.aql_syntax.specs.declared.ast.Decl.{Decl}
+use Rattle.nrca_serial.specs.Scope.{held_value}
+use Rattle.nrca_term.specs.Equations.{term_of-Bottom}
+use Rattle.nrca_term.specs.Meaning.{Outcomes}
+use Rattle.nrca_term.specs.declared.term.Core.TheVariants as core
+use Rattle.aql_session.specs.Asked.{Asked, cells}
+use Rattle.aql_session.specs.Bound.{Bound, AreBound, earlier_of, outcomes}
+use Rattle.aql_session.specs.Reading.{read_fault, read_value, reading}
+use Rattle.aql_session.specs.Runs.{Stands, IsPlain, IsSpent, IsEvaluated, IsReadBy, IsArgumentCause, IsRun, IsAnswerOf, asked_in, query_value}
+use Rattle.aql_session.specs.Step.{IsAnswer, IsOutcome, IsReadOutcome, Binds, IsCause, ReadsNoFile, asks}
+use Rattle.aql_session.specs.declared.answer.Answer.{Answer}
+use Rattle.aql_session.specs.declared.answer.Ran.TheVariants as ran
+use Rattle.aql_session.specs.declared.answer.StepFault.{StepFault}
+use Rattle.aql_session.specs.declared.answer.StepFault.TheVariants as faults
+use Rattle.aql_session.specs.declared.queries.Evaluated.{Evaluated}
+use Rattle.aql_session.specs.declared.readings.Read.{Read}
+use Rattle.aql_session.specs.declared.runs.Run.{Run}
+use Rattle.aql_session.proofs.Positions.{declarations-before, sort-at}
+
+-- the declaration at a place
+pub declaration-at : (xs : List Decl) (i : ℕ) (x : Decl) → i < length xs → x ≡ get_or xs i x → slice_get (decls_of xs) i ≡ Some (decl_of x)
+declaration-at xs i x l e = go xs i ∙ ap (option_map decl_of) (slice_get-get_or xs i x l ∙ ap Some (sym e))
+  where
+    go : (xs : List Decl) (i : ℕ) → slice_get (decls_of xs) i ≡ option_map decl_of (slice_get xs i)
+    go [] i = refl
+    go (x ∷ xs) zero = refl
+    go (x ∷ xs) (suc i) = go xs i
+
+pub same-position : (p : Option Declaration) (c d : Declaration) → p ≡ Some c → p ≡ Some d → c ≡ d
+same-position p c d e f = let y = sym e ∙ f in cc
+
+-- a query that is evaluated and kept
+pub plain-run : (d : Declaration) (earlier : Earlier) (budget : ℕ) (holds : Option Content) (q : Evaluated) → IsPlain d → IsEvaluated d earlier budget q →
+    IsRun d earlier budget holds (record { start = q.start; by = ran.Plan; turns = q.turns; value = q.value })
+plain-run (val x e) earlier budget holds q p h = record {
+  start = h.start;
+  by = refl;
+  turns = omega (arith, h.turns);
+  answerable = record { query = h.within; cells = λ a k. cc; file = λ a k. cc };
+  outcome = h.value;
+}
+plain-run (mac f p body) earlier budget holds q u h = absurd u
+plain-run (read x r e) earlier budget holds q u h = absurd u
+plain-run (bare e) earlier budget holds q p h = record {
+  start = h.start;
+  by = refl;
+  turns = omega (arith, h.turns);
+  answerable = record { query = h.within; cells = λ a k. cc; file = λ a k. cc };
+  outcome = h.value;
+}
+
+-- a macro
+pub macro-run : (f : Name) (p : _) (body : Tree) (earlier : Earlier) (budget : ℕ) (holds : Option Content) →
+    IsRun (mac f p body) earlier budget holds (record { start = core.Bottom; by = ran.Declared; turns = 0; value = None })
+macro-run f p body earlier budget holds = record {
+  start = term_of-Bottom;
+  by = refl;
+  turns = refl;
+  answerable = record { query = omega arith; cells = λ a k. cc; file = λ a k. cc };
+  outcome = refl;
+}
+
+pub spent-cause : (d : Declaration) (earlier : Earlier) (budget : ℕ) (holds : Option Content) (before now : ℕ) (f : StepFault) → IsSpent d earlier budget f → IsCause d earlier budget holds before now f
+spent-cause d earlier budget holds before now (faults.Query s p t) h = h
+spent-cause d earlier budget holds before now (faults.Cells c) h = absurd h
+spent-cause d earlier budget holds before now (faults.File f) h = absurd h
+spent-cause d earlier budget holds before now faults.Device h = absurd h
+spent-cause d earlier budget holds before now faults.Memory h = tt
+
+some-within : (o : Option Asked) (budget : ℕ) → ForSome o (λ a. cells a ≤ budget) → if_some o cells ≤ budget
+some-within None budget h = omega arith
+some-within (Some a) budget h = h a refl
+
+module _ (x : Name) (r : Reader) (e : Tree) (earlier : Earlier) (budget : ℕ) (q : Evaluated) (h : IsEvaluated (read x r e) earlier budget q) where
+  argument-is : held_value q.value ≡ den e (globals_of earlier) []
+  argument-is = h.value
+
+  asked-is : asked_in r (held_value q.value) ≡ asks (read x r e) earlier
+  asked-is = ap (asked_in r) argument-is
+
+  -- a readval: its argument, and what it asks for
+  pub readval-run : (holds : Option Content) (y : Read) → IsReadBy r (held_value q.value) budget holds y →
+      IsRun (read x r e) earlier budget holds (record { start = q.start; by = ran.Read; turns = q.turns + y.cells; value = y.value })
+  readval-run holds y k = record {
+    start = h.start;
+    by = refl;
+    turns = (let n : y.cells ≡ if_some (asks (read x r e) earlier) cells = k.many ∙ ap (λ o. if_some o cells) asked-is in omega (arith, h.turns, n));
+    answerable = record {
+      query = h.within;
+      cells = subst (λ o. ForSome o (λ a. cells a ≤ budget)) asked-is k.within;
+      file = subst (λ o. ForSome o (λ a. ForSome holds (λ files. read_fault files a ≡ None))) asked-is k.file;
+    };
+    outcome = subst (λ o. IsReadOutcome r o holds (held_value y.value)) argument-is k.outcome;
+  }
+
+  -- the turns fit
+  pub readval-fits : (holds : Option Content) (y : Read) → budget ≤ 50000000 → IsReadBy r (held_value q.value) budget holds y → q.turns + y.cells < 2 ^ 128
+  readval-fits holds y b k =
+      let n = some-within (asked_in r (held_value q.value)) budget k.within in
+      omega (arith, h.turns, h.within, k.many, n, b)
+
+  pub readval-cause : (holds : Option Content) (before now : ℕ) (f : StepFault) → IsArgumentCause r (held_value q.value) budget holds before now f → IsCause (read x r e) earlier budget holds before now f
+  readval-cause holds before now (faults.Query s p t) k = absurd k.2
+  readval-cause holds before now (faults.Cells c) k = (h.within, k.0, sym asked-is ∙ k.1, k.2)
+  readval-cause holds before now (faults.File f) k = (h.within, k.0, sym asked-is ∙ k.1, k.2)
+  readval-cause holds before now faults.Device k = (h.within, k.0, sym asked-is ∙ k.1, k.2)
+  readval-cause holds before now faults.Memory k = tt
+
+  -- where no file is read, the cells pass the budget
+  pub readval-unread : ReadsNoFile (read x r e) earlier budget → ForSome (asked_in r (held_value q.value)) (λ a. budget < cells a)
+  readval-unread (inl l) = absurd (omega (arith, l, h.within))
+  readval-unread (inr k) = subst (λ o. ForSome o (λ a. budget < cells a)) (sym asked-is) k
+
+-- what the check says of a readval
+record ReadHas (r : Reader) (e : Tree) (earlier : List Declaration) : Type 0 where
+  pub within : IsWithin (reader_type r)
+  pub has : Has e (scope_of earlier) [] (argument_type r)
+
+sort-read : (x : Name) (r : Reader) (e : Tree) (earlier : List Declaration) (s : Sort) → DeclHas (read x r e) (scope_of earlier) s → ReadHas r e earlier
+sort-read x r e earlier (value t) h = record { within = subst IsWithin h.0 h.1; has = h.3 }
+sort-read x r e earlier (macro s t) h = absurd h
+
+module _ (ds : List Declaration) (sorts : List Sort) (n : ℕ) (V : Outcomes) (stands : Stands ds sorts n V) where
+  module _ (x : Name) (r : Reader) (e : Tree) (here : slice_get ds (n - 1) ≡ Some (read x r e)) where
+    read-has : ReadHas r e (before ds n)
+    read-has = let s = sort-at ds sorts n (read x r e) stands.checked here in sort-read x r e (before ds n) s.0 s.2.principal.has
+
+    pub reader-within : IsWithin (reader_type r)
+    reader-within = read-has.within
+
+    -- the argument's value has the reader's argument type
+    pub argument-typed : (o : Option Datum) → o ≡ query_value (read x r e) (earlier_of ds V) → ForSome o (HasType (argument_type r))
+    argument-typed o q v k =
+        typed-value (earlier_of ds V) stands.typed e (argument_type r) v
+        (subst (λ l. Has e (scope_of l) [] (argument_type r)) (sym (declarations-before ds V n stands.many)) read-has.has) (sym q ∙ k)
+
+  -- the answer of a run
+  pub answer-is : (d : Declaration) → slice_get ds (n - 1) ≡ Some d → (budget : ℕ) (holds : Option Content) (r : Run) (a : Answer) → IsRun d (earlier_of ds V) budget holds r →
+      IsAnswerOf d (slice_get sorts (n - 1)) r a → IsAnswer d (earlier_of ds V) (slice_get sorts (n - 1)) a
+  answer-is d e budget holds r a h k =
+      let s = sort-at ds sorts n d stands.checked e in
+      let z : s.0 ≡ sort_of a.ty = (let y = sym s.1 ∙ k.found in cc) in
+      record {
+        name = k.name;
+        found = k.found;
+        principal =
+            subst (λ l. IsPrincipal d (scope_of l) (sort_of a.ty)) (sym (declarations-before ds V n stands.many))
+            (subst (IsPrincipal d (scope_of (before ds n))) z s.2.principal);
+        start = k.start ∙ h.start;
+        plan = k.plan;
+        trace = k.trace;
+        by = k.by ∙ h.by;
+        turns = k.turns ∙ h.turns;
+      }
+
+no-reading : Reading
+no-reading r v = None
+
+no-reads : ReadsHave no-reading
+unfolding no-reading
+no-reads r a w e = cc
+
+-- the outcome of a declaration has its types
+outcome-typed : (d : Declaration) (earlier : Earlier) (holds : Option Content) (o : Option Datum) → OutcomesHave earlier → IsOutcome d earlier holds o → OutcomesHave ((d, o) ∷ earlier)
+outcome-typed (val x e) earlier holds o h k = outcome-has no-reading no-reads earlier h (val x e) o (ap Some (sym k))
+outcome-typed (mac f p body) earlier holds o h k = outcome-has no-reading no-reads earlier h (mac f p body) o (ap Some (sym k))
+outcome-typed (bare e) earlier holds o h k = outcome-has no-reading no-reads earlier h (bare e) o (ap Some (sym k))
+outcome-typed (read x r e) earlier holds o h k = ((λ t v i m u. go (den e (globals_of earlier) []) k t v i.0 m u), h)
+  where
+    go : (p : Option Datum) → IsReadOutcome r p holds o → (t : Ty) (v : Datum) → t ≡ reader_type r → o ≡ Some v → (u : Subst) → HasType (apply u t) v
+    go None k t v i m u = let z = sym k ∙ m in cc
+    go (Some a) k t v i m u =
+        let z : k.1 ≡ v = (let y = sym k.3 ∙ m in cc) in
+        subst (λ X. HasType X v) (sym (ap (apply u) i ∙ apply-reader_type u r)) (subst (HasType (reader_type r)) z k.4.typed)
+
+-- where the files are told, the outcome is the script's
+outcome-told : (d : Declaration) (earlier : Earlier) (holds : Option Content) (o : Option Datum) → IsOutcome d earlier holds o → ForSome holds (λ files. outcome_after (reading files) d (globals_of earlier) ≡ Some o)
+outcome-told (val x e) earlier holds o k files l = ap Some (sym k)
+outcome-told (mac f p body) earlier holds o k files l = ap Some (sym k)
+outcome-told (bare e) earlier holds o k files l = ap Some (sym k)
+outcome-told (read x r e) earlier holds o k files l = go (den e (globals_of earlier) []) k
+  where
+    go : (p : Option Datum) → IsReadOutcome r p holds o → read_outcome (reading files r) p ≡ Some o
+    go None k = ap Some (sym k)
+    go (Some v) k =
+        ap (λ w. option_map (λ y. Some y) (w >>= read_value files)) k.2 ∙ ap (option_map (λ y. Some y)) (k.4.told files l) ∙ ap Some (sym k.3)
+
+-- the position that a run binds
+pub binds-is : (d : Declaration) (earlier : Earlier) (budget : ℕ) (holds : Option Content) (r : Run) (old new : Bound) → OutcomesHave earlier → IsRun d earlier budget holds r →
+    new ≡ old ++ (declared d, held_value r.value) ∷ [] → Binds d earlier holds old new
+binds-is d earlier budget holds r old new t h e = record {
+  outcome = held_value r.value;
+  bound = e;
+  is = h.outcome;
+  typed = outcome-typed d earlier holds (held_value r.value) t h.outcome;
+  told = outcome-told d earlier holds (held_value r.value) h.outcome;
+}
+
+-- as many outcomes as positions before n
+pub bound-many : (ds : List Declaration) (n : ℕ) (bound : Bound) → n ≤ length ds → AreBound ds n bound → length (outcomes bound) ≡ n - 1
+bound-many ds n bound l e =
+    omega (arith, l, ap length e, length-map bound (λ b. b.0), length-map bound (λ b. b.1), length-map (take (n - 1) ds) declared, length-take (n - 1) ds)
+
+-- the scheme at a place
+pub scheme-at : (xs : List Scheme) (i : ℕ) (x : Scheme) → i < length xs → x ≡ get_or xs i x → slice_get (sorts_of xs) i ≡ Some (sort_of x)
+scheme-at xs i x l e = go xs i ∙ ap (option_map sort_of) (slice_get-get_or xs i x l ∙ ap Some (sym e))
+  where
+    go : (xs : List Scheme) (i : ℕ) → slice_get (sorts_of xs) i ≡ option_map sort_of (slice_get xs i)
+    go [] i = refl
+    go (x ∷ xs) zero = refl
+    go (x ∷ xs) (suc i) = go xs i
+
+pub length-sorts_of : (xs : List Scheme) → length (sorts_of xs) ≡ length xs
+length-sorts_of [] = refl
+length-sorts_of (x ∷ xs) = omega (arith, length-sorts_of xs)
+
+-- as many sorts as declarations
+pub sorts-many : (earlier ds : List Declaration) (ss : List Sort) → ArePrincipal earlier ds ss → length ss ≡ length ds
+sorts-many earlier [] [] h = refl
+sorts-many earlier [] (s ∷ ss) h = absurd h
+sorts-many earlier (d ∷ ds) [] h = absurd h
+sorts-many earlier (d ∷ ds) (s ∷ ss) h = omega (arith, sorts-many (d ∷ earlier) ds ss h.1)

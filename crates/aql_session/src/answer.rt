@@ -1,0 +1,84 @@
+//! What a step answers.
+ghost use Rattle.std.specs.Prelude.{◌≡◌};
+ghost use Rattle.aql_session.specs.declared.answer.StepFault.TheVariants as faults;
+
+use aql_types::ty::Scheme;
+use aql_value::{Memory, Str};
+use cdf_header::CdfFault;
+use nrca_term::{Core, Trace};
+use std::alloc::{AllocError, AllocFailed};
+
+/// The answer of a declaration. The outcome is kept by the session.
+#[derive(Drop)]
+pub struct Answer {
+    /// The name that it binds: `it` for a bare expression.
+    pub name: Str,
+    /// Its principal type.
+    pub ty: Scheme,
+    /// The start term: of a readval that of its argument, of a macro `Bottom`.
+    pub start: Core,
+    /// The plan, which is the start term.
+    pub plan: Core,
+    /// The rewritings that lead to the plan: none.
+    pub trace: Trace,
+    pub by: Ran,
+    /// Loop turns, and of a readval besides the cells that were read.
+    pub turns: u128,
+}
+
+/// What was evaluated: the plan or the start term of a query, a readval's argument and then its file,
+/// or nothing, for a macro.
+#[derive(Clone, Copy, Debug, PartialEq, Eq)]
+pub enum Ran {
+    Plan,
+    Start,
+    Read,
+    Declared,
+}
+
+/// Why a declaration has no answer.
+#[derive(Drop)]
+pub enum StepFault {
+    /// The turns of the query, or of a readval's argument, pass the budget.
+    Query {
+        start: Core,
+        plan: Core,
+        trace: Trace,
+    },
+    /// The cells that are asked for pass the budget. Their number, or 2^128-1 where it is larger.
+    Cells {
+        cells: u128,
+    },
+    /// The file cannot be read. It is neither `Device` nor `Memory`.
+    File {
+        fault: CdfFault,
+    },
+    /// A call on the files failed.
+    Device,
+    /// Memory was wanting.
+    Memory,
+}
+
+impl From<AllocError> for StepFault {
+    ghost from_gives = { λ _ e. e ≡ faults.Memory };
+
+    fn from(_: AllocError) -> StepFault {
+        StepFault::Memory
+    }
+}
+
+impl<T: Drop> From<AllocFailed<T>> for StepFault {
+    ghost from_gives = { λ _ e. e ≡ faults.Memory };
+
+    fn from(_: AllocFailed<T>) -> StepFault {
+        StepFault::Memory
+    }
+}
+
+impl From<Memory> for StepFault {
+    ghost from_gives = { λ _ e. e ≡ faults.Memory };
+
+    fn from(_: Memory) -> StepFault {
+        StepFault::Memory
+    }
+}

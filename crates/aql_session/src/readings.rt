@@ -1,0 +1,437 @@
+//! Readvals: what a reader's argument asks for, and the reading of files.
+ghost use Rattle.std.specs.Prelude.{◌≡◌, ◌<◌, ◌≤◌, ◌∷◌, [], Some, map, vec_len, IfOk, IfErr, replicate};
+ghost use Rattle.std.specs.Option.{option_map, ForSome};
+ghost use Rattle.aql_syntax.specs.Typing.{argument_type, reader_type};
+ghost use Rattle.aql_syntax.specs.View.{reader_of};
+ghost use Rattle.aql_types.specs.Types.{IsWithin};
+ghost use Rattle.aql_types.specs.ValueTypes.{HasType};
+ghost use Rattle.aql_value.specs.Meaning.{datum};
+ghost use Rattle.aql_value.specs.Operations.{as_natural, as_text, as_tuple, index_numbers};
+ghost use Rattle.aql_value.specs.Partial.{each};
+ghost use Rattle.nrca_array.specs.Held.{held_datum};
+ghost use Rattle.nrca_serial.specs.Scope.{held_value};
+ghost use Rattle.aql_session.specs.Asked.{asked, asked_of, unstrided, with_strides, cells};
+ghost use Rattle.aql_session.specs.Step.{IsOfArrays};
+ghost use Rattle.aql_session.specs.Runs.{request_asked, asked_in, numbers_with, single_index, handed_on, HasRank, IsRequestOf, IsReadBy, IsArgumentCause, IsOpened, IsSlabOf, IsFileCause, IsReadOf, IsReadCause};
+
+use crate::answer::StepFault;
+use aql_outside::Files;
+use aql_syntax::ast::Reader;
+use aql_value::{Index, Items, Memory, Str, Value, saturating_product};
+use cdf_header::{CdfFault, Header, read_header};
+use cdf_slab::read_slab;
+use nrca_array::{Flat, Held};
+use std::alloc::Global;
+
+/// What a readval asks for: as many numbers in each index as the variable has dimensions.
+#[derive(Drop)]
+pub(crate) struct Request {
+    pub(crate) file: Str,
+    pub(crate) variable: Str,
+    pub(crate) start: Index,
+    pub(crate) count: Index,
+    pub(crate) stride: Index,
+    pub(crate) signed: bool,
+}
+
+/// What a readval came to by its argument: its value, and the cells that were read.
+#[derive(Drop)]
+pub(crate) struct Read {
+    pub(crate) value: Option<Held>,
+    pub(crate) cells: u128,
+}
+
+/// Reads what the value of a reader's argument asks for; nothing where it is undefined.
+pub(crate) fn read_argument<F: Files>(
+    alloc: Global,
+    files: &mut F,
+    reader: &Reader,
+    argument: Option<Held>,
+    budget: u64,
+) -> Result<Read, StepFault>
+    requires arrays { IsOfArrays (reader_of reader.now) }
+    requires within { IsWithin (reader_type (reader_of reader.now)) }
+    requires typed { ForSome (held_value argument) (HasType (argument_type (reader_of reader.now))) }
+    requires budget { budget ≤ 50000000 }
+    ensures read { IfOk result (IsReadBy (reader_of reader.now) (held_value argument) budget (F.holds files.old)) }
+    ensures cause { IfErr result (IsArgumentCause (reader_of reader.now) (held_value argument) budget (F.holds files.old) (F.faults files.old) (F.faults files.new)) }
+    ensures kept { F.holds files.new ≡ F.holds files.old }
+    ensures later { F.faults files.old ≤ F.faults files.new }
+    ensures untouched { ForSome (asked_in (reader_of reader.now) (held_value argument)) (λ a. budget < cells a) → files.new ≡ files.old }
+{
+    match argument {
+        Some(argument) => read_value(alloc, files, reader, argument, budget),
+        None => Ok(Read {
+            value: None,
+            cells: 0,
+        }),
+    }
+}
+
+// The same where the argument has a value.
+fn read_value<F: Files>(
+    alloc: Global,
+    files: &mut F,
+    reader: &Reader,
+    argument: Held,
+    budget: u64,
+) -> Result<Read, StepFault>
+    requires arrays { IsOfArrays (reader_of reader.now) }
+    requires within { IsWithin (reader_type (reader_of reader.now)) }
+    requires typed { HasType (argument_type (reader_of reader.now)) (held_datum argument) }
+    requires budget { budget ≤ 50000000 }
+    ensures read { IfOk result (IsReadBy (reader_of reader.now) (Some (held_datum argument)) budget (F.holds files.old)) }
+    ensures cause { IfErr result (IsArgumentCause (reader_of reader.now) (Some (held_datum argument)) budget (F.holds files.old) (F.faults files.old) (F.faults files.new)) }
+    ensures kept { F.holds files.new ≡ F.holds files.old }
+    ensures later { F.faults files.old ≤ F.faults files.new }
+    ensures untouched { ForSome (asked_of (reader_of reader.now) (held_datum argument)) (λ a. budget < cells a) → files.new ≡ files.old }
+{
+    let request = typed_request(alloc, reader, argument)?;
+    match read_request(alloc, files, &request, budget) {
+        Ok(flat) => Ok(Read {
+            value: Some(Held::Flat(flat)),
+            cells: saturating_product(&request.count),
+        }),
+        Err(fault) => Err(fault),
+    }
+}
+
+// What an argument that has its type asks for.
+fn typed_request(alloc: Global, reader: &Reader, argument: Held) -> Result<Request, Memory>
+    requires arrays { IsOfArrays (reader_of reader.now) }
+    requires within { IsWithin (reader_type (reader_of reader.now)) }
+    requires typed { HasType (argument_type (reader_of reader.now)) (held_datum argument) }
+    ensures { IfOk result (IsRequestOf (reader_of reader.now) (held_datum argument)) }
+{
+    match request_of(alloc, reader, argument)? {
+        Some(request) => Ok(request),
+        None => unreachable!(),
+    }
+}
+
+/// Reads what is asked for, where its cells are within the budget.
+///
+/// The cells are counted before any call on the files. Then the header is read, the variable sought and
+/// the hyperslab read.
+pub(crate) fn read_request<F: Files>(
+    alloc: Global,
+    files: &mut F,
+    request: &Request,
+    budget: u64,
+) -> Result<Flat, StepFault>
+    requires rank { HasRank (request_asked request.now) }
+    requires budget { budget ≤ 50000000 }
+    ensures read { IfOk result (IsReadOf (request_asked request.now) budget (F.holds files.old)) }
+    ensures cause { IfErr result (IsReadCause (request_asked request.now) budget (F.holds files.old) (F.faults files.old) (F.faults files.new)) }
+    ensures kept { F.holds files.new ≡ F.holds files.old }
+    ensures later { F.faults files.old ≤ F.faults files.new }
+    ensures untouched { budget < cells (request_asked request.now) → files.new ≡ files.old }
+{
+    let cells = saturating_product(&request.count);
+    if cells > u128::from(budget) {
+        return Err(StepFault::Cells { cells });
+    }
+    match open(alloc, files, request) {
+        Ok(found) => read_found(alloc, files, request, &found),
+        Err(fault) => Err(fault),
+    }
+}
+
+/// The header of a file, and the number of a variable of it.
+#[derive(Drop)]
+pub(crate) struct Found {
+    pub(crate) header: Header,
+    pub(crate) variable: u64,
+}
+
+// The header of the file, and the variable of the name.
+fn open<F: Files>(alloc: Global, files: &mut F, request: &Request) -> Result<Found, StepFault>
+    ensures opened { IfOk result (IsOpened (request_asked request.now) (F.holds files.old)) }
+    ensures cause { IfErr result (IsFileCause (request_asked request.now) (F.holds files.old) (F.faults files.old) (F.faults files.new)) }
+    ensures kept { F.holds files.new ≡ F.holds files.old }
+    ensures later { F.faults files.old ≤ F.faults files.new }
+{
+    match read_header(alloc, files, &request.file) {
+        Ok(header) => match header.find(&request.variable) {
+            Some(variable) => Ok(Found { header, variable }),
+            None => Err(StepFault::File {
+                fault: CdfFault::NoVariable,
+            }),
+        },
+        Err(fault) => Err(hand_on(fault)),
+    }
+}
+
+// The hyperslab of the variable.
+fn read_found<F: Files>(
+    alloc: Global,
+    files: &mut F,
+    request: &Request,
+    found: &Found,
+) -> Result<Flat, StepFault>
+    requires rank { HasRank (request_asked request.now) }
+    requires cells { cells (request_asked request.now) ≤ 50000000 }
+    requires opened { IsOpened (request_asked request.now) (F.holds files.old) found.now }
+    ensures read { IfOk result (IsSlabOf (request_asked request.now) (F.holds files.old)) }
+    ensures cause { IfErr result (IsFileCause (request_asked request.now) (F.holds files.old) (F.faults files.old) (F.faults files.new)) }
+    ensures kept { F.holds files.new ≡ F.holds files.old }
+    ensures later { F.faults files.old ≤ F.faults files.new }
+{
+    match read_slab(
+        alloc,
+        files,
+        &request.file,
+        &found.header,
+        found.variable,
+        &request.start,
+        &request.count,
+        &request.stride,
+        request.signed,
+    ) {
+        Ok(flat) => Ok(flat),
+        Err(fault) => Err(hand_on(fault)),
+    }
+}
+
+// The fault of a step for one of a file.
+fn hand_on(fault: CdfFault) -> StepFault
+    ensures { result ≡ handed_on fault }
+{
+    match fault {
+        CdfFault::Device => StepFault::Device,
+        CdfFault::Memory => StepFault::Memory,
+        fault => StepFault::File { fault },
+    }
+}
+
+/// What the argument of a reader of netCDF files asks for: nothing where it is no such tuple.
+pub(crate) fn request_of(
+    alloc: Global,
+    reader: &Reader,
+    argument: Held,
+) -> Result<Option<Request>, Memory>
+    ensures { IfOk result (λ r. option_map request_asked r ≡ asked_of (reader_of reader.now) (held_datum argument)) }
+{
+    let Some(parts) = parts_of(argument) else {
+        return Ok(None);
+    };
+    match reader {
+        Reader::Plain { rank } => request_unstrided(alloc, *rank, false, parts),
+        Reader::Signed { rank } => request_unstrided(alloc, *rank, true, parts),
+        Reader::Strided { rank } => request_strided(alloc, *rank, parts),
+        Reader::Csv(_) => Ok(None),
+    }
+}
+
+// The parts of the tuple that a value is.
+#[tactic(auto, using(aql_value::specs::Datum::data_lists))]
+fn parts_of(value: Held) -> Option<Items>
+    ensures { result ≡ as_tuple (held_datum value) }
+{
+    match value {
+        Held::Value(Value::Row(parts)) => Some(parts.into_items()),
+        _ => None,
+    }
+}
+
+// What file, variable, start and count ask for.
+fn request_unstrided(
+    alloc: Global,
+    rank: u64,
+    signed: bool,
+    parts: Items,
+) -> Result<Option<Request>, Memory>
+    ensures { IfOk result (λ r. option_map request_asked r ≡ unstrided rank signed parts) }
+{
+    if parts.items.len() != 4 {
+        return Ok(None);
+    }
+    let (file, variable, start, count) = four(parts.items);
+    let stride = ones(alloc, rank)?;
+    make_request(
+        alloc,
+        rank,
+        signed,
+        file,
+        variable,
+        start,
+        count,
+        Some(stride),
+    )
+}
+
+// What file, variable, start, count and stride ask for.
+fn request_strided(alloc: Global, rank: u64, parts: Items) -> Result<Option<Request>, Memory>
+    ensures { IfOk result (λ r. option_map request_asked r ≡ with_strides rank parts) }
+{
+    if parts.items.len() != 5 {
+        return Ok(None);
+    }
+    let (file, variable, start, count, stride) = five(parts.items);
+    let stride = index(alloc, rank, stride)?;
+    make_request(alloc, rank, false, file, variable, start, count, stride)
+}
+
+// The request of these parts, where each is of its kind.
+fn make_request(
+    alloc: Global,
+    rank: u64,
+    signed: bool,
+    file: Value,
+    variable: Value,
+    start: Value,
+    count: Value,
+    stride: Option<Index>,
+) -> Result<Option<Request>, Memory>
+    ensures { IfOk result (λ r. option_map request_asked r ≡ asked rank signed (datum file) (datum variable) (datum start) (datum count) (option_map (λ i. i.items) stride)) }
+{
+    let Some(file) = text(file) else {
+        return Ok(None);
+    };
+    let Some(variable) = text(variable) else {
+        return Ok(None);
+    };
+    let Some(start) = index(alloc, rank, start)? else {
+        return Ok(None);
+    };
+    let Some(count) = index(alloc, rank, count)? else {
+        return Ok(None);
+    };
+    let Some(stride) = stride else {
+        return Ok(None);
+    };
+    Ok(Some(Request {
+        file,
+        variable,
+        start,
+        count,
+        stride,
+        signed,
+    }))
+}
+
+// The string that a value is.
+fn text(value: Value) -> Option<Str>
+    ensures { result ≡ as_text (datum value) }
+{
+    match value {
+        Value::Text(text) => Some(text),
+        _ => None,
+    }
+}
+
+// The index of a rank that a value is: a number, or from rank 2 a tuple of numbers.
+fn index(alloc: Global, rank: u64, value: Value) -> Result<Option<Index>, Memory>
+    ensures { IfOk result (λ i. option_map (λ is. is.items) i ≡ index_numbers rank (datum value)) }
+{
+    if rank == 1 {
+        return single(alloc, value);
+    }
+    let Some(parts) = parts_of(Held::Value(value)) else {
+        return Ok(None);
+    };
+    let Some(numbers) = naturals(alloc, parts)? else {
+        return Ok(None);
+    };
+    if numbers.len() as u64 != rank {
+        return Ok(None);
+    }
+    Ok(Some(Index::from_slice(alloc, numbers.as_slice())?))
+}
+
+// The index of one number.
+fn single(alloc: Global, value: Value) -> Result<Option<Index>, Memory>
+    ensures { IfOk result (λ i. option_map (λ is. is.items) i ≡ single_index (datum value)) }
+{
+    match value {
+        Value::Nat(n) => Ok(Some(Index::from_slice(alloc, [n].as_slice())?)),
+        _ => Ok(None),
+    }
+}
+
+// The numbers that values are.
+#[tactic(auto, using(crate::proofs::Asking::numbers_push))]
+fn naturals(alloc: Global, parts: Items) -> Result<Option<Vec<u128>>, Memory>
+    ensures { IfOk result (λ ns. option_map (λ v. v.items) ns ≡ each as_natural parts) }
+{
+    let mut numbers = Some(Vec::new(alloc));
+    for part in parts.items {
+        numbers = numbers_and(numbers, part)?;
+    }
+    Ok(numbers)
+}
+
+// Numbers and one more, where the value is one.
+fn numbers_and(numbers: Option<Vec<u128>>, part: Value) -> Result<Option<Vec<u128>>, Memory>
+    ensures { IfOk result (λ ns. option_map (λ v. v.items) ns ≡ numbers_with (option_map (λ v. v.items) numbers) (datum part)) }
+{
+    match (numbers, part) {
+        (Some(mut numbers), Value::Nat(n)) => {
+            numbers.push(n)?;
+            Ok(Some(numbers))
+        }
+        _ => Ok(None),
+    }
+}
+
+// A stride of 1 for each dimension.
+fn ones(alloc: Global, rank: u64) -> Result<Index, Memory>
+    ensures { IfOk result (λ i. i.items ≡ replicate rank 1) }
+{
+    let ones = vec![in alloc; 1u128; rank as usize]?;
+    Ok(Index::from_slice(alloc, ones.as_slice())?)
+}
+
+// The one value.
+fn one(values: Vec<Value>) -> Value
+    requires { vec_len values ≡ 1 }
+    ensures { map datum values.items ≡ datum result ∷ [] }
+{
+    let mut values = values;
+    match values.pop() {
+        Some(v) => v,
+        None => unreachable!(),
+    }
+}
+
+// The two values.
+fn two(values: Vec<Value>) -> (Value, Value)
+    requires { vec_len values ≡ 2 }
+    ensures { map datum values.items ≡ datum result.0 ∷ datum result.1 ∷ [] }
+{
+    let mut values = values;
+    match values.pop() {
+        Some(w) => (one(values), w),
+        None => unreachable!(),
+    }
+}
+
+// The four values.
+fn four(values: Vec<Value>) -> (Value, Value, Value, Value)
+    requires { vec_len values ≡ 4 }
+    ensures { map datum values.items ≡ datum result.0 ∷ datum result.1 ∷ datum result.2 ∷ datum result.3 ∷ [] }
+{
+    let mut values = values;
+    match (values.pop(), values.pop()) {
+        (Some(d), Some(c)) => {
+            let (a, b) = two(values);
+            (a, b, c, d)
+        }
+        _ => unreachable!(),
+    }
+}
+
+// The five values.
+fn five(values: Vec<Value>) -> (Value, Value, Value, Value, Value)
+    requires { vec_len values ≡ 5 }
+    ensures { map datum values.items ≡ datum result.0 ∷ datum result.1 ∷ datum result.2 ∷ datum result.3 ∷ datum result.4 ∷ [] }
+{
+    let mut values = values;
+    match values.pop() {
+        Some(e) => {
+            let (a, b, c, d) = four(values);
+            (a, b, c, d, e)
+        }
+        None => unreachable!(),
+    }
+}
