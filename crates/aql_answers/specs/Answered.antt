@@ -1,0 +1,37 @@
+-- The declarations of a script that were answered, and why the next one was not.
+use Rattle.std.specs.Prelude.{◌≡◌, ℕ, ◌+◌, List, length, take, replicate, Option, Some, None}
+use Rattle.std.specs.List.{slice_get}
+use Rattle.std.specs.Option.{ForSome}
+use Rattle.aql_outside.specs.Contents.{Content}
+use Rattle.aql_value.specs.Datum.{Datum}
+use Rattle.aql_types.specs.Types.{Sort}
+use Rattle.aql_syntax.specs.Script.{Earlier, globals_of, outcome_after}
+use Rattle.aql_syntax.specs.Tree.{Declaration}
+use Rattle.nrca_term.specs.Meaning.{Outcomes}
+use Rattle.aql_session.specs.Bound.{earlier_of}
+use Rattle.aql_session.specs.Reading.{reading}
+use Rattle.aql_session.specs.Step.{IsAnswer, IsAnswerable, IsOutcome, IsCause}
+use Rattle.aql_session.specs.declared.answer.Answer.{Answer}
+use Rattle.aql_session.specs.declared.answer.StepFault.{StepFault}
+use Rattle.aql_script.specs.Script.{positions}
+
+-- the answer of a declaration after others, and its outcome: what it denotes or reads; where the files are told, the script's
+-- outcome over them
+pub record IsAnswered (d : Declaration) (earlier : Earlier) (sort : Option Sort) (budget : ℕ) (holds : Option Content) (a : Answer) (o : Option Datum) : Type 0 where
+  pub answer : IsAnswer d earlier sort a
+  pub answerable : IsAnswerable d earlier budget holds
+  pub outcome : IsOutcome d earlier holds o
+  pub told : ForSome holds (λ files. outcome_after (reading files) d (globals_of earlier) ≡ Some o)
+
+-- The first declarations of a script have these answers, one for each in order, and with the prelude's positions, which have
+-- none, these outcomes.
+pub record AreAnswered (ds : List Declaration) (sorts : List Sort) (budget : ℕ) (holds : Option Content) (answers : List Answer) (V : Outcomes) : Type 0 where
+  pub many : length V ≡ 24 + length answers
+  pub prelude : take 24 V ≡ replicate 24 None
+  pub each : (i : ℕ) (d : Declaration) (a : Answer) (o : Option Datum) → slice_get (positions ds) (24 + i) ≡ Some d → slice_get answers i ≡ Some a →
+      slice_get V (24 + i) ≡ Some o → IsAnswered d (earlier_of (positions ds) (take (24 + i) V)) (slice_get sorts (24 + i)) budget holds a o
+
+-- the next declaration has none, and why; the counts of faults are those of the files before and after the run
+abbrev pub IsStopped : List Declaration → (budget : ℕ) → Option Content → (before now : ℕ) → (answered : ℕ) → Outcomes → StepFault → Type 0
+IsStopped ds budget holds before now answered V f =
+    (d : Declaration) × (slice_get (positions ds) (24 + answered) ≡ Some d) × IsCause d (earlier_of (positions ds) V) budget holds before now f

@@ -1,0 +1,6 @@
+pub mod Sample
+pub mod Entry
+pub mod Lines
+pub mod Writing
+pub mod Answered
+pub mod Steps

@@ -1,0 +1,32 @@
+-- The line of a fault.
+use Rattle.std.specs.Prelude.{ℕ, List, [], ◌++◌, codes, decimal}
+use Rattle.cdf_header.specs.declared.fault.CdfFault.{CdfFault}
+use Rattle.cdf_header.specs.declared.fault.CdfFault.TheVariants as cdf
+
+-- a fault at a byte, and in a declaration
+abbrev pub at_byte : List ℕ → ℕ → List ℕ
+at_byte fault k = codes "fault " ++ (fault ++ (codes " at byte " ++ (decimal k ++ codes "\n")))
+
+abbrev pub in_declaration : List ℕ → ℕ → List ℕ
+in_declaration fault n = codes "fault " ++ (fault ++ (codes " in declaration " ++ (decimal n ++ codes "\n")))
+
+-- what is said of a fault of a file
+abbrev pub kind_text : CdfFault → List ℕ
+kind_text cdf.Absent = codes "absent"
+kind_text cdf.NotClassic = codes "not classic"
+kind_text (cdf.Version v) = codes "version " ++ decimal v
+kind_text (cdf.Malformed k) = codes "malformed at " ++ decimal k
+kind_text (cdf.TooMany l) = codes "too many in list " ++ decimal l
+kind_text cdf.NoVariable = codes "no variable"
+kind_text (cdf.Rank r) = codes "rank " ++ decimal r
+kind_text cdf.FloatVariable = codes "float variable"
+kind_text (cdf.Stride j) = codes "stride " ++ decimal j
+kind_text (cdf.Outside j) = codes "outside dimension " ++ decimal j
+kind_text (cdf.Cut k) = codes "cut at " ++ decimal k
+kind_text (cdf.Negative c) = codes "negative cell " ++ decimal c
+kind_text cdf.Device = []
+kind_text cdf.Memory = []
+
+-- a fault of the file that declaration n reads
+abbrev pub of_file : ℕ → CdfFault → List ℕ
+of_file n f = codes "fault file in declaration " ++ (decimal n ++ (codes ": " ++ (kind_text f ++ codes "\n")))

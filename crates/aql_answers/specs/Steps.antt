@@ -1,0 +1,115 @@
+-- What the functions within this crate say of the run of the declarations.
+use Rattle.std.specs.Prelude.{◌≡◌, ℕ, suc, ◌+◌, ◌-◌, ◌⊎◌, List, [], ◌∷◌, ◌++◌, length, take, drop, replicate, Option, None}
+use Rattle.std.specs.Io.KnownBytes.{Appends}
+use Rattle.aql_outside.specs.Contents.{Content}
+use Rattle.aql_value.specs.Datum.{Datum}
+use Rattle.aql_types.specs.Types.{Sort}
+use Rattle.aql_constraints.specs.Typed.{sorts_of}
+use Rattle.aql_syntax.specs.Sound.{OutcomesHave}
+use Rattle.aql_syntax.specs.Tree.{Declaration}
+use Rattle.aql_syntax.specs.View.{decls_of}
+use Rattle.nrca_term.specs.Meaning.{Outcomes}
+use Rattle.aql_script.specs.Script.{AreTyped, positions, AreWithinLimits, NoneReadsRecords}
+use Rattle.aql_script.specs.declared.preparing.Prepared.{Prepared}
+use Rattle.aql_session.specs.Bound.{Bound, outcomes, AreBound, earlier_of}
+use Rattle.aql_session.specs.declared.answer.Answer.{Answer}
+use Rattle.aql_words.specs.declared.words.Options.{Options}
+use Rattle.aql_answers.specs.Answered.{AreAnswered, IsStopped}
+use Rattle.aql_answers.specs.Entry.{entry, entries}
+use Rattle.aql_answers.specs.declared.steps.Halt.{Halt}
+use Rattle.aql_answers.specs.declared.steps.Halt.TheVariants as halts
+
+-- the script's own declarations, behind those of the prelude
+abbrev pub own : Prepared → List Declaration
+own p = drop 24 (decls_of p.decls.items.items)
+
+abbrev pub sorts : Prepared → List Sort
+sorts p = sorts_of p.typed.items.items
+
+-- the positions of a script with their principal sorts, within the limits, and no readval of records
+pub record IsPrepared (p : Prepared) : Type 0 where
+  pub all : decls_of p.decls.items.items ≡ positions (own p)
+  pub typed : AreTyped (own p) (sorts p)
+  pub limits : AreWithinLimits (positions (own p)) (24 + length (own p))
+  pub built : NoneReadsRecords (own p)
+
+-- the session has the prelude's positions and those of the declarations that have these answers
+pub record Progress (p : Prepared) (budget : ℕ) (holds : Option Content) (answers : List Answer) (s : Bound) : Type 0 where
+  pub bound : AreBound (positions (own p)) (25 + length answers) s
+  pub types : OutcomesHave (earlier_of (positions (own p)) (outcomes s))
+  pub answered : AreAnswered (own p) (sorts p) budget holds answers (outcomes s)
+
+-- one answer more, and its lines
+pub record Goes (p : Prepared) (options : Options) (holds : Option Content) (answers answers' : List Answer) (s s' : Bound) (old new : Option (List ℕ)) : Type 0 where
+  pub answer : Answer
+  pub outcome : Option Datum
+  pub longer : answers' ≡ answers ++ answer ∷ []
+  pub outcomes : outcomes s' ≡ outcomes s ++ outcome ∷ []
+  pub progress : Progress p options.budget holds answers' s'
+  pub written : Appends old new (entry options.plan answer outcome)
+
+-- one answer more, and a front of its lines
+pub record CutsEntry (p : Prepared) (options : Options) (holds : Option Content) (answers answers' : List Answer) (V : Outcomes) (old new : Option (List ℕ)) : Type 0 where
+  pub answer : Answer
+  pub outcome : Option Datum
+  pub longer : answers' ≡ answers ++ answer ∷ []
+  pub answered : AreAnswered (own p) (sorts p) options.budget holds answers' (V ++ outcome ∷ [])
+  pub front : List ℕ
+  pub rest : List ℕ
+  pub split : entry options.plan answer outcome ≡ front ++ rest
+  pub written : Appends old new front
+
+-- no answer more, and nothing written
+pub record Stays (answers answers' : List Answer) (old new : Option (List ℕ)) : Type 0 where
+  pub same : answers' ≡ answers
+  pub written : Appends old new []
+
+-- the next declaration was not answered, or its lines were not all written
+abbrev pub Halts : Prepared → Options → Option Content → (before now : ℕ) → (answers answers' : List Answer) → Outcomes → (old new : Option (List ℕ)) → Halt → Type 0
+Halts p options holds before now answers answers' V old new (halts.Fault f) =
+    Stays answers answers' old new × IsStopped (own p) options.budget holds before now (length answers) V f
+Halts p options holds before now answers answers' V old new halts.Memory = Stays answers answers' old new ⊎ CutsEntry p options holds answers answers' V old new
+Halts p options holds before now answers answers' V old new halts.Sink = CutsEntry p options holds answers answers' V old new
+
+-- memory or the sink was wanting
+abbrev pub IsNoFault : Halt → Type 0
+IsNoFault (halts.Fault f) = ⊥
+IsNoFault halts.Memory = Unit {0}
+IsNoFault halts.Sink = Unit {0}
+
+-- the first k positions, which are macros of the prelude, are bound
+pub record Declared (p : Prepared) (k : ℕ) (s : Bound) : Type 0 where
+  pub bound : AreBound (positions (own p)) (suc k) s
+  pub none : outcomes s ≡ replicate k None
+  pub types : OutcomesHave (earlier_of (positions (own p)) (outcomes s))
+
+-- the declarations so far were answered and their lines written; declaration n of the positions is next
+pub record Going (p : Prepared) (o : Options) (holds : Option Content) (answers : List Answer) (s : Bound) (n : ℕ) (old now : Option (List ℕ)) : Type 0 where
+  pub progress : Progress p o.budget holds answers s
+  pub next : n ≡ 25 + length answers
+  pub written : Appends old now (entries o.plan answers (drop 24 (outcomes s)))
+
+-- every declaration was answered, and the lines of all were written
+pub record AllAnswered (p : Prepared) (o : Options) (holds : Option Content) (answers : List Answer) (old new : Option (List ℕ)) : Type 0 where
+  pub outcomes : Outcomes
+  pub answered : AreAnswered (own p) (sorts p) o.budget holds answers outcomes
+  pub all : length answers ≡ length (own p)
+  pub written : Appends old new (entries o.plan answers (drop 24 outcomes))
+
+-- these were answered, and all their lines but a back of the last one's were written
+pub record CutsLines (p : Prepared) (o : Options) (holds : Option Content) (answers : List Answer) (written : List ℕ) : Type 0 where
+  pub outcomes : Outcomes
+  pub answered : AreAnswered (own p) (sorts p) o.budget holds answers outcomes
+  pub back : List ℕ
+  pub front : entries o.plan answers (drop 24 outcomes) ≡ written ++ back
+  pub last : List ℕ
+  pub whole : written ≡ entries o.plan (take (length answers - 1) answers) (drop 24 outcomes) ++ last
+
+-- not all were answered, or not all lines written
+abbrev pub EndsEarly : Prepared → Options → Option Content → (before now : ℕ) → List Answer → (old new : Option (List ℕ)) → Halt → Type 0
+EndsEarly p o holds before now answers old new (halts.Fault f) =
+    (V : Outcomes) × AreAnswered (own p) (sorts p) o.budget holds answers V × IsStopped (own p) o.budget holds before now (length answers) V f
+    × Appends old new (entries o.plan answers (drop 24 V))
+EndsEarly p o holds before now answers old new halts.Memory =
+    (written : List ℕ) × Appends old new written × (((answers ≡ []) × (written ≡ [])) ⊎ CutsLines p o holds answers written)
+EndsEarly p o holds before now answers old new halts.Sink = (written : List ℕ) × Appends old new written × CutsLines p o holds answers written
