@@ -8,7 +8,7 @@ use Rattle.cdf_header.specs.declared.fault.Fault.TheVariants.{Short, Malformed, 
 use Rattle.cdf_header.specs.declared.fault.CdfFault.{CdfFault}
 use Rattle.cdf_header.specs.declared.fault.CdfFault.TheVariants as faults
 use Rattle.cdf_header.specs.Format.{header, done, run}
-use Rattle.cdf_header.specs.File.{Finds, IsOutside, IsFront, IsClassic, IsKnown, IsHeader, FirstFails, Reading, Answers, version, first}
+use Rattle.cdf_header.specs.File.{Finds, IsOutside, IsOfHeader, IsFront, IsClassic, IsKnown, IsHeader, FirstFails, Reading, Answers, version, first}
 use Rattle.cdf_header.proofs.Formats.{run_spells, run_fails, spells_run, fails_run, short_at, malformed_at, ok_is}
 use Rattle.cdf_header.specs.Header.{Head}
 
@@ -108,3 +108,19 @@ found bytes h (Err (faults.Cut k)) is read = absurd read
 found bytes h (Err (faults.Negative c)) is read = absurd read
 found bytes h (Err faults.Device) is read = tt
 found bytes h (Err faults.Memory) is read = tt
+
+pub outside_of_header : (e : CdfFault) → IsOutside e → IsOfHeader e
+outside_of_header faults.Device out = tt
+outside_of_header faults.Memory out = tt
+outside_of_header faults.Absent out = absurd out
+outside_of_header faults.NotClassic out = absurd out
+outside_of_header (faults.Version v) out = absurd out
+outside_of_header (faults.Malformed k) out = absurd out
+outside_of_header (faults.TooMany l) out = absurd out
+outside_of_header faults.NoVariable out = absurd out
+outside_of_header (faults.Rank r) out = absurd out
+outside_of_header faults.FloatVariable out = absurd out
+outside_of_header (faults.Stride d) out = absurd out
+outside_of_header (faults.Outside d) out = absurd out
+outside_of_header (faults.Cut k) out = absurd out
+outside_of_header (faults.Negative c) out = absurd out

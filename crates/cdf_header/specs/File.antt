@@ -73,6 +73,17 @@ IsLost faults.Absent = Unit {0}
 IsLost faults.Device = Unit {0}
 IsLost e = ⊥
 
+-- a fault that reading a header may have, whatever the files tell
+abbrev pub IsOfHeader : CdfFault → Type 0
+IsOfHeader faults.Absent = Unit {0}
+IsOfHeader faults.NotClassic = Unit {0}
+IsOfHeader (faults.Version v) = IsKnown v → ⊥
+IsOfHeader (faults.Malformed k) = Unit {0}
+IsOfHeader (faults.TooMany l) = Unit {0}
+IsOfHeader faults.Device = Unit {0}
+IsOfHeader faults.Memory = Unit {0}
+IsOfHeader e = ⊥
+
 -- this header is answered, unless memory or the device fails
 abbrev pub Finds : Head → Result Head CdfFault → Type 0
 Finds h (Ok found) = found ≡ h

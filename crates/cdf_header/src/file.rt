@@ -5,7 +5,7 @@ ghost use Rattle.aql_outside.specs.Contents.{bytes_in, IsAbsent};
 ghost use Rattle.cdf_header.specs.Header.{Head};
 ghost use Rattle.cdf_header.specs.Format.{header, done, run};
 ghost use Rattle.std.specs.Str.{IsUtf8};
-ghost use Rattle.cdf_header.specs.File.{IsFront, IsOutside, Answers, IsClassic, IsKnown, IsLost, Reading, IsHeader, Finds};
+ghost use Rattle.cdf_header.specs.File.{IsFront, IsOutside, Answers, IsClassic, IsKnown, IsLost, IsOfHeader, Reading, IsHeader, Finds};
 
 use crate::fault::{CdfFault, Fault, ReadError};
 use crate::header::Header;
@@ -91,6 +91,7 @@ fn read_fields<F: Files>(
     ensures kept { F.holds files.new ≡ F.holds files.old }
     ensures later { F.faults files.old ≤ F.faults files.new }
     ensures failed { IsErrOf result CdfFault.Device → Rose (F.faults files.old) (F.faults files.new) }
+    ensures causes { IfErr result IsOfHeader }
     ensures told { (bytes : List ℕ) → bytes_in (F.holds files.old) name.now ≡ Some bytes → most ≡ min 16777216 (length bytes) → whole ≡ true → IsFront bytes start.items
         → Answers (run (header size v done) (take 16777216 bytes) 4) result }
 {
@@ -140,6 +141,7 @@ fn header_or_fault<F: Files>(alloc: Global, files: &mut F, name: &str) -> Result
     ensures kept { F.holds files.new ≡ F.holds files.old }
     ensures later { F.faults files.old ≤ F.faults files.new }
     ensures failed { IsErrOf result CdfFault.Device → Rose (F.faults files.old) (F.faults files.new) }
+    ensures causes { IfErr result IsOfHeader }
     // Where the file is told and there.
     ensures told { (bytes : List ℕ) → bytes_in (F.holds files.old) name.now ≡ Some bytes → Reading bytes result }
     // Where it is told that the file isn't there.
@@ -169,6 +171,7 @@ fn read_named<F: Files>(alloc: Global, files: &mut F, name: &str) -> Result<Head
     ensures kept { F.holds files.new ≡ F.holds files.old }
     ensures later { F.faults files.old ≤ F.faults files.new }
     ensures failed { IsErrOf result CdfFault.Device → Rose (F.faults files.old) (F.faults files.new) }
+    ensures causes { IfErr result IsOfHeader }
     ensures told { (bytes : List ℕ) → bytes_in (F.holds files.old) name.now ≡ Some bytes → Reading bytes result }
     ensures only { (bytes : List ℕ) (h : Head) → bytes_in (F.holds files.old) name.now ≡ Some bytes → IsHeader bytes h → Finds h result }
     ensures absent { IsAbsent (F.holds files.old) name.now → IfErr result IsLost × IsErr result }
@@ -183,6 +186,8 @@ pub fn read_header<F: Files>(alloc: Global, files: &mut F, name: &Str) -> Result
     ensures kept { F.holds files.new ≡ F.holds files.old }
     ensures later { F.faults files.old ≤ F.faults files.new }
     ensures failed { IsErrOf result CdfFault.Device → Rose (F.faults files.old) (F.faults files.new) }
+    // A fault is one of a header, of the device or of memory, whatever the files tell.
+    ensures causes { IfErr result IsOfHeader }
     // Where the file is told and there, a header is answered that its bytes spell, or the first fault in order.
     ensures told { (bytes : List ℕ) → IsUtf8 name.now → bytes_in (F.holds files.old) name.now ≡ Some bytes → Reading bytes result }
     // A header that the bytes spell is answered.

@@ -1,9 +1,10 @@
 use Rattle.std.proofs.Common.{rules, arith, ◌≡◌, ◌≤◌, List, ℕ, Some, Ok, Err, min, length, take, ap, subst, refl, sym, ◌∙◌, get_or}
 use Rattle.std.proofs.lemmas.Grind.{common_steps}
+use Rattle.std.proofs.lemmas.Result.{err_from_is_err_and}
 use Rattle.aql_outside.specs.Contents.{bytes_in}
 use Rattle.cdf_header.specs.Format.{header, done, run}
 use Rattle.cdf_header.specs.File.{IsFront, IsClassic, IsKnown, Reading, version, Answers, first}
-use Rattle.cdf_header.proofs.Readings.{begun, reading, same_byte, classic_on}
+use Rattle.cdf_header.proofs.Readings.{outside_of_header, begun, reading, same_byte, classic_on}
 use Rattle.cdf_header.proofs.file.header_or_fault.Goals as goal
 
 pub returns-then-not-is_known-clause-told : goal.returns-then-not-is_known-clause-told
@@ -26,3 +27,8 @@ returns-clause-told g c = λ bytes there.
     reading bytes c.read_fields.result (classic_on bytes c.grow.new.front.items b.is_front b.within here) known
     (subst (λ k. Answers (run (header (length bytes) k done) (first bytes) 4) c.read_fields.result) v
     (subst (λ n. Answers (run (header n c.index-v.result.now done) (first bytes) 4) c.read_fields.result) b.size_is told))
+
+pub returns-in_err-whole-clause-causes : goal.returns-in_err-whole-clause-causes
+returns-in_err-whole-clause-causes g c =
+    let p = err_from_is_err_and c.from_residual.result c.from_residual.ensures.1 in
+    rw (p.1, p.2) (outside_of_header c.in_err-whole.field-0.0 c.in_err-whole.ensures.causes)

@@ -7,6 +7,7 @@ use Rattle.cdf_header.specs.Format.{header, done, run}
 use Rattle.cdf_header.specs.File.{IsFront, Answers}
 use Rattle.cdf_header.specs.Gives.{Leads, Stops}
 use Rattle.cdf_header.proofs.Fronts.{final, whole, stopped, outside_answers}
+use Rattle.cdf_header.proofs.Readings.{outside_of_header}
 use Rattle.cdf_header.proofs.file.read_fields.Goals as goal
 use Rattle.cdf_header.specs.declared.fault.ReadError.TheVariants as errors
 
@@ -47,3 +48,8 @@ pub returns-in_err-ended-clause-told : goal.returns-in_err-ended-clause-told
 returns-in_err-ended-clause-told g c = λ bytes there most full is.
     let p = err_from_is_err_and c.from_residual.result c.from_residual.ensures.1 in
     rw (p.1, p.2) (outside_answers (run (header c.args.size c.args.v done) (take 16777216 bytes) 4) c.in_err-ended.field-0.0 c.in_err-ended.ensures.causes)
+
+pub returns-in_err-ended-clause-causes : goal.returns-in_err-ended-clause-causes
+returns-in_err-ended-clause-causes g c =
+    let p = err_from_is_err_and c.from_residual.result c.from_residual.ensures.1 in
+    rw (p.1, p.2) (outside_of_header c.in_err-ended.field-0.0 c.in_err-ended.ensures.causes)
