@@ -6,10 +6,11 @@ use Rattle.aql_value.specs.Partial.{◌>>=◌, each}
 use Rattle.aql_value.specs.PartialLaws.{then-is, each-length}
 use Rattle.cdf_header.specs.declared.fault.CdfFault.{CdfFault}
 use Rattle.cdf_header.specs.declared.fault.CdfFault.TheVariants as faults
-use Rattle.std.specs.Prelude.{IfOk}
+use Rattle.std.specs.Prelude.{IfOk, IfErr}
 use Rattle.aql_value.specs.Lists.{Every, Every-append}
 use Rattle.cdf_slab.specs.Numbers.{Number, IsCell, cell_of}
-use Rattle.cdf_slab.specs.Slab.{first_negative}
+use Rattle.cdf_slab.specs.Slab.{first_negative, IsLate}
+use Rattle.cdf_slab.specs.Window.{IsOutside}
 use Rattle.cdf_slab.specs.Going.{Goes}
 
 pub goes-none : (signed : Bool) (before : List Datum) → Goes signed [] before (Ok before)
@@ -105,3 +106,37 @@ cells-given signed (n ∷ ns) xs e =
 pub goes-kinds : (signed : Bool) (ns : List Number) (before : List Datum) (r : Result (List Datum) CdfFault) → Goes signed ns before r → Every (IsCell signed) before → IfOk r (Every (IsCell signed))
 goes-kinds signed ns before (Ok all) h k = subst (Every (IsCell signed)) (sym h.2) (Every-append (IsCell signed) before h.0 k (cells-given signed ns h.0 h.1))
 goes-kinds signed ns before (Err e) h k = tt
+
+-- a fault of reading numbers
+pub goes_late : (signed : Bool) (ns : List Number) (before : List Datum) (r : Result (List Datum) CdfFault) → Goes signed ns before r → IfErr r (IsLate signed)
+goes_late signed ns before (Ok all) g = tt
+goes_late signed ns before (Err (faults.Negative c)) g = g.0
+goes_late signed ns before (Err faults.Device) g = tt
+goes_late signed ns before (Err faults.Memory) g = tt
+goes_late signed ns before (Err faults.Absent) g = absurd g
+goes_late signed ns before (Err faults.NotClassic) g = absurd g
+goes_late signed ns before (Err (faults.Version v)) g = absurd g
+goes_late signed ns before (Err (faults.Malformed k)) g = absurd g
+goes_late signed ns before (Err (faults.TooMany l)) g = absurd g
+goes_late signed ns before (Err faults.NoVariable) g = absurd g
+goes_late signed ns before (Err (faults.Rank r)) g = absurd g
+goes_late signed ns before (Err faults.FloatVariable) g = absurd g
+goes_late signed ns before (Err (faults.Stride d)) g = absurd g
+goes_late signed ns before (Err (faults.Outside d)) g = absurd g
+goes_late signed ns before (Err (faults.Cut k)) g = absurd g
+
+pub outside_late : (signed : Bool) (e : CdfFault) → IsOutside e → IsLate signed e
+outside_late signed faults.Device out = tt
+outside_late signed faults.Memory out = tt
+outside_late signed faults.Absent out = absurd out
+outside_late signed faults.NotClassic out = absurd out
+outside_late signed (faults.Version v) out = absurd out
+outside_late signed (faults.Malformed k) out = absurd out
+outside_late signed (faults.TooMany l) out = absurd out
+outside_late signed faults.NoVariable out = absurd out
+outside_late signed (faults.Rank r) out = absurd out
+outside_late signed faults.FloatVariable out = absurd out
+outside_late signed (faults.Stride d) out = absurd out
+outside_late signed (faults.Outside d) out = absurd out
+outside_late signed (faults.Cut k) out = absurd out
+outside_late signed (faults.Negative c) out = absurd out

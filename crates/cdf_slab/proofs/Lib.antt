@@ -1,6 +1,7 @@
 pub mod Firsts
 pub mod Walking
 pub mod Cuts
+pub mod Lasts
 pub mod Stepping
 pub mod Pieces
 pub mod Goings

@@ -1,5 +1,5 @@
 -- The hyperslab of a variable: its cells, and why it has none.
-use Rattle.std.specs.Prelude.{◌≡◌, ℕ, ◌+◌, ◌-◌, ◌*◌, ◌^◌, min, Bool, not, ◌||◌, nat_eq, nat_lt, List, [], ◌∷◌, length, map, Option, Some, None, option_map, Result, Ok, Err, ◌⊎◌, if◌then◌else◌}
+use Rattle.std.specs.Prelude.{◌≡◌, ℕ, ◌+◌, ◌-◌, ◌*◌, ◌^◌, min, Bool, false, not, ◌||◌, nat_eq, nat_lt, List, [], ◌∷◌, length, map, Option, Some, None, option_map, Result, Ok, Err, ◌⊎◌, if◌then◌else◌}
 use Rattle.aql_value.specs.Datum.{Table}
 use Rattle.aql_value.specs.Indices.{indices, product}
 use Rattle.aql_value.specs.Lists.{Every}
@@ -108,3 +108,11 @@ pub record IsShaped (count : List ℕ) (signed : Bool) (t : Table) : Type 0 wher
   pub dims : t.dims ≡ count
   pub full : product count ≡ length t.cells
   pub kinds : Every (IsCell signed) t.cells
+
+-- a fault that may come where the variable, the strides and the indices are right
+abbrev pub IsLate : (signed : Bool) → CdfFault → Type 0
+IsLate signed (faults.Cut at) = Unit {0}
+IsLate signed (faults.Negative c) = signed ≡ false
+IsLate signed faults.Device = Unit {0}
+IsLate signed faults.Memory = Unit {0}
+IsLate signed e = ⊥

@@ -30,6 +30,11 @@ abbrev pub walk : List Step → ℕ → List ℕ
 walk [] base = base ∷ []
 walk (a ∷ axes) base = flat_map (λ i. walk axes (along a base i)) (range_with_len 0 a.count)
 
+-- the offset of the last index of each dimension
+abbrev pub last_place : List Step → ℕ → ℕ
+last_place [] base = base
+last_place (a ∷ axes) base = last_place axes (along a base (a.count - 1))
+
 -- each has room for a number of so many bytes before the end
 abbrev pub AreWithin : (size end : ℕ) → List ℕ → Type 0
 AreWithin size end [] = Unit {0}

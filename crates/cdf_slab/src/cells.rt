@@ -1,12 +1,13 @@
 //! The cells of a hyperslab, dimension after dimension.
 
-ghost use Rattle.std.specs.Prelude.{◌≡◌, ◌+◌, ◌^◌, ◌≤◌, ◌<◌, ◌⊎◌, List, ℕ, Some, [], ◌∷◌, length, map, IfOk, IsErrOf};
+ghost use Rattle.std.specs.Prelude.{◌≡◌, ◌+◌, ◌^◌, ◌≤◌, ◌<◌, ◌⊎◌, List, ℕ, Some, [], ◌∷◌, length, map, IfOk, IfErr, IsErrOf};
 ghost use Rattle.aql_outside.specs.Causes.{Rose};
 ghost use Rattle.aql_outside.specs.Contents.{bytes_in};
 ghost use Rattle.aql_value.specs.Lists.{Every};
 ghost use Rattle.cdf_header.specs.Format.{type_size};
 ghost use Rattle.cdf_slab.specs.Going.{Goes};
 ghost use Rattle.cdf_slab.specs.Numbers.{IsCell, number_of, number_at};
+ghost use Rattle.cdf_slab.specs.Slab.{IsLate};
 ghost use Rattle.cdf_slab.specs.Walk.{step_of, steps_of, walk, AreWithin, RoomSoFar, Turn};
 ghost use Rattle.cdf_slab.specs.Window.{IsPiece};
 
@@ -62,6 +63,7 @@ fn read_cell<F: Files>(
     ensures kept { F.holds files.new ≡ F.holds files.old }
     ensures later { F.faults files.old ≤ F.faults files.new }
     ensures failed { IsErrOf result CdfFault.Device → Rose (F.faults files.old) (F.faults files.new) }
+    ensures late { IfErr result (IsLate reading.signed) }
     ensures many { IfOk result (λ all. length all ≡ length cells + 1) }
     ensures kinds { Every (IsCell reading.signed) cells → IfOk result (Every (IsCell reading.signed)) }
     ensures told { (bytes : List ℕ) → bytes_in (F.holds files.old) name.now ≡ Some bytes → reading.end ≤ length bytes → IsPiece bytes window.old
@@ -106,6 +108,7 @@ pub(crate) fn read_cells<F: Files>(
     ensures kept { F.holds files.new ≡ F.holds files.old }
     ensures later { F.faults files.old ≤ F.faults files.new }
     ensures failed { IsErrOf result CdfFault.Device → Rose (F.faults files.old) (F.faults files.new) }
+    ensures late { IfErr result (IsLate reading.signed) }
     ensures many { IfOk result (λ all. length all ≡ length cells + length (walk (steps_of axes.now) base)) }
     ensures kinds { Every (IsCell reading.signed) cells → IfOk result (Every (IsCell reading.signed)) }
     ensures told { (bytes : List ℕ) → bytes_in (F.holds files.old) name.now ≡ Some bytes → reading.end ≤ length bytes → IsPiece bytes window.old

@@ -1,9 +1,9 @@
 //! The faults of a hyperslab that the header tells.
 
-ghost use Rattle.std.specs.Prelude.{◌≡◌, ◌<◌, ◌≤◌, ◌^◌, length};
+ghost use Rattle.std.specs.Prelude.{◌≡◌, ◌+◌, ◌-◌, ◌<◌, ◌≤◌, ◌^◌, min, length};
 ghost use Rattle.cdf_header.specs.Places.{variable_at, shape};
 ghost use Rattle.cdf_slab.specs.Slab.{first_zero, first_outside, passes, wrong_variable, is_floating};
-ghost use Rattle.cdf_slab.specs.Walk.{steps_of, walk, first_past, capped};
+ghost use Rattle.cdf_slab.specs.Walk.{steps_of, walk, last_place, first_past, capped, AreWithin};
 
 use crate::axes::Axis;
 use cdf_header::{CdfFault, Header};
@@ -79,7 +79,48 @@ pub(crate) fn outside_dimension(
 }
 
 /// The first place in row-major order whose number passes the end, or 2^128-1 where it is larger.
+/// Where the last number does not, none does.
 pub(crate) fn cut_from(end: u64, size: u64, axes: &[Axis], base: u128) -> Option<u128>
+    requires size { size ≤ 8 }
+    ensures { result ≡ first_past size end (capped (walk (steps_of axes.now) base)) }
+{
+    let last = last_from(axes, base);
+    let to = last.saturating_add(u128::from(size));
+    if to <= u128::from(end) {
+        return None;
+    }
+    cut_in_order(end, size, axes, base)
+}
+
+/// The end of the last number, past which no other stands.
+pub(crate) fn last_end(end: u64, size: u64, axes: &[Axis], base: u128) -> u64
+    requires { AreWithin size end (walk (steps_of axes.now) base) }
+    ensures is { result ≡ min (last_place (steps_of axes.now) base + size) end }
+    ensures within { AreWithin size result (walk (steps_of axes.now) base) }
+{
+    let last = last_from(axes, base);
+    let to = last.saturating_add(u128::from(size));
+    to.min(u128::from(end)) as u64
+}
+
+// The place of the last index of each dimension, or 2^128-1 where it is larger.
+fn last_from(axes: &[Axis], base: u128) -> u128
+    ensures { result ≡ min (last_place (steps_of axes.now) base) (2 ^ 128 - 1) }
+{
+    match axes {
+        [] => base,
+        [a, rest @ ..] => {
+            let index = u128::from(a.count.saturating_sub(1))
+                .saturating_mul(a.stride)
+                .saturating_add(a.start);
+            let here = index.saturating_mul(a.weight).saturating_add(base);
+            last_from(rest, here)
+        }
+    }
+}
+
+// The same as `cut_from`, place after place.
+fn cut_in_order(end: u64, size: u64, axes: &[Axis], base: u128) -> Option<u128>
     requires size { size ≤ 8 }
     ensures { result ≡ first_past size end (capped (walk (steps_of axes.now) base)) }
 {
@@ -97,7 +138,7 @@ pub(crate) fn cut_from(end: u64, size: u64, axes: &[Axis], base: u128) -> Option
                     .saturating_mul(a.stride)
                     .saturating_add(a.start);
                 let here = index.saturating_mul(a.weight).saturating_add(base);
-                match cut_from(end, size, rest, here) {
+                match cut_in_order(end, size, rest, here) {
                     Some(found) => return Some(found),
                     None => {}
                 }

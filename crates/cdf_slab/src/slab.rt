@@ -1,6 +1,6 @@
 //! Reading a hyperslab.
 
-ghost use Rattle.std.specs.Prelude.{◌≡◌, ◌≢◌, ◌≤◌, ◌<◌, Bool, List, ℕ, Some, None, Err, length, IfOk, IsErrOf};
+ghost use Rattle.std.specs.Prelude.{◌≡◌, ◌≢◌, ◌≤◌, ◌<◌, Bool, List, ℕ, Some, None, Err, length, IfOk, IfErr, IsErrOf};
 ghost use Rattle.std.specs.Str.{IsUtf8};
 ghost use Rattle.aql_outside.specs.Causes.{Rose};
 ghost use Rattle.aql_outside.specs.Contents.{bytes_in};
@@ -8,11 +8,11 @@ ghost use Rattle.aql_value.specs.Indices.{product};
 ghost use Rattle.aql_value.specs.Lists.{Every};
 ghost use Rattle.cdf_header.specs.Places.{variable_at};
 ghost use Rattle.cdf_slab.specs.Numbers.{IsCell};
-ghost use Rattle.cdf_slab.specs.Slab.{slab_numbers, slab, or_else, cut_fault, index_fault, early_fault, negative_fault, slab_fault, Answers, AnswersEarly, IsShaped};
+ghost use Rattle.cdf_slab.specs.Slab.{slab_numbers, slab, or_else, cut_fault, index_fault, early_fault, negative_fault, slab_fault, Answers, AnswersEarly, IsShaped, IsLate};
 
 use crate::axes::axes_of;
 use crate::cells::{Reading, read_cells};
-use crate::faults::{cut_from, outside_dimension, variable_fault, zero_stride};
+use crate::faults::{cut_from, last_end, outside_dimension, variable_fault, zero_stride};
 use crate::window::Window;
 use aql_outside::Files;
 use aql_value::{Dims, Index, Memory, Str, saturating_product};
@@ -27,7 +27,7 @@ use std::str;
 ///
 /// The faults are tested in this order: `Rank`, `FloatVariable`, `Stride`, `Outside`, `Cut`, `Negative`;
 /// the file's size is the header's. With a count of 0 no cell is read. The file is read in pieces of at
-/// most 64 KiB, and never past its end. Where the files do not tell their bytes, a read that gives
+/// most 64 KiB, and never past the last cell. Where the files do not tell their bytes, a read that gives
 /// fewer bytes than asked is the end of the file: `Cut`.
 pub fn read_slab<F: Files>(
     alloc: Global,
@@ -53,6 +53,8 @@ pub fn read_slab<F: Files>(
     ensures shaped { IfOk result (IsShaped count.now.items signed) }
     // A fault that the header tells is answered, whatever the files tell.
     ensures early { IsUtf8 name.now → AnswersEarly (early_fault header.now (variable_at header.now v) start.now.items count.now.items stride.now.items) result }
+    // Where the variable, the strides and the indices are right, no other fault comes than these.
+    ensures late { IsUtf8 name.now → index_fault header.now (variable_at header.now v) start.now.items count.now.items stride.now.items ≡ None → IfErr result (IsLate signed) }
     // Where the file is told, the hyperslab is answered, or the first fault.
     ensures told { (bytes : List ℕ) → IsUtf8 name.now → bytes_in (F.holds files.old) name.now ≡ Some bytes → header.now.bytes ≡ length bytes
         → Answers (slab_fault bytes header.now (variable_at header.now v) start.now.items count.now.items stride.now.items signed) (slab bytes header.now (variable_at header.now v) start.now.items count.now.items stride.now.items signed) result }
@@ -88,6 +90,7 @@ fn read_named<F: Files>(
     ensures failed { IsErrOf result CdfFault.Device → Rose (F.faults files.old) (F.faults files.new) }
     ensures shaped { IfOk result (IsShaped count.now signed) }
     ensures early { AnswersEarly (early_fault header.now (variable_at header.now v) start.now count.now stride.now) result }
+    ensures late { index_fault header.now (variable_at header.now v) start.now count.now stride.now ≡ None → IfErr result (IsLate signed) }
     ensures told { (bytes : List ℕ) → bytes_in (F.holds files.old) name.now ≡ Some bytes → header.now.bytes ≡ length bytes
         → Answers (slab_fault bytes header.now (variable_at header.now v) start.now count.now stride.now signed) (slab bytes header.now (variable_at header.now v) start.now count.now stride.now signed) result }
 {
@@ -125,6 +128,7 @@ fn read_some<F: Files>(
     ensures failed { IsErrOf result CdfFault.Device → Rose (F.faults files.old) (F.faults files.new) }
     ensures shaped { IfOk result (IsShaped count.now signed) }
     ensures early { AnswersEarly (cut_fault header.now (variable_at header.now v) start.now count.now stride.now) result }
+    ensures late { IfErr result (IsLate signed) }
     ensures told { (bytes : List ℕ) → bytes_in (F.holds files.old) name.now ≡ Some bytes → header.now.bytes ≡ length bytes
         → Answers (or_else (cut_fault header.now (variable_at header.now v) start.now count.now stride.now) (negative_fault signed (slab_numbers bytes header.now (variable_at header.now v) start.now count.now stride.now))) (slab bytes header.now (variable_at header.now v) start.now count.now stride.now signed) result }
 {
@@ -139,7 +143,7 @@ fn read_some<F: Files>(
         kind: header.kind(v),
         size,
         signed,
-        end,
+        end: last_end(end, size, &axes, base),
     };
     let mut window = Window::new(alloc);
     match read_cells(

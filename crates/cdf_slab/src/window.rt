@@ -1,9 +1,10 @@
 //! A piece of a file, read where its numbers are asked for.
 
-ghost use Rattle.std.specs.Prelude.{◌≡◌, ◌+◌, ◌≤◌, ◌<◌, ◌⊎◌, List, ℕ, Some, false, length, drop, min, IfOk, IfErr, IsErrOf, IsTrue};
+ghost use Rattle.std.specs.Prelude.{◌≡◌, ◌+◌, ◌≤◌, ◌<◌, ◌⊎◌, Bool, List, ℕ, Some, false, length, drop, min, IfOk, IfErr, IsErrOf, IsTrue};
 ghost use Rattle.aql_outside.specs.Causes.{Rose};
 ghost use Rattle.aql_outside.specs.Contents.{bytes_in};
 ghost use Rattle.byteorder.specs.Endian.{big_number};
+ghost use Rattle.cdf_slab.specs.Slab.{IsLate};
 ghost use Rattle.cdf_slab.specs.Window.{IsPiece, Holds, IsOutside};
 
 use crate::numbers::spelled_at;
@@ -107,6 +108,7 @@ pub(crate) fn number_in<F: Files>(
     ensures kept { F.holds files.new ≡ F.holds files.old }
     ensures later { F.faults files.old ≤ F.faults files.new }
     ensures failed { IsErrOf result CdfFault.Device → Rose (F.faults files.old) (F.faults files.new) }
+    ensures late { (signed : Bool) → IfErr result (IsLate signed) }
     ensures told { (bytes : List ℕ) → bytes_in (F.holds files.old) name.now ≡ Some bytes → end ≤ length bytes → IsPiece bytes window.old
         → IfErr result IsOutside × IfOk result (λ x. (x ≡ big_number size (drop place bytes)) × IsPiece bytes window.new) }
 {

@@ -3,6 +3,7 @@ use Rattle.cdf_header.specs.declared.fault.CdfFault.TheVariants as faults
 use Rattle.cdf_header.specs.Format.{type_size}
 use Rattle.cdf_header.specs.Places.{variable_at}
 use Rattle.cdf_slab.specs.Slab.{cell_places, slab_numbers, slab, or_else, first_cut, negative_fault, Answers}
+use Rattle.cdf_slab.specs.Walk.{steps_of, walk, AreWithin}
 use Rattle.cdf_slab.proofs.Answering.{leads, cut_found, walk_found, room_found, places_many, cut_early, goes_as, read_all, read_some, early-none, counts_small}
 use Rattle.cdf_slab.proofs.slab.read_some.Goals as goal
 
@@ -31,8 +32,8 @@ returns-in-Some-clause-told g c = λ bytes there is.
     c.deref.ensures.value c.width-size.ensures.is c.bytes-end.ensures (c.from-base.ensures ∙ c.begin.ensures) small c.cut_from.ensures in
     ap (λ o. or_else (option_map faults.Cut o) (negative_fault c.args.signed (slab_numbers bytes h v c.args.start.now c.args.count.now c.args.stride.now))) (sym cut ∙ c.in-Some.is)
 
-pub read_cells-requires-clause-within : goal.read_cells-requires-clause-within
-read_cells-requires-clause-within g c =
+pub last_end-requires : goal.last_end-requires
+last_end-requires g c =
     let h = c.args.header.now in
     let v = variable_at c.args.header.now c.args.v in
     let small : c.bytes-end.result < 2 ^ 64 = search rules in
@@ -44,6 +45,10 @@ read_cells-requires-clause-within g c =
     room_found h v c.args.start.now c.args.count.now c.args.stride.now c.in_ok-axes.axes.items c.deref-2.result.now c.width-size.result c.bytes-end.result c.from-base.result l
     c.deref-2.ensures.value c.width-size.ensures.is c.bytes-end.ensures (c.from-base.ensures ∙ c.begin.ensures) small none
 
+pub read_cells-requires-clause-within : goal.read_cells-requires-clause-within
+read_cells-requires-clause-within g c =
+    subst (λ l. AreWithin c.width-size.result c.last_end.result (walk (steps_of l) c.from-base.result)) (c.deref-2.ensures.value ∙ sym c.deref-3.ensures.value) c.last_end.ensures.within
+
 pub shaped-requires-clause-many : goal.shaped-requires-clause-many
 shaped-requires-clause-many g c =
     let h = c.args.header.now in
@@ -54,8 +59,8 @@ shaped-requires-clause-many g c =
     cut_found h v c.args.start.now c.args.count.now c.args.stride.now c.in_ok-axes.axes.items c.deref.result.now c.width-size.result c.bytes-end.result c.from-base.result c.cut_from.result l
     c.deref.ensures.value c.width-size.ensures.is c.bytes-end.ensures (c.from-base.ensures ∙ c.begin.ensures) small c.cut_from.ensures in
     let none = sym cut ∙ c.in_default.is in
-    let visited = walk_found h v c.args.start.now c.args.count.now c.args.stride.now c.in_ok-axes.axes.items c.deref-2.result.now c.bytes-end.result c.from-base.result l
-    c.deref-2.ensures.value c.bytes-end.ensures (c.from-base.ensures ∙ c.begin.ensures) small none in
+    let visited = walk_found h v c.args.start.now c.args.count.now c.args.stride.now c.in_ok-axes.axes.items c.deref-3.result.now c.bytes-end.result c.from-base.result l
+    c.deref-3.ensures.value c.bytes-end.ensures (c.from-base.ensures ∙ c.begin.ensures) small none in
     omega (arith, c.in-Ok.ensures.many, ap length c.new.ensures, ap length visited, places_many h v c.args.start.now c.args.count.now c.args.stride.now)
 
 pub returns-in-Ok-clause-early : goal.returns-in-Ok-clause-early
@@ -80,9 +85,9 @@ returns-in-Ok-clause-told g c = λ bytes there is.
     cut_found h v c.args.start.now c.args.count.now c.args.stride.now c.in_ok-axes.axes.items c.deref.result.now c.width-size.result c.bytes-end.result c.from-base.result c.cut_from.result l
     c.deref.ensures.value c.width-size.ensures.is c.bytes-end.ensures (c.from-base.ensures ∙ c.begin.ensures) small c.cut_from.ensures in
     let none = sym cut ∙ c.in_default.is in
-    let visited = walk_found h v c.args.start.now c.args.count.now c.args.stride.now c.in_ok-axes.axes.items c.deref-2.result.now c.bytes-end.result c.from-base.result l
-    c.deref-2.ensures.value c.bytes-end.ensures (c.from-base.ensures ∙ c.begin.ensures) small none in
-    let r = c.in-Ok.ensures.told bytes there (omega (arith, is, c.bytes-end.ensures)) (c.new-window.ensures bytes) in
+    let visited = walk_found h v c.args.start.now c.args.count.now c.args.stride.now c.in_ok-axes.axes.items c.deref-3.result.now c.bytes-end.result c.from-base.result l
+    c.deref-3.ensures.value c.bytes-end.ensures (c.from-base.ensures ∙ c.begin.ensures) small none in
+    let r = c.in-Ok.ensures.told bytes there (omega (arith, is, c.bytes-end.ensures, c.last_end.ensures.is)) (c.new-window.ensures bytes) in
     let a = read_all c.args.signed (slab_numbers bytes h v c.args.start.now c.args.count.now c.args.stride.now) c.args.count.now c.in-Ok.cells (goes_as c.args.signed bytes c.kind.result v.kind _ (cell_places h v c.args.start.now c.args.count.now c.args.stride.now) c.new.result (Ok c.in-Ok.cells) c.kind.ensures visited c.new.ensures r.0) in
     (ap (λ o. or_else (option_map faults.Cut o) (negative_fault c.args.signed (slab_numbers bytes h v c.args.start.now c.args.count.now c.args.stride.now))) none ∙ a.0, a.1 ∙ ap Some (sym c.in_ok-shaped-in-Ok.ensures.made))
 
@@ -108,9 +113,9 @@ returns-clause-told g c = λ bytes there is.
     cut_found h v c.args.start.now c.args.count.now c.args.stride.now c.in_ok-axes.axes.items c.deref.result.now c.width-size.result c.bytes-end.result c.from-base.result c.cut_from.result l
     c.deref.ensures.value c.width-size.ensures.is c.bytes-end.ensures (c.from-base.ensures ∙ c.begin.ensures) small c.cut_from.ensures in
     let none = sym cut ∙ c.in_default.is in
-    let visited = walk_found h v c.args.start.now c.args.count.now c.args.stride.now c.in_ok-axes.axes.items c.deref-2.result.now c.bytes-end.result c.from-base.result l
-    c.deref-2.ensures.value c.bytes-end.ensures (c.from-base.ensures ∙ c.begin.ensures) small none in
-    let r = c.in-Err.ensures.told bytes there (omega (arith, is, c.bytes-end.ensures)) (c.new-window.ensures bytes) in
+    let visited = walk_found h v c.args.start.now c.args.count.now c.args.stride.now c.in_ok-axes.axes.items c.deref-3.result.now c.bytes-end.result c.from-base.result l
+    c.deref-3.ensures.value c.bytes-end.ensures (c.from-base.ensures ∙ c.begin.ensures) small none in
+    let r = c.in-Err.ensures.told bytes there (omega (arith, is, c.bytes-end.ensures, c.last_end.ensures.is)) (c.new-window.ensures bytes) in
     subst (λ o. Answers (or_else (option_map faults.Cut o) (negative_fault c.args.signed (slab_numbers bytes h v c.args.start.now c.args.count.now c.args.stride.now)))
     (slab bytes h v c.args.start.now c.args.count.now c.args.stride.now c.args.signed) (Err c.in-Err.fault)) (sym none)
     (read_some c.args.signed (slab_numbers bytes h v c.args.start.now c.args.count.now c.args.stride.now) (slab bytes h v c.args.start.now c.args.count.now c.args.stride.now c.args.signed) c.in-Err.fault (goes_as c.args.signed bytes c.kind.result v.kind _ (cell_places h v c.args.start.now c.args.count.now c.args.stride.now) c.new.result (Err c.in-Err.fault) c.kind.ensures visited c.new.ensures r.0))

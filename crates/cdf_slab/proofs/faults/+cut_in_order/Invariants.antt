@@ -1,10 +1,10 @@
 use Rattle.std.proofs.Common.{length}
 use Rattle.cdf_slab.specs.Walk.{step_of, steps_of, walk, first_past, capped}
 use Rattle.cdf_slab.proofs.Cuts.{CutSoFar}
-use Rattle.cdf_slab.proofs.faults.+cut_from.Given as goal
+use Rattle.cdf_slab.proofs.faults.+cut_in_order.Given as goal
 
-abbrev pub decreases-cut_from : goal.decreases-cut_from
-decreases-cut_from l = length l.axes.now
+abbrev pub decreases-cut_in_order : goal.decreases-cut_in_order
+decreases-cut_in_order l = length l.axes.now
 
 abbrev pub invariant-cells : goal.invariant-cells
 invariant-cells l = CutSoFar (steps_of l.rest) (step_of l.a) l.base l.i l.size l.end (first_past l.size l.end (capped (walk (steps_of l.axes) l.base)))
