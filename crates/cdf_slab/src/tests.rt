@@ -358,6 +358,140 @@ fn hyperslabs(rt: HostRuntime) -> Result<(), Fail> {
     Ok(())
 }
 
+// Changed words, cut files, and faults that stand together.
+#[test]
+fn faults_in_order(rt: HostRuntime) -> Result<(), Fail> {
+    let alloc = rt.alloc();
+    const S: &[u32] = &ONE_RECORD_VARIABLE;
+    const P: &[u32] = &TWO_RECORD_VARIABLES;
+    const T: &[u32] = &TEMPERATURES;
+    const V: &[u32] = &VERSION_5;
+    let all = naturals(&[0, 0], &[2, 3], &[1, 1]);
+    let cells: &[u8] = &[1, 2, 3, 4, 5, 6];
+    let cases: [Case; 15] = [
+        (S, Some((10, 0xc)), 108, b"v", all, Ok((8, cells))),
+        (
+            S,
+            Some((21, 4)),
+            108,
+            b"v",
+            naturals(&[0, 0], &[1, 3], &[1, 1]),
+            Ok((32, &[2, 0, 1, 0, 4, 0, 3, 0, 6, 0, 5, 0])),
+        ),
+        (
+            S,
+            Some((21, 4)),
+            108,
+            b"v",
+            all,
+            Err(CdfFault::Cut { at: 108 }),
+        ),
+        (
+            P,
+            Some((35, 0x80000000)),
+            156,
+            b"w",
+            pairs(&[0], &[2], &[1]),
+            Ok((8, &[128, 2, 1, 0])),
+        ),
+        (
+            P,
+            Some((30, 2)),
+            156,
+            b"w",
+            naturals(&[0], &[2], &[1]),
+            Ok((8, &[255, 2])),
+        ),
+        (
+            S,
+            Some((24, 0x80008001)),
+            108,
+            b"v",
+            pairs(&[0, 0], &[1, 2], &[1, 1]),
+            Ok((16, &[0, 128, 255, 127, 1, 1])),
+        ),
+        (
+            V,
+            Some((27, 0xa)),
+            152,
+            b"u",
+            naturals(&[0], &[3], &[1]),
+            Err(CdfFault::Negative { cell: 1 }),
+        ),
+        (
+            V,
+            Some((27, 0xa)),
+            152,
+            b"u",
+            naturals(&[0], &[2], &[2]),
+            Ok((8, &[1, 7])),
+        ),
+        (
+            P,
+            None,
+            152,
+            b"w",
+            naturals(&[0], &[2], &[1]),
+            Err(CdfFault::Cut { at: 152 }),
+        ),
+        (
+            S,
+            None,
+            96,
+            b"v",
+            naturals(&[0, 3], &[2, 1], &[1, 1]),
+            Err(CdfFault::Outside { dimension: 2 }),
+        ),
+        (
+            S,
+            None,
+            108,
+            b"v",
+            naturals(&[2, 3], &[1, 1], &[1, 0]),
+            Err(CdfFault::Stride { dimension: 2 }),
+        ),
+        (
+            S,
+            None,
+            108,
+            b"v",
+            naturals(&[3, 0], &[0, 3], &[1, 1]),
+            Err(CdfFault::Outside { dimension: 1 }),
+        ),
+        (
+            S,
+            None,
+            108,
+            b"v",
+            naturals(&[0, 0], &[1, 0], &[0, 1]),
+            Err(CdfFault::Stride { dimension: 1 }),
+        ),
+        (
+            T,
+            None,
+            348,
+            b"lat",
+            naturals(&[0], &[3], &[0]),
+            Err(CdfFault::FloatVariable),
+        ),
+        (T, None, 348, b"time", all, Err(CdfFault::Rank { found: 1 })),
+    ];
+    for (words, change, size, variable, request, expected) in cases {
+        let bytes = changed(alloc, words, change, size)?;
+        let mut files = SureFiles::new(folder(alloc, bytes.clone()?)?);
+        let found = read_over(alloc, &mut files, bytes, variable, request)?;
+        assert!(rt; agrees(&found, expected));
+    }
+    for size in 96..108 {
+        let bytes = changed(alloc, S, None, size)?;
+        let mut files = SureFiles::new(folder(alloc, bytes.clone()?)?);
+        let found = read_over(alloc, &mut files, bytes, b"v", all)?;
+        let at = size as u128 / 2 * 2;
+        assert!(rt; agrees(&found, Err(CdfFault::Cut { at })));
+    }
+    Ok(())
+}
+
 fn agrees(
     found: &Result<(u64, Vec<u8>), CdfFault>,
     expected: Result<(u64, &[u8]), CdfFault>,
@@ -387,11 +521,13 @@ fn eight_dimensions(rt: HostRuntime) -> Result<(), Fail> {
     Ok(())
 }
 
-// A file whose reads give at most so many bytes, and which tells none.
+// A file whose reads give at most so many bytes, which tells none, and the furthest byte that was
+// asked for.
 #[derive(Drop)]
 struct FewBytes {
     files: SureFiles,
     most: usize,
+    furthest: u64,
 }
 
 impl Files for FewBytes {
@@ -409,6 +545,8 @@ impl Files for FewBytes {
     }
 
     fn read_at(&mut self, name: &str, at: u64, into: &mut [u8]) -> Result<usize, Failed> {
+        let to = at.saturating_add(into.len() as u64);
+        self.furthest = self.furthest.max(to);
         let room = into.len().min(self.most);
         self.files.read_at(name, at, &mut into[..room])
     }
@@ -430,12 +568,49 @@ fn devices(rt: HostRuntime) -> Result<(), Fail> {
     }
     for (most, expected) in [(5, Err(CdfFault::Cut { at: 100 })), (12, Ok((8, cells)))] {
         let bytes = bytes_of(alloc, &ONE_RECORD_VARIABLE)?;
-        let mut files = FewBytes {
-            files: SureFiles::new(folder(alloc, bytes.clone()?)?),
-            most,
-        };
+        let mut files = few_bytes(alloc, bytes.clone()?, most)?;
         let found = read_over(alloc, &mut files, bytes, b"v", all)?;
         assert!(rt; agrees(&found, expected));
+    }
+    Ok(())
+}
+
+fn few_bytes(alloc: Global, bytes: Vec<u8>, most: usize) -> Result<FewBytes, Fail> {
+    Ok(FewBytes {
+        files: SureFiles::new(folder(alloc, bytes)?),
+        most,
+        furthest: 0,
+    })
+}
+
+// No byte behind the last cell is asked for.
+#[test]
+fn furthest_bytes(rt: HostRuntime) -> Result<(), Fail> {
+    let alloc = rt.alloc();
+    let cases: [(&[u32], Asked, u64); 4] = [
+        (
+            &ONE_RECORD_VARIABLE,
+            naturals(&[0, 0], &[2, 3], &[1, 1]),
+            108,
+        ),
+        (
+            &ONE_RECORD_VARIABLE,
+            naturals(&[0, 0], &[1, 2], &[1, 1]),
+            100,
+        ),
+        (&ONE_RECORD_VARIABLE, naturals(&[0, 2], &[2, 0], &[1, 1]), 0),
+        (
+            &TWO_RECORD_VARIABLES,
+            naturals(&[0, 0], &[2, 2], &[1, 1]),
+            148,
+        ),
+    ];
+    for (words, request, furthest) in cases {
+        let bytes = bytes_of(alloc, words)?;
+        let mut files = few_bytes(alloc, bytes.clone()?, 1000)?;
+        let found = read_over(alloc, &mut files, bytes, b"v", request)?;
+        assert!(rt; found.is_ok());
+        assert_eq!(rt; files.furthest, furthest);
     }
     Ok(())
 }
