@@ -132,13 +132,18 @@ fn cut_files(rt: HostRuntime) -> Result<(), Fail> {
         header_of(alloc, bytes)?.err(),
         Some(CdfFault::Malformed { at: 120 })
     );
+    let bytes = bytes_of(alloc, [0x43444603].as_slice())?;
+    assert_eq!(rt;
+        header_of(alloc, bytes)?.err(),
+        Some(CdfFault::Version { found: 3 })
+    );
     Ok(())
 }
 
 #[test]
 fn changed_words(rt: HostRuntime) -> Result<(), Fail> {
     let alloc = rt.alloc();
-    let cases: [(usize, u32, usize, u32, Option<CdfFault>); 15] = [
+    let cases: [(usize, u32, usize, u32, Option<CdfFault>); 16] = [
         (0, 0x43444600, 1, 2, Some(CdfFault::Version { found: 0 })),
         (0, 0x43444602, 1, 2, None),
         (2, 0xb, 1, 2, Some(CdfFault::Malformed { at: 8 })),
@@ -146,6 +151,7 @@ fn changed_words(rt: HostRuntime) -> Result<(), Fail> {
         (3, 0x401, 1, 2, Some(CdfFault::TooMany { list: 1 })),
         (2, 0, 3, 0x401, Some(CdfFault::TooMany { list: 1 })),
         (4, 0xffffffff, 1, 2, Some(CdfFault::Malformed { at: 20 })),
+        (5, 0x78ffffff, 1, 2, None),
         (9, 0, 1, 2, Some(CdfFault::Malformed { at: 36 })),
         (10, 0xc, 1, 2, None),
         (10, 0xc, 11, 0x2001, Some(CdfFault::TooMany { list: 2 })),
@@ -165,6 +171,38 @@ fn changed_words(rt: HostRuntime) -> Result<(), Fail> {
         }
         let bytes = bytes_of(alloc, &words)?;
         assert_eq!(rt; header_of(alloc, bytes)?.err(), fault);
+    }
+    Ok(())
+}
+
+// Attributes of a variable, and the wide fields of version 5.
+#[test]
+fn changed_fields(rt: HostRuntime) -> Result<(), Fail> {
+    let alloc = rt.alloc();
+    let cases: [(&[u32], usize, u32, CdfFault); 10] = [
+        (&TEMPERATURES, 50, 0, CdfFault::Malformed { at: 204 }),
+        (&TEMPERATURES, 51, 0x2001, CdfFault::TooMany { list: 2 }),
+        (&TEMPERATURES, 56, 0, CdfFault::Malformed { at: 224 }),
+        (&TEMPERATURES, 56, 7, CdfFault::Malformed { at: 224 }),
+        (
+            &TEMPERATURES,
+            57,
+            0xffffffff,
+            CdfFault::Malformed { at: 232 },
+        ),
+        (&VERSION_5, 4, 1, CdfFault::TooMany { list: 1 }),
+        (&VERSION_5, 13, 1, CdfFault::Malformed { at: 48 }),
+        (&VERSION_5, 22, 1, CdfFault::Malformed { at: 88 }),
+        (&VERSION_5, 27, 0, CdfFault::Malformed { at: 108 }),
+        (&VERSION_5, 27, 12, CdfFault::Malformed { at: 108 }),
+    ];
+    for (words, at, word, fault) in cases {
+        let mut all = Vec::from_slice(alloc, words)?;
+        if at < all.len() {
+            all[at] = word;
+        }
+        let bytes = bytes_of(alloc, &all)?;
+        assert_eq!(rt; header_of(alloc, bytes)?.err(), Some(fault));
     }
     Ok(())
 }
