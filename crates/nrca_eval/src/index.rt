@@ -7,7 +7,7 @@ ghost use Rattle.nrca_array.specs.Held.{held_datum};
 ghost use Rattle.nrca_term.specs.Term.{form_of};
 ghost use Rattle.nrca_term.specs.View.{term_of};
 ghost use Rattle.nrca_serial.specs.Parts.{held_values, parts_value, strict_of, strict_in};
-ghost use Rattle.nrca_serial.specs.Scope.{held_value};
+ghost use Rattle.nrca_serial.specs.Scope.{boxed_value, held_value};
 ghost use Rattle.nrca_serial.specs.Within.{Within};
 
 use crate::loops::index_pieces;
@@ -15,14 +15,34 @@ use aql_outside::Gate;
 use aql_value::{Ascending, Value};
 use nrca_array::Held;
 use nrca_par::EvalFault;
-use nrca_serial::{Counted, index_pairs, strict};
+use nrca_serial::{Counted, boxed, index_pairs, strict};
 use nrca_term::Core;
 use std::alloc::Global;
 use std::thread::Threads;
 
-/// What a form that evaluates all its parts and binds nothing makes of their values, as `strict`
-/// answers it. The members that `index` reads run in pieces.
-pub(crate) fn strict_pieces<R: Threads + Sync, G: Gate>(
+/// What a form that evaluates all its parts and binds nothing makes of their values, on the heap.
+#[inline(never)]
+pub(crate) fn strict_kept<R: Threads + Sync, G: Gate>(
+    rt: &R,
+    alloc: Global,
+    term: &Core,
+    parts: Option<Vec<Held>>,
+    budget: u64,
+    workers: u64,
+    gate: &G,
+) -> Result<Counted<Option<Box<Held>>>, EvalFault>
+    requires { (budget ≤ 50000000) × (1 ≤ workers) × (workers ≤ 64) }
+    ensures { Within boxed_value budget (strict_in (strict_of (form_of (term_of term.now))) (parts_value parts)) (strict_turns (strict_of (form_of (term_of term.now))) (parts_value parts)) result }
+{
+    let made = strict_pieces(rt, alloc, term, parts, budget, workers, gate)?;
+    Ok(Counted {
+        answer: boxed(alloc, made.answer)?,
+        turns: made.turns,
+    })
+}
+
+// The same as `strict` answers it. The members that `index` reads run in pieces.
+fn strict_pieces<R: Threads + Sync, G: Gate>(
     rt: &R,
     alloc: Global,
     term: &Core,

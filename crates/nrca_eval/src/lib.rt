@@ -24,7 +24,7 @@ ghost use Rattle.nrca_serial.specs.Within.{AnswersWithin};
 use crate::wide::wide;
 use aql_outside::Gate;
 use nrca_par::EvalFault;
-use nrca_serial::Env;
+use nrca_serial::{Env, unboxed};
 pub use nrca_serial::{Done, Globals};
 use nrca_term::Core;
 use std::alloc::Global;
@@ -47,7 +47,7 @@ pub fn evaluate<R: Threads + Sync, G: Gate>(
 {
     let found = wide(rt, alloc, term, globals, &Env::Empty, budget, workers, gate)?;
     Ok(Done {
-        value: found.answer,
+        value: unboxed(found.answer),
         turns: u128::from(found.turns),
     })
 }

@@ -1,7 +1,9 @@
 //! The loops in pieces: each piece runs in a thread of its own, is lent the whole budget, and runs
 //! there as in one thread.
 
-ghost use Rattle.std.specs.Prelude.{◌≡◌, ◌^◌, ◌≤◌, length, MatchResult};
+ghost use Rattle.std.specs.Prelude.{◌≡◌, ◌^◌, ◌≤◌, length, IfOk, MatchResult};
+ghost use Rattle.std.specs.Option.{option_map};
+ghost use Rattle.aql_value.specs.Canon.{canon};
 ghost use Rattle.aql_value.specs.Indices.{product};
 ghost use Rattle.nrca_term.specs.View.{term_of};
 ghost use Rattle.nrca_serial.specs.Indexing.{pairs_of, pairs_run};
@@ -11,11 +13,11 @@ ghost use Rattle.nrca_serial.specs.Within.{Within, itself};
 
 use crate::joins::{joined_cells, joined_pairs, joined_sets, joined_sums};
 use aql_outside::Gate;
-use aql_value::{Ascending, Dims};
+use aql_value::{Ascending, Dims, Items, Memory};
 use nrca_array::Builder;
-use nrca_par::{EvalFault, map_pieces};
+use nrca_par::{EvalFault, canon_wide, map_pieces};
 use nrca_serial::{
-    Counted, Env, Globals, Indexed, Members, cells_run, index_run, sum_run, union_run,
+    Counted, Env, Globals, Indexed, Members, cells_run, index_run, members_run, sum_run,
 };
 use nrca_term::Core;
 use std::alloc::Global;
@@ -69,9 +71,46 @@ pub(crate) fn union_pieces<R: Threads + Sync, G: Gate>(
     let run = move |from: u64, to: u64| -> Result<Counted<Option<Ascending>>, EvalFault>
         requires { (from ≤ to) × (to ≤ length (member_list members.now)) }
         ensures { Within itself budget (union_value (run_values globals.entry.now (values env.entry.now) (term_of body.entry.now) (member_list members.entry.now) from to)) (run_turns globals.entry.now (values env.entry.now) (term_of body.entry.now) (member_list members.entry.now) from to) result }
-    { union_run(alloc, body, globals, env, members, from, to, budget) };
+    { union_piece(rt, alloc, body, globals, env, members, from, to, budget) };
     let sets = map_pieces(rt, alloc, count, workers, gate, run)?;
     joined_sets(alloc, sets, budget)
+}
+
+// The same of a run of the members, the set sorted in as many threads as there are processors.
+fn union_piece<R: Threads + Sync>(
+    rt: &R,
+    alloc: Global,
+    body: &Core,
+    globals: &Globals,
+    env: &Env,
+    members: &Members,
+    from: u64,
+    to: u64,
+    budget: u64,
+) -> Result<Counted<Option<Ascending>>, EvalFault>
+    requires order { from ≤ to }
+    requires within { to ≤ length (member_list members.now) }
+    ensures { Within itself budget (union_value (run_values globals.now (values env.now) (term_of body.now) (member_list members.now) from to)) (run_turns globals.now (values env.now) (term_of body.now) (member_list members.now) from to) result }
+{
+    let run = members_run(alloc, body, globals, env, members, from, to, budget)?;
+    Ok(Counted {
+        answer: set_wide(rt, alloc, run.answer)?,
+        turns: run.turns,
+    })
+}
+
+// The set of the members.
+fn set_wide<R: Threads + Sync>(
+    rt: &R,
+    alloc: Global,
+    members: Option<Items>,
+) -> Result<Option<Ascending>, Memory>
+    ensures { IfOk result (λ set. set ≡ option_map canon members) }
+{
+    match members {
+        Some(members) => Ok(Some(canon_wide(rt, alloc, members)?)),
+        None => Ok(None),
+    }
 }
 
 /// The values of a body at the first indices below the dimensions, in row-major order, and what

@@ -9,18 +9,18 @@ ghost use Rattle.nrca_term.specs.Turns.{settle};
 ghost use Rattle.nrca_term.specs.View.{term_of, terms_of};
 ghost use Rattle.nrca_serial.specs.Parts.{children, is_strict_form, parts_value};
 ghost use Rattle.nrca_serial.specs.Runs.{members_value};
-ghost use Rattle.nrca_serial.specs.Scope.{values, held_value, set_in};
+ghost use Rattle.nrca_serial.specs.Scope.{values, boxed_value, set_in};
 ghost use Rattle.nrca_serial.specs.Within.{Within};
 
-use crate::index::strict_pieces;
+use crate::index::strict_kept;
 use crate::loops::{cells_pieces, sum_pieces, union_pieces};
 use aql_outside::Gate;
 use aql_value::saturating_product;
 use nrca_array::Held;
 use nrca_par::EvalFault;
 use nrca_serial::{
-    Counted, Env, Globals, Members, as_members, eval, members_below, members_of_both, numbers,
-    parts_and, sum_of, table_of, truth, union_of,
+    Counted, Env, Globals, Members, as_members, boxed, eval, keep_part, members_below,
+    members_of_both, numbers, parts_kept, sum_of, table_of, truth_kept, unboxed, union_of,
 };
 use nrca_term::{Core, Terms};
 use std::alloc::Global;
@@ -29,8 +29,10 @@ use std::thread::Threads;
 /// The value of a term and its turns, among the outcomes of the positions and the values of the
 /// variables. Spent exactly where the turns pass the budget; a loop whose members pass what is
 /// left is Spent before its first turn. Each loop runs in pieces, each in a thread of its own; a
-/// loop inside a piece runs there.
+/// loop inside a piece runs there. The value stands on the heap, so that a level of the recursion
+/// keeps little on the stack.
 #[cycle(wide)]
+#[inline(never)]
 pub(crate) fn wide<R: Threads + Sync, G: Gate>(
     rt: &R,
     alloc: Global,
@@ -40,12 +42,12 @@ pub(crate) fn wide<R: Threads + Sync, G: Gate>(
     budget: u64,
     workers: u64,
     gate: &G,
-) -> Result<Counted<Option<Held>>, EvalFault>
+) -> Result<Counted<Option<Box<Held>>>, EvalFault>
     requires { (budget ≤ 50000000) × (1 ≤ workers) × (workers ≤ 64) }
-    ensures { Within held_value budget (cden globals.now (values env.now) (term_of term.now)) (settle globals.now (values env.now) (term_of term.now)) result }
+    ensures { Within boxed_value budget (cden globals.now (values env.now) (term_of term.now)) (settle globals.now (values env.now) (term_of term.now)) result }
 {
     match term {
-        Core::Var(_) | Core::Global(_) => eval(alloc, term, globals, env, budget),
+        Core::Var(_) | Core::Global(_) => leaf(alloc, term, globals, env, budget),
         Core::Let(bound, body) => wide_let(
             rt, alloc, bound, body, globals, env, budget, workers, gate,
         ),
@@ -68,8 +70,27 @@ pub(crate) fn wide<R: Threads + Sync, G: Gate>(
     }
 }
 
+// A variable or a position.
+#[inline(never)]
+fn leaf(
+    alloc: Global,
+    term: &Core,
+    globals: &Globals,
+    env: &Env,
+    budget: u64,
+) -> Result<Counted<Option<Box<Held>>>, EvalFault>
+    ensures { Within boxed_value budget (cden globals.now (values env.now) (term_of term.now)) (settle globals.now (values env.now) (term_of term.now)) result }
+{
+    let done = eval(alloc, term, globals, env, budget)?;
+    Ok(Counted {
+        answer: boxed(alloc, done.answer)?,
+        turns: done.turns,
+    })
+}
+
 // A form that evaluates all its parts and binds nothing.
 #[cycle(wide)]
+#[inline(never)]
 fn wide_strict<R: Threads + Sync, G: Gate>(
     rt: &R,
     alloc: Global,
@@ -79,13 +100,13 @@ fn wide_strict<R: Threads + Sync, G: Gate>(
     budget: u64,
     workers: u64,
     gate: &G,
-) -> Result<Counted<Option<Held>>, EvalFault>
+) -> Result<Counted<Option<Box<Held>>>, EvalFault>
     requires form { is_strict_form (form_of (term_of term.now)) ≡ true }
     requires limits { (budget ≤ 50000000) × (1 ≤ workers) × (workers ≤ 64) }
-    ensures { Within held_value budget (cden globals.now (values env.now) (term_of term.now)) (settle globals.now (values env.now) (term_of term.now)) result }
+    ensures { Within boxed_value budget (cden globals.now (values env.now) (term_of term.now)) (settle globals.now (values env.now) (term_of term.now)) result }
 {
     let parts = wide_parts(rt, alloc, term, globals, env, budget, workers, gate)?;
-    let whole = strict_pieces(
+    let whole = strict_kept(
         rt,
         alloc,
         term,
@@ -102,6 +123,7 @@ fn wide_strict<R: Threads + Sync, G: Gate>(
 
 // Every part of a node, from the left, under the variables around the node.
 #[cycle(wide)]
+#[inline(never)]
 fn wide_parts<R: Threads + Sync, G: Gate>(
     rt: &R,
     alloc: Global,
@@ -121,7 +143,7 @@ fn wide_parts<R: Threads + Sync, G: Gate>(
         match term.part(i) {
             Some(part) => {
                 let done = wide(rt, alloc, part, globals, env, budget - turns, workers, gate)?;
-                parts = parts_and(parts, done.answer)?;
+                keep_part(&mut parts, done.answer)?;
                 turns += done.turns;
             }
             None => unreachable!(),
@@ -135,6 +157,7 @@ fn wide_parts<R: Threads + Sync, G: Gate>(
 
 // Terms in a row, from the left.
 #[cycle(wide)]
+#[inline(never)]
 fn wide_all<R: Threads + Sync, G: Gate>(
     rt: &R,
     alloc: Global,
@@ -152,7 +175,7 @@ fn wide_all<R: Threads + Sync, G: Gate>(
     let mut turns = 0;
     for term in &terms.0 {
         let done = wide(rt, alloc, term, globals, env, budget - turns, workers, gate)?;
-        parts = parts_and(parts, done.answer)?;
+        parts = parts_kept(parts, done.answer)?;
         turns += done.turns;
     }
     Ok(Counted {
@@ -162,6 +185,7 @@ fn wide_all<R: Threads + Sync, G: Gate>(
 }
 
 #[cycle(wide)]
+#[inline(never)]
 fn wide_let<R: Threads + Sync, G: Gate>(
     rt: &R,
     alloc: Global,
@@ -172,9 +196,9 @@ fn wide_let<R: Threads + Sync, G: Gate>(
     budget: u64,
     workers: u64,
     gate: &G,
-) -> Result<Counted<Option<Held>>, EvalFault>
+) -> Result<Counted<Option<Box<Held>>>, EvalFault>
     requires { (budget ≤ 50000000) × (1 ≤ workers) × (workers ≤ 64) }
-    ensures { Within held_value budget (cden globals.now (values env.now) (let_term (term_of bound.now) (term_of body.now))) (settle globals.now (values env.now) (let_term (term_of bound.now) (term_of body.now))) result }
+    ensures { Within boxed_value budget (cden globals.now (values env.now) (let_term (term_of bound.now) (term_of body.now))) (settle globals.now (values env.now) (let_term (term_of bound.now) (term_of body.now))) result }
 {
     let Counted { answer, turns } = wide(rt, alloc, bound, globals, env, budget, workers, gate)?;
     match answer {
@@ -203,6 +227,7 @@ fn wide_let<R: Threads + Sync, G: Gate>(
 }
 
 #[cycle(wide)]
+#[inline(never)]
 fn wide_if<R: Threads + Sync, G: Gate>(
     rt: &R,
     alloc: Global,
@@ -214,13 +239,13 @@ fn wide_if<R: Threads + Sync, G: Gate>(
     budget: u64,
     workers: u64,
     gate: &G,
-) -> Result<Counted<Option<Held>>, EvalFault>
+) -> Result<Counted<Option<Box<Held>>>, EvalFault>
     requires { (budget ≤ 50000000) × (1 ≤ workers) × (workers ≤ 64) }
-    ensures { Within held_value budget (cden globals.now (values env.now) (if_term (term_of test.now) (term_of yes.now) (term_of no.now))) (settle globals.now (values env.now) (if_term (term_of test.now) (term_of yes.now) (term_of no.now))) result }
+    ensures { Within boxed_value budget (cden globals.now (values env.now) (if_term (term_of test.now) (term_of yes.now) (term_of no.now))) (settle globals.now (values env.now) (if_term (term_of test.now) (term_of yes.now) (term_of no.now))) result }
 {
     let Counted { answer, turns } = wide(rt, alloc, test, globals, env, budget, workers, gate)?;
     let left = budget - turns;
-    match truth(answer) {
+    match truth_kept(answer) {
         Some(true) => {
             let done = wide(rt, alloc, yes, globals, env, left, workers, gate)?;
             Ok(Counted {
@@ -243,6 +268,7 @@ fn wide_if<R: Threads + Sync, G: Gate>(
 }
 
 #[cycle(wide)]
+#[inline(never)]
 fn wide_default<R: Threads + Sync, G: Gate>(
     rt: &R,
     alloc: Global,
@@ -253,9 +279,9 @@ fn wide_default<R: Threads + Sync, G: Gate>(
     budget: u64,
     workers: u64,
     gate: &G,
-) -> Result<Counted<Option<Held>>, EvalFault>
+) -> Result<Counted<Option<Box<Held>>>, EvalFault>
     requires { (budget ≤ 50000000) × (1 ≤ workers) × (workers ≤ 64) }
-    ensures { Within held_value budget (cden globals.now (values env.now) (default_term (term_of first.now) (term_of second.now))) (settle globals.now (values env.now) (default_term (term_of first.now) (term_of second.now))) result }
+    ensures { Within boxed_value budget (cden globals.now (values env.now) (default_term (term_of first.now) (term_of second.now))) (settle globals.now (values env.now) (default_term (term_of first.now) (term_of second.now))) result }
 {
     let Counted { answer, turns } = wide(rt, alloc, first, globals, env, budget, workers, gate)?;
     match answer {
@@ -284,6 +310,7 @@ fn wide_default<R: Threads + Sync, G: Gate>(
 
 // The members of a loop's operand. Those of `gen` and of `union` are not made into a set.
 #[cycle(wide)]
+#[inline(never)]
 fn wide_members<R: Threads + Sync, G: Gate>(
     rt: &R,
     alloc: Global,
@@ -302,7 +329,7 @@ fn wide_members<R: Threads + Sync, G: Gate>(
             let Counted { answer, turns } = wide(
                 rt, alloc, number, globals, env, budget, workers, gate,
             )?;
-            let members = members_below(answer, budget - turns)?;
+            let members = members_below(unboxed(answer), budget - turns)?;
             Ok(Counted {
                 answer: members.answer,
                 turns: turns + members.turns,
@@ -323,14 +350,14 @@ fn wide_members<R: Threads + Sync, G: Gate>(
                 gate,
             )?;
             Ok(Counted {
-                answer: members_of_both(answer, other.answer),
+                answer: members_of_both(unboxed(answer), unboxed(other.answer)),
                 turns: turns + other.turns,
             })
         }
         _ => {
             let set = wide(rt, alloc, over, globals, env, budget, workers, gate)?;
             Ok(Counted {
-                answer: as_members(set.answer),
+                answer: as_members(unboxed(set.answer)),
                 turns: set.turns,
             })
         }
@@ -338,6 +365,7 @@ fn wide_members<R: Threads + Sync, G: Gate>(
 }
 
 #[cycle(wide)]
+#[inline(never)]
 fn wide_sum<R: Threads + Sync, G: Gate>(
     rt: &R,
     alloc: Global,
@@ -348,9 +376,9 @@ fn wide_sum<R: Threads + Sync, G: Gate>(
     budget: u64,
     workers: u64,
     gate: &G,
-) -> Result<Counted<Option<Held>>, EvalFault>
+) -> Result<Counted<Option<Box<Held>>>, EvalFault>
     requires { (budget ≤ 50000000) × (1 ≤ workers) × (workers ≤ 64) }
-    ensures { Within held_value budget (cden globals.now (values env.now) (sum_term (term_of over.now) (term_of body.now))) (settle globals.now (values env.now) (sum_term (term_of over.now) (term_of body.now))) result }
+    ensures { Within boxed_value budget (cden globals.now (values env.now) (sum_term (term_of over.now) (term_of body.now))) (settle globals.now (values env.now) (sum_term (term_of over.now) (term_of body.now))) result }
 {
     let Counted { answer, turns } = wide_members(
         rt, alloc, over, globals, env, budget, workers, gate,
@@ -380,12 +408,13 @@ fn wide_sum<R: Threads + Sync, G: Gate>(
         gate,
     )?;
     Ok(Counted {
-        answer: sum_of(run.answer),
+        answer: boxed(alloc, sum_of(run.answer))?,
         turns: turns + count + run.turns,
     })
 }
 
 #[cycle(wide)]
+#[inline(never)]
 fn wide_union<R: Threads + Sync, G: Gate>(
     rt: &R,
     alloc: Global,
@@ -396,9 +425,9 @@ fn wide_union<R: Threads + Sync, G: Gate>(
     budget: u64,
     workers: u64,
     gate: &G,
-) -> Result<Counted<Option<Held>>, EvalFault>
+) -> Result<Counted<Option<Box<Held>>>, EvalFault>
     requires { (budget ≤ 50000000) × (1 ≤ workers) × (workers ≤ 64) }
-    ensures { Within held_value budget (cden globals.now (values env.now) (big_union_term (term_of over.now) (term_of body.now))) (settle globals.now (values env.now) (big_union_term (term_of over.now) (term_of body.now))) result }
+    ensures { Within boxed_value budget (cden globals.now (values env.now) (big_union_term (term_of over.now) (term_of body.now))) (settle globals.now (values env.now) (big_union_term (term_of over.now) (term_of body.now))) result }
 {
     let Counted { answer, turns } = wide_members(
         rt, alloc, over, globals, env, budget, workers, gate,
@@ -428,12 +457,13 @@ fn wide_union<R: Threads + Sync, G: Gate>(
         gate,
     )?;
     Ok(Counted {
-        answer: union_of(run.answer),
+        answer: boxed(alloc, union_of(run.answer))?,
         turns: turns + count + run.turns,
     })
 }
 
 #[cycle(wide)]
+#[inline(never)]
 fn wide_tab<R: Threads + Sync, G: Gate>(
     rt: &R,
     alloc: Global,
@@ -444,9 +474,9 @@ fn wide_tab<R: Threads + Sync, G: Gate>(
     budget: u64,
     workers: u64,
     gate: &G,
-) -> Result<Counted<Option<Held>>, EvalFault>
+) -> Result<Counted<Option<Box<Held>>>, EvalFault>
     requires { (budget ≤ 50000000) × (1 ≤ workers) × (workers ≤ 64) }
-    ensures { Within held_value budget (cden globals.now (values env.now) (tab_term (terms_of bounds.now) (term_of body.now))) (settle globals.now (values env.now) (tab_term (terms_of bounds.now) (term_of body.now))) result }
+    ensures { Within boxed_value budget (cden globals.now (values env.now) (tab_term (terms_of bounds.now) (term_of body.now))) (settle globals.now (values env.now) (tab_term (terms_of bounds.now) (term_of body.now))) result }
 {
     let Counted { answer, turns } = wide_all(
         rt, alloc, bounds, globals, env, budget, workers, gate,
@@ -476,7 +506,7 @@ fn wide_tab<R: Threads + Sync, G: Gate>(
         gate,
     )?;
     Ok(Counted {
-        answer: table_of(dims, run.answer)?,
+        answer: boxed(alloc, table_of(dims, run.answer)?)?,
         turns: turns + count + run.turns,
     })
 }

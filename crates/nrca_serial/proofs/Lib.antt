@@ -7,4 +7,5 @@ pub mod Grouping
 pub mod Extents
 pub mod Arrays
 pub mod Evaluated
+pub mod Lent
 pub mod Merged

@@ -4,7 +4,7 @@ use Rattle.std.specs.Option.{option_map}
 use Rattle.std.specs.declared.vec.Vec.{Vec}
 use Rattle.std.proofs.Common.{Global}
 use Rattle.aql_value.specs.Datum.{Datum}
-use Rattle.aql_value.specs.Operations.{as_natural, array_of}
+use Rattle.aql_value.specs.Operations.{as_natural, array_of, cell_of}
 use Rattle.aql_value.specs.Partial.{◌>>=◌, each}
 use Rattle.aql_value.specs.Strict.{Strict, strict_value}
 use Rattle.nrca_array.specs.declared.held.Held.{Held}
@@ -48,6 +48,10 @@ numbers_with ns v = ns >>= λ ms. as_natural v >>= λ n. Some (ms ++ n ∷ [])
 -- the array of these dimensions and cells
 abbrev pub table_in : List ℕ → Option (List Datum) → Option Datum
 table_in ds cells = cells >>= array_of ds
+
+-- the cell of an array at the index that the numbers are
+abbrev pub cell_in : Datum → Option (List ℕ) → Option Datum
+cell_in a at = at >>= cell_of a
 
 -- the two elements of a list of two
 abbrev pub pair_in : List Datum → Option (Datum × Datum)

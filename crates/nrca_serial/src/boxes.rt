@@ -1,10 +1,12 @@
 //! Values on the heap.
 
 ghost use Rattle.std.specs.Prelude.{◌≡◌, IfOk, OnOk};
+ghost use Rattle.aql_value.specs.Operations.{dim_of};
 ghost use Rattle.aql_value.specs.Strict.{strict_turns};
+ghost use Rattle.nrca_array.specs.Held.{held_datum};
 ghost use Rattle.nrca_term.specs.Term.{form_of};
 ghost use Rattle.nrca_term.specs.View.{term_of};
-ghost use Rattle.nrca_serial.specs.Parts.{parts_value, strict_of, strict_in};
+ghost use Rattle.nrca_serial.specs.Parts.{cell_in, numbers_in, parts_value, strict_of, strict_in};
 ghost use Rattle.nrca_serial.specs.Runs.{list_with};
 ghost use Rattle.nrca_serial.specs.Scope.{held_value, boxed_value, truth_in};
 ghost use Rattle.nrca_serial.specs.Within.{Within};
@@ -12,6 +14,7 @@ ghost use Rattle.nrca_serial.specs.Within.{Within};
 use crate::done::Counted;
 use crate::forms::strict;
 use crate::members::truth;
+use crate::operations::{cell_at, dim, numbers};
 use crate::runs::parts_and;
 use aql_value::Memory;
 use nrca_array::Held;
@@ -21,7 +24,7 @@ use std::alloc::Global;
 
 /// The value on the heap.
 #[inline(never)]
-pub(crate) fn boxed(alloc: Global, value: Option<Held>) -> Result<Option<Box<Held>>, Memory>
+pub fn boxed(alloc: Global, value: Option<Held>) -> Result<Option<Box<Held>>, Memory>
     ensures { IfOk result (λ v. boxed_value v ≡ held_value value) }
 {
     match value {
@@ -35,7 +38,7 @@ pub(crate) fn boxed(alloc: Global, value: Option<Held>) -> Result<Option<Box<Hel
 
 /// The value itself.
 #[inline(never)]
-pub(crate) fn unboxed(value: Option<Box<Held>>) -> Option<Held>
+pub fn unboxed(value: Option<Box<Held>>) -> Option<Held>
     ensures { held_value result ≡ boxed_value value }
 {
     match value {
@@ -46,7 +49,7 @@ pub(crate) fn unboxed(value: Option<Box<Held>>) -> Option<Held>
 
 /// The truth value that a value is.
 #[inline(never)]
-pub(crate) fn truth_kept(value: Option<Box<Held>>) -> Option<bool>
+pub fn truth_kept(value: Option<Box<Held>>) -> Option<bool>
     ensures { result ≡ truth_in (boxed_value value) }
 {
     truth(unboxed(value))
@@ -54,7 +57,7 @@ pub(crate) fn truth_kept(value: Option<Box<Held>>) -> Option<bool>
 
 /// The parts so far, and one more.
 #[inline(never)]
-pub(crate) fn parts_kept(
+pub fn parts_kept(
     parts: Option<Vec<Held>>,
     value: Option<Box<Held>>,
 ) -> Result<Option<Vec<Held>>, Memory>
@@ -65,15 +68,45 @@ pub(crate) fn parts_kept(
 
 /// The same in place.
 #[inline(never)]
-pub(crate) fn keep_part(
-    parts: &mut Option<Vec<Held>>,
-    value: Option<Box<Held>>,
-) -> Result<(), Memory>
+pub fn keep_part(parts: &mut Option<Vec<Held>>, value: Option<Box<Held>>) -> Result<(), Memory>
     ensures { OnOk result (parts_value parts.new ≡ list_with (parts_value parts.old) (boxed_value value)) }
 {
     let before = parts.take();
     *parts = parts_kept(before, value)?;
     Ok(())
+}
+
+/// The cell of an array at the index that values are, on the heap.
+#[inline(never)]
+pub(crate) fn cell_boxed(
+    alloc: Global,
+    array: &Held,
+    at: Option<Vec<Held>>,
+) -> Result<Option<Box<Held>>, Memory>
+    ensures { IfOk result (λ v. boxed_value v ≡ cell_in (held_datum array.now) (numbers_in (parts_value at))) }
+{
+    let Some(at) = numbers(alloc, at)? else {
+        return Ok(None);
+    };
+    let cell = cell_at(alloc, array, &at)?;
+    boxed(alloc, cell)
+}
+
+/// The dimensions of an array of that rank, on the heap and without turns.
+#[inline(never)]
+pub(crate) fn dim_boxed(
+    alloc: Global,
+    array: &Held,
+    rank: u64,
+    budget: u64,
+) -> Result<Counted<Option<Box<Held>>>, EvalFault>
+    ensures { Within boxed_value budget (dim_of rank (held_datum array.now)) 0 result }
+{
+    let dims = dim(alloc, array, rank)?;
+    Ok(Counted {
+        answer: boxed(alloc, dims)?,
+        turns: 0,
+    })
 }
 
 /// What a strict form makes of its parts' values, on the heap.

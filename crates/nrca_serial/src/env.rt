@@ -1,7 +1,10 @@
-ghost use Rattle.std.specs.Prelude.{◌≡◌, ◌++◌, [], List, Some, IfOk, MatchResult, slice_get};
+ghost use Rattle.std.specs.Prelude.{◌≡◌, ◌++◌, [], List, Some, IfOk, IfSome, MatchResult, slice_get};
 ghost use Rattle.aql_value.specs.Datum.{Datum, natural};
 ghost use Rattle.aql_value.specs.Operations.{walked};
-ghost use Rattle.nrca_term.specs.Meaning.{outcome};
+ghost use Rattle.nrca_array.specs.Held.{held_datum};
+ghost use Rattle.nrca_term.specs.Meaning.{cden, outcome};
+ghost use Rattle.nrca_term.specs.Turns.{settle};
+ghost use Rattle.nrca_term.specs.View.{term_of};
 ghost use Rattle.nrca_serial.specs.Scope.{values, held_value, boxed_value};
 ghost use Rattle.nrca_serial.specs.Within.{Within};
 
@@ -10,6 +13,7 @@ use crate::done::Counted;
 use aql_value::{Memory, Value};
 use nrca_array::Held;
 use nrca_par::EvalFault;
+use nrca_term::Core;
 use std::alloc::Global;
 use std::marker::Model;
 
@@ -50,6 +54,21 @@ impl Globals {
             copied(alloc, &self.list[i])
         } else {
             Ok(None)
+        }
+    }
+
+    // The value of a position, where it has one.
+    fn lent(&self, n: u64) -> Option<&Held>
+        ensures { IfSome result (λ h. outcome self.now n ≡ Some (held_datum h.now)) }
+    {
+        if n == 0 {
+            return None;
+        }
+        let i = (n - 1) as usize;
+        if i < self.list.len() {
+            self.list[i].as_ref()
+        } else {
+            None
         }
     }
 }
@@ -103,6 +122,40 @@ fn index_variable(numbers: &[u128], at: u64) -> Result<u128, u64>
         Ok(numbers[(count - 1 - at) as usize])
     } else {
         Err(at - count)
+    }
+}
+
+/// The value that a variable or a position holds, where the term is one of these: it is lent and not
+/// copied.
+#[inline(never)]
+pub(crate) fn lent<'a, 'b>(term: &Core, globals: &'a Globals, env: &'a Env<'b>) -> Option<&'a Held>
+    ensures value { IfSome result (λ h. cden globals.now (values env.now) (term_of term.now) ≡ Some (held_datum h.now)) }
+    ensures turns { IfSome result (λ h. settle globals.now (values env.now) (term_of term.now) ≡ 0) }
+{
+    match term {
+        Core::Var(at) => lent_variable(env, *at),
+        Core::Global(n) => globals.lent(*n),
+        _ => None,
+    }
+}
+
+// The value that a variable holds. The number of an index is not held.
+fn lent_variable<'a, 'b>(env: &'a Env<'b>, at: u64) -> Option<&'a Held>
+    ensures { IfSome result (λ h. slice_get (values env.now) at ≡ Some (held_datum h.now)) }
+{
+    match env {
+        Env::Empty => None,
+        Env::Bound(value, rest) => {
+            if at == 0 {
+                Some(&**value)
+            } else {
+                lent_variable(&**rest, at - 1)
+            }
+        }
+        Env::Indices(numbers, rest) => match index_variable(numbers, at) {
+            Ok(_number) => None,
+            Err(beyond) => lent_variable(&**rest, beyond),
+        },
     }
 }
 

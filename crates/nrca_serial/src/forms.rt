@@ -196,7 +196,7 @@ fn made_dim(alloc: Global, parts: Vec<Held>, rank: u64) -> Result<Option<Held>, 
     ensures { IfOk result (λ r. held_value r ≡ unary (dim_of rank) (held_values parts)) }
 {
     match one_part(parts) {
-        Some(v) => dim(alloc, v, rank),
+        Some(v) => dim(alloc, &v, rank),
         None => Ok(None),
     }
 }

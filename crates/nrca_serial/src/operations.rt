@@ -130,11 +130,15 @@ fn nth_item(alloc: Global, items: &Items, at: u64) -> Result<Option<Held>, Memor
     }
 }
 
-pub(crate) fn dim(alloc: Global, v: Held, rank: u64) -> Result<Option<Held>, Memory>
-    ensures { IfOk result (λ r. held_value r ≡ dim_of rank (held_datum v)) }
+pub(crate) fn dim(alloc: Global, v: &Held, rank: u64) -> Result<Option<Held>, Memory>
+    ensures { IfOk result (λ r. held_value r ≡ dim_of rank (held_datum v.now)) }
 {
-    match &v {
-        Held::Value(Value::Grid(cells)) => dims_value(alloc, cells.dims(), rank),
+    match v {
+        Held::Value(Value::Grid(cells)) => {
+            // That the cells are a table says that there is a dimension.
+            let _cells = cells.items();
+            dims_value(alloc, cells.dims(), rank)
+        }
         Held::Flat(flat) => dims_value(alloc, flat.dims(), rank),
         _ => Ok(None),
     }
@@ -207,7 +211,7 @@ pub(crate) fn sub(alloc: Global, parts: Vec<Held>) -> Result<Option<Held>, Memor
     Ok(found)
 }
 
-fn cell_at(alloc: Global, array: &Held, at: &Dims) -> Result<Option<Held>, Memory>
+pub(crate) fn cell_at(alloc: Global, array: &Held, at: &Dims) -> Result<Option<Held>, Memory>
     ensures { IfOk result (λ r. held_value r ≡ cell_of (held_datum array.now) at.now) }
 {
     let at = Index::from_slice(alloc, at.dims.as_slice())?;

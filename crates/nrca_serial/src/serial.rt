@@ -3,19 +3,22 @@
 ghost use Rattle.std.specs.Prelude.{◌≡◌, ◌≤◌, true, length};
 ghost use Rattle.aql_value.specs.Indices.{product};
 ghost use Rattle.aql_value.specs.Partial.{each, total};
+ghost use Rattle.nrca_array.specs.Held.{held_datum};
 ghost use Rattle.nrca_term.specs.Meaning.{cden};
 ghost use Rattle.nrca_term.specs.Nodes.{let_term, if_term, default_term, big_union_term, sum_term, tab_term};
 ghost use Rattle.nrca_term.specs.Term.{form_of, parts_of};
 ghost use Rattle.nrca_term.specs.Turns.{settle};
 ghost use Rattle.nrca_term.specs.View.{term_of, terms_of};
-ghost use Rattle.nrca_serial.specs.Parts.{children, is_strict_form, parts_value};
+ghost use Rattle.nrca_serial.specs.Parts.{cell_in, children, is_strict_form, numbers_in, parts_value};
 ghost use Rattle.nrca_serial.specs.Scope.{values, held_value, boxed_value, set_in};
 ghost use Rattle.nrca_serial.specs.Within.{Within, itself};
-ghost use Rattle.nrca_serial.specs.Runs.{member_list, members_value, run_values, run_turns, cell_values, cell_turns, sum_value, union_value};
+ghost use Rattle.nrca_serial.specs.Runs.{member_list, members_value, run_values, run_turns, cell_values, cell_turns, sum_value, union_value, all_members};
 
-use crate::boxes::{boxed, keep_part, parts_kept, strict_boxed, truth_kept, unboxed};
+use crate::boxes::{
+    boxed, cell_boxed, dim_boxed, keep_part, parts_kept, strict_boxed, truth_kept, unboxed,
+};
 use crate::done::Counted;
-use crate::env::{Env, Globals, position, variable};
+use crate::env::{Env, Globals, lent, position, variable};
 use crate::members::{Members, Next, as_members, members_below, members_of_both};
 use crate::operations::{numbers, sum_of, table_of, union_of};
 use crate::runs::{canon_of, cells_and, members_and, set_index, sum_and, zeros};
@@ -65,8 +68,36 @@ fn node(
         Core::BigUnion { over, body } => eval_union(alloc, over, body, globals, env, budget),
         Core::Sum { over, body } => eval_sum(alloc, over, body, globals, env, budget),
         Core::Tab { bounds, body } => eval_tab(alloc, bounds, body, globals, env, budget),
+        Core::Sub { array, at } => match lent(array, &*globals, &*env) {
+            Some(array) => eval_cell(alloc, array, at, globals, env, budget),
+            None => eval_strict(alloc, term, globals, env, budget),
+        },
+        Core::Dim { rank, array } => match lent(array, &*globals, &*env) {
+            Some(array) => dim_boxed(alloc, array, *rank, budget),
+            None => eval_strict(alloc, term, globals, env, budget),
+        },
         _ => eval_strict(alloc, term, globals, env, budget),
     }
+}
+
+// The cell of an array that stands in a variable or a position, and is not copied.
+#[cycle(serial)]
+#[inline(never)]
+fn eval_cell(
+    alloc: Global,
+    array: &Held,
+    at: &Terms,
+    globals: &Globals,
+    env: &Env,
+    budget: u64,
+) -> Result<Counted<Option<Box<Held>>>, EvalFault>
+    ensures { Within boxed_value budget (cell_in (held_datum array.now) (numbers_in (each (cden globals.now (values env.now)) (terms_of at.now)))) (total (settle globals.now (values env.now)) (terms_of at.now)) result }
+{
+    let at = eval_all(alloc, at, globals, env, budget)?;
+    Ok(Counted {
+        answer: cell_boxed(alloc, array, at.answer)?,
+        turns: at.turns,
+    })
 }
 
 // A form that evaluates all its parts and binds nothing.
@@ -408,10 +439,10 @@ pub fn sum_run(
     Ok(Counted { answer: sum, turns })
 }
 
-/// The set of the members that a body gives at the members from one number up to another, and
-/// what the body takes there. The members of the loop are not counted.
+// The set of the members that a body gives at the members from one number up to another, and
+// what the body takes there. The members of the loop are not counted.
 #[cycle(serial)]
-pub fn union_run(
+fn union_run(
     alloc: Global,
     body: &Core,
     globals: &Globals,
@@ -424,6 +455,30 @@ pub fn union_run(
     requires order { from ≤ to }
     requires within { to ≤ length (member_list members.now) }
     ensures { Within itself budget (union_value (run_values globals.now (values env.now) (term_of body.now) (member_list members.now) from to)) (run_turns globals.now (values env.now) (term_of body.now) (member_list members.now) from to) result }
+{
+    let run = members_run(alloc, body, globals, env, members, from, to, budget)?;
+    Ok(Counted {
+        answer: canon_of(alloc, run.answer)?,
+        turns: run.turns,
+    })
+}
+
+/// The members that a body gives at the members from one number up to another, one set after the
+/// other, and what the body takes there. The members of the loop are not counted.
+#[cycle(serial)]
+pub fn members_run(
+    alloc: Global,
+    body: &Core,
+    globals: &Globals,
+    env: &Env,
+    members: &Members,
+    from: u64,
+    to: u64,
+    budget: u64,
+) -> Result<Counted<Option<Items>>, EvalFault>
+    requires order { from ≤ to }
+    requires within { to ≤ length (member_list members.now) }
+    ensures { Within itself budget (all_members (run_values globals.now (values env.now) (term_of body.now) (member_list members.now) from to)) (run_turns globals.now (values env.now) (term_of body.now) (member_list members.now) from to) result }
 {
     let mut all = Some(Items {
         items: Vec::new(alloc),
@@ -441,10 +496,7 @@ pub fn union_run(
         all = members_and(all, unboxed(done.answer))?;
         turns += done.turns;
     }
-    Ok(Counted {
-        answer: canon_of(alloc, all)?,
-        turns,
-    })
+    Ok(Counted { answer: all, turns })
 }
 
 /// The values of a body at the indices below the dimensions, from one row-major number up to

@@ -20,7 +20,7 @@ use Rattle.nrca_serial.specs.FormLaws.{count-children, child_of-children, strict
 use Rattle.nrca_serial.specs.Parts.{children, numbers_in, parts_value, strict_of, strict_in, table_in}
 use Rattle.nrca_serial.specs.RunLaws.{range_whole, each-range_more, total-range_more}
 use Rattle.nrca_serial.specs.Runs.{member_list, members_value, list_with, run_values, run_turns, cell_values, cell_turns, sum_value, union_value}
-use Rattle.nrca_serial.specs.Scope.{values, held_value}
+use Rattle.nrca_serial.specs.Scope.{values, boxed_value}
 use Rattle.nrca_serial.specs.WithinLaws.{err_within, same_within}
 use Rattle.nrca_eval.proofs.Steps.{term_at, member_weight, tab_weight, child_there, strict_form, spent_whole}
 use Rattle.nrca_eval.proofs.wide.+wide.Goals as goal
@@ -28,7 +28,7 @@ use Rattle.nrca_eval.proofs.wide.+wide.Goals as goal
 pub wide-returns-in-Sum : goal.wide-returns-in-Sum
 wide-returns-in-Sum g t c =
     let whole = ap term_of c.in-Sum.is ∙ term_of-Sum c.in-Sum.over c.in-Sum.body ∙ (λ k. sum_term (term_of (sym c.deref-in-Sum.ensures k)) (term_of (sym c.deref-in-Sum-2.ensures k))) in
-    same_within held_value c.wide_sum.result c.args.budget _ _ _ _ (ap (cden c.args.globals.now (values c.args.env.now)) (sym whole)) (ap (settle c.args.globals.now (values c.args.env.now)) (sym whole)) c.wide_sum.ensures
+    same_within boxed_value c.wide_sum.result c.args.budget _ _ _ _ (ap (cden c.args.globals.now (values c.args.env.now)) (sym whole)) (ap (settle c.args.globals.now (values c.args.env.now)) (sym whole)) c.wide_sum.ensures
 
 pub wide_parts-wide-requires : goal.wide_parts-wide-requires
 wide_parts-wide-requires g t c κs within =
@@ -56,7 +56,7 @@ wide_parts-loop-i-preserved g t c =
     let done = c.in_ok-done-in-Some.ensures in
     let ts = children (parts_of (term_of c.args.term.now)) in
     let at : slice_get ts c.loop-i.i ≡ Some (term_of c.in-Some.part.now) = sym (child_of-children (parts_of (term_of c.args.term.now)) c.loop-i.i) ∙ sym c.in-Some.ensures in (
-      c.in_ok-parts-in-Some.ensures ∙ (λ k. list_with (inv.0 k) (done.0 k)) ∙ sym (each-range_more f g ts 0 c.loop-i.i (term_of c.in-Some.part.now) (omega arith) at),
+      c.in_ok-keep_part-in-Some.ensures ∙ (λ k. list_with (inv.0 k) (done.0 k)) ∙ sym (each-range_more f g ts 0 c.loop-i.i (term_of c.in-Some.part.now) (omega arith) at),
       omega (arith, total-range_more f g ts 0 c.loop-i.i (term_of c.in-Some.part.now) (omega arith) at, inv.1, done.1),
       omega (arith, inv.2, done.1, done.2),
     )
@@ -77,7 +77,7 @@ wide_strict-returns-in_err-parts g t c =
     let s = strict_of (form_of (term_of c.args.term.now)) in
     let form = strict_form (form_of (term_of c.args.term.now)) c.requires.form in
     let taken = strict_taken V vals (term_of c.args.term.now) s (well_formed-Core c.args.term.now) form in
-    err_within held_value _ _ _ _ c.in_err-parts.field-0.0 c.from_residual.ensures.0 c.from_residual.ensures.1 (λ e. let h = c.in_err-parts.ensures e in omega (arith, h, taken))
+    err_within boxed_value _ _ _ _ c.in_err-parts.field-0.0 c.from_residual.ensures.0 c.from_residual.ensures.1 (λ e. let h = c.in_err-parts.ensures e in omega (arith, h, taken))
 
 pub wide_strict-returns : goal.wide_strict-returns
 wide_strict-returns g t c =
@@ -105,7 +105,7 @@ wide_sum-returns-in_err-run g t c =
     let is = sym found.0 ∙ ap members_value some in
     let taken = sum_taken V vals e b ms is in
     let inner = ap (λ n. run_turns V vals b ms 0 n) c.len-count.ensures in
-    err_within held_value _ _ _ _ c.in_err-run.field-0.0 c.from_residual-in_err-run.ensures.0 c.from_residual-in_err-run.ensures.1
+    err_within boxed_value _ _ _ _ c.in_err-run.field-0.0 c.from_residual-in_err-run.ensures.0 c.from_residual-in_err-run.ensures.1
     (λ s. let h = c.in_err-run.ensures s in omega (arith, h, taken, inner, found.1, found.2, c.len-count.ensures, c.in_ok-answer.turns-is, c.if-count-from.false, c.from.ensures))
 
 pub wide_sum-returns : goal.wide_sum-returns
@@ -121,7 +121,7 @@ wide_sum-returns g t c =
     let taken = sum_taken V vals e b ms is in
     let inner = ap (λ n. run_turns V vals b ms 0 n) c.len-count.ensures in
     let run = c.in_ok-run.ensures in (
-      c.sum_of.ensures ∙ ap (option_map natural) (run.0 ∙ ap (λ n. sum_value (run_values V vals b ms 0 n)) c.len-count.ensures) ∙ sym (sum_whole V vals e b ms is),
+      c.in_ok-boxed.ensures ∙ c.sum_of.ensures ∙ ap (option_map natural) (run.0 ∙ ap (λ n. sum_value (run_values V vals b ms 0 n)) c.len-count.ensures) ∙ sym (sum_whole V vals e b ms is),
       omega (arith, run.1, taken, inner, found.1, c.len-count.ensures),
       omega (arith, run.1, run.2, taken, inner, found.1, found.2, c.len-count.ensures, c.in_ok-answer.turns-is, c.if-count-from.false, c.from.ensures),
     )
@@ -134,7 +134,7 @@ wide-wide_tab-requires g t c κs within =
 pub wide-returns-in-BigUnion : goal.wide-returns-in-BigUnion
 wide-returns-in-BigUnion g t c =
     let whole = ap term_of c.in-BigUnion.is ∙ term_of-BigUnion c.in-BigUnion.over c.in-BigUnion.body ∙ (λ k. big_union_term (term_of (sym c.deref-in-BigUnion.ensures k)) (term_of (sym c.deref-in-BigUnion-2.ensures k))) in
-    same_within held_value c.wide_union.result c.args.budget _ _ _ _ (ap (cden c.args.globals.now (values c.args.env.now)) (sym whole)) (ap (settle c.args.globals.now (values c.args.env.now)) (sym whole)) c.wide_union.ensures
+    same_within boxed_value c.wide_union.result c.args.budget _ _ _ _ (ap (cden c.args.globals.now (values c.args.env.now)) (sym whole)) (ap (settle c.args.globals.now (values c.args.env.now)) (sym whole)) c.wide_union.ensures
 
 pub wide_all-wide-requires : goal.wide_all-wide-requires
 wide_all-wide-requires g t c κs within =
@@ -174,7 +174,7 @@ wide_union-returns-in_err-run g t c =
     let is = sym found.0 ∙ ap members_value some in
     let taken = union_taken V vals e b ms is in
     let inner = ap (λ n. run_turns V vals b ms 0 n) c.len-count.ensures in
-    err_within held_value _ _ _ _ c.in_err-run.field-0.0 c.from_residual-in_err-run.ensures.0 c.from_residual-in_err-run.ensures.1
+    err_within boxed_value _ _ _ _ c.in_err-run.field-0.0 c.from_residual-in_err-run.ensures.0 c.from_residual-in_err-run.ensures.1
     (λ s. let h = c.in_err-run.ensures s in omega (arith, h, taken, inner, found.1, found.2, c.len-count.ensures, c.in_ok-answer.turns-is, c.if-count-from.false, c.from.ensures))
 
 pub wide_union-returns : goal.wide_union-returns
@@ -190,7 +190,7 @@ wide_union-returns g t c =
     let taken = union_taken V vals e b ms is in
     let inner = ap (λ n. run_turns V vals b ms 0 n) c.len-count.ensures in
     let run = c.in_ok-run.ensures in (
-      c.union_of.ensures ∙ ap (option_map (λ xs. set (data_of xs))) (run.0 ∙ ap (λ n. union_value (run_values V vals b ms 0 n)) c.len-count.ensures) ∙ sym (union_whole V vals e b ms is),
+      c.in_ok-boxed.ensures ∙ c.union_of.ensures ∙ ap (option_map (λ xs. set (data_of xs))) (run.0 ∙ ap (λ n. union_value (run_values V vals b ms 0 n)) c.len-count.ensures) ∙ sym (union_whole V vals e b ms is),
       omega (arith, run.1, taken, inner, found.1, c.len-count.ensures),
       omega (arith, run.1, run.2, taken, inner, found.1, found.2, c.len-count.ensures, c.in_ok-answer.turns-is, c.if-count-from.false, c.from.ensures),
     )
@@ -201,7 +201,7 @@ wide_tab-returns-in_err-answer g t c =
     let vals = values c.args.env.now in
     let ds = terms_of c.args.bounds.now in
     let b = term_of c.args.body.now in
-    err_within held_value _ _ _ _ c.in_err-answer.field-0.0 c.from_residual.ensures.0 c.from_residual.ensures.1
+    err_within boxed_value _ _ _ _ c.in_err-answer.field-0.0 c.from_residual.ensures.0 c.from_residual.ensures.1
     (λ s. let h = c.in_err-answer.ensures s in omega (arith, h, settle-tab V vals ds b))
 
 pub wide_tab-returns-in_default : goal.wide_tab-returns-in_default
@@ -244,7 +244,7 @@ wide_tab-returns-in_err-run g t c =
     let all = ap product (c.as_slice.ensures.value ∙ c.dims.view_is) in
     let count : c.saturating_product-count.result ≡ product ms = omega (arith, all, c.saturating_product-count.ensures, c.if-count-from.false, c.from.ensures) in
     let inner = ap (λ n. cell_turns V vals b ms 0 n) count in
-    err_within held_value _ _ _ _ c.in_err-run.field-0.0 c.from_residual-in_err-run.ensures.0 c.from_residual-in_err-run.ensures.1
+    err_within boxed_value _ _ _ _ c.in_err-run.field-0.0 c.from_residual-in_err-run.ensures.0 c.from_residual-in_err-run.ensures.1
     (λ s. let h = c.in_err-run.ensures s in omega (arith, h, taken, inner, count, found.1, found.2, c.in_ok-answer.turns-is, c.if-count-from.false, c.from.ensures))
 
 pub wide_tab-returns : goal.wide_tab-returns
@@ -262,7 +262,7 @@ wide_tab-returns g t c =
     let count : c.saturating_product-count.result ≡ product ms = omega (arith, all, c.saturating_product-count.ensures, c.if-count-from.false, c.from.ensures) in
     let inner = ap (λ n. cell_turns V vals b ms 0 n) count in
     let run = c.in_ok-run.ensures in (
-      c.in_ok-table_of.ensures ∙ ap (table_in ms) (run.0 ∙ ap (λ n. cell_values V vals b ms 0 n) count) ∙ sym (tab_whole V vals ds b ms is),
+      c.in_ok-boxed.ensures ∙ c.in_ok-table_of.ensures ∙ ap (table_in ms) (run.0 ∙ ap (λ n. cell_values V vals b ms 0 n) count) ∙ sym (tab_whole V vals ds b ms is),
       omega (arith, run.1, taken, inner, count, found.1),
       omega (arith, run.1, run.2, taken, inner, count, found.1, found.2, c.in_ok-answer.turns-is, c.if-count-from.false, c.from.ensures),
     )

@@ -9,7 +9,7 @@ use Rattle.aql_value.specs.Operations.{walked}
 use Rattle.aql_value.specs.Partial.{each, total}
 use Rattle.aql_value.specs.Strict.{strict_turns}
 use Rattle.nrca_array.specs.Held.{held_datum}
-use Rattle.nrca_term.specs.Equations.{term_of-BigUnion, term_of-Sum, term_of-Tab}
+use Rattle.nrca_term.specs.Equations.{term_of-BigUnion, term_of-Sum, term_of-Sub, term_of-Tab}
 use Rattle.nrca_term.specs.Meaning.{cden}
 use Rattle.nrca_term.specs.MeasureLaws.{weight_of-child}
 use Rattle.nrca_term.specs.Nodes.{big_union_term, sum_term}
@@ -26,6 +26,7 @@ use Rattle.nrca_serial.specs.Scope.{values, boxed_value}
 use Rattle.nrca_serial.specs.Within.{itself}
 use Rattle.nrca_serial.specs.WithinLaws.{err_within, same_within}
 use Rattle.nrca_serial.proofs.Evaluated.{term_at, member_weight, tab_weight, child_there, strict_form, spent_within, spent_whole, written}
+use Rattle.nrca_serial.proofs.Lent.{sub_weight, sub_lent, sub_free}
 use Rattle.nrca_serial.proofs.serial.+serial.Goals as goal
 
 pub node-eval_tab-requires : goal.node-eval_tab-requires
@@ -42,6 +43,25 @@ pub node-returns-in-Sum : goal.node-returns-in-Sum
 node-returns-in-Sum t c =
     let whole = ap term_of c.in-Sum.is ∙ term_of-Sum c.in-Sum.over c.in-Sum.body ∙ (λ k. sum_term (term_of (sym c.deref-in-Sum.ensures k)) (term_of (sym c.deref-in-Sum-2.ensures k))) in
     same_within boxed_value c.eval_sum.result c.args.budget _ _ _ _ (ap (cden c.args.globals.now (values c.args.env.now)) (sym whole)) (ap (settle c.args.globals.now (values c.args.env.now)) (sym whole)) c.eval_sum.ensures
+
+pub node-eval_cell-requires : goal.node-eval_cell-requires
+node-eval_cell-requires t c =
+    let w = ap (λ x. weight_of (term_of x)) c.in-Sub.is ∙ ap weight_of (term_of-Sub c.in-Sub.array c.in-Sub.at) in
+    (omega (arith, c.decreases, w, sub_weight (term_of c.in-Sub.array.value) (terms_of c.in-Sub.at)), tt)
+
+pub node-returns-in-Some : goal.node-returns-in-Some
+node-returns-in-Some t c =
+    let V = c.args.globals.now in
+    let vals = values c.args.env.now in
+    let a = term_of c.in-Sub.array.value in
+    let ts = terms_of c.in-Sub.at in
+    let v = held_datum c.in-Some.array.now in
+    let whole = ap term_of c.in-Sub.is ∙ term_of-Sub c.in-Sub.array c.in-Sub.at in
+    let same = ap term_of c.deref-in-Sub.ensures in
+    let holds : cden V vals a ≡ Some v = ap (cden V vals) (sym same) ∙ c.in-Some.ensures.value in
+    let free : settle V vals a ≡ 0 = ap (settle V vals) (sym same) ∙ c.in-Some.ensures.turns in
+    same_within boxed_value c.eval_cell.result c.args.budget _ _ _ _
+    (sym (ap (cden V vals) whole ∙ sub_lent V vals a v holds free ts)) (sym (ap (settle V vals) whole ∙ sub_free V vals a v holds free ts)) c.eval_cell.ensures
 
 pub eval_all-node-requires : goal.eval_all-node-requires
 eval_all-node-requires t c =
@@ -302,8 +322,8 @@ sum_run-loop-i-preserved t c =
       c.in_ok-member.ensures.1,
     )
 
-pub union_run-returns-in_err-done : goal.union_run-returns-in_err-done
-union_run-returns-in_err-done t c =
+pub members_run-returns-in_err-done : goal.members_run-returns-in_err-done
+members_run-returns-in_err-done t c =
     let V = c.args.globals.now in
     let vals = values c.args.env.now in
     let b = term_of c.args.body.now in
@@ -316,8 +336,8 @@ union_run-returns-in_err-done t c =
     err_within itself _ _ _ _ c.in_err-done.field-0.0 c.from_residual-in_err-done.ensures.0 c.from_residual-in_err-done.ensures.1
     (λ s. spent_within g ms c.args.from c.loop-i.i c.args.to m c.args.budget c.loop-i.turns (omega arith) (omega arith) at inv.1 inv.2 (c.in_err-done.ensures s))
 
-pub union_run-loop-i-preserved : goal.union_run-loop-i-preserved
-union_run-loop-i-preserved t c =
+pub members_run-loop-i-preserved : goal.members_run-loop-i-preserved
+members_run-loop-i-preserved t c =
     let V = c.args.globals.now in
     let vals = values c.args.env.now in
     let b = term_of c.args.body.now in

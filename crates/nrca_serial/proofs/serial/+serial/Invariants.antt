@@ -23,6 +23,9 @@ decreases-eval_parts l = 4 * weight_of (term_of l.term.now)
 abbrev pub decreases-eval_all : goal.decreases-eval_all
 decreases-eval_all l = 4 * list_weight (terms_of l.terms.now) + 3
 
+abbrev pub decreases-eval_cell : goal.decreases-eval_cell
+decreases-eval_cell l = 4 * list_weight (terms_of l.at.now) + 4
+
 abbrev pub decreases-eval_let : goal.decreases-eval_let
 decreases-eval_let l = 4 * (weight_of (term_of l.bound.now) + weight_of (term_of l.body.now)) + 3
 
@@ -39,7 +42,7 @@ abbrev pub decreases-eval_sum : goal.decreases-eval_sum
 decreases-eval_sum l = 4 * (weight_of (term_of l.over.now) + weight_of (term_of l.body.now)) + 4
 
 abbrev pub decreases-eval_union : goal.decreases-eval_union
-decreases-eval_union l = 4 * (weight_of (term_of l.over.now) + weight_of (term_of l.body.now)) + 4
+decreases-eval_union l = 4 * (weight_of (term_of l.over.now) + weight_of (term_of l.body.now)) + 5
 
 abbrev pub decreases-eval_tab : goal.decreases-eval_tab
 decreases-eval_tab l = 4 * (list_weight (terms_of l.bounds.now) + weight_of (term_of l.body.now)) + 4
@@ -48,7 +51,10 @@ abbrev pub decreases-sum_run : goal.decreases-sum_run
 decreases-sum_run l = 4 * weight_of (term_of l.body.now) + 3
 
 abbrev pub decreases-union_run : goal.decreases-union_run
-decreases-union_run l = 4 * weight_of (term_of l.body.now) + 3
+decreases-union_run l = 4 * weight_of (term_of l.body.now) + 4
+
+abbrev pub decreases-members_run : goal.decreases-members_run
+decreases-members_run l = 4 * weight_of (term_of l.body.now) + 3
 
 abbrev pub decreases-cells_run : goal.decreases-cells_run
 decreases-cells_run l = 4 * weight_of (term_of l.body.now) + 3
@@ -72,8 +78,8 @@ invariant-sum_run-loop-i l =
     × (l.turns ≤ l.budget)
     × IsAt l.members l.i l.sides
 
-abbrev pub invariant-union_run-loop-i : goal.invariant-union_run-loop-i
-invariant-union_run-loop-i l =
+abbrev pub invariant-members_run-loop-i : goal.invariant-members_run-loop-i
+invariant-members_run-loop-i l =
     (l.all ≡ all_members (run_values l.globals (values l.env) (term_of l.body) (member_list l.members) l.from l.i))
     × (l.turns ≡ run_turns l.globals (values l.env) (term_of l.body) (member_list l.members) l.from l.i)
     × (l.turns ≤ l.budget)
