@@ -9,6 +9,8 @@
 mod fault;
 mod limits;
 mod preparing;
+#[cfg(test)]
+mod tests;
 
 pub use fault::ScriptFault;
 pub use preparing::{Prepared, prepare};
