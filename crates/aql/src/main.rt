@@ -1,5 +1,5 @@
-//! The program: runs the script of standard input, writes its answers to standard output, and ends
-//! with the status of the run.
+//! The program: runs the script of standard input over the files of the system, writes its answers to standard output,
+//! and ends with the status of the run.
 //!
 //! What it does is the contract of `aql_run::run`. This crate is the edge: it meets the traits of the
 //! outside over the system's streams and files, and promises nothing of what these hold.
@@ -10,7 +10,9 @@
 mod file_system;
 mod streams;
 
+use aql_outside::FreeGate;
 use aql_run::run;
+use file_system::FileSystem;
 use std::env;
 use std::io::{self, ErrorKind};
 use std::process::ExitCode;
@@ -22,7 +24,17 @@ fn main(rt: HostRuntime) -> ExitCode {
         Ok(words) => {
             let mut input = InputStream::new(rt.stdin());
             let mut output = OutputStream::new(rt.stdout());
-            run(rt.alloc(), words.as_slice(), &mut input, &mut output).status
+            let mut files = FileSystem::new(&rt);
+            run(
+                &rt,
+                rt.alloc(),
+                words.as_slice(),
+                &mut input,
+                &mut output,
+                &mut files,
+                &FreeGate,
+            )
+            .status
         }
         Err(error) if error.kind() == ErrorKind::OutOfMemory => 1,
         Err(_) => 2,

@@ -65,12 +65,19 @@ behind xs x y i le e = at (i - length xs) (sym (slice_get-append_right xs (x ∷
     at zero f h = (omega (arith, le, h), some_is x y f)
     at (suc k) f h = absurd cc
 
+-- an element is there only below the length
+inside : {X : Type 0} (xs : List X) (i : ℕ) (x : X) → slice_get xs i ≡ Some x → i < length xs
+inside [] i x e = absurd cc
+inside (y ∷ xs) zero x e = omega arith
+inside (y ∷ xs) (suc i) x e = omega (arith, inside xs i x e)
+
 -- the answers with one more
 pub answered_more : (ds : List Declaration) (sorts : List Sort) (budget : ℕ) (holds : Option Content) (answers : List Answer) (V : Outcomes) (d : Declaration) (a : Answer) (o : Option Datum) →
     AreAnswered ds sorts budget holds answers V → slice_get (positions ds) (24 + length answers) ≡ Some d →
     IsAnswered d (earlier_of (positions ds) V) (slice_get sorts (24 + length answers)) budget holds a o →
     AreAnswered ds sorts budget holds (answers ++ a ∷ []) (V ++ o ∷ [])
 answered_more ds sorts budget holds answers V d a o h there own = record {
+  few = omega (arith, inside (positions ds) (24 + length answers) d there, length_positions ds, length-append answers (a ∷ []));
   many = length-append V (o ∷ []) ∙ (ap (λ n. n + 1) h.many ∙ (omega (arith, length-append answers (a ∷ []))));
   prelude = let n = h.many in take-append-le 24 V (o ∷ []) (omega (arith, n)) ∙ h.prelude;
   each = λ i e b p f g k. at i e b p f g k (cases_lt i (length answers));
@@ -91,9 +98,9 @@ answered_more ds sorts budget holds answers V d a o h there own = record {
         slice_get (V ++ o ∷ []) (24 + i) ≡ Some p → (i < length answers) ⊎ (length answers ≤ i) → Answers i e b p (take (24 + i) (V ++ o ∷ []))
     at i e b p f g k (inl lt) =
         let n = h.many in
-        let inside : 24 + i < length V = omega (arith, lt, n) in
-        subst (λ (W : Outcomes). Answers i e b p W) (sym (take-append-le (24 + i) V (o ∷ []) (omega (arith, inside))))
-        (h.each i e b p f (sym (slice_get-append_left answers (a ∷ []) i lt) ∙ g) (sym (slice_get-append_left V (o ∷ []) (24 + i) inside) ∙ k))
+        let below : 24 + i < length V = omega (arith, lt, n) in
+        subst (λ (W : Outcomes). Answers i e b p W) (sym (take-append-le (24 + i) V (o ∷ []) (omega (arith, below))))
+        (h.each i e b p f (sym (slice_get-append_left answers (a ∷ []) i lt) ∙ g) (sym (slice_get-append_left V (o ∷ []) (24 + i) below) ∙ k))
     at i e b p f g k (inr le) =
         let n = h.many in
         let x = behind answers a b i le g in

@@ -104,6 +104,7 @@ at_first p budget holds s h = record {
   bound = h.bound;
   types = h.types;
   answered = subst (λ (V : List (Option Datum)). AreAnswered (own p) (sorts p) budget holds [] V) (sym h.none) (record {
+    few = omega arith;
     many = refl;
     prelude = refl;
     each = λ i d a o f g k. absurd cc;

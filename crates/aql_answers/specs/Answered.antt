@@ -1,5 +1,5 @@
 -- The declarations of a script that were answered, and why the next one was not.
-use Rattle.std.specs.Prelude.{◌≡◌, ℕ, ◌+◌, List, length, take, replicate, Option, Some, None}
+use Rattle.std.specs.Prelude.{◌≡◌, ◌≤◌, ℕ, ◌+◌, List, length, take, replicate, Option, Some, None}
 use Rattle.std.specs.List.{slice_get}
 use Rattle.std.specs.Option.{ForSome}
 use Rattle.aql_outside.specs.Contents.{Content}
@@ -26,6 +26,7 @@ pub record IsAnswered (d : Declaration) (earlier : Earlier) (sort : Option Sort)
 -- The first declarations of a script have these answers, one for each in order, and with the prelude's positions, which have
 -- none, these outcomes.
 pub record AreAnswered (ds : List Declaration) (sorts : List Sort) (budget : ℕ) (holds : Option Content) (answers : List Answer) (V : Outcomes) : Type 0 where
+  pub few : length answers ≤ length ds
   pub many : length V ≡ 24 + length answers
   pub prelude : take 24 V ≡ replicate 24 None
   pub each : (i : ℕ) (d : Declaration) (a : Answer) (o : Option Datum) → slice_get (positions ds) (24 + i) ≡ Some d → slice_get answers i ≡ Some a →

@@ -1,7 +1,3 @@
 pub mod Streams
-pub mod Comments
-pub mod Scanning
-pub mod Parsing
-pub mod OneReading
-pub mod Outcomes
-pub mod Examples
+pub mod Endings
+pub mod Completing

@@ -1,10 +1,4 @@
-pub mod Lexis
-pub mod Grammar
-pub mod Meaning
-pub mod Texts
 pub mod Outcome
+pub mod Complete
 pub mod Reading
-pub mod Writing
-pub mod Steps
-pub mod Scan
-pub mod Parse
+pub mod Ending

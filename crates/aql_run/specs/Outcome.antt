@@ -1,23 +1,70 @@
--- What a run did, over the bytes that it took from the source and gave to the sink.
-use Rattle.std.specs.Prelude.{◌≡◌, ◌≤◌, ◌<◌, ◌⊎◌, ℕ, List, [], ◌++◌, Option, length, codes}
+-- What a run did, over the words, the bytes that it took from the source and gave to the sink, and the files.
+use Rattle.std.specs.Prelude.{◌≡◌, ◌≤◌, ◌<◌, ◌+◌, ◌-◌, ◌⊎◌, ℕ, List, [], ◌++◌, Option, Some, None, length, take, drop, codes}
 use Rattle.std.specs.Io.KnownBytes.{Consumes, Appends, IsAtEnd}
 use Rattle.aql_outside.specs.Causes.{Rose}
-use Rattle.aql_run.specs.Grammar.{Tree, Reads, ReadsAlone}
-use Rattle.aql_run.specs.Texts.{entries}
+use Rattle.aql_outside.specs.Contents.{Content}
+use Rattle.aql_types.specs.Types.{Sort}
+use Rattle.aql_syntax.specs.Grammar.{SyntaxFaultAt}
+use Rattle.aql_syntax.specs.Lexis.{Lexeme, TextFaultAt}
+use Rattle.aql_syntax.specs.Tree.{Declaration}
+use Rattle.aql_infer.specs.Checked.{IsFirstUntyped}
+use Rattle.aql_lex.specs.Lexed.{IsDeepAt}
+use Rattle.nrca_term.specs.Meaning.{Outcomes}
+use Rattle.cdf_header.specs.declared.fault.CdfFault.{CdfFault}
+use Rattle.aql_script.specs.Script.{Spells, ReadsAlone, AreTyped, positions, AreWithinLimits, IsFirstLarge, NoneReadsRecords, IsFirstOfRecords}
+use Rattle.aql_session.specs.declared.answer.Answer.{Answer}
+use Rattle.aql_session.specs.declared.answer.StepFault.{StepFault}
+use Rattle.aql_session.specs.declared.answer.StepFault.TheVariants as faults
+use Rattle.aql_words.specs.Words.{HasReading, options_of}
+use Rattle.aql_words.specs.declared.words.Options.{Options}
+use Rattle.aql_answers.specs.Answered.{AreAnswered, IsStopped}
+use Rattle.aql_answers.specs.Entry.{entries}
+use Rattle.aql_answers.specs.Lines.{at_byte, in_declaration, of_file}
+use Rattle.aql_answers.specs.Sample.{sample_text}
 use Rattle.aql_run.specs.declared.status.Status.{Status}
-use Rattle.aql_run.specs.declared.status.Status.TheVariants.{Done, Memory, Usage, Script, Long, Input, Output}
+use Rattle.aql_run.specs.declared.status.Status.TheVariants as status
+use Rattle.aql_run.specs.declared.report.Stop.{Stop}
+use Rattle.aql_run.specs.declared.report.Stop.TheVariants as stops
 
 -- the number of a status
 abbrev pub code_of : Status → ℕ
-code_of Done = 0
-code_of Memory = 1
-code_of Usage = 2
-code_of Script = 4
-code_of Long = 8
-code_of Input = 10
-code_of Output = 11
+code_of status.Done = 0
+code_of status.Memory = 1
+code_of status.Usage = 2
+code_of status.Text = 3
+code_of status.Syntax = 4
+code_of status.Type = 5
+code_of status.Deep = 6
+code_of status.Large = 7
+code_of status.Long = 8
+code_of status.File = 9
+code_of status.Input = 10
+code_of status.Output = 11
+code_of status.Spent = 12
+code_of status.Files = 13
+code_of status.Unbuilt = 14
 
--- the front of a list
+-- What is known of a run besides the words: the counts of faults of the source and of the files before and after it, what the
+-- source tells that it still has, and what the files hold.
+pub record Told : Type 0 where
+  pub input_before : ℕ
+  pub input_now : ℕ
+  pub left : Option (List ℕ)
+  pub files_before : ℕ
+  pub files_now : ℕ
+  pub holds : Option Content
+
+abbrev pub told_of : (input_before input_now : ℕ) → (left : Option (List ℕ)) → (files_before files_now : ℕ) → Option Content → Told
+told_of input_before input_now left files_before files_now holds = record {
+  input_before = input_before;
+  input_now = input_now;
+  left = left;
+  files_before = files_before;
+  files_now = files_now;
+  holds = holds;
+}
+
+-- the bytes of a list are at its front
 abbrev pub IsPrefix : List ℕ → List ℕ → Type 0
 IsPrefix front all = (rest : List ℕ) × (all ≡ front ++ rest)
 
@@ -25,40 +72,156 @@ IsPrefix front all = (rest : List ℕ) × (all ≡ front ++ rest)
 abbrev pub IsWhole : List ℕ → Option (List ℕ) → Type 0
 IsWhole taken left = (length taken ≤ 1048576) × IsAtEnd left
 
--- The cause of a status stands, and `full` is the whole output of a run that ends with it.
--- `before` and `now` are the source's counts of faults, `taken` the bytes that it gave, and `left`
--- those that it tells it still has. Three statuses have no output that is whole.
-abbrev pub Writes : Status → ℕ → ℕ → List ℕ → Option (List ℕ) → List ℕ → Type 0
-Writes Done before now taken left full = IsWhole taken left × (trees : List Tree) × ReadsAlone taken trees × (full ≡ entries trees)
-Writes Script before now taken left full = IsWhole taken left × ((trees : List Tree) → Reads taken trees → ⊥) × (full ≡ codes "fault script\n")
-Writes Long before now taken left full = (1048576 < length taken) × (full ≡ codes "fault long\n")
-Writes Input before now taken left full = (length taken ≤ 1048576) × Rose before now × (full ≡ codes "fault input\n")
-Writes Usage before now taken left full = ⊥
-Writes Memory before now taken left full = ⊥
-Writes Output before now taken left full = ⊥
+-- the script: what the source gave up to its end, or where a sample is asked for its text, and then nothing was taken
+abbrev pub IsScript : (sample : Option ℕ) → (left : Option (List ℕ)) → (taken script : List ℕ) → Type 0
+IsScript None left taken script = (script ≡ taken) × IsWhole taken left
+IsScript (Some n) left taken script = (taken ≡ []) × (script ≡ sample_text n)
 
--- What a run that ended with a status has written: the whole output, and for want of memory or a
--- fault of the sink a front of it; with a wrong usage nothing, and nothing was taken.
-abbrev pub Serves : Status → ℕ → ℕ → List ℕ → Option (List ℕ) → List ℕ → Type 0
-Serves Memory before now taken left written = (written ≡ []) ⊎ ((full : List ℕ) × Writes Done before now taken left full × IsPrefix written full)
-Serves Output before now taken left written = (other : Status) × (full : List ℕ) × Writes other before now taken left full × IsPrefix written full
-Serves Done before now taken left written = Writes Done before now taken left written
-Serves Usage before now taken left written = (taken ≡ []) × (written ≡ [])
-Serves Script before now taken left written = Writes Script before now taken left written
-Serves Long before now taken left written = Writes Long before now taken left written
-Serves Input before now taken left written = Writes Input before now taken left written
+-- The script was read, every position has its principal type and is within the limits, no declaration reads records, and the
+-- first declarations have these answers, which print these lines.
+pub record HasRun (options : Options) (told : Told) (taken : List ℕ) (answers : List Answer) (lines : List ℕ) : Type 0 where
+  pub script : List ℕ
+  pub ds : List Declaration
+  pub sorts : List Sort
+  pub outcomes : Outcomes
+  pub is : IsScript options.sample told.left taken script
+  pub reads : ReadsAlone script ds
+  pub typed : AreTyped ds sorts
+  pub limits : AreWithinLimits (positions ds) (24 + length ds)
+  pub built : NoneReadsRecords ds
+  pub answered : AreAnswered ds sorts options.budget told.holds answers outcomes
+  pub printed : lines ≡ entries options.plan answers (drop 24 outcomes)
 
--- The bytes that a call took from the source, at most 1,048,577, and gave to the sink, by what these
--- tell before and after it. Where a device tells nothing, they are some bytes.
+-- the next declaration was not answered
+abbrev pub Stops : {options : Options} {told : Told} {taken lines : List ℕ} {answers : List Answer} → HasRun options told taken answers lines → StepFault → Type 0
+Stops {options} {told} {taken} {lines} {answers} run f =
+    IsStopped run.ds options.budget told.holds told.files_before told.files_now (length answers) run.outcomes f
+
+-- what is kept of a fault of a step
+abbrev pub stop_of : StepFault → Stop
+stop_of (faults.Query start plan trace) = stops.Query start plan trace
+stop_of (faults.Cells cells) = stops.Cells cells
+stop_of (faults.File fault) = stops.File fault
+stop_of faults.Device = stops.Other
+stop_of faults.Memory = stops.Other
+
+-- the budget was passed
+abbrev pub IsSpent : StepFault → Type 0
+IsSpent (faults.Query start plan trace) = Unit {0}
+IsSpent (faults.Cells cells) = Unit {0}
+IsSpent (faults.File fault) = ⊥
+IsSpent faults.Device = ⊥
+IsSpent faults.Memory = ⊥
+
+-- the script has a fault, nothing was answered, and the line of the fault is all that is written
+abbrev pub Refuses : Options → Told → (taken : List ℕ) → List Answer → Stop → (lines line fault : List ℕ) → (List ℕ → Type 0) → Type 0
+Refuses options told taken answers stop lines line fault P =
+    (script : List ℕ) × IsScript options.sample told.left taken script × P script × (answers ≡ []) × (stop ≡ stops.Other) × (lines ≡ []) × (line ≡ fault)
+
+-- The cause of a status stands, the report has these answers and this stop, and a run that ends with it writes these lines of its
+-- answers and then this line of its fault. Three statuses have no such cause.
+abbrev pub Writes : Status → Options → Told → (taken : List ℕ) → List Answer → Stop → (lines line : List ℕ) → Type 0
+Writes status.Done options told taken answers stop lines line =
+    (run : HasRun options told taken answers lines) × (length answers ≡ length run.ds) × (stop ≡ stops.Done) × (line ≡ [])
+Writes status.Text options told taken answers stop lines line =
+    (k : ℕ) × Refuses options told taken answers stop lines line (at_byte (codes "text") k) (λ script. TextFaultAt k script)
+Writes status.Deep options told taken answers stop lines line =
+    (k : ℕ) × Refuses options told taken answers stop lines line (at_byte (codes "deep") k) (λ script. IsDeepAt k script)
+Writes status.Syntax options told taken answers stop lines line =
+    (n : ℕ) × Refuses options told taken answers stop lines line (in_declaration (codes "syntax") n) (λ script. (ls : List Lexeme) × Spells script ls × SyntaxFaultAt n ls)
+Writes status.Type options told taken answers stop lines line =
+    (n : ℕ) × Refuses options told taken answers stop lines line (in_declaration (codes "type") n)
+    (λ script. (ds : List Declaration) × ReadsAlone script ds × (1 ≤ n) × IsFirstUntyped [] (positions ds) (24 + n))
+Writes status.Large options told taken answers stop lines line =
+    (n : ℕ) × Refuses options told taken answers stop lines line (in_declaration (codes "large") n)
+    (λ script. (ds : List Declaration) × ReadsAlone script ds × ((sorts : List Sort) × AreTyped ds sorts) × IsFirstLarge ds n)
+Writes status.Unbuilt options told taken answers stop lines line =
+    (n : ℕ) × Refuses options told taken answers stop lines line (in_declaration (codes "unbuilt") n)
+    (λ script. (ds : List Declaration) × ReadsAlone script ds × ((sorts : List Sort) × AreTyped ds sorts) × AreWithinLimits (positions ds) (24 + length ds)
+    × IsFirstOfRecords 1 ds n)
+Writes status.Long options told taken answers stop lines line =
+    (options.sample ≡ None) × (1048576 < length taken) × (answers ≡ []) × (stop ≡ stops.Other) × (lines ≡ []) × (line ≡ codes "fault long\n")
+Writes status.Input options told taken answers stop lines line =
+    (options.sample ≡ None) × (length taken ≤ 1048576) × Rose told.input_before told.input_now × (answers ≡ []) × (stop ≡ stops.Other) × (lines ≡ [])
+    × (line ≡ codes "fault input\n")
+Writes status.File options told taken answers stop lines line =
+    (run : HasRun options told taken answers lines) × (f : CdfFault) × Stops run (faults.File f) × (stop ≡ stops.File f) × (line ≡ of_file (length answers + 1) f)
+Writes status.Spent options told taken answers stop lines line =
+    (run : HasRun options told taken answers lines) × (f : StepFault) × IsSpent f × Stops run f × (stop ≡ stop_of f)
+    × (line ≡ in_declaration (codes "budget") (length answers + 1))
+Writes status.Files options told taken answers stop lines line =
+    (run : HasRun options told taken answers lines) × Stops run faults.Device × (stop ≡ stops.Other) × (line ≡ codes "fault files\n")
+Writes status.Usage options told taken answers stop lines line = ⊥
+Writes status.Memory options told taken answers stop lines line = ⊥
+Writes status.Output options told taken answers stop lines line = ⊥
+
+-- the whole output of a run that ends with a status: the lines of its answers, and then the line of its fault
+abbrev pub WritesAll : Status → Options → Told → (taken : List ℕ) → List Answer → Stop → (written : List ℕ) → Type 0
+WritesAll s options told taken answers stop written = (lines line : List ℕ) × Writes s options told taken answers stop lines line × (written ≡ lines ++ line)
+
+-- the line of the fault of such a run was cut, behind all lines of its answers
+abbrev pub CutsFault : Options → Told → (taken : List ℕ) → List Answer → (written : List ℕ) → Type 0
+CutsFault options told taken answers written =
+    (other : Status) × (kept : Stop) × (lines line front : List ℕ) × Writes other options told taken answers kept lines line × IsPrefix front line × (written ≡ lines ++ front)
+
+-- the lines of all answers but the last, and a front of the last one's
+pub record CutsLast (options : Options) (told : Told) (taken : List ℕ) (answers : List Answer) (written : List ℕ) : Type 0 where
+  pub lines : List ℕ
+  pub run : HasRun options told taken answers lines
+  pub front : IsPrefix written lines
+  pub whole : IsPrefix (entries options.plan (take (length answers - 1) answers) (drop 24 run.outcomes)) written
+
+-- What a run that ended with a status has written, where the words have a reading: the whole output; for want of memory a front
+-- of the lines of the answers; for a fault of the sink that, or all lines of the answers and a front of the line of some fault.
+abbrev pub Serves : Status → Options → Told → (taken : List ℕ) → List Answer → Stop → (written : List ℕ) → Type 0
+Serves status.Memory options told taken answers stop written =
+    (stop ≡ stops.Other) × (((answers ≡ []) × (written ≡ [])) ⊎ CutsLast options told taken answers written)
+Serves status.Output options told taken answers stop written =
+    (stop ≡ stops.Other) × (CutsLast options told taken answers written ⊎ CutsFault options told taken answers written)
+Serves status.Usage options told taken answers stop written = ⊥
+Serves status.Done options told taken answers stop written = WritesAll status.Done options told taken answers stop written
+Serves status.Text options told taken answers stop written = WritesAll status.Text options told taken answers stop written
+Serves status.Syntax options told taken answers stop written = WritesAll status.Syntax options told taken answers stop written
+Serves status.Type options told taken answers stop written = WritesAll status.Type options told taken answers stop written
+Serves status.Deep options told taken answers stop written = WritesAll status.Deep options told taken answers stop written
+Serves status.Large options told taken answers stop written = WritesAll status.Large options told taken answers stop written
+Serves status.Long options told taken answers stop written = WritesAll status.Long options told taken answers stop written
+Serves status.File options told taken answers stop written = WritesAll status.File options told taken answers stop written
+Serves status.Input options told taken answers stop written = WritesAll status.Input options told taken answers stop written
+Serves status.Spent options told taken answers stop written = WritesAll status.Spent options told taken answers stop written
+Serves status.Files options told taken answers stop written = WritesAll status.Files options told taken answers stop written
+Serves status.Unbuilt options told taken answers stop written = WritesAll status.Unbuilt options told taken answers stop written
+
+-- nothing was answered, taken or written
+abbrev pub DoesNothing : (taken : List ℕ) → List Answer → Stop → (written : List ℕ) → Type 0
+DoesNothing taken answers stop written = (taken ≡ []) × (answers ≡ []) × (stop ≡ stops.Other) × (written ≡ [])
+
+-- What a run did by the words: where they have no reading, nothing.
+abbrev pub RunsWords : Status → (words : List (List ℕ)) → Told → (taken : List ℕ) → List Answer → Stop → (written : List ℕ) → Type 0
+RunsWords status.Usage words told taken answers stop written = (HasReading words → ⊥) × DoesNothing taken answers stop written
+RunsWords status.Memory words told taken answers stop written =
+    DoesNothing taken answers stop written ⊎ (HasReading words × Serves status.Memory (options_of words) told taken answers stop written)
+RunsWords other words told taken answers stop written = HasReading words × Serves other (options_of words) told taken answers stop written
+
+-- the statuses of runs that answer no declaration: none was begun
+abbrev pub IsEarly : Status → Type 0
+IsEarly status.Usage = Unit {0}
+IsEarly status.Text = Unit {0}
+IsEarly status.Syntax = Unit {0}
+IsEarly status.Type = Unit {0}
+IsEarly status.Deep = Unit {0}
+IsEarly status.Large = Unit {0}
+IsEarly status.Long = Unit {0}
+IsEarly status.Input = Unit {0}
+IsEarly status.Unbuilt = Unit {0}
+IsEarly status.Done = ⊥
+IsEarly status.Memory = ⊥
+IsEarly status.File = ⊥
+IsEarly status.Output = ⊥
+IsEarly status.Spent = ⊥
+IsEarly status.Files = ⊥
+
+-- The bytes that a call took from the source, at most 1,048,577, and gave to the sink, by what these tell before and after it.
+-- Where a device tells nothing, they are some bytes.
 abbrev pub Passes : (List ℕ → List ℕ → Type 0) → Option (List ℕ) → Option (List ℕ) → Option (List ℕ) → Option (List ℕ) → Type 0
 Passes P left left' holds holds' = (taken written : List ℕ) × Consumes left left' taken × Appends holds holds' written × (length taken ≤ 1048577) × P taken written
-
--- what was written for a script that was read whole
-abbrev pub Responds : Status → List ℕ → Option (List ℕ) → Option (List ℕ) → Type 0
-Responds status script holds holds' = (written : List ℕ) × Appends holds holds' written
-    × ((before now : ℕ) (left : Option (List ℕ)) → IsWhole script left → Serves status before now script left written)
-
--- the line was written and the status stands, or the sink failed and a front of the line was written
-abbrev pub EndsWith : Option (List ℕ) → Option (List ℕ) → List ℕ → Status → Status → Type 0
-EndsWith holds holds' line status result = (written : List ℕ) × Appends holds holds' written
-    × (((result ≡ status) × (written ≡ line)) ⊎ ((result ≡ Output) × IsPrefix written line))

@@ -1,71 +1,110 @@
-//! Runs a script from a source to a sink: reads it whole, reads its declarations, and writes the two
-//! lines of each.
+//! Runs a script from a source to a sink over files: reads the words and the script, finds the types, answers each
+//! declaration, and writes its lines.
 //!
-//! The contract that the program uses is that of `run`: which bytes are written for the bytes read,
-//! and the cause of each status.
+//! The contract that the program uses is that of `run`: which bytes are written for the bytes read, whatever the number
+//! of workers, and the cause of each status.
 //!
-//! Read `specs/Outcome` beside `run`, with `specs/Lexis`, `specs/Grammar`, `specs/Meaning` and
-//! `specs/Texts` below it; then `serving`, `reading`, `lexis`, `grammar`, `meaning`, `texts` and
-//! `writing`.
+//! Read `specs/Outcome` and `specs/Complete` beside `run`; then `serving`, `closed`, `reading`, `report`, `status`, `laws`.
 #![tactic(auto)]
 
-ghost use Rattle.std.specs.Prelude.{◌≡◌, ◌≤◌, ◌<◌, ◌↔◌, length};
+ghost use Rattle.std.specs.Prelude.{◌≡◌, ◌≤◌, ◌⊎◌, ℕ, Some, map};
+ghost use Rattle.std.specs.String.{string_bytes};
 ghost use Rattle.aql_outside.specs.Causes.{Rose};
-ghost use Rattle.aql_run.specs.Outcome.{Passes, Serves, code_of};
+ghost use Rattle.aql_words.specs.Words.{options_of};
+ghost use Rattle.aql_run.specs.Complete.{IsSound};
+ghost use Rattle.aql_run.specs.Ending.{AsksSample, Reported};
+ghost use Rattle.aql_run.specs.Outcome.{IsEarly, Passes, RunsWords, code_of, told_of};
 ghost use Rattle.aql_run.specs.declared.status.Status.{Status};
 
-mod faults;
-mod grammar;
-mod lexis;
-mod meaning;
+mod closed;
+mod laws;
 mod reading;
+mod report;
 mod serving;
 mod status;
-mod texts;
-mod token;
-mod writing;
 
-use aql_outside::{Sink, Source};
-use serving::status_of;
+pub use aql_answers::sample_script;
+use aql_outside::{Files, Gate, Sink, Source};
+pub use aql_session::Options;
+pub use aql_words::{WordFault, read_words};
+pub use laws::completeness;
+pub use report::{Answers, Report, Stop};
+use serving::end_of;
 use std::alloc::Global;
+use std::thread::Threads;
 
-/// What a run answers: its status, which is the program's exit status.
-#[derive(Clone, Copy, Debug, PartialEq, Eq)]
-pub struct Report {
-    pub status: u8,
-}
-
-/// Reads a script from the source to its end, and writes what its declarations print to the sink.
-/// The words are those of the command line, the program's name first.
+/// Runs the script of the source, or the built-in one, and writes what its declarations print to the sink. The words are
+/// those of the command line, the program's name first.
 ///
-/// The order is: the words; reading the source; reading the script; then the lines of each
-/// declaration in turn.
-pub fn run<S: Source, O: Sink>(
+/// The order is: the words; reading the source; then the script's tokens, depth, grammar, types, sizes and readers; then
+/// the declarations, each of which is answered and its lines written before the next one starts.
+pub fn run<R: Threads + Sync, S: Source, O: Sink, F: Files, G: Gate>(
+    rt: &R,
     alloc: Global,
     words: &[String],
     input: &mut S,
     output: &mut O,
+    files: &mut F,
+    gate: &G,
 ) -> Report
-    // What was written is what the bytes read print, as the status says.
+    // What was written is what the script's declarations print, as far as they were answered; the status has its cause.
     ensures serves { (status : Status) × (result.status ≡ code_of status)
-        × Passes (λ taken written. Serves status (S.faults input.old) (S.faults input.new) taken (S.left input.new) written)
+        × Passes (λ taken written. RunsWords status (map string_bytes words.now)
+        (told_of (S.faults input.old) (S.faults input.new) (S.left input.new) (F.faults files.old) (F.faults files.new) (F.holds files.old)) taken result.answers.items.items result.stop written)
         (S.left input.old) (S.left input.new) (O.holds output.old) (O.holds output.new) }
 
-    // The usage is at fault exactly where there is more than one word, and then nothing is touched.
-    ensures usage { (result.status ≡ 2) ↔ (1 < length words.now) }
+    // Where the words have no reading nothing is touched, with a sample the source is not, and where no declaration was begun
+    // no file is.
     ensures untouched_input { result.status ≡ 2 → input.new ≡ input.old }
     ensures untouched_output { result.status ≡ 2 → output.new ≡ output.old }
+    ensures untouched_files { (status : Status) → result.status ≡ code_of status → IsEarly status → files.new ≡ files.old }
+    ensures sample { (n : ℕ) → (options_of (map string_bytes words.now)).sample ≡ Some n → input.new ≡ input.old }
 
     // A device is blamed only where its count of faults rose in this call, and no count falls.
     ensures input { result.status ≡ 10 → Rose (S.faults input.old) (S.faults input.new) }
     ensures output { result.status ≡ 11 → Rose (O.faults output.old) (O.faults output.new) }
+    ensures files { result.status ≡ 13 → Rose (F.faults files.old) (F.faults files.new) }
+    ensures kept { F.holds files.new ≡ F.holds files.old }
     ensures later_input { S.faults input.old ≤ S.faults input.new }
     ensures later_output { O.faults output.old ≤ O.faults output.new }
+    ensures later_files { F.faults files.old ≤ F.faults files.new }
+
+    // Over a sound script, where no count of faults rises, every declaration is answered, or memory is wanting.
+    ensures complete { IsSound (map string_bytes words.now) (S.left input.old) (F.holds files.old) → (Rose (S.faults input.old) (S.faults input.new) → ⊥)
+        → (Rose (F.faults files.old) (F.faults files.new) → ⊥) → (Rose (O.faults output.old) (O.faults output.new) → ⊥) → (result.status ≡ 0) ⊎ (result.status ≡ 1) }
 {
-    Report {
-        status: status_of(alloc, words, input, output).code(),
-    }
+    completeness();
+    reported(rt, alloc, words, input, output, files, gate)
 }
 
-#[cfg(test)]
-mod tests;
+// Runs the script, and says the outcome under one word.
+fn reported<R: Threads + Sync, S: Source, O: Sink, F: Files, G: Gate>(
+    rt: &R,
+    alloc: Global,
+    words: &[String],
+    input: &mut S,
+    output: &mut O,
+    files: &mut F,
+    gate: &G,
+) -> Report
+    ensures serves { Reported (map string_bytes words.now) (S.faults input.old) (S.faults input.new) (F.faults files.old) (F.faults files.new) (F.holds files.old) result.answers.items.items result.stop result.status
+        (S.left input.old) (S.left input.new) (O.holds output.old) (O.holds output.new) }
+    ensures untouched_input { result.status ≡ 2 → input.new ≡ input.old }
+    ensures untouched_output { result.status ≡ 2 → output.new ≡ output.old }
+    ensures untouched_files { (status : Status) → result.status ≡ code_of status → IsEarly status → files.new ≡ files.old }
+    ensures sample { (n : ℕ) → AsksSample (map string_bytes words.now) n → input.new ≡ input.old }
+    ensures output { result.status ≡ 11 → Rose (O.faults output.old) (O.faults output.new) }
+    ensures kept { F.holds files.new ≡ F.holds files.old }
+    ensures later_input { S.faults input.old ≤ S.faults input.new }
+    ensures later_output { O.faults output.old ≤ O.faults output.new }
+    ensures later_files { F.faults files.old ≤ F.faults files.new }
+{
+    let mut answers = Vec::new(alloc);
+    let end = end_of(rt, alloc, words, input, output, files, gate, &mut answers);
+    let status = end.status.code();
+    Report {
+        status,
+        answers: Answers { items: answers },
+        stop: end.stop,
+    }
+}

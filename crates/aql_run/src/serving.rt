@@ -1,82 +1,335 @@
-// A run, from the words to the last line.
-ghost use Rattle.std.specs.Prelude.{◌≡◌, ◌≢◌, ◌≤◌, ◌<◌, ◌↔◌, ◌⊎◌, length};
+//! A run, from the words to the last line.
+ghost use Rattle.std.specs.Prelude.{◌≡◌, ◌≢◌, ◌≤◌, ◌+◌, ◌⊎◌, List, ℕ, [], codes, map, length, IfOk, None, Some};
+ghost use Rattle.std.specs.String.{string_bytes};
 ghost use Rattle.aql_outside.specs.Causes.{Rose};
-ghost use Rattle.aql_run.specs.Outcome.{Responds, EndsWith, Passes, Serves};
+ghost use Rattle.aql_words.specs.Words.{AreInRange};
+ghost use Rattle.aql_answers.specs.Lines.{in_declaration};
+ghost use Rattle.aql_run.specs.Outcome.{IsEarly};
+ghost use Rattle.aql_run.specs.Ending.{Answers, AsksSample, EndsWith, IsReady, Refused, Responds, Running, Samples, Serving, Stopped};
 
-use crate::faults::ScriptFault;
-use crate::grammar::script_values;
+use crate::closed::{answer_each, read_options, ready};
 use crate::reading::{ReadFault, read_script};
+use crate::report::{End, Stop};
 use crate::status::Status;
-use crate::writing::{WriteFault, write_all, write_entries};
-use aql_outside::{Sink, Source};
+use aql_answers::{Halt, byte_line, declaration_line, file_line, sample_script, write_all};
+use aql_outside::{Files, Gate, Sink, Source};
+use aql_script::{Prepared, ScriptFault};
+use aql_session::{Answer, Options, StepFault};
+use aql_value::Memory;
+use aql_words::WordFault;
 use std::alloc::Global;
+use std::thread::Threads;
 
-/// Looks at the words, and then runs the script of the source.
-pub fn status_of<S: Source, O: Sink>(
+/// Reads the words, and then runs the script that they ask for.
+pub(crate) fn end_of<R: Threads + Sync, S: Source, O: Sink, F: Files, G: Gate>(
+    rt: &R,
     alloc: Global,
     words: &[String],
     input: &mut S,
     output: &mut O,
-) -> Status
-    ensures serves { Passes (λ taken written. Serves result (S.faults input.old) (S.faults input.new) taken (S.left input.new) written)
+    files: &mut F,
+    gate: &G,
+    answers: &mut Vec<Answer>,
+) -> End
+    requires none { answers.old.items ≡ [] }
+    ensures serves { Running (map string_bytes words.now) (S.faults input.old) (S.faults input.new) (F.faults files.old) (F.faults files.new) (F.holds files.old) answers.new.items result
         (S.left input.old) (S.left input.new) (O.holds output.old) (O.holds output.new) }
-    ensures usage { (result ≡ Status.Usage) ↔ (1 < length words.now) }
-    ensures untouched_input { result ≡ Status.Usage → input.new ≡ input.old }
-    ensures untouched_output { result ≡ Status.Usage → output.new ≡ output.old }
-    ensures input { result ≡ Status.Input → Rose (S.faults input.old) (S.faults input.new) }
-    ensures output { result ≡ Status.Output → Rose (O.faults output.old) (O.faults output.new) }
+    ensures untouched_input { result.status ≡ Status.Usage → input.new ≡ input.old }
+    ensures untouched_output { result.status ≡ Status.Usage → output.new ≡ output.old }
+    ensures untouched_files { IsEarly result.status → files.new ≡ files.old }
+    ensures sample { (n : ℕ) → AsksSample (map string_bytes words.now) n → input.new ≡ input.old }
+    ensures failed { result.status ≡ Status.Output → Rose (O.faults output.old) (O.faults output.new) }
+    ensures kept { F.holds files.new ≡ F.holds files.old }
     ensures later_input { S.faults input.old ≤ S.faults input.new }
     ensures later_output { O.faults output.old ≤ O.faults output.new }
+    ensures later_files { F.faults files.old ≤ F.faults files.new }
 {
-    if words.len() > 1 {
-        return Status::Usage;
+    match read_options(alloc, words) {
+        Ok(options) => serve(rt, alloc, &options, input, output, files, gate, answers),
+        Err(WordFault::Usage) => End {
+            status: Status::Usage,
+            stop: Stop::Other,
+        },
+        Err(WordFault::Memory) => End {
+            status: Status::Memory,
+            stop: Stop::Other,
+        },
     }
-    serve(alloc, input, output)
 }
 
-// Runs the script of a source.
-fn serve<S: Source, O: Sink>(alloc: Global, input: &mut S, output: &mut O) -> Status
-    ensures serves { Passes (λ taken written. Serves result (S.faults input.old) (S.faults input.new) taken (S.left input.new) written)
+// Runs the script that the options ask for: the built-in one, or that of the source.
+fn serve<R: Threads + Sync, S: Source, O: Sink, F: Files, G: Gate>(
+    rt: &R,
+    alloc: Global,
+    options: &Options,
+    input: &mut S,
+    output: &mut O,
+    files: &mut F,
+    gate: &G,
+    answers: &mut Vec<Answer>,
+) -> End
+    requires none { answers.old.items ≡ [] }
+    requires options { AreInRange options.now }
+    ensures serves { Serving options.now (S.faults input.old) (S.faults input.new) (F.faults files.old) (F.faults files.new) (F.holds files.old) answers.new.items result
         (S.left input.old) (S.left input.new) (O.holds output.old) (O.holds output.new) }
-    ensures usage { result ≢ Status.Usage }
-    ensures input { result ≡ Status.Input → Rose (S.faults input.old) (S.faults input.new) }
-    ensures output { result ≡ Status.Output → Rose (O.faults output.old) (O.faults output.new) }
+    ensures sample { (n : ℕ) → options.now.sample ≡ Some n → input.new ≡ input.old }
+    ensures untouched_files { IsEarly result.status → files.new ≡ files.old }
+    ensures failed { result.status ≡ Status.Output → Rose (O.faults output.old) (O.faults output.new) }
+    ensures kept { F.holds files.new ≡ F.holds files.old }
     ensures later_input { S.faults input.old ≤ S.faults input.new }
     ensures later_output { O.faults output.old ≤ O.faults output.new }
+    ensures later_files { F.faults files.old ≤ F.faults files.new }
+{
+    match options.sample {
+        Some(n) => serve_sample(rt, alloc, options, n, output, files, gate, answers),
+        None => serve_source(rt, alloc, options, input, output, files, gate, answers),
+    }
+}
+
+// Runs the built-in script of n cells.
+fn serve_sample<R: Threads + Sync, O: Sink, F: Files, G: Gate>(
+    rt: &R,
+    alloc: Global,
+    options: &Options,
+    n: u64,
+    output: &mut O,
+    files: &mut F,
+    gate: &G,
+    answers: &mut Vec<Answer>,
+) -> End
+    requires none { answers.old.items ≡ [] }
+    requires options { AreInRange options.now }
+    ensures written { Samples n options.now (F.faults files.old) (F.faults files.new) (F.holds files.old) answers.new.items result (O.holds output.old) (O.holds output.new) }
+    ensures untouched_files { IsEarly result.status → files.new ≡ files.old }
+    ensures failed { result.status ≡ Status.Output → Rose (O.faults output.old) (O.faults output.new) }
+    ensures kept { F.holds files.new ≡ F.holds files.old }
+    ensures later_output { O.faults output.old ≤ O.faults output.new }
+    ensures later_files { F.faults files.old ≤ F.faults files.new }
+{
+    match sample_script(alloc, n) {
+        Ok(script) => respond(rt, alloc, options, &script, output, files, gate, answers),
+        Err(_) => End {
+            status: Status::Memory,
+            stop: Stop::Other,
+        },
+    }
+}
+
+// Runs the script of the source.
+fn serve_source<R: Threads + Sync, S: Source, O: Sink, F: Files, G: Gate>(
+    rt: &R,
+    alloc: Global,
+    options: &Options,
+    input: &mut S,
+    output: &mut O,
+    files: &mut F,
+    gate: &G,
+    answers: &mut Vec<Answer>,
+) -> End
+    requires none { answers.old.items ≡ [] }
+    requires options { AreInRange options.now }
+    requires no_sample { options.now.sample ≡ None }
+    ensures serves { Serving options.now (S.faults input.old) (S.faults input.new) (F.faults files.old) (F.faults files.new) (F.holds files.old) answers.new.items result
+        (S.left input.old) (S.left input.new) (O.holds output.old) (O.holds output.new) }
+    ensures untouched_files { IsEarly result.status → files.new ≡ files.old }
+    ensures failed { result.status ≡ Status.Output → Rose (O.faults output.old) (O.faults output.new) }
+    ensures kept { F.holds files.new ≡ F.holds files.old }
+    ensures later_input { S.faults input.old ≤ S.faults input.new }
+    ensures later_output { O.faults output.old ≤ O.faults output.new }
+    ensures later_files { F.faults files.old ≤ F.faults files.new }
 {
     match read_script(alloc, input) {
-        Ok(script) => respond(alloc, &script, output),
-        Err(ReadFault::Memory) => Status::Memory,
-        Err(ReadFault::Long) => end_with(output, b"fault long\n", Status::Long),
-        Err(ReadFault::Failed) => end_with(output, b"fault input\n", Status::Input),
+        Ok(script) => respond(rt, alloc, options, &script, output, files, gate, answers),
+        Err(ReadFault::Memory) => End {
+            status: Status::Memory,
+            stop: Stop::Other,
+        },
+        Err(ReadFault::Long) => End {
+            status: end_with(output, b"fault long\n", Status::Long),
+            stop: Stop::Other,
+        },
+        Err(ReadFault::Failed) => End {
+            status: end_with(output, b"fault input\n", Status::Input),
+            stop: Stop::Other,
+        },
     }
 }
 
-// Answers a script that was read whole.
-fn respond<O: Sink>(alloc: Global, script: &[u8], output: &mut O) -> Status
-    ensures written { Responds result script.now (O.holds output.old) (O.holds output.new) }
-    ensures later { O.faults output.old ≤ O.faults output.new }
-    ensures failed { result ≡ Status.Output → Rose (O.faults output.old) (O.faults output.new) }
-    ensures not_input { result ≢ Status.Input }
-    ensures not_usage { result ≢ Status.Usage }
+// Runs a script that was read whole.
+fn respond<R: Threads + Sync, O: Sink, F: Files, G: Gate>(
+    rt: &R,
+    alloc: Global,
+    options: &Options,
+    script: &[u8],
+    output: &mut O,
+    files: &mut F,
+    gate: &G,
+    answers: &mut Vec<Answer>,
+) -> End
+    requires none { answers.old.items ≡ [] }
+    requires options { AreInRange options.now }
+    ensures written { Responds options.now script.now (F.faults files.old) (F.faults files.new) (F.holds files.old) answers.new.items result (O.holds output.old) (O.holds output.new) }
+    ensures untouched_files { IsEarly result.status → files.new ≡ files.old }
+    ensures failed { result.status ≡ Status.Output → Rose (O.faults output.old) (O.faults output.new) }
+    ensures kept { F.holds files.new ≡ F.holds files.old }
+    ensures later_output { O.faults output.old ≤ O.faults output.new }
+    ensures later_files { F.faults files.old ≤ F.faults files.new }
 {
-    match script_values(alloc, script) {
-        Ok(values) => match write_entries(alloc, output, &values) {
-            Ok(()) => Status::Done,
-            Err(WriteFault::Memory) => Status::Memory,
-            Err(WriteFault::Failed) => Status::Output,
+    match ready(alloc, script) {
+        Ok(prepared) => answer(rt, alloc, &prepared, options, output, files, gate, answers),
+        Err(fault) => End {
+            status: refuse(alloc, fault, output),
+            stop: Stop::Other,
         },
-        Err(ScriptFault::Memory) => Status::Memory,
-        Err(ScriptFault::Script) => end_with(output, b"fault script\n", Status::Script),
+    }
+}
+
+// Answers the declarations of a script, and writes the line of a fault.
+fn answer<R: Threads + Sync, O: Sink, F: Files, G: Gate>(
+    rt: &R,
+    alloc: Global,
+    prepared: &Prepared,
+    options: &Options,
+    output: &mut O,
+    files: &mut F,
+    gate: &G,
+    answers: &mut Vec<Answer>,
+) -> End
+    requires prepared { IsReady prepared.now }
+    requires none { answers.old.items ≡ [] }
+    requires options { AreInRange options.now }
+    ensures written { Answers prepared.now options.now (F.faults files.old) (F.faults files.new) (F.holds files.old) answers.new.items result (O.holds output.old) (O.holds output.new) }
+    ensures late { IsEarly result.status → ⊥ }
+    ensures failed { result.status ≡ Status.Output → Rose (O.faults output.old) (O.faults output.new) }
+    ensures kept { F.holds files.new ≡ F.holds files.old }
+    ensures later_output { O.faults output.old ≤ O.faults output.new }
+    ensures later_files { F.faults files.old ≤ F.faults files.new }
+{
+    match answer_each(rt, alloc, prepared, options, output, files, gate, answers) {
+        Ok(()) => End {
+            status: Status::Done,
+            stop: Stop::Done,
+        },
+        Err(Halt::Memory) => End {
+            status: Status::Memory,
+            stop: Stop::Other,
+        },
+        Err(Halt::Sink) => End {
+            status: Status::Output,
+            stop: Stop::Other,
+        },
+        Err(Halt::Fault(fault)) => {
+            let n = answers.len() as u64 + 1;
+            stop_at(alloc, n, fault, output)
+        }
+    }
+}
+
+// Writes the line of the fault of declaration n.
+fn stop_at<O: Sink>(alloc: Global, n: u64, fault: StepFault, output: &mut O) -> End
+    ensures written { Stopped n fault (O.holds output.old) (O.holds output.new) result }
+    ensures failed { result.status ≡ Status.Output → Rose (O.faults output.old) (O.faults output.new) }
+    ensures later { O.faults output.old ≤ O.faults output.new }
+{
+    match fault {
+        StepFault::Query { start, plan, trace } => {
+            let line = declaration_line(alloc, b"budget", n);
+            let status = end_with_made(output, line, Status::Spent);
+            kept(status, Status::Spent, Stop::Query { start, plan, trace })
+        }
+        StepFault::Cells { cells } => {
+            let line = declaration_line(alloc, b"budget", n);
+            let status = end_with_made(output, line, Status::Spent);
+            kept(status, Status::Spent, Stop::Cells { cells })
+        }
+        StepFault::File { fault } => {
+            let line = file_line(alloc, n, &fault);
+            let status = end_with_made(output, line, Status::File);
+            kept(status, Status::File, Stop::File { fault })
+        }
+        StepFault::Device => End {
+            status: end_with(output, b"fault files\n", Status::Files),
+            stop: Stop::Other,
+        },
+        StepFault::Memory => End {
+            status: Status::Memory,
+            stop: Stop::Other,
+        },
+    }
+}
+
+// Keeps the end of a run that has the status that was meant.
+fn kept(status: Status, wanted: Status, stop: Stop) -> End
+    ensures status { result.status ≡ status }
+    ensures kept { status ≡ wanted → result.stop ≡ stop }
+    ensures other { status ≢ wanted → result.stop ≡ Stop.Other }
+{
+    if status == wanted {
+        End { status, stop }
+    } else {
+        End {
+            status,
+            stop: Stop::Other,
+        }
+    }
+}
+
+// Writes the line of a script's fault.
+fn refuse<O: Sink>(alloc: Global, fault: ScriptFault, output: &mut O) -> Status
+    ensures written { Refused fault (O.holds output.old) (O.holds output.new) result }
+    ensures failed { result ≡ Status.Output → Rose (O.faults output.old) (O.faults output.new) }
+    ensures later { O.faults output.old ≤ O.faults output.new }
+{
+    match fault {
+        ScriptFault::Text { at } => {
+            end_with_made(output, byte_line(alloc, b"text", at), Status::Text)
+        }
+        ScriptFault::Deep { at } => {
+            end_with_made(output, byte_line(alloc, b"deep", at), Status::Deep)
+        }
+        ScriptFault::Syntax { declaration } => end_with_made(
+            output,
+            declaration_line(alloc, b"syntax", declaration),
+            Status::Syntax,
+        ),
+        ScriptFault::Type { declaration } => end_with_made(
+            output,
+            declaration_line(alloc, b"type", declaration),
+            Status::Type,
+        ),
+        ScriptFault::Large { declaration } => end_with_made(
+            output,
+            declaration_line(alloc, b"large", declaration),
+            Status::Large,
+        ),
+        ScriptFault::Unbuilt { declaration } => end_with_made(
+            output,
+            declaration_line(alloc, b"unbuilt", declaration),
+            Status::Unbuilt,
+        ),
+        ScriptFault::Memory => Status::Memory,
+    }
+}
+
+// Writes a line, where there was memory for it.
+fn end_with_made<O: Sink>(output: &mut O, line: Result<Vec<u8>, Memory>, status: Status) -> Status
+    requires real { status ≢ Status.Output }
+    ensures written { (text : List ℕ) → IfOk line (λ l. l.items ≡ text) → EndsWith (O.holds output.old) (O.holds output.new) text status result }
+    ensures failed { result ≡ Status.Output → Rose (O.faults output.old) (O.faults output.new) }
+    ensures later { O.faults output.old ≤ O.faults output.new }
+{
+    match line {
+        Ok(text) => end_with(output, &text, status),
+        Err(_) => Status::Memory,
     }
 }
 
 // Writes the line of a fault.
 fn end_with<O: Sink>(output: &mut O, line: &[u8], status: Status) -> Status
+    requires real { status ≢ Status.Output }
     ensures written { EndsWith (O.holds output.old) (O.holds output.new) line.now status result }
+    ensures failed { result ≡ Status.Output → Rose (O.faults output.old) (O.faults output.new) }
     ensures later { O.faults output.old ≤ O.faults output.new }
-    ensures failed { result ≡ Status.Output → (status ≡ Status.Output) ⊎ Rose (O.faults output.old) (O.faults output.new) }
-    ensures not_others { result ≢ Status.Output → result ≡ status }
 {
     match write_all(output, line) {
         Ok(()) => status,

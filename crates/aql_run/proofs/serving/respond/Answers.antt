@@ -1,20 +1,18 @@
-use Rattle.std.proofs.Common.{sym, subst, List, ℕ, ap}
-use Rattle.std.specs.Prelude.{Option, Err}
-use Rattle.aql_run.proofs.Outcomes.{HasValues, memory_in_entries, fault_in_entries, ends_script, entries_whole}
+use Rattle.aql_run.proofs.Endings.{ready_of, responds, responds_refused}
 use Rattle.aql_run.proofs.serving.respond.Goals as goal
 
-pub returns-in-Err-Memory-write_entries-clause-written :
-    goal.returns-in-Err-Memory-write_entries-clause-written
-returns-in-Err-Memory-write_entries-clause-written g c = memory_in_entries _ _ _ _
-    (subst (λ (x : List (Option ℕ)). HasValues c.args.script.now x) (sym c.deref.ensures.value) c.in-Ok.ensures.values) c.in-Err-Memory-write_entries.ensures.written
-
-pub returns-in-Ok-write_entries-clause-written : goal.returns-in-Ok-write_entries-clause-written
-returns-in-Ok-write_entries-clause-written g c = entries_whole _ _ _ _
-    (subst (λ (x : List (Option ℕ)). HasValues c.args.script.now x) (sym c.deref.ensures.value) c.in-Ok.ensures.values) c.in-Ok-write_entries.ensures.written
+pub answer-requires-clause-prepared : goal.answer-requires-clause-prepared
+answer-requires-clause-prepared g c κs within = ready_of c.args.script.now c.in-Ok.prepared c.in-Ok.ensures
 
 pub returns-in-Ok-clause-written : goal.returns-in-Ok-clause-written
-returns-in-Ok-clause-written g c = fault_in_entries _ _ _ _
-    (subst (λ (x : List (Option ℕ)). HasValues c.args.script.now x) (sym c.deref.ensures.value) c.in-Ok.ensures.values) c.in-Err-Failed.ensures.written
+returns-in-Ok-clause-written g c =
+    responds c.args.script.now c.in-Ok.prepared c.args.options.now (g.F.Files.faults c.args.files.now) (g.F.Files.faults c.answer.new.files) (g.F.Files.holds c.args.files.now)
+    c.answer.new.answers.items c.answer.result (g.O.Sink.holds c.args.output.now) (g.O.Sink.holds c.answer.new.output) c.in-Ok.ensures c.answer.ensures.written
 
-pub returns-clause-written : goal.returns-clause-written
-returns-clause-written g c = ends_script _ _ _ _ (c.in-Err-Script.ensures.script (ap Err c.in-Err-Script.field-0-is)) c.end_with.ensures.written
+pub returns-in-Err-clause-written : goal.returns-in-Err-clause-written
+returns-in-Err-clause-written g c =
+    responds_refused c.args.script.now c.in-Err.fault c.args.options.now (g.F.Files.faults c.args.files.now) (g.F.Files.faults c.args.files.now) (g.F.Files.holds c.args.files.now)
+    c.args.answers.now.items c.refuse.result (g.O.Sink.holds c.args.output.now) (g.O.Sink.holds c.refuse.new.output) c.requires.none c.in-Err.ensures c.refuse.ensures.written
+
+pub returns-in-Ok-clause-untouched_files : goal.returns-in-Ok-clause-untouched_files
+returns-in-Ok-clause-untouched_files g c early = absurd (c.answer.ensures.late early)

@@ -1,0 +1,167 @@
+// Queries with their values and turns, for one worker and for several; and the plan, which is the start term.
+use crate::tests::running::run_script;
+use std::test::Fail;
+
+// A query, and the lines behind its type: the value, and last the turns.
+#[derive(Clone, Copy)]
+struct Query<'a>(&'a str, &'a str, &'a str);
+
+const QUERIES: [Query<'static>; 25] = [
+    Query("1+2*3;", "val it = 7\n", "turns it = 0\n"),
+    Query(
+        "{x*x | \\x <- gen!4};",
+        "val it = {0, 1, 4, 9}\n",
+        "turns it = 8\n",
+    ),
+    Query(
+        "[[i*10+j | \\i<2, \\j<3]];",
+        "val it = [[2,3; 0, 1, 2, 10, 11, 12]]\n",
+        "turns it = 6\n",
+    ),
+    Query(
+        "len!([[10/i | \\i<3]]);",
+        "val it = undefined\n",
+        "turns it = 3\n",
+    ),
+    Query(
+        "summap(fn \\x => 1)!({y%2 | \\y <- gen!10});",
+        "val it = 2\n",
+        "turns it = 22\n",
+    ),
+    Query(
+        "index_1!({(0,5),(2,7),(0,6)});",
+        "val it = [[3; {5, 6}, {}, {7}]]\n",
+        "turns it = 6\n",
+    ),
+    Query(
+        "[[3; 5, 6, 7]][3];",
+        "val it = undefined\n",
+        "turns it = 0\n",
+    ),
+    Query(
+        "{(i,j) | [(\\i,\\j):6] <- [[2,3; 4, 6, 5, 6, 0, 6]]};",
+        "val it = {(0, 1), (1, 0), (1, 2)}\n",
+        "turns it = 16\n",
+    ),
+    Query(
+        "transpose!([[2,3; 1, 2, 3, 4, 5, 6]]);",
+        "val it = [[3,2; 1, 4, 2, 5, 3, 6]]\n",
+        "turns it = 6\n",
+    ),
+    Query("get!(gen!2);", "val it = undefined\n", "turns it = 2\n"),
+    Query(
+        "if 1 = 1 then summap(fn \\x => x)!(gen!3) else summap(fn \\x => x)!(gen!100);",
+        "val it = 3\n",
+        "turns it = 6\n",
+    ),
+    Query("10/0 default 4;", "val it = 4\n", "turns it = 0\n"),
+    Query(
+        "summap(fn \\x => 10/x default 1)!(gen!3);",
+        "val it = 16\n",
+        "turns it = 6\n",
+    ),
+    Query(
+        "(1/0) + summap(fn \\x => x)!(gen!5);",
+        "val it = undefined\n",
+        "turns it = 10\n",
+    ),
+    Query(
+        "let val \\s = gen!3 in {(x,y) | \\x <- s, \\y <- s, x < y} end;",
+        "val it = {(0, 1), (0, 2), (1, 2)}\n",
+        "turns it = 15\n",
+    ),
+    Query("count!({1,2,3});", "val it = 3\n", "turns it = 3\n"),
+    Query("range!(2,5);", "val it = {2, 3, 4}\n", "turns it = 6\n"),
+    Query(
+        "zip!([[2; 1, 2]],[[3; 4, 5, 6]]);",
+        "val it = [[2; (1, 4), (2, 5)]]\n",
+        "turns it = 2\n",
+    ),
+    Query(
+        "[[summap(fn \\x => x)!(gen!i) | \\i<4]];",
+        "val it = [[4; 0, 0, 1, 3]]\n",
+        "turns it = 16\n",
+    ),
+    Query(
+        "{x | \\x <- gen!2 union gen!3};",
+        "val it = {0, 1, 2}\n",
+        "turns it = 8\n",
+    ),
+    Query(
+        "reverse!([[3; 1, 2, 3]]);",
+        "val it = [[3; 3, 2, 1]]\n",
+        "turns it = 3\n",
+    ),
+    Query(
+        "{1 | [(_,_):_] <- [[1000,0; ]]};",
+        "val it = {}\n",
+        "turns it = 2000\n",
+    ),
+    Query(
+        "let val (\\x,1) = (2,3) in x end;",
+        "val it = undefined\n",
+        "turns it = 0\n",
+    ),
+    Query(
+        "{x | \\x <- {1,2,3}, \\y == x*x, y > 3};",
+        "val it = {2, 3}\n",
+        "turns it = 3\n",
+    ),
+    Query(
+        "summap(fn (\\x,\\y) => x*y)!({(1,2),(3,4)});",
+        "val it = 14\n",
+        "turns it = 2\n",
+    ),
+];
+
+#[test]
+fn queries_have_their_values_and_turns(rt: HostRuntime) -> Result<(), Fail> {
+    for query in &QUERIES {
+        for workers in ["1", "3"] {
+            let ran = run_script(
+                &rt,
+                rt.alloc(),
+                &["--plan", "--workers", workers],
+                query.0.as_bytes(),
+            )?;
+            assert_eq!(rt; ran.status, 0);
+            assert!(rt; ran.output.ends_with(query.2.as_bytes()), "{}", query.0);
+            assert!(rt; holds(&ran.output, query.1.as_bytes()), "{}", query.0);
+        }
+    }
+    Ok(())
+}
+
+// Whether a text stands in another.
+fn holds(text: &[u8], part: &[u8]) -> bool {
+    for i in 0..text.len() {
+        if text[i..].starts_with(part) {
+            return true;
+        }
+    }
+    false
+}
+
+#[test]
+fn a_plan_is_the_start_term(rt: HostRuntime) -> Result<(), Fail> {
+    let rows = [
+        (
+            "[[(i,i) | \\i<10]][3];",
+            "typ it : nat * nat\nval it = (3, 3)\nplan it = sub([[(x0, x0) | x0<10]]; 3)\nrules it = none\nturns it = 10\n",
+        ),
+        (
+            "macro \\f = fn \\x => x; f!1;",
+            "typ f : 'a -> 'a\nmac f\ntyp it : nat\nval it = 1\nplan it = (let x0 = 1 in (let x1 = x0 in x1))\nrules it = none\nturns it = 0\n",
+        ),
+        (
+            "val \\a = 1; {x | \\x <- {a}};",
+            "typ a : nat\nval a = 1\nplan a = 1\nrules a = none\nturns a = 0\ntyp it : {nat}\nval it = {1}\nplan it = U{(let x1 = x0 in {x1}) | x0 in {@1}}\nrules it = none\nturns it = 1\n",
+        ),
+    ];
+    for (script, output) in rows {
+        let ran = run_script(&rt, rt.alloc(), &["--plan"], script.as_bytes())?;
+        assert_eq!(rt; ran.status, 0);
+        assert_eq!(rt; ran.output.as_slice(), output.as_bytes());
+    }
+    Ok(())
+}

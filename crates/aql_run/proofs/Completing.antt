@@ -1,0 +1,208 @@
+-- A run that is given what it must be ends well.
+use Rattle.std.proofs.Common.{◌≡◌, ◌∙◌, ◌≤◌, ◌<◌, ◌+◌, ◌⊎◌, inl, inr, ℕ, zero, suc, List, [], ◌∷◌, ◌++◌, refl, sym, ap, subst, length, take, arith, length-append, append-nil, false, true}
+use Rattle.std.specs.Prelude.{Option, Some, None, codes}
+use Rattle.std.specs.List.{slice_get}
+use Rattle.std.specs.Option.{ForSome}
+use Rattle.std.specs.Io.KnownBytes.{Consumes, IsAtEnd}
+use Rattle.std.proofs.lemmas.Option.{slice_get_cases}
+use Rattle.aql_outside.specs.Causes.{Rose}
+use Rattle.aql_outside.specs.Contents.{Content}
+use Rattle.aql_value.specs.Datum.{Datum}
+use Rattle.aql_types.specs.Types.{Sort}
+use Rattle.aql_syntax.specs.Grammar.{ReadsScript, SyntaxFaultAt}
+use Rattle.aql_syntax.specs.Lexis.{Lexeme, TextFaultAt}
+use Rattle.aql_syntax.specs.Script.{Earlier, globals_of}
+use Rattle.aql_syntax.specs.Sound.{declarations_of}
+use Rattle.aql_syntax.specs.Tree.{Tree, Declaration, val, mac, read, bare}
+use Rattle.aql_syntax.specs.Work.{work}
+use Rattle.aql_infer.specs.Checked.{IsFirstUntyped}
+use Rattle.aql_lex.specs.Lexed.{OneList, TokensOrTextFault, ShallowOrDeep, IsDeepAt}
+use Rattle.aql_grammar.specs.Scripts.{either}
+use Rattle.nrca_term.specs.Meaning.{Outcomes}
+use Rattle.nrca_term.specs.Turns.{settle}
+use Rattle.aql_start.specs.Laws.{outcomes_of}
+use Rattle.aql_start.specs.Positions.{start-turns}
+use Rattle.aql_start.specs.Start.{start, knowns_of}
+use Rattle.cdf_header.specs.declared.fault.CdfFault.{CdfFault}
+use Rattle.aql_script.specs.Script.{Spells, Reads, ReadsAlone, AreTyped, positions, AreWithinLimits, IsFirstLarge, NoneReadsRecords, IsFirstOfRecords}
+use Rattle.aql_session.specs.Asked.{Asked, cells}
+use Rattle.aql_session.specs.Bound.{earlier_of}
+use Rattle.aql_session.specs.Reading.{read_fault}
+use Rattle.aql_session.specs.Step.{asks, query_turns, IsCause}
+use Rattle.aql_session.specs.declared.answer.Answer.{Answer}
+use Rattle.aql_session.specs.declared.answer.StepFault.{StepFault}
+use Rattle.aql_session.specs.declared.answer.StepFault.TheVariants as faults
+use Rattle.aql_words.specs.Words.{HasReading, options_of}
+use Rattle.aql_answers.specs.Answered.{AreAnswered, IsStopped}
+use Rattle.aql_answers.specs.Sample.{sample_text}
+use Rattle.aql_run.specs.Complete.{work_of, AreOutcomes, HaveTypings, IsWithin, IsAsked, IsSound, Completes}
+use Rattle.aql_run.specs.Outcome.{Told, IsScript, HasRun, Stops, Refuses, Writes, Serves, RunsWords, IsSpent}
+use Rattle.aql_run.specs.declared.report.Stop.{Stop}
+use Rattle.aql_run.specs.declared.status.Status.{Status}
+use Rattle.aql_run.specs.declared.status.Status.TheVariants as status
+
+-- ---- the script
+
+some_is : {A : Type 0} (x y : A) → ◌≡◌ {A = Option A} (Some x) (Some y) → x ≡ y
+some_is x y e = cc
+
+-- the script that was read is the one that is asked for
+same_script : (sample : Option ℕ) (left left' : Option (List ℕ)) (taken script given : List ℕ) → IsAsked sample left given → Consumes left left' taken → IsScript sample left' taken script → script ≡ given
+same_script (Some n) left left' taken script given asked consumed (none, is) = is ∙ sym asked
+same_script None None left' taken script given (e, few) consumed (is, whole) = absurd cc
+same_script None (Some xs) None taken script given (e, few) consumed (is, whole) = absurd consumed
+same_script None (Some xs) (Some ys) taken script given (e, few) consumed (is, (short, atend)) =
+    is ∙ (sym (append-nil taken) ∙ (ap (λ l. taken ++ l) (sym atend) ∙ (sym consumed ∙ some_is xs given e)))
+
+-- no more is taken than is there
+few_taken : (left left' : Option (List ℕ)) (taken given : List ℕ) → left ≡ Some given → Consumes left left' taken → length taken ≤ length given
+few_taken None left' taken given e consumed = absurd cc
+few_taken (Some xs) None taken given e consumed = absurd consumed
+few_taken (Some xs) (Some ys) taken given e consumed =
+    let all : length given ≡ length (taken ++ ys) = ap length (sym (some_is xs given e) ∙ consumed) in
+    omega (arith, all, length-append taken ys)
+
+asked_short : (sample : Option ℕ) (left left' : Option (List ℕ)) (taken given : List ℕ) → sample ≡ None → IsAsked sample left given → Consumes left left' taken → length taken ≤ 1048576
+asked_short (Some n) left left' taken given e asked consumed = absurd cc
+asked_short None left left' taken given e (is, few) consumed = omega (arith, few_taken left left' taken given is consumed, few)
+
+-- ---- faults of a script that it does not have
+
+typed_or_not : (earlier ds : List Declaration) (n : ℕ) → HaveTypings earlier ds → IsFirstUntyped earlier ds n → ⊥
+typed_or_not earlier [] n h u = u
+typed_or_not earlier (d ∷ ds) zero h u = u
+typed_or_not earlier (d ∷ ds) (suc zero) ((s, has), more) u = u s has
+typed_or_not earlier (d ∷ ds) (suc (suc k)) h u = typed_or_not (d ∷ earlier) ds (suc k) h.1 u.1
+
+records_or_none : (k : ℕ) (ds : List Declaration) (n : ℕ) → NoneReadsRecords ds → IsFirstOfRecords k ds n → ⊥
+records_or_none k [] n h f = f
+records_or_none k (d ∷ ds) n h (inl (e, is)) = absurd cc
+records_or_none k (d ∷ ds) n h (inr (e, later)) = records_or_none (k + 1) ds n h.1 later
+
+within_or_large : (ds : List Declaration) (n : ℕ) → AreWithinLimits (positions ds) (24 + length ds) → IsFirstLarge ds n → ⊥
+within_or_large ds n h f =
+    let last = f.last in
+    let k = h (24 + n) (omega arith) (omega (arith, last)) in
+    of f.large k.0 k.1
+  where
+    of : {a b : ℕ} → (20000 < a) ⊎ (1000 < b) → a ≤ 20000 → b ≤ 1000 → ⊥
+    of (inl x) y z = absurd (omega (arith, x, y))
+    of (inr x) y z = absurd (omega (arith, x, z))
+
+-- ---- faults of a declaration that it does not have
+
+turns_are : (d : Declaration) (earlier : Earlier) → query_turns d earlier ≡ work_of d earlier
+turns_are (val x e) earlier = of e earlier
+  where
+    of : (e : Tree) (earlier : Earlier) → settle (outcomes_of earlier) [] (start e (knowns_of (declarations_of earlier)) []) ≡ work e (globals_of earlier) []
+    of e earlier = ap (λ V. settle V [] (start e (knowns_of (declarations_of earlier)) [])) (sym (append-nil (outcomes_of earlier))) ∙ start-turns earlier [] e
+turns_are (mac f p body) earlier = refl
+turns_are (read x r e) earlier =
+    ap (λ V. settle V [] (start e (knowns_of (declarations_of earlier)) [])) (sym (append-nil (outcomes_of earlier))) ∙ start-turns earlier [] e
+turns_are (bare e) earlier =
+    ap (λ V. settle V [] (start e (knowns_of (declarations_of earlier)) [])) (sym (append-nil (outcomes_of earlier))) ∙ start-turns earlier [] e
+
+no_cause : (d : Declaration) (earlier : Earlier) (budget : ℕ) (holds : Option Content) (before now : ℕ) (f : StepFault) → IsWithin d earlier budget holds → (Rose before now → ⊥) →
+    IsCause d earlier budget holds before now f → (f ≡ faults.Memory → ⊥) → ⊥
+no_cause d earlier budget holds before now (faults.Query start plan trace) h quiet (past, _, _, _) other =
+    let turns = h.turns in let same = turns_are d earlier in absurd (omega (arith, past, turns, same))
+no_cause d earlier budget holds before now (faults.Cells c) h quiet (within, a, e, (past, is)) other =
+    let few = h.cells a e in absurd (omega (arith, past, few))
+no_cause d earlier budget holds before now (faults.File f) h quiet (within, a, e, (few, own, told)) other = read_none (h.file a e)
+  where
+    read_none : ((files : Content) × (holds ≡ Some files) × (read_fault files a ≡ None)) → ⊥
+    read_none (files, is, none) =
+        let some : read_fault files a ≡ Some f = told files is in
+        absurd (cc (some, none))
+no_cause d earlier budget holds before now faults.Device h quiet (within, a, e, (few, rose)) other = quiet rose
+no_cause d earlier budget holds before now faults.Memory h quiet cause other = other refl
+
+there_is : {X : Type 0} (xs : List X) (i : ℕ) → i < length xs → (x : X) × (slice_get xs i ≡ Some x)
+there_is [] i lt = absurd (omega (arith, lt))
+there_is (x ∷ xs) zero lt = (x, refl)
+there_is (x ∷ xs) (suc i) lt = there_is xs i (omega (arith, lt))
+
+inside : {X : Type 0} (xs : List X) (i : ℕ) (x : X) → slice_get xs i ≡ Some x → i < length xs
+inside [] i x e = absurd cc
+inside (y ∷ xs) zero x e = omega arith
+inside (y ∷ xs) (suc i) x e = omega (arith, inside xs i x e)
+
+-- the outcomes of the answers are those of the positions
+are_outcomes : (ds : List Declaration) (sorts : List Sort) (budget : ℕ) (holds : Option Content) (answers : List Answer) (V : Outcomes) →
+    AreAnswered ds sorts budget holds answers V → AreOutcomes ds holds V
+are_outcomes ds sorts budget holds answers V h = record {
+  prelude = h.prelude;
+  each = λ i d o there is.
+      let lt = inside V (24 + i) o is in
+      let many = h.many in
+      let (a, e) = there_is answers i (omega (arith, lt, many)) in
+      ((h.each i d a o there e is).outcome, (h.each i d a o there e is).told);
+}
+
+-- no declaration of a sound script has a fault but want of memory
+never_stops : (words : List (List ℕ)) (told : Told) (left : Option (List ℕ)) (taken lines : List ℕ) (answers : List Answer) (f : StepFault) → IsSound words left told.holds →
+    Consumes left told.left taken → (Rose told.files_before told.files_now → ⊥) → (run : HasRun (options_of words) told taken answers lines) → Stops run f →
+    (f ≡ faults.Memory → ⊥) → ⊥
+never_stops words told left taken lines answers f h consumed quiet run (d, there, cause) other =
+    let same : run.script ≡ h.script = same_script (options_of words).sample left told.left taken run.script h.script h.asked consumed run.is in
+    let ds : h.ds ≡ run.ds = run.reads.1 h.ds (subst (λ (x : List ℕ). Reads x h.ds) (sym same) h.are) in
+    let many = run.answered.many in
+    let at : slice_get (positions run.ds) (length run.outcomes) ≡ Some d = ap (slice_get (positions run.ds)) many ∙ there in
+    let is : AreOutcomes h.ds told.holds run.outcomes =
+    subst (λ (l : List Declaration). AreOutcomes l told.holds run.outcomes) (sym ds)
+    (are_outcomes run.ds run.sorts (options_of words).budget told.holds answers run.outcomes run.answered) in
+    let within : IsWithin d (earlier_of (positions h.ds) run.outcomes) (options_of words).budget told.holds =
+    h.within run.outcomes d is (ap (λ (l : List Declaration). slice_get (positions l) (length run.outcomes)) ds ∙ at) in
+    no_cause d (earlier_of (positions run.ds) run.outcomes) (options_of words).budget told.holds told.files_before told.files_now f
+    (subst (λ (l : List Declaration). IsWithin d (earlier_of (positions l) run.outcomes) (options_of words).budget told.holds) ds within) quiet cause other
+
+-- a script that is refused is the one that is asked for, with the reading that it has
+refuses_none : (words : List (List ℕ)) (told : Told) (left : Option (List ℕ)) (taken : List ℕ) (answers : List Answer) (stop : Stop) (lines line fault : List ℕ) (P : List ℕ → Type 0) →
+    (h : IsSound words left told.holds) → Consumes left told.left taken → Refuses (options_of words) told taken answers stop lines line fault P →
+    ((script : List ℕ) → Reads script h.ds → P script → ⊥) → ⊥
+refuses_none words told left taken answers stop lines line fault P h consumed (script, is, p, _, _, _, _) never =
+    let same : script ≡ h.script = same_script (options_of words).sample left told.left taken script h.script h.asked consumed is in
+    never script (subst (λ (x : List ℕ). Reads x h.ds) (sym same) h.are) p
+
+spells_one : OneList → (script : List ℕ) (ls ms : List Lexeme) → Spells script ls → Spells script ms → ls ≡ ms
+spells_one one script ls ms (ts, a, _) (us, b, _) = (one script ts us ls ms a b).lexemes
+
+spent_not_memory : (f : StepFault) → IsSpent f → f ≡ faults.Memory → ⊥
+spent_not_memory (faults.Query start plan trace) h e = absurd cc
+spent_not_memory (faults.Cells c) h e = absurd cc
+spent_not_memory (faults.File f) h e = h
+spent_not_memory faults.Device h e = h
+spent_not_memory faults.Memory h e = h
+
+pub completes : OneList → TokensOrTextFault → ShallowOrDeep → Completes
+unfolding Completes
+completes one text deep status.Done words told left taken answers stop written consumed runs h source quiet sink = inl refl
+completes one text deep status.Memory words told left taken answers stop written consumed runs h source quiet sink = inr refl
+completes one text deep status.Usage words told left taken answers stop written consumed runs h source quiet sink = absurd (runs.0 h.reads)
+completes one text deep status.Output words told left taken answers stop written consumed runs h source quiet sink = absurd (sink refl)
+completes one text deep status.Text words told left taken answers stop written consumed (_, (lines, line, (k, r), _)) h source quiet sink =
+    absurd (refuses_none words told left taken answers stop lines line _ _ h consumed r (λ script are p. text k script are.1.0 are.0 are.1.1 p))
+completes one text deep status.Deep words told left taken answers stop written consumed (_, (lines, line, (k, r), _)) h source quiet sink =
+    absurd (refuses_none words told left taken answers stop lines line _ _ h consumed r (λ script are p. deep k script are.1.0 (are.0, (are.1.1, are.1.2)) p))
+completes one text deep status.Syntax words told left taken answers stop written consumed (_, (lines, line, (n, r), _)) h source quiet sink =
+    absurd (refuses_none words told left taken answers stop lines line _ _ h consumed r
+    (λ script are p. either h.ds n p.0 (subst (λ (l : List Lexeme). ReadsScript h.ds l) (spells_one one script are.0 p.0 are.1 p.1) are.2) p.2))
+completes one text deep status.Type words told left taken answers stop written consumed (_, (lines, line, (n, r), _)) h source quiet sink =
+    absurd (refuses_none words told left taken answers stop lines line _ _ h consumed r
+    (λ script are p. typed_or_not [] (positions h.ds) (24 + n) h.typed
+    (subst (λ (l : List Declaration). IsFirstUntyped [] (positions l) (24 + n)) (sym (p.1.1 h.ds are)) p.3)))
+completes one text deep status.Large words told left taken answers stop written consumed (_, (lines, line, (n, r), _)) h source quiet sink =
+    absurd (refuses_none words told left taken answers stop lines line _ _ h consumed r
+    (λ script are p. within_or_large h.ds n h.limits (subst (λ (l : List Declaration). IsFirstLarge l n) (sym (p.1.1 h.ds are)) p.3)))
+completes one text deep status.Unbuilt words told left taken answers stop written consumed (_, (lines, line, (n, r), _)) h source quiet sink =
+    absurd (refuses_none words told left taken answers stop lines line _ _ h consumed r
+    (λ script are p. records_or_none 1 h.ds n h.built (subst (λ (l : List Declaration). IsFirstOfRecords 1 l n) (sym (p.1.1 h.ds are)) p.4)))
+completes one text deep status.Long words told left taken answers stop written consumed (_, (lines, line, (none, long, _, _, _, _), _)) h source quiet sink =
+    let few = asked_short (options_of words).sample left told.left taken h.script none h.asked consumed in absurd (omega (arith, long, few))
+completes one text deep status.Input words told left taken answers stop written consumed (_, (lines, line, (none, few, rose, _, _, _, _), _)) h source quiet sink = absurd (source rose)
+completes one text deep status.File words told left taken answers stop written consumed (_, (lines, line, (run, f, stops, _, _), _)) h source quiet sink =
+    absurd (never_stops words told left taken lines answers (faults.File f) h consumed quiet run stops (λ e. absurd cc))
+completes one text deep status.Spent words told left taken answers stop written consumed (_, (lines, line, (run, f, spent, stops, _, _), _)) h source quiet sink =
+    absurd (never_stops words told left taken lines answers f h consumed quiet run stops (spent_not_memory f spent))
+completes one text deep status.Files words told left taken answers stop written consumed (_, (lines, line, (run, stops, _, _), _)) h source quiet sink =
+    absurd (never_stops words told left taken lines answers faults.Device h consumed quiet run stops (λ e. absurd cc))

@@ -1,0 +1,633 @@
+-- How the parts of a run make its outcome.
+use Rattle.std.proofs.Common.{◌≡◌, ◌∙◌, ◌≤◌, ◌<◌, ◌+◌, ◌-◌, ◌⊎◌, inl, inr, ℕ, zero, suc, List, [], ◌∷◌, ◌++◌, refl, sym, ap, subst, length, take, drop, arith, append_assoc, append-nil}
+use Rattle.std.specs.Prelude.{Option, Some, None, Bool, Result, Ok, Err, OnOk, IfOk, IfErr, IsErrOf, codes}
+use Rattle.std.specs.Io.KnownBytes.{Appends, Consumes, IsAtEnd}
+use Rattle.std.proofs.KnownBytes.{Appends-nil, Appends-trans, Consumes-nil}
+use Rattle.aql_outside.specs.Causes.{Rose}
+use Rattle.aql_outside.specs.Contents.{Content}
+use Rattle.aql_value.specs.Datum.{Datum}
+use Rattle.aql_syntax.specs.Tree.{Declaration}
+use Rattle.aql_syntax.specs.View.{decls_of}
+use Rattle.nrca_term.specs.Meaning.{Outcomes}
+use Rattle.aql_words.specs.Words.{HasReading, options_of}
+use Rattle.aql_words.specs.declared.words.Options.{Options}
+use Rattle.aql_words.specs.declared.fault.WordFault.{WordFault}
+use Rattle.aql_words.specs.declared.fault.WordFault.TheVariants as wording
+use Rattle.aql_script.specs.PositionLaws.{drop_prelude}
+use Rattle.aql_script.specs.Script.{Prepares, ReadsAlone, AreTyped, positions, AreWithinLimits, NoneReadsRecords}
+use Rattle.aql_script.specs.declared.preparing.Prepared.{Prepared}
+use Rattle.aql_script.specs.declared.fault.ScriptFault.{ScriptFault}
+use Rattle.aql_script.specs.declared.fault.ScriptFault.TheVariants as refused
+use Rattle.aql_session.specs.declared.answer.Answer.{Answer}
+use Rattle.aql_session.specs.declared.answer.StepFault.{StepFault}
+use Rattle.aql_session.specs.declared.answer.StepFault.TheVariants as faults
+use Rattle.aql_answers.specs.Answered.{AreAnswered, IsStopped}
+use Rattle.aql_answers.specs.Entry.{entry, entries}
+use Rattle.aql_answers.specs.Lines.{at_byte, in_declaration, of_file}
+use Rattle.aql_answers.specs.Sample.{sample_text}
+use Rattle.aql_answers.specs.Steps.{own, sorts, IsPrepared, AllAnswered, CutsLines, EndsEarly}
+use Rattle.aql_answers.specs.declared.steps.Halt.{Halt}
+use Rattle.aql_answers.specs.declared.steps.Halt.TheVariants as halts
+use Rattle.aql_run.specs.Complete.{IsSound, Completes}
+use Rattle.aql_run.specs.Reading.{ReadsWhole, ReadFails}
+use Rattle.aql_run.specs.declared.reading.ReadFault.TheVariants as reading
+use Rattle.aql_run.specs.Outcome.{Told, code_of, told_of, IsPrefix, IsWhole, IsScript, HasRun, CutsLast, Stops, stop_of, IsSpent, Writes, WritesAll, Serves, IsEarly, RunsWords, DoesNothing, Passes}
+use Rattle.aql_run.specs.Ending.{Answering, Answers, Asks, AsksSample, EndsWith, IsReady, Readies, Refused, Reported, Responds, Running, Samples, Serving, Stopped, refusal_line, stop_status, stop_line}
+use Rattle.aql_run.specs.declared.report.End.{End}
+use Rattle.aql_run.specs.declared.report.Stop.{Stop}
+use Rattle.aql_run.specs.declared.report.Stop.TheVariants as stops
+use Rattle.aql_run.specs.declared.status.Status.{Status}
+use Rattle.aql_run.specs.declared.status.Status.TheVariants as status
+
+-- ---- the script of positions that were prepared
+
+-- the script's own declarations stand behind those of the prelude
+prepared_is : (script : List ℕ) (p : Prepared) → Prepares script (Ok p) → IsPrepared p × ReadsAlone script (own p)
+prepared_is script p (ds, reads, all, typed, limits, built) =
+    let same : own p ≡ ds = ap (drop 24) all ∙ drop_prelude ds in (
+      record {
+        all = all ∙ ap positions (sym same);
+        typed = subst (λ (l : List Declaration). AreTyped l (sorts p)) (sym same) typed;
+        limits = subst (λ (l : List Declaration). AreWithinLimits (positions l) (24 + length l)) (sym same) limits;
+        built = subst NoneReadsRecords (sym same) built;
+      },
+      subst (ReadsAlone script) (sym same) reads,
+    )
+
+pub readies : (script : List ℕ) (r : Result Prepared ScriptFault) → Prepares script r → Readies script r
+unfolding Readies
+readies script r h = h
+
+pub ready_of : (script : List ℕ) (p : Prepared) → Readies script (Ok p) → IsReady p
+unfolding Readies IsReady
+ready_of script p h = let (is, _) = prepared_is script p h in is
+
+pub is_prepared : (p : Prepared) → IsReady p → IsPrepared p
+unfolding IsReady
+is_prepared p h = h
+
+pub answering : (p : Prepared) (o : Options) (before now : ℕ) (holds : Option Content) (answers : List Answer) (old new : Option (List ℕ)) (r : Result (Unit {0}) Halt) →
+    OnOk r (AllAnswered p o holds answers old new) → IfErr r (λ h. EndsEarly p o holds before now answers old new h) → Answering p o before now holds answers old new r
+unfolding Answering
+answering p o before now holds answers old new r done early = (done, early)
+
+-- ---- the lines of answers
+
+-- the lines of the first answers are a front of those of all
+entries_front : (plan : Bool) (answers : List Answer) (os : List (Option Datum)) (k : ℕ) → IsPrefix (entries plan (take k answers) os) (entries plan answers os)
+entries_front plan answers os zero = (entries plan answers os, refl)
+entries_front plan [] os (suc k) = ([], refl)
+entries_front plan (a ∷ answers) [] (suc k) = ([], refl)
+entries_front plan (a ∷ answers) (o ∷ os) (suc k) =
+    let (rest, e) = entries_front plan answers os k in
+    (rest, ap (λ l. entry plan a o ++ l) e ∙ sym (append_assoc (entry plan a o) (entries plan (take k answers) os) rest))
+
+-- a run with these answers
+has_run : (p : Prepared) (o : Options) (told : Told) (taken script : List ℕ) (answers : List Answer) (V : Outcomes) → IsPrepared p → ReadsAlone script (own p) →
+    IsScript o.sample told.left taken script → AreAnswered (own p) (sorts p) o.budget told.holds answers V →
+    HasRun o told taken answers (entries o.plan answers (drop 24 V))
+has_run p o told taken script answers V h reads is answered = record {
+  script = script;
+  ds = own p;
+  sorts = sorts p;
+  outcomes = V;
+  is = is;
+  reads = reads;
+  typed = h.typed;
+  limits = h.limits;
+  built = h.built;
+  answered = answered;
+  printed = refl;
+}
+
+-- all the lines, and then a text of which nothing is a line
+cuts_behind : (p : Prepared) (o : Options) (told : Told) (taken script : List ℕ) (answers : List Answer) (V : Outcomes) (more : List ℕ) → IsPrepared p → ReadsAlone script (own p) →
+    IsScript o.sample told.left taken script → AreAnswered (own p) (sorts p) o.budget told.holds answers V → IsPrefix more [] →
+    CutsLast o told taken answers (entries o.plan answers (drop 24 V) ++ more)
+unfolding has_run
+cuts_behind p o told taken script answers V more h reads is answered (none, e) =
+    let (last, f) = entries_front o.plan answers (drop 24 V) (length answers - 1) in
+    record {
+      lines = entries o.plan answers (drop 24 V);
+      run = has_run p o told taken script answers V h reads is answered;
+      front = (
+        none,
+        sym (append-nil (entries o.plan answers (drop 24 V))) ∙ (ap (λ l. entries o.plan answers (drop 24 V) ++ l) e
+            ∙ sym (append_assoc (entries o.plan answers (drop 24 V)) more none)),
+      );
+      whole = (last ++ more, ap (λ l. l ++ more) f ∙ append_assoc (entries o.plan (take (length answers - 1) answers) (drop 24 V)) last more);
+    }
+
+-- a front of the lines
+cuts : (p : Prepared) (o : Options) (told : Told) (taken script : List ℕ) (answers : List Answer) (written : List ℕ) → IsPrepared p → ReadsAlone script (own p) →
+    IsScript o.sample told.left taken script → CutsLines p o told.holds answers written → CutsLast o told taken answers written
+unfolding has_run
+cuts p o told taken script answers written h reads is c = record {
+  lines = entries o.plan answers (drop 24 c.outcomes);
+  run = has_run p o told taken script answers c.outcomes h reads is c.answered;
+  front = (c.back, c.front);
+  whole = (c.last, c.whole);
+}
+
+-- ---- the ends of the run of the declarations
+
+ends_done : (p : Prepared) (o : Options) (before now : ℕ) (holds : Option Content) (answers : List Answer) (old new : Option (List ℕ)) → IsPrepared p →
+    AllAnswered p o holds answers old new → Answers p o before now holds answers (record { status = status.Done; stop = stops.Done }) old new
+unfolding Answers Responds has_run
+ends_done p o before now holds answers old new h all =
+    λ script reads. (
+      entries o.plan answers (drop 24 all.outcomes),
+      all.written,
+      λ input_before input_now left taken is. (
+        entries o.plan answers (drop 24 all.outcomes),
+        [],
+        (has_run p o (told_of input_before input_now left before now holds) taken script answers all.outcomes h reads is all.answered, all.all, refl, refl),
+        sym (append-nil (entries o.plan answers (drop 24 all.outcomes))),
+      ),
+    )
+
+ends_memory : (p : Prepared) (o : Options) (before now : ℕ) (holds : Option Content) (answers : List Answer) (old new : Option (List ℕ)) → IsPrepared p →
+    EndsEarly p o holds before now answers old new halts.Memory → Answers p o before now holds answers (record { status = status.Memory; stop = stops.Other }) old new
+unfolding Answers Responds
+ends_memory p o before now holds answers old new h (written, appended, inl none) = λ script reads. (written, appended, λ input_before input_now left taken is. (refl, inl none))
+ends_memory p o before now holds answers old new h (written, appended, inr c) =
+    λ script reads. (
+      written,
+      appended,
+      λ input_before input_now left taken is. (refl, inr (cuts p o (told_of input_before input_now left before now holds) taken script answers written h reads is c)),
+    )
+
+ends_sink : (p : Prepared) (o : Options) (before now : ℕ) (holds : Option Content) (answers : List Answer) (old new : Option (List ℕ)) → IsPrepared p →
+    EndsEarly p o holds before now answers old new halts.Sink → Answers p o before now holds answers (record { status = status.Output; stop = stops.Other }) old new
+unfolding Answers Responds
+ends_sink p o before now holds answers old new h (written, appended, c) =
+    λ script reads. (
+      written,
+      appended,
+      λ input_before input_now left taken is. (refl, inl (cuts p o (told_of input_before input_now left before now holds) taken script answers written h reads is c)),
+    )
+
+-- ---- the fault of a declaration
+
+-- what is written for it, or for want of memory nothing
+abbrev FaultWrites : StepFault → Options → Told → (taken : List ℕ) → List Answer → (lines line : List ℕ) → Type 0
+FaultWrites f o told taken answers lines line =
+    Writes (stop_status f) o told taken answers (stop_of f) lines line
+    ⊎ ((stop_status f ≡ status.Memory) × (stop_of f ≡ stops.Other) × CutsLast o told taken answers (lines ++ line))
+
+fault_writes : (p : Prepared) (o : Options) (told : Told) (taken script : List ℕ) (answers : List Answer) (V : Outcomes) (f : StepFault) → IsPrepared p → ReadsAlone script (own p) →
+    IsScript o.sample told.left taken script → AreAnswered (own p) (sorts p) o.budget told.holds answers V →
+    IsStopped (own p) o.budget told.holds told.files_before told.files_now (length answers) V f →
+    FaultWrites f o told taken answers (entries o.plan answers (drop 24 V)) (stop_line (length answers + 1) f)
+unfolding has_run
+fault_writes p o told taken script answers V (faults.Query start plan trace) h reads is answered stopped =
+    inl (has_run p o told taken script answers V h reads is answered, faults.Query start plan trace, tt, stopped, refl, refl)
+fault_writes p o told taken script answers V (faults.Cells cells) h reads is answered stopped =
+    inl (has_run p o told taken script answers V h reads is answered, faults.Cells cells, tt, stopped, refl, refl)
+fault_writes p o told taken script answers V (faults.File f) h reads is answered stopped =
+    inl (has_run p o told taken script answers V h reads is answered, f, stopped, refl, refl)
+fault_writes p o told taken script answers V faults.Device h reads is answered stopped =
+    inl (has_run p o told taken script answers V h reads is answered, stopped, refl, refl)
+fault_writes p o told taken script answers V faults.Memory h reads is answered stopped =
+    inr (refl, refl, cuts_behind p o told taken script answers V [] h reads is answered ([], refl))
+
+-- the statuses of faults serve what they write
+fault_serves : (f : StepFault) (o : Options) (told : Told) (taken : List ℕ) (answers : List Answer) (lines line : List ℕ) → FaultWrites f o told taken answers lines line →
+    Serves (stop_status f) o told taken answers (stop_of f) (lines ++ line)
+fault_serves (faults.Query start plan trace) o told taken answers lines line (inl w) = (lines, line, w, refl)
+fault_serves (faults.Query start plan trace) o told taken answers lines line (inr (e, _, _)) = absurd cc
+fault_serves (faults.Cells cells) o told taken answers lines line (inl w) = (lines, line, w, refl)
+fault_serves (faults.Cells cells) o told taken answers lines line (inr (e, _, _)) = absurd cc
+fault_serves (faults.File f) o told taken answers lines line (inl w) = (lines, line, w, refl)
+fault_serves (faults.File f) o told taken answers lines line (inr (e, _, _)) = absurd cc
+fault_serves faults.Device o told taken answers lines line (inl w) = (lines, line, w, refl)
+fault_serves faults.Device o told taken answers lines line (inr (e, _, _)) = absurd cc
+fault_serves faults.Memory o told taken answers lines line (inl w) = absurd w
+fault_serves faults.Memory o told taken answers lines line (inr (_, _, c)) = (refl, inr c)
+
+-- want of memory has no line
+no_line : (f : StepFault) (n : ℕ) → stop_status f ≡ status.Memory → stop_line n f ≡ []
+no_line (faults.Query start plan trace) n m = absurd cc
+no_line (faults.Cells cells) n m = absurd cc
+no_line (faults.File f) n m = absurd cc
+no_line faults.Device n m = absurd cc
+no_line faults.Memory n m = refl
+
+-- the sink failed behind a front of what is written for it
+fault_cut : (f : StepFault) (p : Prepared) (o : Options) (told : Told) (taken script : List ℕ) (answers : List Answer) (V : Outcomes) (front : List ℕ) → IsPrepared p →
+    ReadsAlone script (own p) → IsScript o.sample told.left taken script → AreAnswered (own p) (sorts p) o.budget told.holds answers V →
+    IsStopped (own p) o.budget told.holds told.files_before told.files_now (length answers) V f →
+    IsPrefix front (stop_line (length answers + 1) f) → Serves status.Output o told taken answers stops.Other (entries o.plan answers (drop 24 V) ++ front)
+fault_cut f p o told taken script answers V front h reads is answered stopped (rest, e) =
+    by (fault_writes p o told taken script answers V f h reads is answered stopped)
+  where
+    lines : List ℕ
+    lines = entries o.plan answers (drop 24 V)
+
+    by : FaultWrites f o told taken answers lines (stop_line (length answers + 1) f) → Serves status.Output o told taken answers stops.Other (lines ++ front)
+    by (inl w) = (refl, inr (stop_status f, stop_of f, lines, stop_line (length answers + 1) f, front, w, (rest, e), refl))
+    by (inr (m, _, _)) =
+        (refl, inl (cuts_behind p o told taken script answers V front h reads is answered (rest, sym (no_line f (length answers + 1) m) ∙ e)))
+
+ends_fault : (p : Prepared) (o : Options) (before now : ℕ) (holds : Option Content) (answers : List Answer) (f : StepFault) (n : ℕ) (old mid new : Option (List ℕ)) (e : End) →
+    IsPrepared p → EndsEarly p o holds before now answers old mid (halts.Fault f) → n ≡ length answers + 1 → Stopped n f mid new e → Answers p o before now holds answers e old new
+unfolding Answers Responds Stopped
+ends_fault p o before now holds answers f n old mid new e h (V, answered, stopped, appended) is (line, more, ends) =
+    λ script reads. (
+      entries o.plan answers (drop 24 V) ++ line,
+      Appends-trans old mid new (entries o.plan answers (drop 24 V)) line appended more,
+      λ input_before input_now left taken of_script. by script reads input_before input_now left taken of_script ends,
+    )
+  where
+    at : stop_line n f ≡ stop_line (length answers + 1) f
+    at = ap (λ k. stop_line k f) is
+
+    by : (script : List ℕ) → ReadsAlone script (own p) → (input_before input_now : ℕ) (left : Option (List ℕ)) (taken : List ℕ) → IsScript o.sample left taken script →
+        (((e.status ≡ stop_status f) × (e.stop ≡ stop_of f) × (line ≡ stop_line n f))
+        ⊎ (((e.status ≡ status.Output) × (e.stop ≡ stops.Other) × IsPrefix line (stop_line n f))
+        ⊎ ((e.status ≡ status.Memory) × (e.stop ≡ stops.Other) × (line ≡ [])))) →
+        Serves e.status o (told_of input_before input_now left before now holds) taken answers e.stop (entries o.plan answers (drop 24 V) ++ line)
+    by script reads input_before input_now left taken of_script (inl (s, k, l)) =
+        let told : Told = told_of input_before input_now left before now holds in
+        subst (λ (x : Status). Serves x o told taken answers e.stop (entries o.plan answers (drop 24 V) ++ line)) (sym s)
+        (subst (λ (x : Stop). Serves (stop_status f) o told taken answers x (entries o.plan answers (drop 24 V) ++ line)) (sym k)
+        (subst (λ (w : List ℕ). Serves (stop_status f) o told taken answers (stop_of f) (entries o.plan answers (drop 24 V) ++ w)) (sym (l ∙ at))
+        (fault_serves f o told taken answers (entries o.plan answers (drop 24 V)) (stop_line (length answers + 1) f)
+        (fault_writes p o told taken script answers V f h reads of_script answered stopped))))
+    by script reads input_before input_now left taken of_script (inr (inl (s, k, (rest, split)))) =
+        let told : Told = told_of input_before input_now left before now holds in
+        subst (λ (x : Status). Serves x o told taken answers e.stop (entries o.plan answers (drop 24 V) ++ line)) (sym s)
+        (subst (λ (x : Stop). Serves status.Output o told taken answers x (entries o.plan answers (drop 24 V) ++ line)) (sym k)
+        (fault_cut f p o told taken script answers V line h reads of_script answered stopped (rest, sym at ∙ split)))
+    by script reads input_before input_now left taken of_script (inr (inr (s, k, none))) =
+        let told : Told = told_of input_before input_now left before now holds in
+        subst (λ (x : Status). Serves x o told taken answers e.stop (entries o.plan answers (drop 24 V) ++ line)) (sym s)
+        (subst (λ (x : Stop). Serves status.Memory o told taken answers x (entries o.plan answers (drop 24 V) ++ line)) (sym k)
+        (refl, inr (cuts_behind p o told taken script answers V line h reads of_script answered ([], sym (append-nil line ∙ none)))))
+
+-- ---- the same of what the call answered
+
+pub answers_done : (p : Prepared) (o : Options) (before now : ℕ) (holds : Option Content) (answers : List Answer) (old new : Option (List ℕ)) (u : Unit {0}) → IsReady p →
+    Answering p o before now holds answers old new (Ok u) → Answers p o before now holds answers (record { status = status.Done; stop = stops.Done }) old new
+unfolding IsReady Answering
+answers_done p o before now holds answers old new u h (all, _) = ends_done p o before now holds answers old new h all
+
+pub answers_memory : (p : Prepared) (o : Options) (before now : ℕ) (holds : Option Content) (answers : List Answer) (old new : Option (List ℕ)) (halt : Halt) → halt ≡ halts.Memory →
+    IsReady p → Answering p o before now holds answers old new (Err halt) → Answers p o before now holds answers (record { status = status.Memory; stop = stops.Other }) old new
+unfolding IsReady Answering
+answers_memory p o before now holds answers old new halt is h (_, early) =
+    ends_memory p o before now holds answers old new h (subst (λ (x : Halt). EndsEarly p o holds before now answers old new x) is early)
+
+pub answers_sink : (p : Prepared) (o : Options) (before now : ℕ) (holds : Option Content) (answers : List Answer) (old new : Option (List ℕ)) (halt : Halt) → halt ≡ halts.Sink →
+    IsReady p → Answering p o before now holds answers old new (Err halt) → Answers p o before now holds answers (record { status = status.Output; stop = stops.Other }) old new
+unfolding IsReady Answering
+answers_sink p o before now holds answers old new halt is h (_, early) =
+    ends_sink p o before now holds answers old new h (subst (λ (x : Halt). EndsEarly p o holds before now answers old new x) is early)
+
+pub answers_fault : (p : Prepared) (o : Options) (before now : ℕ) (holds : Option Content) (answers : List Answer) (f : StepFault) (n : ℕ) (old mid new : Option (List ℕ)) (e : End)
+    (halt : Halt) → halt ≡ halts.Fault f → IsReady p → Answering p o before now holds answers old mid (Err halt) → n ≡ length answers + 1 → Stopped n f mid new e →
+    Answers p o before now holds answers e old new
+unfolding IsReady Answering
+answers_fault p o before now holds answers f n old mid new e halt is h (_, early) at stopped =
+    ends_fault p o before now holds answers f n old mid new e h (subst (λ (x : Halt). EndsEarly p o holds before now answers old mid x) is early) at stopped
+
+-- a fault of a declaration comes when some were begun
+late_status : (f : StepFault) → IsEarly (stop_status f) → ⊥
+late_status (faults.Query start plan trace) h = h
+late_status (faults.Cells cells) h = h
+late_status (faults.File f) h = h
+late_status faults.Device h = h
+late_status faults.Memory h = h
+
+pub late_stop : (n : ℕ) (f : StepFault) (old new : Option (List ℕ)) (e : End) → Stopped n f old new e → IsEarly e.status → ⊥
+unfolding Stopped
+late_stop n f old new e (written, appended, inl (is, _, _)) early = late_status f (subst (λ (s : Status). IsEarly s) is early)
+late_stop n f old new e (written, appended, inr (inl (is, _, _))) early = subst (λ (s : Status). IsEarly s) is early
+late_stop n f old new e (written, appended, inr (inr (is, _, _))) early = subst (λ (s : Status). IsEarly s) is early
+
+-- the line of a fault was written as far as that went, and the fault is kept where it was written whole
+pub stopped_as : (n : ℕ) (f : StepFault) (old new : Option (List ℕ)) (line : List ℕ) (wanted s : Status) (e : End) → stop_status f ≡ wanted → stop_line n f ≡ line →
+    (wanted ≡ status.Output → ⊥) → (wanted ≡ status.Memory → ⊥) → EndsWith old new line wanted s → e.status ≡ s → (s ≡ wanted → e.stop ≡ stop_of f) →
+    ((s ≡ wanted → ⊥) → e.stop ≡ stops.Other) → Stopped n f old new e
+unfolding Stopped
+stopped_as n f old new line wanted s e st ln no_output no_memory (written, appended, inl (is, all)) same kept other =
+    (written, appended, inl (same ∙ (is ∙ sym st), kept is, all ∙ sym ln))
+stopped_as n f old new line wanted s e st ln no_output no_memory (written, appended, inr (inl (is, (rest, split)))) same kept other =
+    (written, appended, inr (inl (same ∙ is, other (λ x. no_output (sym x ∙ is)), (rest, ln ∙ split))))
+stopped_as n f old new line wanted s e st ln no_output no_memory (written, appended, inr (inr (is, nothing))) same kept other =
+    (written, appended, inr (inr (same ∙ is, other (λ x. no_memory (sym x ∙ is)), nothing)))
+
+-- ---- the fault of a script, and of the source
+
+-- one line was written, or a front of it, or there was no memory for it
+served : (o : Options) (told : Told) (taken : List ℕ) (answers : List Answer) (line : List ℕ) (wanted s : Status) (written : List ℕ) → answers ≡ [] →
+    Writes wanted o told taken answers stops.Other [] line → ((w : List ℕ) → WritesAll wanted o told taken answers stops.Other w → Serves wanted o told taken answers stops.Other w) →
+    (((s ≡ wanted) × (written ≡ line)) ⊎ (((s ≡ status.Output) × IsPrefix written line) ⊎ ((s ≡ status.Memory) × (written ≡ [])))) →
+    Serves s o told taken answers stops.Other written
+served o told taken answers line wanted s written none w serves (inl (e, all)) =
+    subst (λ (x : Status). Serves x o told taken answers stops.Other written) (sym e)
+    (subst (λ (l : List ℕ). Serves wanted o told taken answers stops.Other l) (sym all) (serves line ([], line, w, refl)))
+served o told taken answers line wanted s written none w serves (inr (inl (e, front))) =
+    subst (λ (x : Status). Serves x o told taken answers stops.Other written) (sym e) (refl, inr (wanted, stops.Other, [], line, written, w, front, refl))
+served o told taken answers line wanted s written none w serves (inr (inr (e, nothing))) =
+    subst (λ (x : Status). Serves x o told taken answers stops.Other written) (sym e) (refl, inl (none, nothing))
+
+-- the line of each fault of a script
+pub refused_text : (f : ScriptFault) (k : ℕ) (old new : Option (List ℕ)) (s : Status) → f ≡ refused.Text k → EndsWith old new (at_byte (codes "text") k) status.Text s → Refused f old new s
+unfolding Refused
+refused_text f k old new s is h = subst (λ (x : ScriptFault). Refused x old new s) (sym is) h
+
+pub refused_deep : (f : ScriptFault) (k : ℕ) (old new : Option (List ℕ)) (s : Status) → f ≡ refused.Deep k → EndsWith old new (at_byte (codes "deep") k) status.Deep s → Refused f old new s
+unfolding Refused
+refused_deep f k old new s is h = subst (λ (x : ScriptFault). Refused x old new s) (sym is) h
+
+pub refused_syntax : (f : ScriptFault) (n : ℕ) (old new : Option (List ℕ)) (s : Status) → f ≡ refused.Syntax n → EndsWith old new (in_declaration (codes "syntax") n) status.Syntax s → Refused f old new s
+unfolding Refused
+refused_syntax f n old new s is h = subst (λ (x : ScriptFault). Refused x old new s) (sym is) h
+
+pub refused_type : (f : ScriptFault) (n : ℕ) (old new : Option (List ℕ)) (s : Status) → f ≡ refused.Type n → EndsWith old new (in_declaration (codes "type") n) status.Type s → Refused f old new s
+unfolding Refused
+refused_type f n old new s is h = subst (λ (x : ScriptFault). Refused x old new s) (sym is) h
+
+pub refused_large : (f : ScriptFault) (n : ℕ) (old new : Option (List ℕ)) (s : Status) → f ≡ refused.Large n → EndsWith old new (in_declaration (codes "large") n) status.Large s → Refused f old new s
+unfolding Refused
+refused_large f n old new s is h = subst (λ (x : ScriptFault). Refused x old new s) (sym is) h
+
+pub refused_unbuilt : (f : ScriptFault) (n : ℕ) (old new : Option (List ℕ)) (s : Status) → f ≡ refused.Unbuilt n → EndsWith old new (in_declaration (codes "unbuilt") n) status.Unbuilt s → Refused f old new s
+unfolding Refused
+refused_unbuilt f n old new s is h = subst (λ (x : ScriptFault). Refused x old new s) (sym is) h
+
+pub refused_memory : (f : ScriptFault) (old : Option (List ℕ)) → f ≡ refused.Memory → Refused f old old status.Memory
+unfolding Refused
+refused_memory f old is = subst (λ (x : ScriptFault). Refused x old old status.Memory) (sym is) (refl, Appends-nil old)
+
+-- the line of each fault of a declaration
+pub stopped_memory : (n : ℕ) (old : Option (List ℕ)) → Stopped n faults.Memory old old (record { status = status.Memory; stop = stops.Other })
+unfolding Stopped
+stopped_memory n old = ([], Appends-nil old, inl (refl, refl, refl))
+
+-- of a script with a fault
+refuses_with : (o : Options) (script : List ℕ) (before now : ℕ) (holds : Option Content) (answers : List Answer) (line : List ℕ) (wanted s : Status) (old new : Option (List ℕ)) →
+    answers ≡ [] → ((told : Told) (taken : List ℕ) → IsScript o.sample told.left taken script → Writes wanted o told taken answers stops.Other [] line) →
+    ((told : Told) (taken w : List ℕ) → WritesAll wanted o told taken answers stops.Other w → Serves wanted o told taken answers stops.Other w) → EndsWith old new line wanted s →
+    Responds o script before now holds answers (record { status = s; stop = stops.Other }) old new
+unfolding Responds
+refuses_with o script before now holds answers line wanted s old new none writes serves (written, appended, ends) = (
+  written,
+  appended,
+  λ input_before input_now left taken is. served o (told_of input_before input_now left before now holds) taken answers line wanted s written none
+      (writes (told_of input_before input_now left before now holds) taken is) (serves (told_of input_before input_now left before now holds) taken) ends,
+)
+
+ends_refused : (o : Options) (script : List ℕ) (f : ScriptFault) (before now : ℕ) (holds : Option Content) (answers : List Answer) (s : Status) (old new : Option (List ℕ)) →
+    answers ≡ [] → Prepares script (Err f) → Refused f old new s → Responds o script before now holds answers (record { status = s; stop = stops.Other }) old new
+unfolding Responds Refused
+ends_refused o script (refused.Text k) before now holds answers s old new none h ends =
+    refuses_with o script before now holds answers (refusal_line (refused.Text k)) status.Text s old new none (λ told taken is. (k, (script, is, h, none, refl, refl, refl))) (λ told taken w x. x) ends
+ends_refused o script (refused.Deep k) before now holds answers s old new none h ends =
+    refuses_with o script before now holds answers (refusal_line (refused.Deep k)) status.Deep s old new none (λ told taken is. (k, (script, is, h, none, refl, refl, refl))) (λ told taken w x. x) ends
+ends_refused o script (refused.Syntax n) before now holds answers s old new none h ends =
+    refuses_with o script before now holds answers (refusal_line (refused.Syntax n)) status.Syntax s old new none (λ told taken is. (n, (script, is, h, none, refl, refl, refl))) (λ told taken w x. x) ends
+ends_refused o script (refused.Type n) before now holds answers s old new none h ends =
+    refuses_with o script before now holds answers (refusal_line (refused.Type n)) status.Type s old new none (λ told taken is. (n, (script, is, h, none, refl, refl, refl))) (λ told taken w x. x) ends
+ends_refused o script (refused.Large n) before now holds answers s old new none h ends =
+    refuses_with o script before now holds answers (refusal_line (refused.Large n)) status.Large s old new none (λ told taken is. (n, (script, is, h, none, refl, refl, refl))) (λ told taken w x. x) ends
+ends_refused o script (refused.Unbuilt n) before now holds answers s old new none h ends =
+    refuses_with o script before now holds answers (refusal_line (refused.Unbuilt n)) status.Unbuilt s old new none (λ told taken is. (n, (script, is, h, none, refl, refl, refl))) (λ told taken w x. x) ends
+ends_refused o script refused.Memory before now holds answers s old new none h (e, nothing) = (
+  [],
+  nothing,
+  λ input_before input_now left taken is.
+      subst (λ (x : Status). Serves x o (told_of input_before input_now left before now holds) taken answers stops.Other []) (sym e) (refl, inl (none, refl)),
+)
+
+-- a script that was read
+pub responds : (script : List ℕ) (p : Prepared) (o : Options) (before now : ℕ) (holds : Option Content) (answers : List Answer) (e : End) (old new : Option (List ℕ)) →
+    Readies script (Ok p) → Answers p o before now holds answers e old new → Responds o script before now holds answers e old new
+unfolding Readies Answers
+responds script p o before now holds answers e old new h answered = let (_, reads) = prepared_is script p h in answered script reads
+
+-- a script that was refused
+pub responds_refused : (script : List ℕ) (f : ScriptFault) (o : Options) (before now : ℕ) (holds : Option Content) (answers : List Answer) (s : Status) (old new : Option (List ℕ)) →
+    answers ≡ [] → Readies script (Err f) → Refused f old new s → Responds o script before now holds answers (record { status = s; stop = stops.Other }) old new
+unfolding Readies
+responds_refused script f o before now holds answers s old new none h ends = ends_refused o script f before now holds answers s old new none h ends
+
+-- of the source
+pub ends_long : (o : Options) (input_before input_now before now : ℕ) (content : Option Content) (left left' holds holds' : Option (List ℕ)) (answers : List Answer) (s : Status) →
+    o.sample ≡ None → answers ≡ [] → ReadFails left left' reading.Long → EndsWith holds holds' (codes "fault long\n") status.Long s →
+    Serving o input_before input_now before now content answers (record { status = s; stop = stops.Other }) left left' holds holds'
+unfolding Serving
+ends_long o input_before input_now before now content left left' holds holds' answers s sample none (taken, consumed, long) (written, appended, ends) =
+    let more : 1048576 < length taken = omega (arith, long) in (
+      taken,
+      written,
+      consumed,
+      appended,
+      omega (arith, long),
+      served o (told_of input_before input_now left' before now content) taken answers (codes "fault long\n") status.Long s written none (sample, more, none, refl, refl, refl) (λ w x. x) ends,
+    )
+
+pub ends_input : (o : Options) (input_before input_now before now : ℕ) (content : Option Content) (left left' holds holds' : Option (List ℕ)) (answers : List Answer) (s : Status) →
+    o.sample ≡ None → answers ≡ [] → ReadFails left left' reading.Failed → Rose input_before input_now → EndsWith holds holds' (codes "fault input\n") status.Input s →
+    Serving o input_before input_now before now content answers (record { status = s; stop = stops.Other }) left left' holds holds'
+unfolding Serving
+ends_input o input_before input_now before now content left left' holds holds' answers s sample none (taken, consumed, short) rose (written, appended, ends) = (
+  taken,
+  written,
+  consumed,
+  appended,
+  omega (arith, short),
+  served o (told_of input_before input_now left' before now content) taken answers (codes "fault input\n") status.Input s written none (sample, short, rose, none, refl, refl, refl) (λ w x. x) ends,
+)
+
+pub ends_unread : (o : Options) (input_before input_now before now : ℕ) (content : Option Content) (left left' holds : Option (List ℕ)) (answers : List Answer) → answers ≡ [] →
+    ReadFails left left' reading.Memory → Serving o input_before input_now before now content answers (record { status = status.Memory; stop = stops.Other }) left left' holds holds
+unfolding Serving
+ends_unread o input_before input_now before now content left left' holds answers none (taken, consumed, few) = (taken, [], consumed, Appends-nil holds, few, (refl, inl (none, refl)))
+
+-- ---- a script of the source, and the built-in one
+
+pub ends_read : (o : Options) (script : List ℕ) (input_before input_now before now : ℕ) (content : Option Content) (left left' holds holds' : Option (List ℕ)) (answers : List Answer) (e : End) →
+    o.sample ≡ None → ReadsWhole left left' script → (text : List ℕ) → text ≡ script → Responds o text before now content answers e holds holds' →
+    Serving o input_before input_now before now content answers e left left' holds holds'
+unfolding Serving Responds
+ends_read o script input_before input_now before now content left left' holds holds' answers e sample (consumed, atend, few) text is (written, appended, serves) = (
+  script,
+  written,
+  consumed,
+  appended,
+  omega (arith, few),
+  serves input_before input_now left' script (subst (λ (x : Option ℕ). IsScript x left' script text) (sym sample) (is, (few, atend))),
+)
+
+pub samples : (n : ℕ) (script : List ℕ) (o : Options) (before now : ℕ) (holds : Option Content) (answers : List Answer) (e : End) (old new : Option (List ℕ)) → script ≡ sample_text n →
+    Responds o script before now holds answers e old new → Samples n o before now holds answers e old new
+unfolding Samples
+samples n script o before now holds answers e old new is h = subst (λ (x : List ℕ). Responds o x before now holds answers e old new) is h
+
+pub ends_unmade : (n : ℕ) (o : Options) (before now : ℕ) (holds : Option Content) (answers : List Answer) (old : Option (List ℕ)) → answers ≡ [] →
+    Samples n o before now holds answers (record { status = status.Memory; stop = stops.Other }) old old
+unfolding Samples Responds
+ends_unmade n o before now holds answers old none = ([], Appends-nil old, λ input_before input_now left taken is. (refl, inl (none, refl)))
+
+pub ends_sample : (o : Options) (n : ℕ) (input_before before now : ℕ) (content : Option Content) (left holds holds' : Option (List ℕ)) (answers : List Answer) (e : End) →
+    o.sample ≡ Some n → Samples n o before now content answers e holds holds' → Serving o input_before input_before before now content answers e left left holds holds'
+unfolding Serving Samples Responds
+ends_sample o n input_before before now content left holds holds' answers e sample (written, appended, serves) = (
+  [],
+  written,
+  Consumes-nil left,
+  appended,
+  omega arith,
+  serves input_before input_before left [] (subst (λ (x : Option ℕ). IsScript x left [] (sample_text n)) (sym sample) (refl, refl)),
+)
+
+-- ---- the words
+
+runs : (s : Status) (words : List (List ℕ)) (o : Options) (told : Told) (taken : List ℕ) (answers : List Answer) (stop : Stop) (written : List ℕ) → HasReading words → o ≡ options_of words →
+    Serves s o told taken answers stop written → RunsWords s words told taken answers stop written
+runs status.Usage words o told taken answers stop written reads is h = absurd h
+runs status.Memory words o told taken answers stop written reads is h = inr (reads, subst (λ (x : Options). Serves status.Memory x told taken answers stop written) is h)
+runs status.Done words o told taken answers stop written reads is h = (reads, subst (λ (x : Options). Serves status.Done x told taken answers stop written) is h)
+runs status.Text words o told taken answers stop written reads is h = (reads, subst (λ (x : Options). Serves status.Text x told taken answers stop written) is h)
+runs status.Syntax words o told taken answers stop written reads is h = (reads, subst (λ (x : Options). Serves status.Syntax x told taken answers stop written) is h)
+runs status.Type words o told taken answers stop written reads is h = (reads, subst (λ (x : Options). Serves status.Type x told taken answers stop written) is h)
+runs status.Deep words o told taken answers stop written reads is h = (reads, subst (λ (x : Options). Serves status.Deep x told taken answers stop written) is h)
+runs status.Large words o told taken answers stop written reads is h = (reads, subst (λ (x : Options). Serves status.Large x told taken answers stop written) is h)
+runs status.Long words o told taken answers stop written reads is h = (reads, subst (λ (x : Options). Serves status.Long x told taken answers stop written) is h)
+runs status.File words o told taken answers stop written reads is h = (reads, subst (λ (x : Options). Serves status.File x told taken answers stop written) is h)
+runs status.Input words o told taken answers stop written reads is h = (reads, subst (λ (x : Options). Serves status.Input x told taken answers stop written) is h)
+runs status.Output words o told taken answers stop written reads is h = (reads, subst (λ (x : Options). Serves status.Output x told taken answers stop written) is h)
+runs status.Spent words o told taken answers stop written reads is h = (reads, subst (λ (x : Options). Serves status.Spent x told taken answers stop written) is h)
+runs status.Files words o told taken answers stop written reads is h = (reads, subst (λ (x : Options). Serves status.Files x told taken answers stop written) is h)
+runs status.Unbuilt words o told taken answers stop written reads is h = (reads, subst (λ (x : Options). Serves status.Unbuilt x told taken answers stop written) is h)
+
+words_run : (words : List (List ℕ)) (o : Options) (input_before input_now before now : ℕ) (content : Option Content) (answers : List Answer) (e : End) (left left' holds holds' : Option (List ℕ)) →
+    HasReading words → o ≡ options_of words → Serving o input_before input_now before now content answers e left left' holds holds' →
+    Running words input_before input_now before now content answers e left left' holds holds'
+unfolding Serving Running
+words_run words o input_before input_now before now content answers e left left' holds holds' reads is (taken, written, consumed, appended, few, h) =
+    (taken, written, consumed, appended, few, runs e.status words o (told_of input_before input_now left' before now content) taken answers e.stop written reads is h)
+
+no_words : (words : List (List ℕ)) (input_before before : ℕ) (content : Option Content) (answers : List Answer) (left holds : Option (List ℕ)) → answers ≡ [] → (HasReading words → ⊥) →
+    Running words input_before input_before before before content answers (record { status = status.Usage; stop = stops.Other }) left left holds holds
+unfolding Running
+no_words words input_before before content answers left holds none unread = ([], [], Consumes-nil left, Appends-nil holds, omega arith, (unread, (refl, none, refl, refl)))
+
+pub no_memory : (words : List (List ℕ)) (input_before before : ℕ) (content : Option Content) (answers : List Answer) (left holds : Option (List ℕ)) → answers ≡ [] →
+    Running words input_before input_before before before content answers (record { status = status.Memory; stop = stops.Other }) left left holds holds
+unfolding Running
+no_memory words input_before before content answers left holds none = ([], [], Consumes-nil left, Appends-nil holds, omega arith, inl (refl, none, refl, refl))
+
+pub asked : (words : List (List ℕ)) (r : Result Options WordFault) → IfOk r (λ o. HasReading words × (o ≡ options_of words)) → (IsErrOf r wording.Usage → HasReading words → ⊥) → Asks words r
+unfolding Asks
+asked words r read usage = (read, usage)
+
+pub asks_sample : (words : List (List ℕ)) (o : Options) (n : ℕ) → Asks words (Ok o) → AsksSample words n → o.sample ≡ Some n
+unfolding Asks AsksSample
+asks_sample words o n ((reads, is), _) a = ap (λ (x : Options). x.sample) is ∙ a
+
+pub options_run : (words : List (List ℕ)) (o : Options) (input_before input_now before now : ℕ) (content : Option Content) (answers : List Answer) (e : End) (left left' holds holds' : Option (List ℕ)) →
+    Asks words (Ok o) → Serving o input_before input_now before now content answers e left left' holds holds' →
+    Running words input_before input_now before now content answers e left left' holds holds'
+unfolding Asks
+options_run words o input_before input_now before now content answers e left left' holds holds' ((reads, is), _) h =
+    words_run words o input_before input_now before now content answers e left left' holds holds' reads is h
+
+pub words_refused : (words : List (List ℕ)) (f : WordFault) (input_before before : ℕ) (content : Option Content) (answers : List Answer) (left holds : Option (List ℕ)) → f ≡ wording.Usage →
+    answers ≡ [] → Asks words (Err f) →
+    Running words input_before input_before before before content answers (record { status = status.Usage; stop = stops.Other }) left left holds holds
+unfolding Asks
+words_refused words f input_before before content answers left holds is none (_, usage) =
+    no_words words input_before before content answers left holds none (usage (ap Err is))
+
+-- a run whose words have a reading does not end with that fault
+pub never_usage : (o : Options) (input_before input_now before now : ℕ) (content : Option Content) (answers : List Answer) (e : End) (left left' holds holds' : Option (List ℕ)) →
+    Serving o input_before input_now before now content answers e left left' holds holds' → e.status ≡ status.Usage → ⊥
+unfolding Serving
+never_usage o input_before input_now before now content answers e left left' holds holds' (taken, written, consumed, appended, few, h) is =
+    subst (λ (s : Status). Serves s o (told_of input_before input_now left' before now content) taken answers e.stop written) is h
+
+-- ---- the report
+
+pub reports : (words : List (List ℕ)) (input_before input_now before now : ℕ) (content : Option Content) (answers : List Answer) (e : End) (n : ℕ) (left left' holds holds' : Option (List ℕ)) →
+    n ≡ code_of e.status → Running words input_before input_now before now content answers e left left' holds holds' →
+    Reported words input_before input_now before now content answers e.stop n left left' holds holds'
+unfolding Running Reported
+reports words input_before input_now before now content answers e n left left' holds holds' is h = (e.status, is, h)
+
+-- the status with a number
+abbrev status_at : ℕ → Status
+status_at zero = status.Done
+status_at (suc zero) = status.Memory
+status_at (suc (suc zero)) = status.Usage
+status_at (suc (suc (suc zero))) = status.Text
+status_at (suc (suc (suc (suc zero)))) = status.Syntax
+status_at (suc (suc (suc (suc (suc zero))))) = status.Type
+status_at (suc (suc (suc (suc (suc (suc zero)))))) = status.Deep
+status_at (suc (suc (suc (suc (suc (suc (suc zero))))))) = status.Large
+status_at (suc (suc (suc (suc (suc (suc (suc (suc zero)))))))) = status.Long
+status_at (suc (suc (suc (suc (suc (suc (suc (suc (suc zero))))))))) = status.File
+status_at (suc (suc (suc (suc (suc (suc (suc (suc (suc (suc zero)))))))))) = status.Input
+status_at (suc (suc (suc (suc (suc (suc (suc (suc (suc (suc (suc zero))))))))))) = status.Output
+status_at (suc (suc (suc (suc (suc (suc (suc (suc (suc (suc (suc (suc zero)))))))))))) = status.Spent
+status_at (suc (suc (suc (suc (suc (suc (suc (suc (suc (suc (suc (suc (suc zero))))))))))))) = status.Files
+status_at (suc (suc (suc (suc (suc (suc (suc (suc (suc (suc (suc (suc (suc (suc n)))))))))))))) = status.Unbuilt
+
+back : (s : Status) → status_at (code_of s) ≡ s
+back status.Done = refl
+back status.Memory = refl
+back status.Usage = refl
+back status.Text = refl
+back status.Syntax = refl
+back status.Type = refl
+back status.Deep = refl
+back status.Large = refl
+back status.Long = refl
+back status.File = refl
+back status.Input = refl
+back status.Output = refl
+back status.Spent = refl
+back status.Files = refl
+back status.Unbuilt = refl
+
+-- statuses with one number are one
+pub status_is : (s t : Status) (n : ℕ) → n ≡ code_of s → n ≡ code_of t → s ≡ t
+status_is s t n e f = sym (back s) ∙ (ap status_at (sym e ∙ f) ∙ back t)
+
+pub reported_sample : (words : List (List ℕ)) (n : ℕ) → (options_of words).sample ≡ Some n → AsksSample words n
+unfolding AsksSample
+reported_sample words n is = is
+
+pub reported_serves : (words : List (List ℕ)) (input_before input_now before now : ℕ) (content : Option Content) (answers : List Answer) (stop : Stop) (n : ℕ) (left left' holds holds' : Option (List ℕ)) →
+    Reported words input_before input_now before now content answers stop n left left' holds holds' →
+    (s : Status) × (n ≡ code_of s) × Passes (λ taken written. RunsWords s words (told_of input_before input_now left' before now content) taken answers stop written) left left' holds holds'
+unfolding Reported
+reported_serves words input_before input_now before now content answers stop n left left' holds holds' h = h
+
+pub reported_input : (words : List (List ℕ)) (input_before input_now before now : ℕ) (content : Option Content) (answers : List Answer) (stop : Stop) (n : ℕ) (left left' holds holds' : Option (List ℕ)) →
+    Reported words input_before input_now before now content answers stop n left left' holds holds' → n ≡ 10 → Rose input_before input_now
+unfolding Reported
+reported_input words input_before input_now before now content answers stop n left left' holds holds' (s, code, (taken, written, consumed, appended, few, h)) is =
+    let (reads, (lines, line, (none, short, rose, _, _, _, _), _)) = subst (λ (x : Status). RunsWords x words (told_of input_before input_now left' before now content) taken answers stop written)
+    (status_is s status.Input n code is) h in rose
+
+pub reported_files : (words : List (List ℕ)) (input_before input_now before now : ℕ) (content : Option Content) (answers : List Answer) (stop : Stop) (n : ℕ) (left left' holds holds' : Option (List ℕ)) →
+    Reported words input_before input_now before now content answers stop n left left' holds holds' → n ≡ 13 → Rose before now
+unfolding Reported
+reported_files words input_before input_now before now content answers stop n left left' holds holds' (s, code, (taken, written, consumed, appended, few, h)) is =
+    let (reads, (lines, line, (run, stops, _, _), _)) = subst (λ (x : Status). RunsWords x words (told_of input_before input_now left' before now content) taken answers stop written)
+    (status_is s status.Files n code is) h in
+    let (d, there, (within, a, asked, (cells, rose))) = stops in rose
+
+pub reported_complete : (words : List (List ℕ)) (input_before input_now before now : ℕ) (content : Option Content) (answers : List Answer) (stop : Stop) (n : ℕ) (left left' holds holds' : Option (List ℕ)) →
+    Completes → Reported words input_before input_now before now content answers stop n left left' holds holds' → IsSound words left content → (Rose input_before input_now → ⊥) →
+    (Rose before now → ⊥) → (n ≡ 11 → ⊥) → (n ≡ 0) ⊎ (n ≡ 1)
+unfolding Reported Completes
+reported_complete words input_before input_now before now content answers stop n left left' holds holds' law (s, code, (taken, written, consumed, appended, few, h)) sound source quiet sink =
+    by (law s words (told_of input_before input_now left' before now content) left taken answers stop written consumed h sound source quiet (λ is. sink (code ∙ ap code_of is)))
+  where
+    by : (s ≡ status.Done) ⊎ (s ≡ status.Memory) → (n ≡ 0) ⊎ (n ≡ 1)
+    by (inl d) = inl (code ∙ ap code_of d)
+    by (inr m) = inr (code ∙ ap code_of m)

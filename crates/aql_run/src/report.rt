@@ -1,0 +1,49 @@
+//! What a run answers.
+use crate::status::Status;
+use aql_session::Answer;
+use cdf_header::CdfFault;
+use nrca_term::{Core, Trace};
+
+/// The answers of a run's declarations, in order. The prelude has none.
+#[derive(Drop)]
+pub struct Answers {
+    pub items: Vec<Answer>,
+}
+
+/// What is kept of the end of a run.
+#[derive(Drop)]
+pub enum Stop {
+    /// Every declaration was answered.
+    Done,
+    /// The turns of a query, or of a readval's argument, passed the budget.
+    Query {
+        start: Core,
+        plan: Core,
+        trace: Trace,
+    },
+    /// The cells that a readval asks for passed the budget: their number, or 2^128-1 where it is larger.
+    Cells {
+        cells: u128,
+    },
+    /// A file could not be read as it was asked for.
+    File {
+        fault: CdfFault,
+    },
+    /// Any other end.
+    Other,
+}
+
+/// What a run answers: the program's exit status, the answers that were made, and what is kept of the end.
+#[derive(Drop)]
+pub struct Report {
+    pub status: u8,
+    pub answers: Answers,
+    pub stop: Stop,
+}
+
+/// How a run ended, and what is kept of it.
+#[derive(Drop)]
+pub(crate) struct End {
+    pub status: Status,
+    pub stop: Stop,
+}
