@@ -2,7 +2,9 @@ use crate::fault::ParseFault;
 use crate::scripts::script;
 use aql_lex::fault::LexFault;
 use aql_lex::lexer::tokens;
-use std::alloc::Global;
+use aql_syntax::ast::{Decl, Expr};
+use aql_value::{ArithOp, CompareOp};
+use std::alloc::{AllocError, Global};
 use std::test::Fail;
 
 // How many declarations a script has, or its fault.
@@ -69,7 +71,7 @@ fn productions_are_read(rt: HostRuntime) -> Result<(), Fail> {
 
 #[test]
 fn faults_are_named(rt: HostRuntime) -> Result<(), Fail> {
-    let rows: [(&[u8], &str); 30] = [
+    let rows: [(&[u8], &str); 41] = [
         (b"1; 2", "syntax 2"),
         (b";", "syntax 1"),
         (b"1 < 2 < 3;", "syntax 1"),
@@ -102,6 +104,17 @@ fn faults_are_named(rt: HostRuntime) -> Result<(), Fail> {
         (b"readval \\y using NETCDF9 at x;", "syntax 1"),
         (b"readval \\y using CSV at x;", "syntax 1"),
         (b"1; 2; readval \\y using CSVNNNNNNNNN at x;", "syntax 3"),
+        (b"{x | f!x <- s};", "syntax 1"),
+        (b"{x | [[1; 2]] <- y};", "syntax 1"),
+        (b"{x | (a,1+b) == y};", "syntax 1"),
+        (b"{1,};", "syntax 1"),
+        (b"(1,);", "syntax 1"),
+        (b"let val \\x = 1 in x;", "syntax 1"),
+        (b"macro \\f = fn 1+x => x;", "syntax 1"),
+        (b"f!;", "syntax 1"),
+        (b"1 2;", "syntax 1"),
+        (b"1; a default; 2;", "syntax 2"),
+        (b"1; 2;; 3;", "syntax 3"),
         (b"340282366920938463463374607431768211456;", "text 0"),
     ];
     for (source, expected) in rows {
@@ -168,5 +181,173 @@ fn the_prelude_is_read(rt: HostRuntime) -> Result<(), Fail> {
         source.extend_from_slice(part)?;
     }
     assert_eq!(rt; seen(alloc, &source)?.as_str(), "24");
+    Ok(())
+}
+
+// An expression of names in prefix form: a word for each operation, then its parts. Other forms are `?`.
+#[cycle(put)]
+fn put(e: &Expr, text: &mut Vec<u8>) -> Result<(), AllocError> {
+    match e {
+        Expr::Name(x) => put_word(&x.bytes, text),
+        Expr::Apply { name, argument } => {
+            put_word(b"apply", text)?;
+            put_word(&name.bytes, text)?;
+            put(argument, text)
+        }
+        Expr::Gen(a) => {
+            put_word(b"gen", text)?;
+            put(a, text)
+        }
+        Expr::Sub { array, at } => {
+            put_word(b"sub", text)?;
+            put(array, text)?;
+            put_all(&at.items, text)
+        }
+        Expr::If(c, a, b) => {
+            put_word(b"if", text)?;
+            put(c, text)?;
+            put(a, text)?;
+            put(b, text)
+        }
+        Expr::Not(a) => {
+            put_word(b"not", text)?;
+            put(a, text)
+        }
+        Expr::And(a, b) => {
+            put_word(b"and", text)?;
+            put(a, text)?;
+            put(b, text)
+        }
+        Expr::Or(a, b) => {
+            put_word(b"or", text)?;
+            put(a, text)?;
+            put(b, text)
+        }
+        Expr::Union(a, b) => {
+            put_word(b"union", text)?;
+            put(a, text)?;
+            put(b, text)
+        }
+        Expr::Default(a, b) => {
+            put_word(b"default", text)?;
+            put(a, text)?;
+            put(b, text)
+        }
+        Expr::Arith(o, a, b) => {
+            put_word(arithmetic(*o), text)?;
+            put(a, text)?;
+            put(b, text)
+        }
+        Expr::Compare(o, a, b) => {
+            put_word(comparison(*o), text)?;
+            put(a, text)?;
+            put(b, text)
+        }
+        _ => put_word(b"?", text),
+    }
+}
+
+#[cycle(put)]
+fn put_all(es: &[Expr], text: &mut Vec<u8>) -> Result<(), AllocError> {
+    for e in es {
+        put(e, text)?;
+    }
+    put_word(b"end", text)
+}
+
+fn put_word(word: &[u8], text: &mut Vec<u8>) -> Result<(), AllocError> {
+    text.extend_from_slice(word)?;
+    text.push(b' ')?;
+    Ok(())
+}
+
+fn arithmetic(o: ArithOp) -> &'static [u8] {
+    match o {
+        ArithOp::Add => b"+",
+        ArithOp::Monus => b"-",
+        ArithOp::Mul => b"*",
+        ArithOp::Quotient => b"/",
+        ArithOp::Remainder => b"%",
+    }
+}
+
+fn comparison(o: CompareOp) -> &'static [u8] {
+    match o {
+        CompareOp::Equal => b"=",
+        CompareOp::Unequal => b"<>",
+        CompareOp::Less => b"<",
+        CompareOp::LessEqual => b"<=",
+        CompareOp::Greater => b">",
+        CompareOp::GreaterEqual => b">=",
+    }
+}
+
+// The first declaration of a script, an expression. Nothing where it is none.
+fn expression(alloc: Global, source: &[u8]) -> Result<Vec<u8>, AllocError> {
+    let mut text = Vec::new(alloc);
+    if let Ok(found) = tokens(alloc, source) {
+        if let Ok(decls) = script(alloc, &found, source) {
+            if let Some(Decl::Bare { expr }) = decls.items.first() {
+                put(expr, &mut text)?;
+            }
+        }
+    }
+    Ok(text)
+}
+
+#[test]
+fn levels_bind_as_parentheses_say(rt: HostRuntime) -> Result<(), Fail> {
+    let alloc = rt.alloc();
+    let rows: [(&[u8], &[u8]); 33] = [
+        (b"a default b or c;", b"a default (b or c);"),
+        (b"a or b default c;", b"(a or b) default c;"),
+        (b"a or b and c;", b"a or (b and c);"),
+        (b"a and b or c;", b"(a and b) or c;"),
+        (b"a and not b;", b"a and (not b);"),
+        (b"not a and b;", b"(not a) and b;"),
+        (b"not a = b;", b"not (a = b);"),
+        (b"not not a <> b;", b"not (not (a <> b));"),
+        (b"a < b union c;", b"a < (b union c);"),
+        (b"a union b >= c;", b"(a union b) >= c;"),
+        (b"a union b + c;", b"a union (b + c);"),
+        (b"a + b union c;", b"(a + b) union c;"),
+        (b"a + b * c;", b"a + (b * c);"),
+        (b"a * b + c;", b"(a * b) + c;"),
+        (b"a * f!b;", b"a * (f!b);"),
+        (b"f!a * b;", b"(f!a) * b;"),
+        (b"gen!a - b;", b"(gen!a) - b;"),
+        (b"f!a[b];", b"f!(a[b]);"),
+        (b"gen!f!a;", b"gen!(f!a);"),
+        (b"a[b][c];", b"(a[b])[c];"),
+        (b"a[b[c]];", b"a[(b[c])];"),
+        // to the left
+        (b"a - b - c;", b"(a - b) - c;"),
+        (b"a - b + c;", b"(a - b) + c;"),
+        (b"a / b * c;", b"(a / b) * c;"),
+        (b"a % b / c;", b"(a % b) / c;"),
+        (b"a union b union c;", b"(a union b) union c;"),
+        (b"a and b and c;", b"(a and b) and c;"),
+        (b"a or b or c;", b"(a or b) or c;"),
+        // to the right
+        (b"a default b default c;", b"a default (b default c);"),
+        (
+            b"if a then b else c default d;",
+            b"if a then b else (c default d);",
+        ),
+        (b"if a then b else c or d;", b"if a then b else (c or d);"),
+        (
+            b"if a then if b then c else d else e;",
+            b"if a then (if b then c else d) else e;",
+        ),
+        (
+            b"a default if b then c else d;",
+            b"a default (if b then c else d);",
+        ),
+    ];
+    for (plain, parted) in rows {
+        let seen = expression(alloc, plain)?;
+        assert!(rt; !seen.is_empty() && !seen.contains(&b'?'));
+        assert_eq!(rt; seen, expression(alloc, parted)?);
+    }
     Ok(())
 }

@@ -1,11 +1,15 @@
+mod tree_text;
+
 use crate::{ScriptFault, prepare};
 use aql_infer::check::check;
 use aql_lex::lexer::tokens;
 use aql_parse::script;
+use aql_prelude::prelude;
 use aql_print::print_scheme;
 use aql_types::ty::Scheme;
 use std::alloc::{AllocError, Global};
 use std::test::Fail;
+use tree_text::put_declaration;
 
 // The first fault of a script, or nothing.
 fn fault(alloc: Global, source: &[u8]) -> Result<String, Fail> {
@@ -210,6 +214,30 @@ fn the_types_of_the_prelude(rt: HostRuntime) -> Result<(), Fail> {
             }
         }
         Err(_) => assert!(rt; false),
+    }
+    Ok(())
+}
+
+// Each text of the prelude is read as the tree that stands for it.
+#[test]
+fn the_texts_of_the_prelude(rt: HostRuntime) -> Result<(), Fail> {
+    let alloc = rt.alloc();
+    let trees = prelude(alloc)?;
+    assert_eq!(rt; trees.items.len(), 24);
+    for ((source, _), tree) in PRELUDE.iter().zip(&trees.items) {
+        let mut expected = Vec::new(alloc);
+        put_declaration(tree, &mut expected)?;
+        let mut found = Vec::new(alloc);
+        if let Ok(words) = tokens(alloc, source) {
+            if let Ok(decls) = script(alloc, &words, source) {
+                for decl in &decls.items {
+                    put_declaration(decl, &mut found)?;
+                }
+            }
+        }
+        let text = String::from_utf8_lossy(alloc, source)?;
+        assert_eq!(rt; found.as_slice(), expected.as_slice(), "{text}");
+        assert!(rt; !expected.contains(&b'?'), "{text}");
     }
     Ok(())
 }
