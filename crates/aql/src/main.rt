@@ -1,23 +1,16 @@
 //! The program: runs the script of standard input over the files of the system, writes its answers to standard output,
 //! and ends with the status of the run.
 //!
-//! What it does is the contract of `aql_run::run`. This crate is the edge: it meets the traits of the
-//! outside over the system's streams and files, and promises nothing of what these hold.
-//!
-//! Read `main`, then `streams` and `file_system`.
+//! What it does is the contract of `aql_run::run`. The devices are those of `aql_system`.
 #![tactic(auto)]
-
-mod file_system;
-mod streams;
 
 use aql_outside::FreeGate;
 use aql_run::run;
-use file_system::FileSystem;
+use aql_system::{FileSystem, InputStream, OutputStream};
 use std::env;
 use std::io::{self, ErrorKind};
 use std::process::ExitCode;
 use std::rt::Env;
-use streams::{InputStream, OutputStream};
 
 fn main(rt: HostRuntime) -> ExitCode {
     let status = match words(&rt) {
@@ -57,6 +50,3 @@ fn tell(rt: &impl Eprint, status: u8) {
     };
     let _ = eprintln!(rt; "{line}");
 }
-
-#[cfg(test)]
-mod tests;

@@ -1,5 +1,5 @@
 use Rattle.std.proofs.Common.{◌≤◌, ◌-◌, length}
-use Rattle.aql.proofs.file_system.read_from.Given as goal
+use Rattle.aql_system.proofs.file_system.read_from.Given as goal
 
 abbrev pub invariant-reads : goal.invariant-reads
 invariant-reads g l = l.count ≤ length l.into

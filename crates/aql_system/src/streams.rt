@@ -1,6 +1,6 @@
 // The system's streams as a source and a sink, which count their faults. They tell the bytes that the
 // streams tell, and the system's tell none.
-ghost use Rattle.std.specs.Prelude.{◌-◌, ◌^◌, ◌≤◌};
+ghost use Rattle.std.specs.Prelude.{◌≡◌, ◌-◌, ◌^◌, ◌≤◌};
 
 use aql_outside::{Failed, Sink, Source};
 use std::io::{Read, Write};
@@ -14,7 +14,11 @@ pub struct InputStream<R> {
 }
 
 impl<R> InputStream<R> {
-    pub fn new(inner: R) -> Self {
+    /// The reader, with no fault yet.
+    pub fn new(inner: R) -> Self
+        ensures inner { result.inner ≡ inner }
+        ensures faults { result.faults ≡ 0 }
+    {
         InputStream { inner, faults: 0 }
     }
 }
@@ -46,7 +50,11 @@ pub struct OutputStream<W> {
 }
 
 impl<W> OutputStream<W> {
-    pub fn new(inner: W) -> Self {
+    /// The writer, with no fault yet.
+    pub fn new(inner: W) -> Self
+        ensures inner { result.inner ≡ inner }
+        ensures faults { result.faults ≡ 0 }
+    {
         OutputStream { inner, faults: 0 }
     }
 }

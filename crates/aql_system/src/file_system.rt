@@ -14,7 +14,10 @@ pub struct FileSystem<'a, R> {
 }
 
 impl<'a, R: rt::Files> FileSystem<'a, R> {
-    pub fn new(rt: &'a R) -> Self {
+    /// The files that this runtime reaches, with no fault yet.
+    pub fn new(rt: &'a R) -> Self
+        ensures { result.faults ≡ 0 }
+    {
         FileSystem { rt, faults: 0 }
     }
 }
