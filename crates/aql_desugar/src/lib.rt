@@ -14,7 +14,5 @@ mod names;
 mod nodes;
 mod positions;
 mod queries;
-#[cfg(test)]
-mod tests;
 pub mod translate;
 mod unions;

@@ -10,6 +10,4 @@
 pub mod check;
 pub mod declare;
 pub mod fault;
-#[cfg(test)]
-mod tests;
 pub mod walk;

@@ -12,5 +12,3 @@ pub mod lexer;
 pub mod runs;
 pub mod scan;
 pub mod signs;
-#[cfg(test)]
-mod tests;

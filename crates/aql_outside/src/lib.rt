@@ -21,6 +21,3 @@ pub use gates::{FreeGate, Gate};
 pub use memory_files::{MemFiles, SureFiles};
 pub use memory_sink::{MemSink, SureSink};
 pub use memory_source::{MemSource, SureSource};
-
-#[cfg(test)]
-mod tests;

@@ -13,8 +13,6 @@ mod parts;
 mod patterns;
 mod readers;
 mod scripts;
-#[cfg(test)]
-mod tests;
 mod words;
 
 pub use fault::ParseFault;

@@ -12,8 +12,6 @@ mod bytes;
 mod held;
 mod scheme;
 mod term;
-#[cfg(test)]
-mod tests;
 mod trace;
 mod value;
 

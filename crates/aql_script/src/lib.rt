@@ -9,8 +9,6 @@
 mod fault;
 mod limits;
 mod preparing;
-#[cfg(test)]
-mod tests;
 
 pub use fault::ScriptFault;
 pub use preparing::{Prepared, prepare};

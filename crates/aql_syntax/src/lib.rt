@@ -11,6 +11,4 @@ pub mod build;
 pub mod copies;
 pub mod sign;
 pub mod sizes;
-#[cfg(test)]
-mod tests;
 pub mod token;

@@ -13,6 +13,3 @@ mod streams;
 
 pub use file_system::FileSystem;
 pub use streams::{InputStream, OutputStream};
-
-#[cfg(test)]
-mod tests;

@@ -12,6 +12,4 @@ mod replace;
 pub mod solve;
 pub mod step;
 pub mod subst;
-#[cfg(test)]
-mod tests;
 pub mod ty;

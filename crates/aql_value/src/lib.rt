@@ -16,8 +16,6 @@ mod memory;
 mod ops;
 mod order;
 mod sets;
-#[cfg(test)]
-mod tests;
 mod validity;
 mod value;
 

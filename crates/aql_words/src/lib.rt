@@ -9,8 +9,6 @@
 
 mod command;
 mod fault;
-#[cfg(test)]
-mod tests;
 mod words;
 
 pub use fault::WordFault;

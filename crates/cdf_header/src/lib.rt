@@ -20,6 +20,3 @@ pub use fault::{CdfFault, Fault};
 pub use file::read_header;
 pub use header::Header;
 pub use test::Test;
-
-#[cfg(test)]
-mod tests;

@@ -12,8 +12,6 @@ mod cells;
 mod faults;
 mod numbers;
 mod slab;
-#[cfg(test)]
-mod tests;
 mod window;
 
 pub use slab::read_slab;

@@ -14,8 +14,6 @@ mod flat;
 mod held;
 mod numbers;
 mod pairs;
-#[cfg(test)]
-mod tests;
 mod truths;
 mod values;
 mod width;

@@ -11,8 +11,6 @@
 mod index;
 mod joins;
 mod loops;
-#[cfg(test)]
-mod tests;
 mod wide;
 
 ghost use Rattle.std.specs.Prelude.{[], ◌≤◌};

@@ -11,8 +11,6 @@
 mod fault;
 mod pieces;
 mod sets;
-#[cfg(test)]
-mod tests;
 
 pub use fault::EvalFault;
 pub use pieces::{map_pieces, piece};

@@ -19,8 +19,6 @@ mod members;
 mod operations;
 mod runs;
 mod serial;
-#[cfg(test)]
-mod tests;
 mod walk;
 
 pub use boxes::{boxed, keep_part, parts_kept, truth_kept, unboxed};

@@ -9,8 +9,6 @@ mod comparing;
 mod counting;
 mod shifting;
 mod substituting;
-#[cfg(test)]
-mod tests;
 
 pub use comparing::{same, same_shifted};
 pub use counting::uses;

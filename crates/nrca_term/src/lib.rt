@@ -10,8 +10,6 @@ mod access;
 mod copies;
 mod places;
 mod term;
-#[cfg(test)]
-mod tests;
 mod trace;
 mod weights;
 

@@ -1,0 +1,5 @@
+mod devices;
+mod system;
+mod types;
+mod values;
+mod words;

@@ -1,0 +1,74 @@
+use aql_words::{Options, read_words};
+use std::test::Fail;
+
+// The options that words after the program's name ask for.
+fn read(rt: &impl AllocGlobal, words: &[&str]) -> Result<Option<Options>, Fail> {
+    let mut all = Vec::new(rt.alloc());
+    all.push(String::from_str(rt.alloc(), "aql")?)?;
+    for word in words {
+        all.push(String::from_str(rt.alloc(), word)?)?;
+    }
+    Ok(read_words(rt.alloc(), all.as_slice()).ok())
+}
+
+// A row: the words, and then workers, budget, plan and sample.
+#[test]
+fn words_are_read(rt: HostRuntime) -> Result<(), Fail> {
+    let rows: [(&[&str], u64, u64, bool, Option<u64>); 9] = [
+        (&[], 1, 10_000_000, false, None),
+        (&["--workers", "8"], 8, 10_000_000, false, None),
+        (&["--workers=8"], 8, 10_000_000, false, None),
+        (&["--budget", "1"], 1, 1, false, None),
+        (&["--plan"], 1, 10_000_000, true, None),
+        (&["--sample", "1"], 1, 10_000_000, false, Some(1)),
+        (&["--sample=1000000"], 1, 10_000_000, false, Some(1_000_000)),
+        (
+            &["--workers", "64", "--budget", "50000000"],
+            64,
+            50_000_000,
+            false,
+            None,
+        ),
+        (
+            &["--sample", "7", "--plan", "--budget=2", "--workers=3"],
+            3,
+            2,
+            true,
+            Some(7),
+        ),
+    ];
+    for (words, workers, budget, plan, sample) in rows {
+        let wanted = Options {
+            workers,
+            budget,
+            plan,
+            sample,
+        };
+        assert_eq!(rt; read(&rt, words)?, Some(wanted));
+    }
+    Ok(())
+}
+
+#[test]
+fn words_without_a_reading(rt: HostRuntime) -> Result<(), Fail> {
+    let rows: [&[&str]; 14] = [
+        &["--workers", "0"],
+        &["--workers", "65"],
+        &["--budget", "0"],
+        &["--budget", "50000001"],
+        &["--sample", "0"],
+        &["--sample", "1000001"],
+        &["--sample", "many"],
+        &["--workers"],
+        &["--plan=yes"],
+        &["--help"],
+        &["--version"],
+        &["more"],
+        &["--faster"],
+        &["--plan", "--plan"],
+    ];
+    for words in rows {
+        assert_eq!(rt; read(&rt, words)?, None);
+    }
+    Ok(())
+}

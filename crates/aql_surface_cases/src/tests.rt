@@ -1,0 +1,5 @@
+mod reading;
+mod tokens;
+mod translation;
+mod trees;
+mod typing;

@@ -1,0 +1,2 @@
+mod preparing;
+mod texts;

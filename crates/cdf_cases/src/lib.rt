@@ -1,0 +1,5 @@
+//! Tests of headers and hyperslabs of small files.
+#![tactic(auto)]
+
+#[cfg(test)]
+mod tests;

@@ -1,0 +1,5 @@
+//! Tests of core terms and their evaluation.
+#![tactic(auto)]
+
+#[cfg(test)]
+mod tests;

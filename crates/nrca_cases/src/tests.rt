@@ -1,0 +1,6 @@
+mod arrays;
+mod evaluation;
+mod pieces;
+mod serial;
+mod substitution;
+mod terms;

@@ -1,0 +1,72 @@
+ghost use Rattle.std.specs.Prelude.{◌≡◌, IfOk};
+
+use aql_value::{Cells, Dims, Index, Items, Memory, Value};
+use nrca_array::{Builder, Flat, Held};
+use std::alloc::Global;
+use std::test::Fail;
+
+fn dims(alloc: Global, all: &[u128]) -> Result<Dims, Memory>
+    ensures { IfOk result (λ d. d ≡ all.now) }
+{
+    let mut dims = Vec::new(alloc);
+    dims.extend_from_slice(all)?;
+    Ok(Dims { dims })
+}
+
+fn naturals(alloc: Global, cells: &[u128]) -> Result<Builder, Memory> {
+    let mut packed = Builder::new(alloc);
+    for n in cells {
+        packed = packed.push_natural(alloc, *n)?;
+    }
+    Ok(packed)
+}
+
+fn row(alloc: Global, length: u128, cells: Builder) -> Result<Flat, Memory> {
+    cells.finish(dims(alloc, &[length])?)?.ok_or(Memory)
+}
+
+fn is_packed(flat: &Flat, width: u64, bytes: &[u8]) -> bool {
+    match flat.packed() {
+        Some((w, b)) => w == width && b == bytes,
+        None => false,
+    }
+}
+
+#[test]
+fn naturals_are_packed(rt: HostRuntime) -> Result<(), Fail> {
+    let alloc = rt.alloc();
+    let one = naturals(alloc, &[1])?;
+    let all = one.append(alloc, naturals(alloc, &[300, 2])?)?;
+    let flat = row(alloc, 3, all)?;
+    assert!(rt; is_packed(&flat, 16, &[0x01, 0x00, 0x2c, 0x01, 0x02, 0x00]));
+    let none = row(alloc, 0, Builder::new(alloc))?;
+    assert!(rt; none.packed().is_none());
+    Ok(())
+}
+
+#[test]
+fn pairs_are_packed(rt: HostRuntime) -> Result<(), Fail> {
+    let alloc = rt.alloc();
+    let pairs = Builder::new(alloc).push_pair(alloc, true, 1)?;
+    let flat = row(alloc, 2, pairs.push_pair(alloc, false, 2)?)?;
+    assert!(rt; is_packed(&flat, 8, &[0x01, 0x02, 0x01, 0x00]));
+    Ok(())
+}
+
+#[test]
+fn cells_stay(rt: HostRuntime) -> Result<(), Fail> {
+    let alloc = rt.alloc();
+    let items = Items {
+        items: vec![in alloc; Value::Nat(5), Value::Bool(true), Value::Nat(7)]?,
+    };
+    let cells = Cells::new(dims(alloc, &[1, 3])?, items).ok_or(Memory)?;
+    let held = Held::Flat(Flat::from_cells(alloc, cells)?);
+    let back = held.copy(alloc)?.to_value(alloc)?;
+    if let Held::Flat(flat) = &held {
+        assert_eq!(rt; flat.window(alloc, 1, 3).map(|w| w.items.len()), Ok(2));
+        let at = Index::from_slice(alloc, &[0, 2])?;
+        assert!(rt; flat.cell(alloc, &at)? == Some(Value::Nat(7)));
+    }
+    assert_eq!(rt; back.kind(), 5);
+    Ok(())
+}

@@ -1,0 +1,35 @@
+use aql_outside::FreeGate;
+use aql_value::{Items, Memory, Value};
+use nrca_par::{EvalFault, canon_wide, map_pieces, piece};
+use std::alloc::Global;
+use std::test::Fail;
+
+fn numbers(alloc: Global, all: &[u128]) -> Result<Items, Memory> {
+    let mut items = Vec::new(alloc);
+    for n in all {
+        items.push(Value::Nat(*n))?;
+    }
+    Ok(Items { items })
+}
+
+// Ten members in three pieces: 0 to 2, 3 to 5 and 6 to 9.
+#[test]
+fn each_piece_answers_in_its_place(rt: HostRuntime) -> Result<(), Fail> {
+    assert_eq!(rt; piece(10, 3, 1), (3, 6));
+    let ends = |_from: u64, to: u64| -> Result<u64, EvalFault> { Ok(to) };
+    let all = map_pieces(&rt, rt.alloc(), 10, 3, &FreeGate, ends)?;
+    assert_eq!(rt; all.as_slice(), [3, 6, 10].as_slice());
+    Ok(())
+}
+
+#[test]
+fn a_set_holds_each_member_once(rt: HostRuntime) -> Result<(), Fail> {
+    let alloc = rt.alloc();
+    let set = canon_wide(&rt, alloc, numbers(alloc, &[3, 1, 3])?)?.into_items();
+    let wanted = numbers(alloc, &[1, 3])?;
+    assert_eq!(rt; set.items.len(), 2);
+    for (x, y) in set.items.iter().zip(wanted.items.iter()) {
+        assert!(rt; x == y);
+    }
+    Ok(())
+}
