@@ -7,29 +7,24 @@ top=$(cd "$(dirname "$0")/.." && pwd)
 work=$(mktemp -d)
 trap 'rm -rf "$work"' EXIT
 mkdir -p "$work/crates/measure/src" "$work/crates/measure/specs" "$work/crates/measure/proofs"
-for crate in aql_outside aql_value nrca_array cdf_header cdf_slab; do
+for crate in aql_outside aql_system aql_value nrca_array cdf_header cdf_slab; do
     for part in src specs proofs; do
         mkdir -p "$work/crates/$crate/$part"
         cp -r "$top/crates/$crate/$part/." "$work/crates/$crate/$part"
     done
     grep "^$crate:" "$top/crates.txt" >> "$work/crates.txt"
 done
-printf 'measure: cdf_slab cdf_header nrca_array aql_outside aql_value anyhow\n' >> "$work/crates.txt"
+printf 'measure: cdf_slab cdf_header nrca_array aql_outside aql_system aql_value anyhow\n' >> "$work/crates.txt"
 : > "$work/crates/measure/specs/Lib.antt"
-cp "$top/crates/aql/src/file_system.rt" "$work/crates/measure/src/file_system.rt"
-cp "$top/crates/aql/proofs/Lib.antt" "$work/crates/measure/proofs/Lib.antt"
-cp -r "$top/crates/aql/proofs/file_system" "$work/crates/measure/proofs/"
-grep -rl 'Rattle.aql\.' "$work/crates/measure/proofs" | xargs -r sed -i 's/Rattle\.aql\./Rattle.measure./g'
+: > "$work/crates/measure/proofs/Lib.antt"
 cat > "$work/crates/measure/src/main.rt" <<'PROGRAM'
 #![tactic(auto)]
 
-mod file_system;
-
 use anyhow::{Result, anyhow, bail};
+use aql_system::FileSystem;
 use aql_value::{Index, Str, saturating_product};
 use cdf_header::read_header;
 use cdf_slab::read_slab;
-use file_system::FileSystem;
 
 fn main(rt: HostRuntime) -> Result<()> {
     let alloc = rt.alloc();

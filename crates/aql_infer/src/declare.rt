@@ -25,7 +25,7 @@ use std::alloc::Global;
 
 /// What a declaration has over what the earlier positions have: its principal scheme, with its
 /// variables numbered by first appearance. NoType exactly where it has no typing.
-pub fn infer_declaration(
+pub(crate) fn infer_declaration(
     alloc: Global,
     d: &Decl,
     positions: &[Position],

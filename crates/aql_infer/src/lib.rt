@@ -8,6 +8,6 @@
 #![tactic(auto)]
 
 pub mod check;
-pub mod declare;
+mod declare;
 pub mod fault;
-pub mod walk;
+mod walk;

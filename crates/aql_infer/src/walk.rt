@@ -28,7 +28,7 @@ use std::alloc::Global;
 /// is deeper than the greatest number.
 #[cycle(walk)]
 #[tactic(auto, unfolding(aql_constraints::specs::Constraints::after), using(crate::proofs::Walking::tree_steps))]
-pub fn infer(
+pub(crate) fn infer(
     alloc: Global,
     e: &Expr,
     fuel: u64,
