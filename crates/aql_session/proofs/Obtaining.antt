@@ -1,5 +1,6 @@
 -- What was read by a reader's argument.
 use Rattle.std.proofs.Common.{◌≡◌, ℕ, ◌-◌, ◌^◌, ◌≤◌, min, Bool, true, false, List, [], ◌∷◌, length, Option, Some, None, refl, sym, ap, ◌∙◌, subst, arith, if◌then◌else◌}
+use Rattle.std.specs.Str.{IsUtf8}
 use Rattle.aql_outside.specs.Contents.{Content}
 use Rattle.aql_value.specs.Datum as datum
 use Rattle.aql_value.specs.Datum.{Datum, Table, data_of}
@@ -74,6 +75,7 @@ module _ (r : Reader) (v : Datum) (request : Request) (asked : IsRequestOf r v r
   read-by b x t h e p = record {
     many = few (product request.count.items) x.cells p (omega (arith, h.within, b)) ∙ sym (ap (λ o. if_some o cells) asked.is);
     within = λ a q. subst (λ y. cells y ≤ budget) (asked-is a q) h.within;
+    named = λ a q. subst (λ y. IsUtf8 y.file) (asked-is a q) h.slab.named;
     file = λ a q files l. subst (λ y. read_fault files y ≡ None) (asked-is a q) (h.slab.told files l).0;
     outcome = (
       request_asked request,

@@ -140,23 +140,30 @@ module _ (a : Asked) (files : Content) where
       let none : read_fault files a ≡ None = ap (fault_in a) at.is ∙ s.0 in
       (none, ap (λ o. unless o (value_in a (opened files a))) none ∙ ap (value_in a) at.is ∙ ap (option_map table_datum) s.1)
 
+-- a name that cannot be other than UTF-8 is UTF-8
+pub utf8-is : (name : List ℕ) → ((IsUtf8 name → ⊥) → ⊥) → IsUtf8 name
+utf8-is name n = elim (cases_Bool (is_utf8 name)) [
+  | inl e ↦ IsUtf8-from_is_utf8 name e
+  | inr e ↦ absurd (n (λ u. (let z : true ≡ false = sym (is_utf8-from_IsUtf8 name u) ∙ e in cc)))
+]
+
 -- a fault that is handed on has its cause
 pub handed-cause : (a : Asked) (holds : Option Content) (before now : ℕ) (f : CdfFault) → (f ≡ file_faults.Device → Rose before now) →
-    (IsOfFile f → ForSome holds (λ files. read_fault files a ≡ Some f)) → IsFileCause a holds before now (handed_on f)
-handed-cause a holds before now file_faults.Absent r t = (tt, t tt)
-handed-cause a holds before now file_faults.NotClassic r t = (tt, t tt)
-handed-cause a holds before now (file_faults.Version v) r t = (tt, t tt)
-handed-cause a holds before now (file_faults.Malformed k) r t = (tt, t tt)
-handed-cause a holds before now (file_faults.TooMany l) r t = (tt, t tt)
-handed-cause a holds before now file_faults.NoVariable r t = (tt, t tt)
-handed-cause a holds before now (file_faults.Rank n) r t = (tt, t tt)
-handed-cause a holds before now file_faults.FloatVariable r t = (tt, t tt)
-handed-cause a holds before now (file_faults.Stride d) r t = (tt, t tt)
-handed-cause a holds before now (file_faults.Outside d) r t = (tt, t tt)
-handed-cause a holds before now (file_faults.Cut n) r t = (tt, t tt)
-handed-cause a holds before now (file_faults.Negative n) r t = (tt, t tt)
-handed-cause a holds before now file_faults.Device r t = r refl
-handed-cause a holds before now file_faults.Memory r t = tt
+    ((IsUtf8 a.file → ⊥) → f ≡ file_faults.Absent) → (IsOfFile f → ForSome holds (λ files. read_fault files a ≡ Some f)) → IsFileCause a holds before now (handed_on f)
+handed-cause a holds before now file_faults.Absent r u t = (record { own = tt; unnamed = u }, t tt)
+handed-cause a holds before now file_faults.NotClassic r u t = (record { own = tt; unnamed = u }, t tt)
+handed-cause a holds before now (file_faults.Version v) r u t = (record { own = tt; unnamed = u }, t tt)
+handed-cause a holds before now (file_faults.Malformed k) r u t = (record { own = tt; unnamed = u }, t tt)
+handed-cause a holds before now (file_faults.TooMany l) r u t = (record { own = tt; unnamed = u }, t tt)
+handed-cause a holds before now file_faults.NoVariable r u t = (record { own = tt; unnamed = u }, t tt)
+handed-cause a holds before now (file_faults.Rank n) r u t = (record { own = tt; unnamed = u }, t tt)
+handed-cause a holds before now file_faults.FloatVariable r u t = (record { own = tt; unnamed = u }, t tt)
+handed-cause a holds before now (file_faults.Stride d) r u t = (record { own = tt; unnamed = u }, t tt)
+handed-cause a holds before now (file_faults.Outside d) r u t = (record { own = tt; unnamed = u }, t tt)
+handed-cause a holds before now (file_faults.Cut n) r u t = (record { own = tt; unnamed = u }, t tt)
+handed-cause a holds before now (file_faults.Negative n) r u t = (record { own = tt; unnamed = u }, t tt)
+handed-cause a holds before now file_faults.Device r u t = r refl
+handed-cause a holds before now file_faults.Memory r u t = tt
 
 -- of a call that came after others on the files, and within the budget
 pub read-cause : (a : Asked) (budget : ℕ) (holds mid : Option Content) (before middle now : ℕ) (f : StepFault) → cells a ≤ budget → mid ≡ holds → before ≤ middle →

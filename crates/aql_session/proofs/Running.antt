@@ -2,6 +2,7 @@
 use Rattle.std.proofs.Common.{◌≡◌, ℕ, zero, suc, ◌+◌, ◌-◌, ◌^◌, ◌<◌, ◌≤◌, List, [], ◌∷◌, ◌++◌, length, take, Option, Some, None, refl, sym, ap, ◌∙◌, subst, arith, length-take, inl, inr}
 use Rattle.std.specs.Prelude.{slice_get, get_or, option_map}
 use Rattle.std.specs.Option.{ForSome}
+use Rattle.std.specs.Str.{IsUtf8}
 use Rattle.std.proofs.lemmas.Option.{slice_get-get_or}
 use Rattle.std.proofs.lemmas.List.{length-map}
 use Rattle.aql_outside.specs.Contents.{Content}
@@ -57,7 +58,7 @@ plain-run (val x e) earlier budget holds q p h = record {
   start = h.start;
   by = refl;
   turns = omega (arith, h.turns);
-  answerable = record { query = h.within; cells = λ a k. cc; file = λ a k. cc };
+  answerable = record { query = h.within; cells = λ a k. cc; named = λ a k. cc; file = λ a k. cc };
   outcome = h.value;
 }
 plain-run (mac f p body) earlier budget holds q u h = absurd u
@@ -66,7 +67,7 @@ plain-run (bare e) earlier budget holds q p h = record {
   start = h.start;
   by = refl;
   turns = omega (arith, h.turns);
-  answerable = record { query = h.within; cells = λ a k. cc; file = λ a k. cc };
+  answerable = record { query = h.within; cells = λ a k. cc; named = λ a k. cc; file = λ a k. cc };
   outcome = h.value;
 }
 
@@ -77,7 +78,7 @@ macro-run f p body earlier budget holds = record {
   start = term_of-Bottom;
   by = refl;
   turns = refl;
-  answerable = record { query = omega arith; cells = λ a k. cc; file = λ a k. cc };
+  answerable = record { query = omega arith; cells = λ a k. cc; named = λ a k. cc; file = λ a k. cc };
   outcome = refl;
 }
 
@@ -109,6 +110,7 @@ module _ (x : Name) (r : Reader) (e : Tree) (earlier : Earlier) (budget : ℕ) (
     answerable = record {
       query = h.within;
       cells = subst (λ o. ForSome o (λ a. cells a ≤ budget)) asked-is k.within;
+      named = subst (λ o. ForSome o (λ a. IsUtf8 a.file)) asked-is k.named;
       file = subst (λ o. ForSome o (λ a. ForSome holds (λ files. read_fault files a ≡ None))) asked-is k.file;
     };
     outcome = subst (λ o. IsReadOutcome r o holds (held_value y.value)) argument-is k.outcome;

@@ -29,7 +29,7 @@ use Rattle.cdf_slab.specs.Slab.{IsShaped}
 use Rattle.aql_session.specs.Asked.{Asked, asked_of, cells}
 use Rattle.aql_session.specs.Bound.{earlier_of}
 use Rattle.aql_session.specs.Reading.{opened, read_fault, read_value}
-use Rattle.aql_session.specs.Step.{AreWithinLimits, IsAnswerable, IsOutcome, IsReadOutcome, IsOfFile, query_turns, ran_of, start_of, turns_of}
+use Rattle.aql_session.specs.Step.{AreWithinLimits, IsAnswerable, IsOutcome, IsReadOutcome, IsFaultOf, query_turns, ran_of, start_of, turns_of}
 use Rattle.aql_session.specs.declared.answer.Answer.{Answer}
 use Rattle.aql_session.specs.declared.answer.StepFault.{StepFault}
 use Rattle.aql_session.specs.declared.answer.StepFault.TheVariants as faults
@@ -120,6 +120,7 @@ pub record IsOpened (a : Asked) (holds : Option Content) (found : Found) : Type 
 -- what was read of what is asked for
 pub record IsSlabOf (a : Asked) (holds : Option Content) (t : Table) : Type 0 where
   pub shaped : IsShaped a.count a.signed t
+  pub named : IsUtf8 a.file
   pub told : ForSome holds (λ files. (read_fault files a ≡ None) × (read_value files a ≡ Some (table_datum t)))
 
 pub record IsReadOf (a : Asked) (budget : ℕ) (holds : Option Content) (t : Table) : Type 0 where
@@ -130,14 +131,14 @@ pub record IsReadOf (a : Asked) (budget : ℕ) (holds : Option Content) (t : Tab
 abbrev pub IsFileCause : Asked → Option Content → (before now : ℕ) → StepFault → Type 0
 IsFileCause a holds before now (faults.Query start plan trace) = ⊥
 IsFileCause a holds before now (faults.Cells c) = ⊥
-IsFileCause a holds before now (faults.File f) = IsOfFile f × ForSome holds (λ files. read_fault files a ≡ Some f)
+IsFileCause a holds before now (faults.File f) = IsFaultOf a.file f × ForSome holds (λ files. read_fault files a ≡ Some f)
 IsFileCause a holds before now faults.Device = Rose before now
 IsFileCause a holds before now faults.Memory = Unit {0}
 
 abbrev pub IsReadCause : Asked → (budget : ℕ) → Option Content → (before now : ℕ) → StepFault → Type 0
 IsReadCause a budget holds before now (faults.Query start plan trace) = ⊥
 IsReadCause a budget holds before now (faults.Cells c) = (budget < cells a) × (c ≡ min (cells a) (2 ^ 128 - 1))
-IsReadCause a budget holds before now (faults.File f) = (cells a ≤ budget) × IsOfFile f × ForSome holds (λ files. read_fault files a ≡ Some f)
+IsReadCause a budget holds before now (faults.File f) = (cells a ≤ budget) × IsFaultOf a.file f × ForSome holds (λ files. read_fault files a ≡ Some f)
 IsReadCause a budget holds before now faults.Device = (cells a ≤ budget) × Rose before now
 IsReadCause a budget holds before now faults.Memory = Unit {0}
 
@@ -155,6 +156,7 @@ pub record IsRequestOf (r : Reader) (v : Datum) (request : Request) : Type 0 whe
 pub record IsReadBy (r : Reader) (argument : Option Datum) (budget : ℕ) (holds : Option Content) (x : Read) : Type 0 where
   pub many : x.cells ≡ if_some (asked_in r argument) cells
   pub within : ForSome (asked_in r argument) (λ a. cells a ≤ budget)
+  pub named : ForSome (asked_in r argument) (λ a. IsUtf8 a.file)
   pub file : ForSome (asked_in r argument) (λ a. ForSome holds (λ files. read_fault files a ≡ None))
   pub outcome : IsReadOutcome r argument holds (held_value x.value)
 

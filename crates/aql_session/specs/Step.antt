@@ -1,6 +1,7 @@
 -- What `step` answers of a declaration, what it binds it to, and why it answers a fault.
 use Rattle.std.specs.Prelude.{◌≡◌, ℕ, ◌+◌, ◌-◌, ◌^◌, ◌<◌, ◌≤◌, ◌⊎◌, min, List, [], ◌∷◌, ◌++◌, Option, Some, None}
 use Rattle.std.specs.Option.{ForSome}
+use Rattle.std.specs.Str.{IsUtf8}
 use Rattle.aql_outside.specs.Causes.{Rose}
 use Rattle.aql_outside.specs.Contents.{Content}
 use Rattle.aql_value.specs.Datum.{Datum, array, data_of}
@@ -96,10 +97,11 @@ pub record IsAnswer (d : Declaration) (earlier : Earlier) (sort : Option Sort) (
   pub by : a.by ≡ ran_of d
   pub turns : a.turns ≡ turns_of d earlier
 
--- it is answered only where the start term and the cells are within the budget, and where the files are told without a fault
+-- it is answered only where the start term and the cells are within the budget, the file's name is UTF-8, and the files, where they are told, have no fault
 pub record IsAnswerable (d : Declaration) (earlier : Earlier) (budget : ℕ) (holds : Option Content) : Type 0 where
   pub query : query_turns d earlier ≤ budget
   pub cells : ForSome (asks d earlier) (λ a. cells a ≤ budget)
+  pub named : ForSome (asks d earlier) (λ a. IsUtf8 a.file)
   pub file : ForSome (asks d earlier) (λ a. ForSome holds (λ files. read_fault files a ≡ None))
 
 -- The outcome.
@@ -145,6 +147,11 @@ IsOfFile file_faults.Device = ⊥
 IsOfFile file_faults.Memory = ⊥
 IsOfFile f = Unit {0}
 
+-- a fault of a file of this name: where the name is not UTF-8 there is no such file, whatever the files tell
+pub record IsFaultOf (name : List ℕ) (f : CdfFault) : Type 0 where
+  pub own : IsOfFile f
+  pub unnamed : (IsUtf8 name → ⊥) → f ≡ file_faults.Absent
+
 -- when each fault comes: Query exactly past the budget, Cells exactly where then the cells pass it, File only where they do not, and exactly
 -- the first fault that the files tell; Device only where the count of faults rose; want of memory is free
 abbrev pub IsCause : Declaration → Earlier → (budget : ℕ) → Option Content → (before now : ℕ) → StepFault → Type 0
@@ -152,7 +159,7 @@ IsCause d earlier budget holds before now (faults.Query start plan trace) =
     (budget < query_turns d earlier) × (term_of start ≡ start_of d earlier) × (term_of plan ≡ term_of start) × (trace ≡ [])
 IsCause d earlier budget holds before now (faults.Cells c) = Asks d earlier budget (λ a. (budget < cells a) × (c ≡ min (cells a) (2 ^ 128 - 1)))
 IsCause d earlier budget holds before now (faults.File f) =
-    Asks d earlier budget (λ a. (cells a ≤ budget) × IsOfFile f × ForSome holds (λ files. read_fault files a ≡ Some f))
+    Asks d earlier budget (λ a. (cells a ≤ budget) × IsFaultOf a.file f × ForSome holds (λ files. read_fault files a ≡ Some f))
 IsCause d earlier budget holds before now faults.Device = Asks d earlier budget (λ a. (cells a ≤ budget) × Rose before now)
 IsCause d earlier budget holds before now faults.Memory = Unit {0}
 

@@ -16,5 +16,6 @@ mod session;
 mod step;
 
 pub use answer::{Answer, Ran, StepFault};
+pub use aql_prelude::prelude;
 pub use aql_words::Options;
 pub use session::Session;

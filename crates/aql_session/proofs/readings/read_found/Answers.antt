@@ -2,7 +2,7 @@ use Rattle.std.proofs.Common.{sym, ap, subst, ◌∙◌}
 use Rattle.std.specs.Prelude.{Err}
 use Rattle.aql_outside.specs.Contents.{bytes_in}
 use Rattle.aql_session.specs.Runs.{request_asked, IsFileCause}
-use Rattle.aql_session.proofs.Opening.{slab-read, slab-failed, handed-cause}
+use Rattle.aql_session.proofs.Opening.{slab-read, slab-failed, handed-cause, utf8-is}
 use Rattle.aql_session.proofs.readings.read_found.Goals as goal
 
 pub returns-in-Ok-clause-read : goal.returns-in-Ok-clause-read
@@ -10,6 +10,7 @@ returns-in-Ok-clause-read g c =
     let a = request_asked c.args.request.now in
     record {
       shaped = c.in-Ok.ensures.shaped;
+      named = utf8-is a.file (λ n. (let z = c.in-Ok.ensures.unnamed n in cc));
       told = λ files e.
           let at = c.requires.opened.told files e in
           slab-read a files c.args.found.now at c.in-Ok.flat (c.in-Ok.ensures.told at.bytes at.utf8 (ap (λ o. bytes_in o a.file) e ∙ at.there) at.size);
@@ -22,6 +23,6 @@ returns-in-Err-clause-cause g c =
     let before = g.F.Files.faults c.args.files.now in
     let now = g.F.Files.faults c.read_slab.new.files in
     subst (IsFileCause a holds before now) (sym c.hand_on.ensures)
-    (handed-cause a holds before now c.in-Err.fault (λ q. c.in-Err.ensures.failed (ap Err q)) (λ u files e.
+    (handed-cause a holds before now c.in-Err.fault (λ q. c.in-Err.ensures.failed (ap Err q)) (λ n. (let z = c.in-Err.ensures.unnamed n in cc)) (λ u files e.
     let at = c.requires.opened.told files e in
     slab-failed a files c.args.found.now at c.in-Err.fault u (c.in-Err.ensures.told at.bytes at.utf8 (ap (λ o. bytes_in o a.file) e ∙ at.there) at.size)))
