@@ -5,7 +5,7 @@ use Rattle.nrca_term.specs.Subst.{top_var, subst_term}
 use Rattle.nrca_term.specs.View.{term_of}
 use Rattle.nrca_term.specs.Equations.{term_of-Var}
 use Rattle.nrca_term.specs.declared.term.Core.TheVariants.{Var}
-use Rattle.nrca_subst.proofs.tests.substituted.Goals as goal
+use Rattle.nrca_cases.proofs.tests.substitution.substituted.Goals as goal
 
 pub subst-requires : goal.subst-requires
 subst-requires c =

@@ -5,7 +5,7 @@ use Rattle.nrca_term.specs.Subst.{top_var, shift_term}
 use Rattle.nrca_term.specs.View.{term_of}
 use Rattle.nrca_term.specs.Equations.{term_of-Var}
 use Rattle.nrca_term.specs.declared.term.Core.TheVariants.{Var}
-use Rattle.nrca_subst.proofs.tests.shifted.Goals as goal
+use Rattle.nrca_cases.proofs.tests.substitution.shifted.Goals as goal
 
 pub shift-requires : goal.shift-requires
 shift-requires c =

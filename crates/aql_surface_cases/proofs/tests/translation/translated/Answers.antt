@@ -1,6 +1,6 @@
 use Rattle.std.proofs.Common.{◌∙◌}
 use Rattle.aql_desugar.proofs.Translating.{query_last}
-use Rattle.aql_desugar.proofs.tests.translated.Goals as goal
+use Rattle.aql_surface_cases.proofs.tests.translation.translated.Goals as goal
 
 pub translate-requires-clause-query : goal.translate-requires-clause-query
 translate-requires-clause-query c =
