@@ -1,4 +1,5 @@
 pub mod Spelling
+pub mod Writing
 pub mod PairsKept
 pub mod CellKinds
 pub mod Steps

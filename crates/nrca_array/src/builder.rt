@@ -114,6 +114,28 @@ impl Builder {
         }
     }
 
+    /// Naturals as the next cells.
+    pub fn push_naturals(self, alloc: Global, numbers: &[u64]) -> Result<Builder, Memory>
+        ensures { IfOk result (λ cells. cells ≡ self ++ map natural numbers.now) }
+    {
+        if numbers.is_empty() {
+            return Ok(self);
+        }
+        if self.len() == 0 {
+            return Ok(Builder {
+                cells: Store::Naturals(Numbers::new(alloc).extend(alloc, numbers)?),
+            });
+        }
+        match self.cells {
+            Store::Naturals(kept) => Ok(Builder {
+                cells: Store::Naturals(kept.extend(alloc, numbers)?),
+            }),
+            Store::Plain(items) => each_pushed(Store::Plain(items), alloc, numbers),
+            Store::Truths(truths) => each_pushed(Store::Truths(truths), alloc, numbers),
+            Store::Pairs(pairs, truths) => each_pushed(Store::Pairs(pairs, truths), alloc, numbers),
+        }
+    }
+
     /// A truth value as the next cell.
     #[tactic(auto, using(crate::proofs::CellKinds::lasts))]
     pub fn push_truth(self, alloc: Global, b: bool) -> Result<Builder, Memory>
@@ -228,6 +250,18 @@ impl Builder {
     {
         plain_with(self.cells, alloc, value)
     }
+}
+
+// Cells, and then naturals, taken one at a time.
+fn each_pushed(cells: Store, alloc: Global, numbers: &[u64]) -> Result<Builder, Memory>
+    requires { IsStored cells }
+    ensures { IfOk result (λ all. all ≡ stored cells ++ map natural numbers.now) }
+{
+    let mut all = Builder { cells };
+    for n in numbers {
+        all = all.push_natural(alloc, u128::from(*n))?;
+    }
+    Ok(all)
 }
 
 // Pairs and one more.

@@ -1,7 +1,8 @@
 //! Numbers in bytes, the lowest byte first.
 
-ghost use Rattle.std.specs.Prelude.{◌≡◌, ◌+◌, ◌*◌, ◌^◌, ◌<◌, ◌≤◌, ◌++◌, length, drop, OnOk, OnErr};
+ghost use Rattle.std.specs.Prelude.{◌≡◌, ◌+◌, ◌*◌, ◌^◌, ◌<◌, ◌≤◌, ◌++◌, length, drop, IfSome, OnOk, OnErr};
 ghost use Rattle.byteorder.specs.Endian.{little_number, little_bytes};
+ghost use Rattle.nrca_array.specs.Packing.{greatest, spelled};
 ghost use Rattle.nrca_array.specs.Kept.{width_bytes};
 
 use crate::width::Width;
@@ -39,4 +40,89 @@ pub(crate) fn put(bytes: &mut Vec<u8>, width: Width, x: u128) -> Result<(), Allo
     let mut buffer = [0u8; 16];
     LittleEndian::write_u128(&mut buffer, x);
     bytes.extend_from_slice(&buffer[..width.bytes()])
+}
+
+/// Adds the bytes of many numbers at the end.
+pub(crate) fn put_all(bytes: &mut Vec<u8>, width: Width, xs: &[u64]) -> Result<(), AllocError>
+    requires { greatest xs.now < 256 ^ width_bytes width }
+    ensures { OnOk result (bytes.new.items ≡ bytes.old.items ++ spelled (width_bytes width) xs.now) }
+{
+    let from = bytes.len();
+    let end = end_of(from, width, xs.len()).ok_or(AllocError)?;
+    bytes.resize(end, 0)?;
+    write_all(&mut bytes[from..], width, xs);
+    Ok(())
+}
+
+// Where the bytes of so many numbers end: nowhere, if memory has no such place.
+fn end_of(from: usize, width: Width, count: usize) -> Option<usize>
+    ensures { IfSome result (λ end. end ≡ from + count * width_bytes width) }
+{
+    count.checked_mul(width.bytes())?.checked_add(from)
+}
+
+// Writes numbers over bytes of which there are exactly enough.
+fn write_all(buffer: &mut [u8], width: Width, xs: &[u64])
+    requires room { length buffer.old ≡ length xs.now * width_bytes width }
+    requires fits { greatest xs.now < 256 ^ width_bytes width }
+    ensures { buffer.new ≡ spelled (width_bytes width) xs.now }
+{
+    match width {
+        Width::One => write_in_one(buffer, xs),
+        Width::Two => write_in_two(buffer, xs),
+        Width::Four => write_in_four(buffer, xs),
+        Width::Eight => write_in_eight(buffer, xs),
+        Width::Sixteen => write_in_sixteen(buffer, xs),
+    }
+}
+
+#[tactic(auto, using(crate::proofs::Spelling::get_greatest))]
+fn write_in_one(buffer: &mut [u8], xs: &[u64])
+    requires room { length buffer.old ≡ length xs.now }
+    requires fits { greatest xs.now < 2 ^ 8 }
+    ensures { buffer.new ≡ spelled 1 xs.now }
+{
+    for i in 0..xs.len() {
+        buffer[i] = xs[i] as u8;
+    }
+}
+
+#[tactic(auto, using(crate::proofs::Spelling::get_greatest))]
+fn write_in_two(buffer: &mut [u8], xs: &[u64])
+    requires room { length buffer.old ≡ 2 * length xs.now }
+    requires fits { greatest xs.now < 2 ^ 16 }
+    ensures { buffer.new ≡ spelled 2 xs.now }
+{
+    for i in 0..xs.len() {
+        LittleEndian::write_u16(&mut buffer[2 * i..], xs[i] as u16);
+    }
+}
+
+#[tactic(auto, using(crate::proofs::Spelling::get_greatest))]
+fn write_in_four(buffer: &mut [u8], xs: &[u64])
+    requires room { length buffer.old ≡ 4 * length xs.now }
+    requires fits { greatest xs.now < 2 ^ 32 }
+    ensures { buffer.new ≡ spelled 4 xs.now }
+{
+    for i in 0..xs.len() {
+        LittleEndian::write_u32(&mut buffer[4 * i..], xs[i] as u32);
+    }
+}
+
+fn write_in_eight(buffer: &mut [u8], xs: &[u64])
+    requires room { length buffer.old ≡ 8 * length xs.now }
+    ensures { buffer.new ≡ spelled 8 xs.now }
+{
+    for i in 0..xs.len() {
+        LittleEndian::write_u64(&mut buffer[8 * i..], xs[i]);
+    }
+}
+
+fn write_in_sixteen(buffer: &mut [u8], xs: &[u64])
+    requires room { length buffer.old ≡ 16 * length xs.now }
+    ensures { buffer.new ≡ spelled 16 xs.now }
+{
+    for i in 0..xs.len() {
+        LittleEndian::write_u128(&mut buffer[16 * i..], u128::from(xs[i]));
+    }
 }

@@ -2,7 +2,7 @@ ghost use Rattle.std.specs.Prelude.{◌≡◌, ◌+◌, ◌*◌, ◌^◌, ◌<�
 ghost use Rattle.nrca_array.specs.Packing.{greatest, spelled, width_for};
 ghost use Rattle.nrca_array.specs.Kept.{width_bytes, numbers_at};
 
-use crate::bytes::{number_at, put};
+use crate::bytes::{number_at, put, put_all};
 use crate::width::Width;
 use aql_value::Memory;
 use std::alloc::Global;
@@ -72,6 +72,25 @@ impl Numbers {
         })
     }
 
+    /// Many numbers more.
+    pub(crate) fn extend(self, alloc: Global, xs: &[u64]) -> Result<Numbers, Memory>
+        ensures { IfOk result (λ ns. ns ≡ self ++ xs.now) }
+    {
+        let Numbers {
+            width,
+            count,
+            bytes,
+        } = self;
+        let least = Width::least(u128::from(greatest_of(xs)));
+        let (width, mut bytes) = widened(alloc, width, count, bytes, least)?;
+        put_all(&mut bytes, width, xs)?;
+        Ok(Numbers {
+            width,
+            count: count + xs.len(),
+            bytes,
+        })
+    }
+
     /// These numbers, and then the others.
     pub(crate) fn append(self, alloc: Global, others: Numbers) -> Result<Numbers, Memory>
         ensures { IfOk result (λ ns. ns ≡ self ++ others) }
@@ -125,6 +144,20 @@ impl Numbers {
             bytes,
         })
     }
+}
+
+// The greatest of the numbers, and 0 of none.
+#[tactic(auto, using(crate::proofs::Writing::greatest_more))]
+fn greatest_of(xs: &[u64]) -> u64
+    ensures { result ≡ greatest xs.now }
+{
+    let mut most = 0;
+    for x in xs {
+        if most < *x {
+            most = *x;
+        }
+    }
+    most
 }
 
 // The first numbers of one width, in the greater of the two widths.

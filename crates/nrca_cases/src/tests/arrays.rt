@@ -70,3 +70,62 @@ fn cells_stay(rt: HostRuntime) -> Result<(), Fail> {
     assert_eq!(rt; back.kind(), 5);
     Ok(())
 }
+
+// The same naturals behind two builders' cells: at once, and one at a time.
+fn pushed(
+    alloc: Global,
+    cells: (Builder, Builder),
+    piece: &[u64],
+) -> Result<(Builder, Builder), Memory> {
+    let (many, mut each) = cells;
+    for n in piece {
+        each = each.push_natural(alloc, u128::from(*n))?;
+    }
+    Ok((many.push_naturals(alloc, piece)?, each))
+}
+
+fn packed_alike(many: &Flat, each: &Flat) -> bool {
+    match each.packed() {
+        Some((width, bytes)) => is_packed(many, width, bytes),
+        None => many.packed().is_none(),
+    }
+}
+
+fn alike(alloc: Global, length: u128, cells: (Builder, Builder)) -> Result<bool, Memory> {
+    let many = row(alloc, length, cells.0)?;
+    let each = row(alloc, length, cells.1)?;
+    for i in 0..length {
+        let at = Index::from_slice(alloc, &[i])?;
+        if many.cell(alloc, &at)? != each.cell(alloc, &at)? {
+            return Ok(false);
+        }
+    }
+    Ok(packed_alike(&many, &each))
+}
+
+#[test]
+fn naturals_at_once(rt: HostRuntime) -> Result<(), Fail> {
+    let alloc = rt.alloc();
+    let few = Builder::new(alloc).push_naturals(alloc, &[1, 255])?;
+    let few = row(alloc, 3, few.push_naturals(alloc, &[256])?)?;
+    assert!(rt; is_packed(&few, 16, &[0x01, 0x00, 0xff, 0x00, 0x00, 0x01]));
+    let mut rising = (Builder::new(alloc), Builder::new(alloc));
+    rising = pushed(alloc, rising, &[])?;
+    rising = pushed(alloc, rising, &[1, 255])?;
+    rising = pushed(alloc, rising, &[256, 7])?;
+    rising = pushed(alloc, rising, &[])?;
+    rising = pushed(alloc, rising, &[8, 65_536])?;
+    rising = pushed(
+        alloc,
+        rising,
+        &[4_294_967_296, 9, 18_446_744_073_709_551_615],
+    )?;
+    assert!(rt; alike(alloc, 9, rising)?);
+    let wide = naturals(alloc, &[18_446_744_073_709_551_616])?;
+    let wide = (wide, naturals(alloc, &[18_446_744_073_709_551_616])?);
+    assert!(rt; alike(alloc, 3, pushed(alloc, wide, &[2, 300])?)?);
+    let mixed = Builder::new(alloc).push_truth(alloc, true)?;
+    let mixed = (mixed, Builder::new(alloc).push_truth(alloc, true)?);
+    assert!(rt; alike(alloc, 3, pushed(alloc, mixed, &[0, 70_000])?)?);
+    Ok(())
+}
