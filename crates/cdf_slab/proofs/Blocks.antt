@@ -1,5 +1,5 @@
 -- Reading one block of places after the other.
-use Rattle.std.proofs.Common.{◌≡◌, ℕ, ◌+◌, ◌*◌, ◌-◌, ◌^◌, ◌<◌, ◌≤◌, min, Bool, List, [], ◌∷◌, ◌++◌, length, map, Result, Ok, Err, refl, sym, ap, subst, ◌∙◌, arith, length-append}
+use Rattle.std.proofs.Common.{◌≡◌, ℕ, ◌+◌, ◌*◌, ◌-◌, ◌^◌, ◌<◌, ◌≤◌, min, Bool, List, [], ◌∷◌, ◌++◌, length, get_or, map, Result, Ok, Err, refl, sym, ap, subst, ◌∙◌, arith, length-append}
 use Rattle.aql_value.specs.Datum.{Datum}
 use Rattle.cdf_header.specs.declared.fault.CdfFault.{CdfFault}
 use Rattle.cdf_slab.specs.Numbers.{Number, number_at}
@@ -9,7 +9,7 @@ use Rattle.cdf_slab.proofs.Walking.{map-append, capped-walk}
 use Rattle.cdf_slab.proofs.Cuts.{blocks_next, blocks_done, stopped, same_within}
 use Rattle.cdf_slab.proofs.Goings.{goes-none, goes-then, goes-fails}
 
-AreWithin-append : (size end : ℕ) (ps qs : List ℕ) → AreWithin size end (ps ++ qs) → AreWithin size end ps × AreWithin size end qs
+pub AreWithin-append : (size end : ℕ) (ps qs : List ℕ) → AreWithin size end (ps ++ qs) → AreWithin size end ps × AreWithin size end qs
 AreWithin-append size end [] qs h = (tt, h)
 AreWithin-append size end (p ∷ ps) qs h = let r = AreWithin-append size end ps qs h.1 in ((h.0, r.0), r.1)
 
@@ -98,3 +98,8 @@ count_done rest a base i now before total s le = omega (arith, s.many, ap length
 pub none_is : {X : Type 0} (xs : List X) → length xs < 1 → xs ≡ []
 none_is [] lt = refl
 none_is (x ∷ xs) lt = absurd (omega (arith, lt))
+
+pub one_is : {X : Type 0} (xs : List X) (d : X) → 1 ≤ length xs → length xs < 2 → xs ≡ get_or xs 0 d ∷ []
+one_is [] d le lt = absurd (omega (arith, le))
+one_is (x ∷ []) d le lt = refl
+one_is (x ∷ y ∷ xs) d le lt = absurd (omega (arith, lt))

@@ -7,3 +7,5 @@ pub mod Pieces
 pub mod Goings
 pub mod Blocks
 pub mod Answering
+pub mod Rows
+pub mod Naturals

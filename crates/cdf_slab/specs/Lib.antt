@@ -3,3 +3,4 @@ pub mod Slab
 pub mod Walk
 pub mod Window
 pub mod Going
+pub mod Run

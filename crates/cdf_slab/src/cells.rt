@@ -1,51 +1,26 @@
 //! The cells of a hyperslab, dimension after dimension.
 
-ghost use Rattle.std.specs.Prelude.{◌≡◌, ◌+◌, ◌^◌, ◌≤◌, ◌<◌, ◌⊎◌, List, ℕ, Some, [], ◌∷◌, length, map, IfOk, IfErr, IsErrOf};
+ghost use Rattle.std.specs.Prelude.{◌≡◌, ◌+◌, ◌-◌, ◌*◌, ◌^◌, ◌≤◌, ◌<◌, ◌⊎◌, min, List, ℕ, Some, [], ◌∷◌, length, map, IfOk, IfErr, IsErrOf};
 ghost use Rattle.aql_outside.specs.Causes.{Rose};
 ghost use Rattle.aql_outside.specs.Contents.{bytes_in};
 ghost use Rattle.aql_value.specs.Lists.{Every};
 ghost use Rattle.cdf_header.specs.Format.{type_size};
 ghost use Rattle.cdf_slab.specs.Going.{Goes};
-ghost use Rattle.cdf_slab.specs.Numbers.{IsCell, number_of, number_at};
+ghost use Rattle.cdf_slab.specs.Numbers.{IsCell, number_at};
 ghost use Rattle.cdf_slab.specs.Slab.{IsLate};
 ghost use Rattle.cdf_slab.specs.Walk.{step_of, steps_of, walk, AreWithin, RoomSoFar, Turn};
 ghost use Rattle.cdf_slab.specs.Window.{IsPiece};
 
 use crate::axes::Axis;
-use crate::numbers::number;
-use crate::window::{Window, number_in};
+use crate::runs::{Reading, push_number, push_run};
+use crate::window::{Window, number_in, run_in};
 use aql_outside::Files;
 use cdf_header::CdfFault;
 use nrca_array::Builder;
 use std::alloc::Global;
 
-/// What is read: numbers of a type and so many bytes, before an end; as pairs of whether they are
-/// below 0 and how far from 0, or as naturals.
-#[derive(Clone, Copy, Debug, PartialEq, Eq)]
-pub(crate) struct Reading {
-    pub kind: u32,
-    pub size: u64,
-    pub signed: bool,
-    pub end: u64,
-}
-
-// One cell more, of a number as its bytes spell it.
-fn push_number(alloc: Global, reading: Reading, x: u64, cells: Builder) -> Result<Builder, CdfFault>
-    ensures goes { Goes reading.signed (number_of reading.kind x ∷ []) cells result }
-    ensures many { IfOk result (λ all. length all ≡ length cells + 1) }
-    ensures own { IsErrOf result CdfFault.Device → ⊥ }
-{
-    let (below, far) = number(reading.kind, x);
-    if reading.signed {
-        return Ok(cells.push_pair(alloc, below, u128::from(far))?);
-    }
-    if below {
-        return Err(CdfFault::Negative {
-            cell: cells.len() as u64,
-        });
-    }
-    Ok(cells.push_natural(alloc, u128::from(far))?)
-}
+/// The most numbers that are decoded at once.
+const RUN: u64 = 4096;
 
 // One cell more, of the number at an offset.
 fn read_cell<F: Files>(
@@ -89,14 +64,79 @@ fn place_along(a: Axis, rest: &[Axis], base: u128, i: u64, reading: Reading) -> 
     index.saturating_mul(a.weight).saturating_add(base)
 }
 
+// The bytes from one index of a dimension to the next, or 2^64-1 where there are more.
+fn step_along(a: Axis) -> u64
+    ensures { result ≡ min (a.stride * a.weight) (2 ^ 64 - 1) }
+{
+    let step = a.stride.saturating_mul(a.weight);
+    step.min(u128::from(u64::MAX)) as u64
+}
+
+// The cells of the last dimension, in runs of numbers that stand in one piece of the file.
+fn read_row<F: Files>(
+    alloc: Global,
+    files: &mut F,
+    name: &str,
+    window: &mut Window,
+    reading: Reading,
+    numbers: &mut Vec<u64>,
+    a: Axis,
+    base: u128,
+    cells: Builder,
+) -> Result<Builder, CdfFault>
+    requires size { (reading.size ≡ 1) ⊎ ((reading.size ≡ 2) ⊎ ((reading.size ≡ 4) ⊎ (reading.size ≡ 8))) }
+    requires is { reading.size ≡ type_size reading.kind }
+    requires small { reading.end < 2 ^ 64 }
+    requires within { AreWithin reading.size reading.end (walk (step_of a ∷ []) base) }
+    ensures kept { F.holds files.new ≡ F.holds files.old }
+    ensures later { F.faults files.old ≤ F.faults files.new }
+    ensures failed { IsErrOf result CdfFault.Device → Rose (F.faults files.old) (F.faults files.new) }
+    ensures late { IfErr result (IsLate reading.signed) }
+    ensures many { IfOk result (λ all. length all ≡ length cells + length (walk (step_of a ∷ []) base)) }
+    ensures kinds { Every (IsCell reading.signed) cells → IfOk result (Every (IsCell reading.signed)) }
+    ensures told { (bytes : List ℕ) → bytes_in (F.holds files.old) name.now ≡ Some bytes → reading.end ≤ length bytes → IsPiece bytes window.old
+        → Goes reading.signed (map (number_at bytes reading.kind) (walk (step_of a ∷ []) base)) cells result × IfOk result (λ _. IsPiece bytes window.new) }
+{
+    let step = step_along(a);
+    let mut all = cells;
+    let mut i = 0;
+    'row: while i < a.count {
+        let here = place_along(a, &[], base, i, reading) as u64;
+        let most = (a.count - i).min(RUN);
+        match run_in(alloc, files, name, window, reading, here, step, most) {
+            Ok(count) => {
+                let bytes = window.from(here);
+                match push_run(
+                    alloc,
+                    reading,
+                    bytes,
+                    step as usize,
+                    count as usize,
+                    numbers,
+                    all,
+                ) {
+                    Ok(more) => {
+                        all = more;
+                        i += count;
+                    }
+                    Err(fault) => return Err(fault),
+                }
+            }
+            Err(fault) => return Err(fault),
+        }
+    }
+    Ok(all)
+}
+
 /// The cells at the places that the dimensions lead to from a base, behind those so far. Each place
-/// has room for a number before the end.
+/// has room for a number before the end. Numbers are decoded into a buffer, whose content is of no matter.
 pub(crate) fn read_cells<F: Files>(
     alloc: Global,
     files: &mut F,
     name: &str,
     window: &mut Window,
     reading: Reading,
+    numbers: &mut Vec<u64>,
     axes: &[Axis],
     base: u128,
     cells: Builder,
@@ -116,11 +156,16 @@ pub(crate) fn read_cells<F: Files>(
 {
     match axes {
         [] => read_cell(alloc, files, name, window, reading, base as u64, cells),
+        [a] => read_row(
+            alloc, files, name, window, reading, numbers, *a, base, cells,
+        ),
         [a, rest @ ..] => {
             let mut all = cells;
             'cells: for i in 0..a.count {
                 let here = place_along(*a, rest, base, i, reading);
-                match read_cells(alloc, files, name, window, reading, rest, here, all) {
+                match read_cells(
+                    alloc, files, name, window, reading, numbers, rest, here, all,
+                ) {
                     Ok(more) => all = more,
                     Err(fault) => return Err(fault),
                 }

@@ -4,13 +4,14 @@
 //! `slab`, whose cell at an index is the number spelled at its place, or the first fault
 //! `slab_fault`; the faults that the header tells alone come whatever the files tell.
 //!
-//! Read `specs/Numbers` and `specs/Slab`; then `slab`, `faults`, `axes`, `cells`, `window`, `numbers`.
+//! Read `specs/Numbers` and `specs/Slab`; then `slab`, `faults`, `axes`, `cells`, `window`, `runs`, `numbers`.
 #![tactic(auto)]
 
 mod axes;
 mod cells;
 mod faults;
 mod numbers;
+mod runs;
 mod slab;
 mod window;
 

@@ -1,8 +1,9 @@
 //! The numbers of a variable out of their bytes.
 
-ghost use Rattle.std.specs.Prelude.{◌≡◌, ◌+◌, ◌≤◌, ◌⊎◌, length, drop};
+ghost use Rattle.std.specs.Prelude.{◌≡◌, ℕ, ◌+◌, ◌<◌, ◌≤◌, ◌⊎◌, true, length, drop, slice_index};
 ghost use Rattle.byteorder.specs.Endian.{big_number};
 ghost use Rattle.cdf_slab.specs.Numbers.{number_of, twos};
+ghost use Rattle.cdf_slab.specs.Run.{run, HasRun, lowest, IsNatural};
 
 use byteorder::{BigEndian, ByteOrder};
 
@@ -18,6 +19,95 @@ pub(crate) fn spelled_at(bytes: &[u8], size: u64, at: usize) -> u64
         2 => u64::from(BigEndian::read_u16(part)),
         4 => u64::from(BigEndian::read_u32(part)),
         _ => BigEndian::read_u64(part),
+    }
+}
+
+/// The numbers that stand in these bytes a step apart, as many as there is room for.
+pub(crate) fn decode(bytes: &[u8], size: u64, step: usize, numbers: &mut [u64])
+    requires size { (size ≡ 1) ⊎ ((size ≡ 2) ⊎ ((size ≡ 4) ⊎ (size ≡ 8))) }
+    requires room { HasRun bytes.now size step (length numbers.old) }
+    ensures { numbers.new ≡ run size step (length numbers.old) bytes.now }
+{
+    match size {
+        1 => decode_bytes(bytes, step, numbers),
+        2 => decode_shorts(bytes, step, numbers),
+        4 => decode_ints(bytes, step, numbers),
+        _ => decode_longs(bytes, step, numbers),
+    }
+}
+
+fn decode_bytes(bytes: &[u8], step: usize, numbers: &mut [u64])
+    requires { HasRun bytes.now 1 step (length numbers.old) }
+    ensures { numbers.new ≡ run 1 step (length numbers.old) bytes.now }
+{
+    for (k, x) in numbers.iter_mut().enumerate() {
+        *x = u64::from(bytes[k * step]);
+    }
+}
+
+fn decode_shorts(bytes: &[u8], step: usize, numbers: &mut [u64])
+    requires { HasRun bytes.now 2 step (length numbers.old) }
+    ensures { numbers.new ≡ run 2 step (length numbers.old) bytes.now }
+{
+    for (k, x) in numbers.iter_mut().enumerate() {
+        *x = u64::from(BigEndian::read_u16(&bytes[k * step..]));
+    }
+}
+
+fn decode_ints(bytes: &[u8], step: usize, numbers: &mut [u64])
+    requires { HasRun bytes.now 4 step (length numbers.old) }
+    ensures { numbers.new ≡ run 4 step (length numbers.old) bytes.now }
+{
+    for (k, x) in numbers.iter_mut().enumerate() {
+        *x = u64::from(BigEndian::read_u32(&bytes[k * step..]));
+    }
+}
+
+fn decode_longs(bytes: &[u8], step: usize, numbers: &mut [u64])
+    requires { HasRun bytes.now 8 step (length numbers.old) }
+    ensures { numbers.new ≡ run 8 step (length numbers.old) bytes.now }
+{
+    for (k, x) in numbers.iter_mut().enumerate() {
+        *x = BigEndian::read_u64(&bytes[k * step..]);
+    }
+}
+
+/// How many numbers stand before the first below 0, by the type of their variable.
+pub(crate) fn naturals_before(kind: u32, numbers: &[u64]) -> usize
+    ensures within { result ≤ length numbers.now }
+    ensures naturals { (k : ℕ) → k < result → IsNatural kind (slice_index numbers.now k) }
+    ensures negative { result < length numbers.now → (number_of kind (slice_index numbers.now result)).0 ≡ true }
+{
+    match lowest_below(kind) {
+        Some(limit) => before(limit, numbers),
+        None => numbers.len(),
+    }
+}
+
+// How many numbers stand before the first that reaches a limit.
+fn before(limit: u64, numbers: &[u64]) -> usize
+    ensures within { result ≤ length numbers.now }
+    ensures smaller { (k : ℕ) → k < result → slice_index numbers.now k < limit }
+    ensures reached { result < length numbers.now → limit ≤ slice_index numbers.now result }
+{
+    for (i, x) in numbers.iter().enumerate() {
+        if *x >= limit {
+            return i;
+        }
+    }
+    numbers.len()
+}
+
+// The least that the bytes of a number below 0 spell, where the type has a sign.
+fn lowest_below(kind: u32) -> Option<u64>
+    ensures { result ≡ lowest kind }
+{
+    match kind {
+        1 => Some(0x80),
+        3 => Some(0x8000),
+        4 => Some(0x8000_0000),
+        10 => Some(0x8000_0000_0000_0000),
+        _ => None,
     }
 }
 

@@ -11,8 +11,9 @@ ghost use Rattle.cdf_slab.specs.Numbers.{IsCell};
 ghost use Rattle.cdf_slab.specs.Slab.{slab_numbers, slab, or_else, cut_fault, index_fault, early_fault, negative_fault, slab_fault, Answers, AnswersEarly, IsShaped, IsLate};
 
 use crate::axes::axes_of;
-use crate::cells::{Reading, read_cells};
+use crate::cells::read_cells;
 use crate::faults::{cut_from, last_end, outside_dimension, variable_fault, zero_stride};
+use crate::runs::Reading;
 use crate::window::Window;
 use aql_outside::Files;
 use aql_value::{Dims, Index, Memory, Str, saturating_product};
@@ -146,12 +147,14 @@ fn read_some<F: Files>(
         end: last_end(end, size, &axes, base),
     };
     let mut window = Window::new(alloc);
+    let mut numbers = Vec::new(alloc);
     match read_cells(
         alloc,
         files,
         name,
         &mut window,
         reading,
+        &mut numbers,
         &axes,
         base,
         Builder::new(alloc),

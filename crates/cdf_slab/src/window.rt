@@ -1,13 +1,15 @@
 //! A piece of a file, read where its numbers are asked for.
 
-ghost use Rattle.std.specs.Prelude.{◌≡◌, ◌+◌, ◌≤◌, ◌<◌, ◌⊎◌, Bool, List, ℕ, Some, false, length, drop, min, IfOk, IfErr, IsErrOf, IsTrue};
+ghost use Rattle.std.specs.Prelude.{◌≡◌, ◌+◌, ◌-◌, ◌^◌, ◌≤◌, ◌<◌, ◌⊎◌, Bool, List, ℕ, Some, false, length, drop, min, IfOk, IfErr, IsErrOf, IsTrue};
 ghost use Rattle.aql_outside.specs.Causes.{Rose};
 ghost use Rattle.aql_outside.specs.Contents.{bytes_in};
 ghost use Rattle.byteorder.specs.Endian.{big_number};
+ghost use Rattle.cdf_slab.specs.Run.{HoldsRun};
 ghost use Rattle.cdf_slab.specs.Slab.{IsLate};
 ghost use Rattle.cdf_slab.specs.Window.{IsPiece, Holds, IsOutside};
 
 use crate::numbers::spelled_at;
+use crate::runs::Reading;
 use aql_outside::Files;
 use cdf_header::CdfFault;
 use std::alloc::Global;
@@ -57,6 +59,29 @@ impl Window {
     {
         spelled_at(&self.bytes, size, (place - self.at) as usize)
     }
+
+    /// The bytes of the piece from an offset on.
+    pub fn from(&self, place: u64) -> &[u8]
+        requires behind { self.now.at ≤ place }
+        requires within { place ≤ self.now.at + length self.now.bytes.items }
+        ensures { result.now ≡ drop (place - self.now.at) self.now.bytes.items }
+    {
+        &self.bytes[(place - self.at) as usize..]
+    }
+
+    // How many numbers of so many bytes, a step apart from an offset on, stand in the piece, at most so many.
+    fn many(&self, place: u64, size: u64, step: u64, most: u64) -> u64
+        requires size { 1 ≤ size }
+        requires holds { Holds self.now place size }
+        requires some { 1 ≤ most }
+        ensures some { 1 ≤ result }
+        ensures most { result ≤ most }
+        ensures near { 2 ≤ result → step < 2 ^ 64 - 1 }
+        ensures run { HoldsRun self.now place size step result }
+    {
+        let room = self.bytes.len() as u64 - (place - self.at) - size;
+        most.min(room / step.max(1) + 1)
+    }
 }
 
 // Reads so many bytes from an offset on.
@@ -92,8 +117,48 @@ fn load<F: Files>(
     }
 }
 
-/// The number of so many bytes at an offset. Reads on where it does not stand in the piece, and never
-/// past the end. A read that gives fewer bytes than asked is the end of the file: `Cut`.
+// Makes the piece one in which a number of so many bytes at an offset stands. Reads on where it does not
+// stand in it yet, and never past the end. A read that gives fewer bytes than asked is the end of the
+// file: `Cut`.
+fn hold<F: Files>(
+    alloc: Global,
+    files: &mut F,
+    name: &str,
+    window: &mut Window,
+    end: u64,
+    place: u64,
+    size: u64,
+) -> Result<(), CdfFault>
+    requires size { (size ≡ 1) ⊎ ((size ≡ 2) ⊎ ((size ≡ 4) ⊎ (size ≡ 8))) }
+    requires within { place + size ≤ end }
+    ensures kept { F.holds files.new ≡ F.holds files.old }
+    ensures later { F.faults files.old ≤ F.faults files.new }
+    ensures failed { IsErrOf result CdfFault.Device → Rose (F.faults files.old) (F.faults files.new) }
+    ensures late { (signed : Bool) → IfErr result (IsLate signed) }
+    ensures holds { IfOk result (λ _. Holds window.new place size) }
+    ensures told { (bytes : List ℕ) → bytes_in (F.holds files.old) name.now ≡ Some bytes → end ≤ length bytes → IsPiece bytes window.old
+        → IfErr result IsOutside × IfOk result (λ _. IsPiece bytes window.new) }
+{
+    if window.has(place, size) {
+        return Ok(());
+    }
+    if window.short {
+        return Err(CdfFault::Cut {
+            at: u128::from(place),
+        });
+    }
+    let room = (end - place).min(PIECE);
+    *window = load(alloc, files, name, place, room as usize)?;
+    if window.has(place, size) {
+        Ok(())
+    } else {
+        Err(CdfFault::Cut {
+            at: u128::from(place),
+        })
+    }
+}
+
+/// The number of so many bytes at an offset.
 pub(crate) fn number_in<F: Files>(
     alloc: Global,
     files: &mut F,
@@ -112,21 +177,40 @@ pub(crate) fn number_in<F: Files>(
     ensures told { (bytes : List ℕ) → bytes_in (F.holds files.old) name.now ≡ Some bytes → end ≤ length bytes → IsPiece bytes window.old
         → IfErr result IsOutside × IfOk result (λ x. (x ≡ big_number size (drop place bytes)) × IsPiece bytes window.new) }
 {
-    if window.has(place, size) {
-        return Ok(window.get(place, size));
+    match hold(alloc, files, name, window, end, place, size) {
+        Ok(()) => Ok(window.get(place, size)),
+        Err(fault) => Err(fault),
     }
-    if window.short {
-        return Err(CdfFault::Cut {
-            at: u128::from(place),
-        });
-    }
-    let room = (end - place).min(PIECE);
-    *window = load(alloc, files, name, place, room as usize)?;
-    if window.has(place, size) {
-        Ok(window.get(place, size))
-    } else {
-        Err(CdfFault::Cut {
-            at: u128::from(place),
-        })
+}
+
+/// How many numbers of so many bytes, a step apart from an offset on, stand in one piece: one at least,
+/// and at most so many.
+pub(crate) fn run_in<F: Files>(
+    alloc: Global,
+    files: &mut F,
+    name: &str,
+    window: &mut Window,
+    reading: Reading,
+    place: u64,
+    step: u64,
+    most: u64,
+) -> Result<u64, CdfFault>
+    requires size { (reading.size ≡ 1) ⊎ ((reading.size ≡ 2) ⊎ ((reading.size ≡ 4) ⊎ (reading.size ≡ 8))) }
+    requires within { place + reading.size ≤ reading.end }
+    requires some { 1 ≤ most }
+    ensures kept { F.holds files.new ≡ F.holds files.old }
+    ensures later { F.faults files.old ≤ F.faults files.new }
+    ensures failed { IsErrOf result CdfFault.Device → Rose (F.faults files.old) (F.faults files.new) }
+    ensures late { (signed : Bool) → IfErr result (IsLate signed) }
+    ensures some { IfOk result (λ n. 1 ≤ n) }
+    ensures most { IfOk result (λ n. n ≤ most) }
+    ensures near { IfOk result (λ n. 2 ≤ n → step < 2 ^ 64 - 1) }
+    ensures run { IfOk result (HoldsRun window.new place reading.size step) }
+    ensures told { (bytes : List ℕ) → bytes_in (F.holds files.old) name.now ≡ Some bytes → reading.end ≤ length bytes → IsPiece bytes window.old
+        → IfErr result IsOutside × IfOk result (λ _. IsPiece bytes window.new) }
+{
+    match hold(alloc, files, name, window, reading.end, place, reading.size) {
+        Ok(()) => Ok(window.many(place, reading.size, step, most)),
+        Err(fault) => Err(fault),
     }
 }

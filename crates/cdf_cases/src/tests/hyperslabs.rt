@@ -614,3 +614,53 @@ fn furthest_bytes(rt: HostRuntime) -> Result<(), Fail> {
     }
     Ok(())
 }
+
+// One variable `v` of 40,000 shorts over one dimension; the one at i is i * 40503 modulo 32768, but that at `below` is -1.
+fn long_row(alloc: Global, below: u32) -> Result<Vec<u8>, AllocError> {
+    let words: [u32; 20] = [
+        0x43444601, 0, 0xa, 1, 1, 0x78000000, 40000, 0, 0, 0xb, 1, 1, 0x76000000, 1, 0, 0, 0, 3,
+        80000, 80,
+    ];
+    let mut bytes = bytes_of(alloc, &words)?;
+    for i in 0..40000u32 {
+        let short = if i == below { 0xffff } else { short_at(i) };
+        bytes.extend_from_slice(&short.to_be_bytes())?;
+    }
+    Ok(bytes)
+}
+
+fn short_at(i: u32) -> u16 {
+    (i.wrapping_mul(40503) % 32768) as u16
+}
+
+// Rows that are longer than what is read or decoded at once, and the first number below 0 behind it.
+#[test]
+fn long_rows(rt: HostRuntime) -> Result<(), Fail> {
+    let alloc = rt.alloc();
+    let cases: [(u32, u32); 4] = [(1, 40000), (7, 5714), (4000, 10), (39999, 2)];
+    for (stride, count) in cases {
+        let asked_count = [u128::from(count)];
+        let asked_stride = [u128::from(stride)];
+        let bytes = long_row(alloc, 40000)?;
+        let mut files = SureFiles::new(folder(alloc, bytes.clone()?)?);
+        let request = naturals(&[0], &asked_count, &asked_stride);
+        let found = read_over(alloc, &mut files, bytes, b"v", request)?;
+        let mut expected = Vec::new(alloc);
+        for i in 0..count {
+            let short = short_at(i.wrapping_mul(stride));
+            expected.extend_from_slice(&short.to_le_bytes())?;
+        }
+        assert!(rt; agrees(&found, Ok((16, &expected))));
+    }
+    let negatives: [(u32, u128, u128, u64); 2] = [(39998, 40000, 1, 39998), (21000, 5714, 7, 3000)];
+    for (below, count, stride, cell) in negatives {
+        let asked_count = [count];
+        let asked_stride = [stride];
+        let bytes = long_row(alloc, below)?;
+        let mut files = SureFiles::new(folder(alloc, bytes.clone()?)?);
+        let request = naturals(&[0], &asked_count, &asked_stride);
+        let found = read_over(alloc, &mut files, bytes, b"v", request)?;
+        assert!(rt; agrees(&found, Err(CdfFault::Negative { cell })));
+    }
+    Ok(())
+}

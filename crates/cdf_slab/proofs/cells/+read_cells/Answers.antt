@@ -5,7 +5,7 @@ use Rattle.cdf_slab.specs.Numbers.{number_at}
 use Rattle.cdf_slab.specs.Walk.{steps_of, walk}
 use Rattle.cdf_slab.specs.Going.{Goes}
 use Rattle.cdf_slab.specs.Window.{IsPiece}
-use Rattle.cdf_slab.proofs.Blocks.{read_next, read_fails, read_done, count_next, count_done, none_is}
+use Rattle.cdf_slab.proofs.Blocks.{read_next, read_fails, read_done, count_next, count_done, none_is, one_is}
 use Rattle.cdf_slab.proofs.cells.+read_cells.Goals as goal
 
 pub returns-in-empty-clause-told : goal.returns-in-empty-clause-told
@@ -49,3 +49,8 @@ returns-after-cells-clause-told t g c = λ bytes there le p.
 
 pub returns-after-cells-clause-many : goal.returns-after-cells-clause-many
 returns-after-cells-clause-many t g c = count_done _ _ _ _ _ _ _ c.cells.invariant.many c.cells-test.false
+
+pub returns-in-len1-clause-many : goal.returns-in-len1-clause-many
+returns-in-len1-clause-many t g c =
+    subst (λ l. IfOk c.read_row.result (λ all. length all ≡ length c.args.cells + length (walk (steps_of l) c.args.base)))
+    (sym (one_is c.args.axes.now (record { start = 0; count = 0; stride = 0; weight = 0 }) c.in-len1.len_at_least c.in-len1.len_below)) c.read_row.ensures.many

@@ -1,6 +1,6 @@
 use Rattle.std.proofs.lemmas.Result.{err_from_is_err_and}
 use Rattle.cdf_slab.proofs.Goings.{outside_late}
-use Rattle.cdf_slab.proofs.window.number_in.Goals as goal
+use Rattle.cdf_slab.proofs.window.hold.Goals as goal
 
 pub returns-in_err-window-clause-late : goal.returns-in_err-window-clause-late
 returns-in_err-window-clause-late g c = λ signed.

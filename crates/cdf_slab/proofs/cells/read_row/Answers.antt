@@ -1,0 +1,63 @@
+use Rattle.std.proofs.Common.{◌+◌, ◌^◌, ◌-◌, ◌≤◌, map, Ok, Err, ap, sym, subst, ◌∙◌, arith}
+use Rattle.aql_outside.specs.Contents.{bytes_in}
+use Rattle.cdf_slab.specs.Numbers.{number_of}
+use Rattle.cdf_slab.specs.Run.{run, HasRun}
+use Rattle.cdf_slab.specs.Walk.{step_of}
+use Rattle.cdf_slab.proofs.Blocks.{read_done}
+use Rattle.cdf_slab.proofs.Goings.{goes-kinds}
+use Rattle.cdf_slab.proofs.Rows.{row_turn, row_next, row_fails, row_counts, run_told, has_run}
+use Rattle.cdf_slab.proofs.cells.read_row.Goals as goal
+
+pub from-bytes-requires-clause-within : goal.from-bytes-requires-clause-within
+from-bytes-requires-clause-within g c = omega (arith, c.in-Ok.ensures.some, c.in-Ok.ensures.run.before 0 c.in-Ok.ensures.some)
+
+pub push_run-requires-clause-room : goal.push_run-requires-clause-room
+push_run-requires-clause-room g c =
+    subst (λ l. HasRun l c.args.reading.size c.step_along-step.result c.in-Ok.count) (sym c.from-bytes.ensures) (has_run c.run_in.new.window _ _ _ _ c.in-Ok.ensures.run)
+
+pub row-preserved : goal.row-preserved
+row-preserved g c =
+    let n = c.in-Ok.count in
+    let step = c.step_along-step.result in
+    let here = c.place_along-here.result in
+    let le : c.row.i + n ≤ c.args.a.count = omega (arith, c.in-Ok.ensures.most, c.row-test.true) in
+    let t = row_turn (step_of c.args.a) c.args.base c.row.i n c.args.reading.size c.args.reading.end here step (2 ^ 64 - 1) c.row.invariant.room c.place_along-here.ensures.turn le c.row.invariant.step c.in-Ok.ensures.near in
+    record {
+      step = c.row.invariant.step;
+      size = c.row.invariant.size;
+      is = c.row.invariant.is;
+      small = c.row.invariant.small;
+      below = le;
+      room = t.next;
+      many = row_counts _ _ _ _ _ _ _ _ _ _ _ _ c.row.invariant.many t c.in-Ok-push_run.ensures.many;
+      kinds = λ h.
+          goes-kinds c.args.reading.signed (map (number_of c.args.reading.kind) (run c.args.reading.size step n c.from-bytes.result.now)) c.row.all (Ok c.in-Ok-push_run.more) c.in-Ok-push_run.ensures.goes
+          (c.row.invariant.kinds h);
+      kept = c.in-Ok.ensures.kept ∙ c.row.invariant.kept;
+      later = omega (arith, c.row.invariant.later, c.in-Ok.ensures.later);
+      told = λ bytes there le p.
+          let old = c.row.invariant.told bytes there le p in
+          let r = c.in-Ok.ensures.told bytes (ap (λ h. bytes_in h c.args.name.now) c.row.invariant.kept ∙ there) le old.0 in
+          let m = run_told c.args.reading.signed bytes c.run_in.new.window c.args.reading.kind c.args.reading.size here step n c.from-bytes.result.now c.row.all (Ok c.in-Ok-push_run.more) c.requires.is c.in-Ok.ensures.run r.1 c.from-bytes.ensures c.in-Ok-push_run.ensures.goes in
+          (r.1, row_next _ _ _ _ _ _ _ _ _ _ _ _ _ _ _ old.1 t m);
+    }
+
+pub returns-in-Err-push_run-clause-told : goal.returns-in-Err-push_run-clause-told
+returns-in-Err-push_run-clause-told g c = λ bytes there is p.
+    let n = c.in-Ok.count in
+    let step = c.step_along-step.result in
+    let here = c.place_along-here.result in
+    let le : c.row.i + n ≤ c.args.a.count = omega (arith, c.in-Ok.ensures.most, c.row-test.true) in
+    let t = row_turn (step_of c.args.a) c.args.base c.row.i n c.args.reading.size c.args.reading.end here step (2 ^ 64 - 1) c.row.invariant.room c.place_along-here.ensures.turn le c.row.invariant.step c.in-Ok.ensures.near in
+    let old = c.row.invariant.told bytes there is p in
+    let r = c.in-Ok.ensures.told bytes (ap (λ h. bytes_in h c.args.name.now) c.row.invariant.kept ∙ there) is old.0 in
+    let m = run_told c.args.reading.signed bytes c.run_in.new.window c.args.reading.kind c.args.reading.size here step n c.from-bytes.result.now c.row.all (Err c.in-Err-push_run.fault) c.requires.is c.in-Ok.ensures.run r.1 c.from-bytes.ensures c.in-Err-push_run.ensures.goes in
+    (row_fails _ _ _ _ _ _ _ _ _ _ _ _ _ _ _ old.1 t m, tt)
+
+pub returns-in-Err-clause-late : goal.returns-in-Err-clause-late
+returns-in-Err-clause-late g c = c.in-Err.ensures.late c.args.reading.signed
+
+pub returns-clause-told : goal.returns-clause-told
+returns-clause-told g c = λ bytes there le p.
+    let old = c.row.invariant.told bytes there le p in
+    (read_done _ _ _ _ _ _ _ _ _ _ old.1 c.row-test.false, old.0)

@@ -1,0 +1,115 @@
+//! Runs of numbers, as cells.
+
+ghost use Rattle.std.specs.Prelude.{◌≡◌, ◌+◌, ◌⊎◌, [], ◌∷◌, false, length, map, IfOk, IsErrOf};
+ghost use Rattle.cdf_slab.specs.Going.{Goes};
+ghost use Rattle.cdf_slab.specs.Numbers.{number_of};
+ghost use Rattle.cdf_slab.specs.Run.{run, HasRun};
+
+use crate::numbers::{decode, naturals_before, number};
+use cdf_header::CdfFault;
+use nrca_array::Builder;
+use std::alloc::Global;
+
+/// What is read: numbers of a type and so many bytes, before an end; as pairs of whether they are
+/// below 0 and how far from 0, or as naturals.
+#[derive(Clone, Copy, Debug, PartialEq, Eq)]
+pub(crate) struct Reading {
+    pub kind: u32,
+    pub size: u64,
+    pub signed: bool,
+    pub end: u64,
+}
+
+/// One cell more, of a number as its bytes spell it.
+pub(crate) fn push_number(
+    alloc: Global,
+    reading: Reading,
+    x: u64,
+    cells: Builder,
+) -> Result<Builder, CdfFault>
+    ensures goes { Goes reading.signed (number_of reading.kind x ∷ []) cells result }
+    ensures many { IfOk result (λ all. length all ≡ length cells + 1) }
+    ensures own { IsErrOf result CdfFault.Device → ⊥ }
+{
+    let (below, far) = number(reading.kind, x);
+    if reading.signed {
+        return Ok(cells.push_pair(alloc, below, u128::from(far))?);
+    }
+    if below {
+        return Err(CdfFault::Negative {
+            cell: cells.len() as u64,
+        });
+    }
+    Ok(cells.push_natural(alloc, u128::from(far))?)
+}
+
+/// So many cells more, of the numbers that stand in these bytes a step apart, decoded into a buffer.
+pub(crate) fn push_run(
+    alloc: Global,
+    reading: Reading,
+    bytes: &[u8],
+    step: usize,
+    count: usize,
+    numbers: &mut Vec<u64>,
+    cells: Builder,
+) -> Result<Builder, CdfFault>
+    requires size { (reading.size ≡ 1) ⊎ ((reading.size ≡ 2) ⊎ ((reading.size ≡ 4) ⊎ (reading.size ≡ 8))) }
+    requires room { HasRun bytes.now reading.size step count }
+    ensures goes { Goes reading.signed (map (number_of reading.kind) (run reading.size step count bytes.now)) cells result }
+    ensures many { IfOk result (λ all. length all ≡ length cells + count) }
+    ensures own { IsErrOf result CdfFault.Device → ⊥ }
+{
+    match numbers.resize(count, 0) {
+        Ok(()) => {
+            decode(bytes, reading.size, step, numbers);
+            if reading.signed {
+                push_each(alloc, reading, numbers, cells)
+            } else {
+                push_naturals(alloc, reading.kind, numbers, cells)
+            }
+        }
+        Err(_) => Err(CdfFault::Memory),
+    }
+}
+
+// A cell more for each number.
+fn push_each(
+    alloc: Global,
+    reading: Reading,
+    numbers: &[u64],
+    cells: Builder,
+) -> Result<Builder, CdfFault>
+    ensures goes { Goes reading.signed (map (number_of reading.kind) numbers.now) cells result }
+    ensures many { IfOk result (λ all. length all ≡ length cells + length numbers.now) }
+    ensures own { IsErrOf result CdfFault.Device → ⊥ }
+{
+    let mut all = cells;
+    'numbers: for x in numbers {
+        match push_number(alloc, reading, *x, all) {
+            Ok(more) => all = more,
+            Err(fault) => return Err(fault),
+        }
+    }
+    Ok(all)
+}
+
+// A natural more for each number, up to the first below 0.
+fn push_naturals(
+    alloc: Global,
+    kind: u32,
+    numbers: &[u64],
+    cells: Builder,
+) -> Result<Builder, CdfFault>
+    ensures goes { Goes false (map (number_of kind) numbers.now) cells result }
+    ensures many { IfOk result (λ all. length all ≡ length cells + length numbers.now) }
+    ensures own { IsErrOf result CdfFault.Device → ⊥ }
+{
+    let count = naturals_before(kind, numbers);
+    let all = cells.push_naturals(alloc, &numbers[..count])?;
+    if count < numbers.len() {
+        return Err(CdfFault::Negative {
+            cell: all.len() as u64,
+        });
+    }
+    Ok(all)
+}
