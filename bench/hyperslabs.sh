@@ -14,7 +14,7 @@ for crate in aql_outside aql_system aql_value nrca_array cdf_header cdf_slab; do
     done
     grep "^$crate:" "$top/crates.txt" >> "$work/crates.txt"
 done
-printf 'measure: cdf_slab cdf_header nrca_array aql_outside aql_system aql_value anyhow\n' >> "$work/crates.txt"
+printf 'measure: cdf_slab cdf_header nrca_array aql_outside aql_system aql_value anyhow byteorder\n' >> "$work/crates.txt"
 : > "$work/crates/measure/specs/Lib.antt"
 : > "$work/crates/measure/proofs/Lib.antt"
 cat > "$work/crates/measure/src/main.rt" <<'PROGRAM'
@@ -23,6 +23,7 @@ cat > "$work/crates/measure/src/main.rt" <<'PROGRAM'
 use anyhow::{Result, anyhow, bail};
 use aql_system::FileSystem;
 use aql_value::{Index, Str, saturating_product};
+use byteorder::{ByteOrder, LittleEndian};
 use cdf_header::read_header;
 use cdf_slab::read_slab;
 
@@ -47,11 +48,8 @@ fn main(rt: HostRuntime) -> Result<()> {
     let Some((width, bytes)) = flat.packed() else { bail!("no cells") };
     let mut sum = 0u64;
     if width == 16 {
-        let mut high = false;
-        for b in bytes {
-            let b = u64::from(*b);
-            sum = sum.wrapping_add(if high { b.wrapping_mul(256) } else { b });
-            high = !high;
+        for i in 0..bytes.len() / 2 {
+            sum = sum.wrapping_add(u64::from(LittleEndian::read_u16(&bytes[2 * i..])));
         }
     }
     println!(rt; "{sum}")?;
