@@ -9,15 +9,17 @@ decls_last : (ds : List Decl) (d : Decl) → decls_of (ds ++ d ∷ []) ≡ decls
 decls_last [] d = refl
 decls_last (x ∷ ds) d = ap (λ l. decl_of x ∷ l) (decls_last ds d)
 
+-- a declaration pushed
+pub pushed : (now next : List Decl) (d : Decl) (x : Declaration) → next ≡ now ++ d ∷ [] → decl_of d ≡ x → decls_of next ≡ decls_of now ++ x ∷ []
+pushed now next d x e k = ap decls_of e ∙ decls_last now d ∙ ap (λ y. decls_of now ++ y ∷ []) k
+
 -- none is pushed yet
-pub none_pushed : (ds : List Decl) → decls_of ds ≡ decls_of ds ++ []
-none_pushed ds = sym (append-nil (decls_of ds))
+pub none_pushed : (l : List Declaration) → l ≡ l ++ []
+none_pushed l = sym (append-nil l)
 
 -- one more
-pub pushed : (ds now next : List Decl) (d : Decl) (xs : List Declaration) (x : Declaration) → decls_of now ≡ decls_of ds ++ xs → next ≡ now ++ d ∷ [] → decl_of d ≡ x →
-    decls_of next ≡ decls_of ds ++ (xs ++ x ∷ [])
-pushed ds now next d xs x h e k =
-    ap decls_of e ∙ decls_last now d ∙ ap (λ l. l ++ decl_of d ∷ []) h ∙ ap (λ y. (decls_of ds ++ xs) ++ y ∷ []) k ∙ append_assoc (decls_of ds) xs (x ∷ [])
+pub more : (l : List Declaration) (now next : List Declaration) (xs : List Declaration) (x : Declaration) → now ≡ l ++ xs → next ≡ now ++ x ∷ [] → next ≡ l ++ (xs ++ x ∷ [])
+more l now next xs x h e = e ∙ ap (λ k. k ++ x ∷ []) h ∙ append_assoc l xs (x ∷ [])
 
 -- the four groups
 pub all_pushed : (none first second third fourth : List Decl) → none ≡ [] → decls_of first ≡ decls_of none ++ of_pairs_and_counts →

@@ -1,11 +1,13 @@
 //! The prelude: the 24 macros that stand before the declarations of every script.
 //!
 //! `prelude` is the one call. `specs/Prelude.antt` has each declaration as a tree, under its text. The code makes one declaration a
-//! function, in `counts`, `sets`, `numbers` and `arrays`, of the forms in `trees`.
+//! function, in `counts`, `sets`, `numbers` and `arrays`, of the forms in `trees`, which take their parts as they were made: want of
+//! memory passes through to the top.
 #![tactic(auto)]
 
-ghost use Rattle.std.specs.Prelude.{◌≡◌, ◌++◌, length, IfOk, OnOk};
-ghost use Rattle.aql_syntax.specs.View.{decls_of};
+ghost use Rattle.std.specs.Prelude.{[], ◌∷◌, ◌≡◌, ◌++◌, length, IfOk, OnOk};
+ghost use Rattle.aql_syntax.specs.Tree.{Declaration};
+ghost use Rattle.aql_syntax.specs.View.{decl_of, decls_of};
 ghost use Rattle.aql_prelude.specs.Prelude.{prelude_decls, of_pairs_and_counts, of_sets, of_numbers, of_arrays};
 
 mod arrays;
@@ -32,74 +34,59 @@ pub fn prelude(alloc: Global) -> Result<Decls, Memory>
     Ok(Decls { items })
 }
 
+// One declaration more.
+fn put(items: &mut Vec<Decl>, decl: Result<Decl, Memory>) -> Result<(), Memory>
+    ensures { (x : Declaration) → IfOk decl (λ d. decl_of d ≡ x) → OnOk result (decls_of items.new.items ≡ decls_of items.old.items ++ x ∷ []) }
+{
+    let decl = decl?;
+    items.push(decl)?;
+    Ok(())
+}
+
 fn push_counts(alloc: Global, items: &mut Vec<Decl>) -> Result<(), Memory>
     ensures { OnOk result (decls_of items.new.items ≡ decls_of items.old.items ++ of_pairs_and_counts) }
 {
-    let fst = counts::fst(alloc)?;
-    let snd = counts::snd(alloc)?;
-    let isempty = counts::isempty(alloc)?;
-    let member = counts::member(alloc)?;
-    let count = counts::count(alloc)?;
-    let total = counts::total(alloc)?;
-    items.push(fst)?;
-    items.push(snd)?;
-    items.push(isempty)?;
-    items.push(member)?;
-    items.push(count)?;
-    items.push(total)?;
+    put(items, counts::fst(alloc))?;
+    put(items, counts::snd(alloc))?;
+    put(items, counts::isempty(alloc))?;
+    put(items, counts::member(alloc))?;
+    put(items, counts::count(alloc))?;
+    put(items, counts::total(alloc))?;
     Ok(())
 }
 
 fn push_sets(alloc: Global, items: &mut Vec<Decl>) -> Result<(), Memory>
     ensures { OnOk result (decls_of items.new.items ≡ decls_of items.old.items ++ of_sets) }
 {
-    let inter = sets::inter(alloc)?;
-    let minus = sets::minus(alloc)?;
-    let subset = sets::subset(alloc)?;
-    let product = sets::product(alloc)?;
-    let flatten = sets::flatten(alloc)?;
-    let least = sets::least(alloc)?;
-    let greatest = sets::greatest(alloc)?;
-    items.push(inter)?;
-    items.push(minus)?;
-    items.push(subset)?;
-    items.push(product)?;
-    items.push(flatten)?;
-    items.push(least)?;
-    items.push(greatest)?;
+    put(items, sets::inter(alloc))?;
+    put(items, sets::minus(alloc))?;
+    put(items, sets::subset(alloc))?;
+    put(items, sets::product(alloc))?;
+    put(items, sets::flatten(alloc))?;
+    put(items, sets::least(alloc))?;
+    put(items, sets::greatest(alloc))?;
     Ok(())
 }
 
 fn push_numbers(alloc: Global, items: &mut Vec<Decl>) -> Result<(), Memory>
     ensures { OnOk result (decls_of items.new.items ≡ decls_of items.old.items ++ of_numbers) }
 {
-    let min2 = numbers::min2(alloc)?;
-    let max2 = numbers::max2(alloc)?;
-    let range = numbers::range(alloc)?;
-    let domain = numbers::domain(alloc)?;
-    items.push(min2)?;
-    items.push(max2)?;
-    items.push(range)?;
-    items.push(domain)?;
+    put(items, numbers::min2(alloc))?;
+    put(items, numbers::max2(alloc))?;
+    put(items, numbers::range(alloc))?;
+    put(items, numbers::domain(alloc))?;
     Ok(())
 }
 
 fn push_arrays(alloc: Global, items: &mut Vec<Decl>) -> Result<(), Memory>
     ensures { OnOk result (decls_of items.new.items ≡ decls_of items.old.items ++ of_arrays) }
 {
-    let cells = arrays::cells(alloc)?;
-    let graph = arrays::graph(alloc)?;
-    let reverse = arrays::reverse(alloc)?;
-    let subseq = arrays::subseq(alloc)?;
-    let append = arrays::append(alloc)?;
-    let transpose = arrays::transpose(alloc)?;
-    let zip = arrays::zip(alloc)?;
-    items.push(cells)?;
-    items.push(graph)?;
-    items.push(reverse)?;
-    items.push(subseq)?;
-    items.push(append)?;
-    items.push(transpose)?;
-    items.push(zip)?;
+    put(items, arrays::cells(alloc))?;
+    put(items, arrays::graph(alloc))?;
+    put(items, arrays::reverse(alloc))?;
+    put(items, arrays::subseq(alloc))?;
+    put(items, arrays::append(alloc))?;
+    put(items, arrays::transpose(alloc))?;
+    put(items, arrays::zip(alloc))?;
     Ok(())
 }

@@ -1,67 +1,56 @@
 //! Numbers, and sets of numbers.
 
 ghost use Rattle.std.specs.Prelude.{◌≡◌, IfOk};
-ghost use Rattle.aql_syntax.specs.View.{tree_of, decl_of};
+ghost use Rattle.aql_syntax.specs.View.{decl_of};
 ghost use Rattle.aql_value.specs.declared.ops.CompareOp.TheVariants as compares;
+ghost use Rattle.aql_prelude.specs.Made.{MadeTree};
 ghost use Rattle.aql_prelude.specs.Prelude as prelude;
 
-use crate::trees::{arith, bind, bind_both, choose, compare, define, generate, len, name, rows};
-use aql_syntax::ast::{Decl, Expr, Qual};
+use crate::trees::{
+    arith, bind, bind_both, choose, compare, define, from, generate, len, name, rows,
+};
+use aql_syntax::ast::{Decl, Expr};
 use aql_value::{ArithOp, CompareOp, Memory};
 use std::alloc::Global;
 
 // `a < b`.
 fn is_less(alloc: Global) -> Result<Expr, Memory>
-    ensures { IfOk result (λ e. tree_of e ≡ prelude.compare compares.Less (prelude.name "a") (prelude.name "b")) }
+    ensures { MadeTree result (prelude.compare compares.Less (prelude.name "a") (prelude.name "b")) }
 {
-    let a = name(alloc, b"a")?;
-    let b = name(alloc, b"b")?;
-    compare(alloc, CompareOp::Less, a, b)
+    compare(alloc, CompareOp::Less, name(alloc, b"a"), name(alloc, b"b"))
 }
 
 pub(crate) fn min2(alloc: Global) -> Result<Decl, Memory>
     ensures { IfOk result (λ d. decl_of d ≡ prelude.min2) }
 {
-    let pattern = bind_both(alloc, b"a", b"b")?;
-    let test = is_less(alloc)?;
-    let a = name(alloc, b"a")?;
-    let b = name(alloc, b"b")?;
-    let body = choose(alloc, test, a, b)?;
-    define(alloc, b"min2", pattern, body)
+    let body = choose(alloc, is_less(alloc), name(alloc, b"a"), name(alloc, b"b"));
+    define(alloc, b"min2", bind_both(alloc, b"a", b"b"), body)
 }
 
 pub(crate) fn max2(alloc: Global) -> Result<Decl, Memory>
     ensures { IfOk result (λ d. decl_of d ≡ prelude.max2) }
 {
-    let pattern = bind_both(alloc, b"a", b"b")?;
-    let test = is_less(alloc)?;
-    let b = name(alloc, b"b")?;
-    let a = name(alloc, b"a")?;
-    let body = choose(alloc, test, b, a)?;
-    define(alloc, b"max2", pattern, body)
+    let body = choose(alloc, is_less(alloc), name(alloc, b"b"), name(alloc, b"a"));
+    define(alloc, b"max2", bind_both(alloc, b"a", b"b"), body)
 }
 
 pub(crate) fn range(alloc: Global) -> Result<Decl, Memory>
     ensures { IfOk result (λ d. decl_of d ≡ prelude.range) }
 {
-    let pattern = bind_both(alloc, b"a", b"b")?;
-    let b = name(alloc, b"b")?;
-    let a = name(alloc, b"a")?;
-    let apart = arith(alloc, ArithOp::Monus, b, a)?;
-    let over = generate(alloc, apart)?;
-    let i = bind(alloc, b"i")?;
-    let start = name(alloc, b"a")?;
-    let offset = name(alloc, b"i")?;
-    let head = arith(alloc, ArithOp::Add, start, offset)?;
-    let body = rows(alloc, head, Qual::From { pattern: i, over })?;
-    define(alloc, b"range", pattern, body)
+    let apart = arith(alloc, ArithOp::Monus, name(alloc, b"b"), name(alloc, b"a"));
+    let each = from(bind(alloc, b"i"), generate(alloc, apart));
+    let head = arith(alloc, ArithOp::Add, name(alloc, b"a"), name(alloc, b"i"));
+    define(
+        alloc,
+        b"range",
+        bind_both(alloc, b"a", b"b"),
+        rows(alloc, head, each),
+    )
 }
 
 pub(crate) fn domain(alloc: Global) -> Result<Decl, Memory>
     ensures { IfOk result (λ d. decl_of d ≡ prelude.domain) }
 {
-    let pattern = bind(alloc, b"a")?;
-    let count = len(alloc, b"a")?;
-    let body = generate(alloc, count)?;
-    define(alloc, b"domain", pattern, body)
+    let body = generate(alloc, len(alloc, b"a"));
+    define(alloc, b"domain", bind(alloc, b"a"), body)
 }

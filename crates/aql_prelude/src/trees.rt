@@ -1,10 +1,11 @@
-//! Trees of few parts, over their parts.
+//! Trees of few parts, each over its parts as they were made: where memory was wanting for a part, it is wanting for the whole.
 
-ghost use Rattle.std.specs.Prelude.{◌≡◌, IfOk};
+ghost use Rattle.std.specs.Prelude.{ℕ, List, [], ◌∷◌, ◌≡◌, IfOk, IsOkAnd};
 ghost use Rattle.aql_value.specs.Strict.{Strict};
 ghost use Rattle.aql_syntax.specs.Tree as tree;
-ghost use Rattle.aql_syntax.specs.View.{tree_of, pat_of, qual_of, decl_of, of_one, of_two};
+ghost use Rattle.aql_syntax.specs.View.{tree_of, decl_of, of_one, of_two};
 ghost use Rattle.aql_value.specs.declared.ops.CompareOp.TheVariants as compares;
+ghost use Rattle.aql_prelude.specs.Made.{MadeTree, MadePat, MadeQual};
 ghost use Rattle.aql_prelude.specs.Prelude as prelude;
 
 use aql_syntax::ast::{Bind, Decl, Expr, Pattern, Qual};
@@ -20,157 +21,229 @@ fn text(alloc: Global, content: &[u8]) -> Result<Str, Memory>
     Ok(Str { bytes })
 }
 
+// A part in a box of its own.
+fn boxed<T: Drop>(alloc: Global, x: Result<T, Memory>) -> Result<Box<T>, Memory>
+    ensures { IfOk result (λ b. IsOkAnd x (λ a. a ≡ b.value)) }
+{
+    let x = x?;
+    Ok(Box::new(alloc, x)?)
+}
+
+// A list of one part.
+fn listed<T: Drop>(alloc: Global, x: Result<T, Memory>) -> Result<Vec<T>, Memory>
+    ensures { IfOk result (λ v. IsOkAnd x (λ a. v.items ≡ a ∷ [])) }
+{
+    let x = x?;
+    let mut items = Vec::new(alloc);
+    items.push(x)?;
+    Ok(items)
+}
+
+// A list of two parts.
+fn listed_both<T: Drop>(
+    alloc: Global,
+    x: Result<T, Memory>,
+    y: Result<T, Memory>,
+) -> Result<Vec<T>, Memory>
+    ensures { IfOk result (λ v. IsOkAnd x (λ a. IsOkAnd y (λ b. v.items ≡ a ∷ b ∷ []))) }
+{
+    let x = x?;
+    let y = y?;
+    let mut items = Vec::new(alloc);
+    items.push(x)?;
+    items.push(y)?;
+    Ok(items)
+}
+
 pub(crate) fn name(alloc: Global, x: &[u8]) -> Result<Expr, Memory>
-    ensures { IfOk result (λ e. tree_of e ≡ tree.name x.now) }
+    ensures { MadeTree result (tree.name x.now) }
 {
     let x = text(alloc, x)?;
     Ok(Expr::Name(x))
 }
 
 pub(crate) fn bind(alloc: Global, x: &[u8]) -> Result<Pattern, Memory>
-    ensures { IfOk result (λ p. pat_of p ≡ tree.bind x.now) }
+    ensures { MadePat result (tree.bind x.now) }
 {
     let x = text(alloc, x)?;
     Ok(Pattern::Bind(x))
 }
 
 pub(crate) fn refer(alloc: Global, x: &[u8]) -> Result<Pattern, Memory>
-    ensures { IfOk result (λ p. pat_of p ≡ tree.refers x.now) }
+    ensures { MadePat result (tree.refers x.now) }
 {
     let x = text(alloc, x)?;
     Ok(Pattern::Name(x))
 }
 
 /// A tuple pattern of two parts.
-pub(crate) fn both(alloc: Global, p: Pattern, q: Pattern) -> Result<Pattern, Memory>
-    ensures { IfOk result (λ r. pat_of r ≡ tree.tuple (tree.pat (pat_of p) (tree.pat (pat_of q) tree.no_pat))) }
+pub(crate) fn both(
+    alloc: Global,
+    p: Result<Pattern, Memory>,
+    q: Result<Pattern, Memory>,
+) -> Result<Pattern, Memory>
+    ensures { (v w : tree.Pat) → MadePat p v → MadePat q w → MadePat result (tree.tuple (tree.pat v (tree.pat w tree.no_pat))) }
 {
-    let mut items = Vec::new(alloc);
-    items.push(p)?;
-    items.push(q)?;
-    Ok(tuple_pattern(items))
+    Ok(tuple_pattern(listed_both(alloc, p, q)?))
 }
 
 /// Two names, bound as a tuple.
 pub(crate) fn bind_both(alloc: Global, x: &[u8], y: &[u8]) -> Result<Pattern, Memory>
-    ensures { IfOk result (λ r. pat_of r ≡ tree.tuple (tree.pat (tree.bind x.now) (tree.pat (tree.bind y.now) tree.no_pat))) }
+    ensures { MadePat result (tree.tuple (tree.pat (tree.bind x.now) (tree.pat (tree.bind y.now) tree.no_pat))) }
 {
-    let x = bind(alloc, x)?;
-    let y = bind(alloc, y)?;
-    both(alloc, x, y)
+    both(alloc, bind(alloc, x), bind(alloc, y))
+}
+
+/// Three names, bound as a tuple.
+pub(crate) fn bind_three(alloc: Global, x: &[u8], y: &[u8], z: &[u8]) -> Result<Pattern, Memory>
+    ensures { MadePat result (tree.tuple (tree.pat (tree.bind x.now) (tree.pat (tree.bind y.now) (tree.pat (tree.bind z.now) tree.no_pat)))) }
+{
+    let mut items = listed_both(alloc, bind(alloc, x), bind(alloc, y))?;
+    let z = bind(alloc, z)?;
+    items.push(z)?;
+    Ok(tuple_pattern(items))
+}
+
+/// `1`.
+pub(crate) fn one() -> Result<Expr, Memory>
+    ensures { MadeTree result prelude.one }
+{
+    Ok(Expr::Nat(1))
 }
 
 /// A tuple of two parts.
-pub(crate) fn pair(alloc: Global, a: Expr, b: Expr) -> Result<Expr, Memory>
-    ensures { IfOk result (λ e. tree_of e ≡ of_two Strict.tuple (tree_of a) (tree_of b)) }
+pub(crate) fn pair(
+    alloc: Global,
+    a: Result<Expr, Memory>,
+    b: Result<Expr, Memory>,
+) -> Result<Expr, Memory>
+    ensures { (t u : tree.Tree) → MadeTree a t → MadeTree b u → MadeTree result (of_two Strict.tuple t u) }
 {
-    let mut items = Vec::new(alloc);
-    items.push(a)?;
-    items.push(b)?;
-    Ok(row(items))
+    Ok(row(listed_both(alloc, a, b)?))
 }
 
-pub(crate) fn compare(alloc: Global, op: CompareOp, a: Expr, b: Expr) -> Result<Expr, Memory>
-    ensures { IfOk result (λ e. tree_of e ≡ of_two (Strict.compare op) (tree_of a) (tree_of b)) }
+pub(crate) fn compare(
+    alloc: Global,
+    op: CompareOp,
+    a: Result<Expr, Memory>,
+    b: Result<Expr, Memory>,
+) -> Result<Expr, Memory>
+    ensures { (t u : tree.Tree) → MadeTree a t → MadeTree b u → MadeTree result (of_two (Strict.compare op) t u) }
 {
-    let a = Box::new(alloc, a)?;
-    let b = Box::new(alloc, b)?;
+    let a = boxed(alloc, a)?;
+    let b = boxed(alloc, b)?;
     Ok(Expr::Compare(op, a, b))
 }
 
-pub(crate) fn arith(alloc: Global, op: ArithOp, a: Expr, b: Expr) -> Result<Expr, Memory>
-    ensures { IfOk result (λ e. tree_of e ≡ of_two (Strict.arith op) (tree_of a) (tree_of b)) }
+pub(crate) fn arith(
+    alloc: Global,
+    op: ArithOp,
+    a: Result<Expr, Memory>,
+    b: Result<Expr, Memory>,
+) -> Result<Expr, Memory>
+    ensures { (t u : tree.Tree) → MadeTree a t → MadeTree b u → MadeTree result (of_two (Strict.arith op) t u) }
 {
-    let a = Box::new(alloc, a)?;
-    let b = Box::new(alloc, b)?;
+    let a = boxed(alloc, a)?;
+    let b = boxed(alloc, b)?;
     Ok(Expr::Arith(op, a, b))
 }
 
 /// `e = {}`.
-pub(crate) fn is_empty(alloc: Global, a: Expr) -> Result<Expr, Memory>
-    ensures { IfOk result (λ e. tree_of e ≡ prelude.compare compares.Equal (tree_of a) prelude.empty_set) }
+pub(crate) fn is_empty(alloc: Global, a: Result<Expr, Memory>) -> Result<Expr, Memory>
+    ensures { (t : tree.Tree) → MadeTree a t → MadeTree result (prelude.compare compares.Equal t prelude.empty_set) }
 {
-    compare(alloc, CompareOp::Equal, a, Expr::Empty)
+    compare(alloc, CompareOp::Equal, a, Ok(Expr::Empty))
 }
 
-pub(crate) fn not(alloc: Global, a: Expr) -> Result<Expr, Memory>
-    ensures { IfOk result (λ e. tree_of e ≡ tree.negation (tree_of a)) }
+pub(crate) fn not(alloc: Global, a: Result<Expr, Memory>) -> Result<Expr, Memory>
+    ensures { (t : tree.Tree) → MadeTree a t → MadeTree result (tree.negation t) }
 {
-    let a = Box::new(alloc, a)?;
+    let a = boxed(alloc, a)?;
     Ok(Expr::Not(a))
 }
 
-pub(crate) fn choose(alloc: Global, c: Expr, a: Expr, b: Expr) -> Result<Expr, Memory>
-    ensures { IfOk result (λ e. tree_of e ≡ tree.choice (tree_of c) (tree_of a) (tree_of b)) }
+pub(crate) fn choose(
+    alloc: Global,
+    c: Result<Expr, Memory>,
+    a: Result<Expr, Memory>,
+    b: Result<Expr, Memory>,
+) -> Result<Expr, Memory>
+    ensures { (s t u : tree.Tree) → MadeTree c s → MadeTree a t → MadeTree b u → MadeTree result (tree.choice s t u) }
 {
-    let c = Box::new(alloc, c)?;
-    let a = Box::new(alloc, a)?;
-    let b = Box::new(alloc, b)?;
+    let c = boxed(alloc, c)?;
+    let a = boxed(alloc, a)?;
+    let b = boxed(alloc, b)?;
     Ok(Expr::If(c, a, b))
 }
 
-pub(crate) fn generate(alloc: Global, a: Expr) -> Result<Expr, Memory>
-    ensures { IfOk result (λ e. tree_of e ≡ of_one Strict.gen (tree_of a)) }
+pub(crate) fn generate(alloc: Global, a: Result<Expr, Memory>) -> Result<Expr, Memory>
+    ensures { (t : tree.Tree) → MadeTree a t → MadeTree result (of_one Strict.gen t) }
 {
-    let a = Box::new(alloc, a)?;
+    let a = boxed(alloc, a)?;
     Ok(Expr::Gen(a))
 }
 
-pub(crate) fn get(alloc: Global, a: Expr) -> Result<Expr, Memory>
-    ensures { IfOk result (λ e. tree_of e ≡ of_one Strict.get (tree_of a)) }
+pub(crate) fn get(alloc: Global, a: Result<Expr, Memory>) -> Result<Expr, Memory>
+    ensures { (t : tree.Tree) → MadeTree a t → MadeTree result (of_one Strict.get t) }
 {
-    let a = Box::new(alloc, a)?;
+    let a = boxed(alloc, a)?;
     Ok(Expr::Get(a))
 }
 
 /// The length of the array of that name.
 pub(crate) fn len(alloc: Global, x: &[u8]) -> Result<Expr, Memory>
-    ensures { IfOk result (λ e. tree_of e ≡ of_one (Strict.dim 1) (tree.name x.now)) }
+    ensures { MadeTree result (of_one (Strict.dim 1) (tree.name x.now)) }
 {
-    let a = name(alloc, x)?;
-    let a = Box::new(alloc, a)?;
+    let a = boxed(alloc, name(alloc, x))?;
     Ok(Expr::Len(a))
 }
 
 /// The dimensions of the array of that name, which has two.
 pub(crate) fn dim_2(alloc: Global, x: &[u8]) -> Result<Expr, Memory>
-    ensures { IfOk result (λ e. tree_of e ≡ of_one (Strict.dim 2) (tree.name x.now)) }
+    ensures { MadeTree result (of_one (Strict.dim 2) (tree.name x.now)) }
 {
-    let a = name(alloc, x)?;
-    let array = Box::new(alloc, a)?;
+    let array = boxed(alloc, name(alloc, x))?;
     Ok(Expr::Dim { rank: 2, array })
 }
 
 /// A cell of the array of that name, which has one dimension.
-pub(crate) fn cell(alloc: Global, x: &[u8], i: Expr) -> Result<Expr, Memory>
-    ensures { IfOk result (λ e. tree_of e ≡ tree.op Strict.sub (tree.tree (tree.name x.now) (tree.tree (tree_of i) tree.no_tree))) }
+pub(crate) fn cell(alloc: Global, x: &[u8], i: Result<Expr, Memory>) -> Result<Expr, Memory>
+    ensures { (t : tree.Tree) → MadeTree i t → MadeTree result (tree.op Strict.sub (tree.tree (tree.name x.now) (tree.tree t tree.no_tree))) }
 {
-    let a = name(alloc, x)?;
-    let a = Box::new(alloc, a)?;
-    let mut at = Vec::new(alloc);
-    at.push(i)?;
+    let at = listed(alloc, i)?;
+    let a = boxed(alloc, name(alloc, x))?;
+    Ok(subscript(a, at))
+}
+
+/// A cell of the array of that name, which has two dimensions, at two names.
+pub(crate) fn cell_2(alloc: Global, x: &[u8], i: &[u8], j: &[u8]) -> Result<Expr, Memory>
+    ensures { MadeTree result (tree.op Strict.sub (tree.tree (tree.name x.now) (tree.tree (tree.name i.now) (tree.tree (tree.name j.now) tree.no_tree)))) }
+{
+    let at = listed_both(alloc, name(alloc, i), name(alloc, j))?;
+    let a = boxed(alloc, name(alloc, x))?;
     Ok(subscript(a, at))
 }
 
 /// The application of a macro.
-pub(crate) fn call(alloc: Global, f: &[u8], a: Expr) -> Result<Expr, Memory>
-    ensures { IfOk result (λ e. tree_of e ≡ tree.apply f.now (tree_of a)) }
+pub(crate) fn call(alloc: Global, f: &[u8], a: Result<Expr, Memory>) -> Result<Expr, Memory>
+    ensures { (t : tree.Tree) → MadeTree a t → MadeTree result (tree.apply f.now t) }
 {
+    let argument = boxed(alloc, a)?;
     let name = text(alloc, f)?;
-    let argument = Box::new(alloc, a)?;
     Ok(Expr::Apply { name, argument })
 }
 
 pub(crate) fn sum_map(
     alloc: Global,
-    pattern: Pattern,
-    body: Expr,
-    over: Expr,
+    pattern: Result<Pattern, Memory>,
+    body: Result<Expr, Memory>,
+    over: Result<Expr, Memory>,
 ) -> Result<Expr, Memory>
-    ensures { IfOk result (λ e. tree_of e ≡ tree.summap (pat_of pattern) (tree_of body) (tree_of over)) }
+    ensures { (v : tree.Pat) (t u : tree.Tree) → MadePat pattern v → MadeTree body t → MadeTree over u → MadeTree result (tree.summap v t u) }
 {
-    let body = Box::new(alloc, body)?;
-    let over = Box::new(alloc, over)?;
+    let pattern = pattern?;
+    let body = boxed(alloc, body)?;
+    let over = boxed(alloc, over)?;
     Ok(Expr::SumMap {
         pattern,
         body,
@@ -179,67 +252,128 @@ pub(crate) fn sum_map(
 }
 
 /// A comprehension of one qualifier.
-pub(crate) fn rows(alloc: Global, head: Expr, q: Qual) -> Result<Expr, Memory>
-    ensures { IfOk result (λ e. tree_of e ≡ tree.comp (tree_of head) (qual_of q tree.no_qual)) }
+pub(crate) fn rows(
+    alloc: Global,
+    head: Result<Expr, Memory>,
+    q: Result<Qual, Memory>,
+) -> Result<Expr, Memory>
+    ensures { (t : tree.Tree) (f : tree.Quals → tree.Quals) → MadeTree head t → MadeQual q f → MadeTree result (tree.comp t (f tree.no_qual)) }
 {
-    let head = Box::new(alloc, head)?;
-    let mut items = Vec::new(alloc);
-    items.push(q)?;
+    let head = boxed(alloc, head)?;
+    let items = listed(alloc, q)?;
     Ok(comprehension(head, items))
 }
 
 /// A comprehension of two qualifiers.
-pub(crate) fn rows_of_two(alloc: Global, head: Expr, q: Qual, r: Qual) -> Result<Expr, Memory>
-    ensures { IfOk result (λ e. tree_of e ≡ tree.comp (tree_of head) (qual_of q (qual_of r tree.no_qual))) }
+pub(crate) fn rows_of_two(
+    alloc: Global,
+    head: Result<Expr, Memory>,
+    q: Result<Qual, Memory>,
+    r: Result<Qual, Memory>,
+) -> Result<Expr, Memory>
+    ensures { (t : tree.Tree) (f g : tree.Quals → tree.Quals) → MadeTree head t → MadeQual q f → MadeQual r g → MadeTree result (tree.comp t (f (g tree.no_qual))) }
 {
-    let head = Box::new(alloc, head)?;
-    let mut items = Vec::new(alloc);
-    items.push(q)?;
-    items.push(r)?;
+    let items = listed_both(alloc, q, r)?;
+    let head = boxed(alloc, head)?;
     Ok(comprehension(head, items))
+}
+
+/// `P <- e`.
+pub(crate) fn from(
+    pattern: Result<Pattern, Memory>,
+    over: Result<Expr, Memory>,
+) -> Result<Qual, Memory>
+    ensures { (v : tree.Pat) (t : tree.Tree) → MadePat pattern v → MadeTree over t → MadeQual result (λ rest. tree.from v t rest) }
+{
+    let pattern = pattern?;
+    let over = over?;
+    Ok(Qual::From { pattern, over })
+}
+
+/// `[P:\x] <- a`, for a name x of cells and an array's name.
+pub(crate) fn cells_of(
+    index: Result<Pattern, Memory>,
+    cell: Result<Pattern, Memory>,
+    over: Result<Expr, Memory>,
+) -> Result<Qual, Memory>
+    ensures { (v w : tree.Pat) (t : tree.Tree) → MadePat index v → MadePat cell w → MadeTree over t → MadeQual result (λ rest. tree.cells v w t rest) }
+{
+    let index = index?;
+    let cell = cell?;
+    let over = over?;
+    Ok(Qual::Cells { index, cell, over })
+}
+
+/// A test.
+pub(crate) fn where_true(a: Result<Expr, Memory>) -> Result<Qual, Memory>
+    ensures { (t : tree.Tree) → MadeTree a t → MadeQual result (λ rest. tree.test t rest) }
+{
+    let a = a?;
+    Ok(Qual::Test(a))
 }
 
 /// `\x <- s`.
 pub(crate) fn each(alloc: Global, x: &[u8], s: &[u8]) -> Result<Qual, Memory>
-    ensures { IfOk result (λ q. (rest : tree.Quals) → qual_of q rest ≡ tree.from (tree.bind x.now) (tree.name s.now) rest) }
+    ensures { MadeQual result (λ rest. tree.from (tree.bind x.now) (tree.name s.now) rest) }
 {
-    let pattern = bind(alloc, x)?;
-    let over = name(alloc, s)?;
-    Ok(Qual::From { pattern, over })
+    from(bind(alloc, x), name(alloc, s))
 }
 
 /// `x <- s`.
 pub(crate) fn among(alloc: Global, x: &[u8], s: &[u8]) -> Result<Qual, Memory>
-    ensures { IfOk result (λ q. (rest : tree.Quals) → qual_of q rest ≡ tree.from (tree.refers x.now) (tree.name s.now) rest) }
+    ensures { MadeQual result (λ rest. tree.from (tree.refers x.now) (tree.name s.now) rest) }
 {
-    let pattern = refer(alloc, x)?;
-    let over = name(alloc, s)?;
-    Ok(Qual::From { pattern, over })
+    from(refer(alloc, x), name(alloc, s))
 }
 
 /// An index and its bound.
-pub(crate) fn index(alloc: Global, i: &[u8], bound: Expr) -> Result<Bind, Memory>
-    ensures { IfOk result (λ b. (b.name ≡ i.now) × (tree_of b.bound ≡ tree_of bound)) }
+pub(crate) fn index(alloc: Global, i: &[u8], bound: Result<Expr, Memory>) -> Result<Bind, Memory>
+    ensures { (t : tree.Tree) → MadeTree bound t → IfOk result (λ b. (b.name ≡ i.now) × (tree_of b.bound ≡ t)) }
 {
+    let bound = bound?;
     let name = text(alloc, i)?;
     Ok(Bind { name, bound })
 }
 
 /// A tabulation of one index.
-pub(crate) fn tabulate(alloc: Global, body: Expr, i: &[u8], bound: Expr) -> Result<Expr, Memory>
-    ensures { IfOk result (λ e. tree_of e ≡ tree.tab (tree.axis i.now (tree_of bound) tree.no_axis) (tree_of body)) }
+pub(crate) fn tabulate(
+    alloc: Global,
+    body: Result<Expr, Memory>,
+    i: &[u8],
+    bound: Result<Expr, Memory>,
+) -> Result<Expr, Memory>
+    ensures { (t u : tree.Tree) → MadeTree body t → MadeTree bound u → MadeTree result (tree.tab (tree.axis i.now u tree.no_axis) t) }
 {
-    let body = Box::new(alloc, body)?;
-    let axis = index(alloc, i, bound)?;
-    let mut items = Vec::new(alloc);
-    items.push(axis)?;
+    let items = listed(alloc, index(alloc, i, bound))?;
+    let body = boxed(alloc, body)?;
+    Ok(tabulation(body, items))
+}
+
+/// A tabulation of two indices.
+pub(crate) fn tabulate_2(
+    alloc: Global,
+    body: Result<Expr, Memory>,
+    outer: Result<Bind, Memory>,
+    inner: Result<Bind, Memory>,
+) -> Result<Expr, Memory>
+    ensures { (t u w : tree.Tree) (x y : List ℕ) → MadeTree body t → IfOk outer (λ b. (b.name ≡ x) × (tree_of b.bound ≡ u)) → IfOk inner (λ b. (b.name ≡ y) × (tree_of b.bound ≡ w)) → MadeTree result (tree.tab (tree.axis x u (tree.axis y w tree.no_axis)) t) }
+{
+    let items = listed_both(alloc, outer, inner)?;
+    let body = boxed(alloc, body)?;
     Ok(tabulation(body, items))
 }
 
 /// The declaration of a macro.
-pub(crate) fn define(alloc: Global, f: &[u8], pattern: Pattern, body: Expr) -> Result<Decl, Memory>
-    ensures { IfOk result (λ d. decl_of d ≡ tree.mac f.now (pat_of pattern) (tree_of body)) }
+pub(crate) fn define(
+    alloc: Global,
+    f: &[u8],
+    pattern: Result<Pattern, Memory>,
+    body: Result<Expr, Memory>,
+) -> Result<Decl, Memory>
+    ensures { (v : tree.Pat) (t : tree.Tree) → MadePat pattern v → MadeTree body t → IfOk result (λ d. decl_of d ≡ tree.mac f.now v t) }
 {
+    let pattern = pattern?;
+    let body = body?;
     let name = text(alloc, f)?;
     Ok(Decl::Macro {
         name,

@@ -1,15 +1,16 @@
 use Rattle.std.proofs.Common.{[], ◌∷◌}
+use Rattle.aql_syntax.specs.View.{decls_of}
 use Rattle.aql_prelude.specs.Prelude.{cells, graph, reverse, subseq, append, transpose, zip}
-use Rattle.aql_prelude.proofs.Pushing.{none_pushed, pushed}
+use Rattle.aql_prelude.proofs.Pushing.{none_pushed, more}
 use Rattle.aql_prelude.proofs.push_arrays.Goals as goal
 
 pub returns : goal.returns
 returns c =
-    pushed c.args.items.now.items c.push-6.new.self.items c.push-7.new.self.items c.in_ok-zip.zip (cells ∷ graph ∷ reverse ∷ subseq ∷ append ∷ transpose ∷ []) zip
-    (pushed c.args.items.now.items c.push-5.new.self.items c.push-6.new.self.items c.in_ok-transpose.transpose (cells ∷ graph ∷ reverse ∷ subseq ∷ append ∷ []) transpose
-    (pushed c.args.items.now.items c.push-4.new.self.items c.push-5.new.self.items c.in_ok-append.append (cells ∷ graph ∷ reverse ∷ subseq ∷ []) append
-    (pushed c.args.items.now.items c.push-3.new.self.items c.push-4.new.self.items c.in_ok-subseq.subseq (cells ∷ graph ∷ reverse ∷ []) subseq
-    (pushed c.args.items.now.items c.push-2.new.self.items c.push-3.new.self.items c.in_ok-reverse.reverse (cells ∷ graph ∷ []) reverse
-    (pushed c.args.items.now.items c.push.new.self.items c.push-2.new.self.items c.in_ok-graph.graph (cells ∷ []) graph
-    (pushed c.args.items.now.items c.args.items.now.items c.push.new.self.items c.in_ok-cells.cells [] cells
-    (none_pushed c.args.items.now.items) c.in_ok-push.ensures.items c.in_ok-cells.ensures) c.in_ok-push-2.ensures.items c.in_ok-graph.ensures) c.in_ok-push-3.ensures.items c.in_ok-reverse.ensures) c.in_ok-push-4.ensures.items c.in_ok-subseq.ensures) c.in_ok-push-5.ensures.items c.in_ok-append.ensures) c.in_ok-push-6.ensures.items c.in_ok-transpose.ensures) c.in_ok-push-7.ensures.items c.in_ok-zip.ensures
+    more (decls_of c.args.items.now.items) (decls_of c.put-6.new.items.items) (decls_of c.put-7.new.items.items) (cells ∷ graph ∷ reverse ∷ subseq ∷ append ∷ transpose ∷ []) zip
+    (more (decls_of c.args.items.now.items) (decls_of c.put-5.new.items.items) (decls_of c.put-6.new.items.items) (cells ∷ graph ∷ reverse ∷ subseq ∷ append ∷ []) transpose
+    (more (decls_of c.args.items.now.items) (decls_of c.put-4.new.items.items) (decls_of c.put-5.new.items.items) (cells ∷ graph ∷ reverse ∷ subseq ∷ []) append
+    (more (decls_of c.args.items.now.items) (decls_of c.put-3.new.items.items) (decls_of c.put-4.new.items.items) (cells ∷ graph ∷ reverse ∷ []) subseq
+    (more (decls_of c.args.items.now.items) (decls_of c.put-2.new.items.items) (decls_of c.put-3.new.items.items) (cells ∷ graph ∷ []) reverse
+    (more (decls_of c.args.items.now.items) (decls_of c.put.new.items.items) (decls_of c.put-2.new.items.items) (cells ∷ []) graph
+    (more (decls_of c.args.items.now.items) (decls_of c.args.items.now.items) (decls_of c.put.new.items.items) [] cells
+    (none_pushed (decls_of c.args.items.now.items)) (c.in_ok-put.ensures cells c.cells.ensures)) (c.in_ok-put-2.ensures graph c.graph.ensures)) (c.in_ok-put-3.ensures reverse c.reverse.ensures)) (c.in_ok-put-4.ensures subseq c.subseq.ensures)) (c.in_ok-put-5.ensures append c.append.ensures)) (c.in_ok-put-6.ensures transpose c.transpose.ensures)) (c.in_ok-put-7.ensures zip c.zip.ensures)

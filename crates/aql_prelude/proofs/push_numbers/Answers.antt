@@ -1,12 +1,13 @@
 use Rattle.std.proofs.Common.{[], ◌∷◌}
+use Rattle.aql_syntax.specs.View.{decls_of}
 use Rattle.aql_prelude.specs.Prelude.{min2, max2, range, domain}
-use Rattle.aql_prelude.proofs.Pushing.{none_pushed, pushed}
+use Rattle.aql_prelude.proofs.Pushing.{none_pushed, more}
 use Rattle.aql_prelude.proofs.push_numbers.Goals as goal
 
 pub returns : goal.returns
 returns c =
-    pushed c.args.items.now.items c.push-3.new.self.items c.push-4.new.self.items c.in_ok-domain.domain (min2 ∷ max2 ∷ range ∷ []) domain
-    (pushed c.args.items.now.items c.push-2.new.self.items c.push-3.new.self.items c.in_ok-range.range (min2 ∷ max2 ∷ []) range
-    (pushed c.args.items.now.items c.push.new.self.items c.push-2.new.self.items c.in_ok-max2.max2 (min2 ∷ []) max2
-    (pushed c.args.items.now.items c.args.items.now.items c.push.new.self.items c.in_ok-min2.min2 [] min2
-    (none_pushed c.args.items.now.items) c.in_ok-push.ensures.items c.in_ok-min2.ensures) c.in_ok-push-2.ensures.items c.in_ok-max2.ensures) c.in_ok-push-3.ensures.items c.in_ok-range.ensures) c.in_ok-push-4.ensures.items c.in_ok-domain.ensures
+    more (decls_of c.args.items.now.items) (decls_of c.put-3.new.items.items) (decls_of c.put-4.new.items.items) (min2 ∷ max2 ∷ range ∷ []) domain
+    (more (decls_of c.args.items.now.items) (decls_of c.put-2.new.items.items) (decls_of c.put-3.new.items.items) (min2 ∷ max2 ∷ []) range
+    (more (decls_of c.args.items.now.items) (decls_of c.put.new.items.items) (decls_of c.put-2.new.items.items) (min2 ∷ []) max2
+    (more (decls_of c.args.items.now.items) (decls_of c.args.items.now.items) (decls_of c.put.new.items.items) [] min2
+    (none_pushed (decls_of c.args.items.now.items)) (c.in_ok-put.ensures min2 c.min2.ensures)) (c.in_ok-put-2.ensures max2 c.max2.ensures)) (c.in_ok-put-3.ensures range c.range.ensures)) (c.in_ok-put-4.ensures domain c.domain.ensures)

@@ -1,15 +1,16 @@
 use Rattle.std.proofs.Common.{[], ◌∷◌}
+use Rattle.aql_syntax.specs.View.{decls_of}
 use Rattle.aql_prelude.specs.Prelude.{inter, minus, subset, product, flatten, least, greatest}
-use Rattle.aql_prelude.proofs.Pushing.{none_pushed, pushed}
+use Rattle.aql_prelude.proofs.Pushing.{none_pushed, more}
 use Rattle.aql_prelude.proofs.push_sets.Goals as goal
 
 pub returns : goal.returns
 returns c =
-    pushed c.args.items.now.items c.push-6.new.self.items c.push-7.new.self.items c.in_ok-greatest.greatest (inter ∷ minus ∷ subset ∷ product ∷ flatten ∷ least ∷ []) greatest
-    (pushed c.args.items.now.items c.push-5.new.self.items c.push-6.new.self.items c.in_ok-least.least (inter ∷ minus ∷ subset ∷ product ∷ flatten ∷ []) least
-    (pushed c.args.items.now.items c.push-4.new.self.items c.push-5.new.self.items c.in_ok-flatten.flatten (inter ∷ minus ∷ subset ∷ product ∷ []) flatten
-    (pushed c.args.items.now.items c.push-3.new.self.items c.push-4.new.self.items c.in_ok-product.product (inter ∷ minus ∷ subset ∷ []) product
-    (pushed c.args.items.now.items c.push-2.new.self.items c.push-3.new.self.items c.in_ok-subset.subset (inter ∷ minus ∷ []) subset
-    (pushed c.args.items.now.items c.push.new.self.items c.push-2.new.self.items c.in_ok-minus.minus (inter ∷ []) minus
-    (pushed c.args.items.now.items c.args.items.now.items c.push.new.self.items c.in_ok-inter.inter [] inter
-    (none_pushed c.args.items.now.items) c.in_ok-push.ensures.items c.in_ok-inter.ensures) c.in_ok-push-2.ensures.items c.in_ok-minus.ensures) c.in_ok-push-3.ensures.items c.in_ok-subset.ensures) c.in_ok-push-4.ensures.items c.in_ok-product.ensures) c.in_ok-push-5.ensures.items c.in_ok-flatten.ensures) c.in_ok-push-6.ensures.items c.in_ok-least.ensures) c.in_ok-push-7.ensures.items c.in_ok-greatest.ensures
+    more (decls_of c.args.items.now.items) (decls_of c.put-6.new.items.items) (decls_of c.put-7.new.items.items) (inter ∷ minus ∷ subset ∷ product ∷ flatten ∷ least ∷ []) greatest
+    (more (decls_of c.args.items.now.items) (decls_of c.put-5.new.items.items) (decls_of c.put-6.new.items.items) (inter ∷ minus ∷ subset ∷ product ∷ flatten ∷ []) least
+    (more (decls_of c.args.items.now.items) (decls_of c.put-4.new.items.items) (decls_of c.put-5.new.items.items) (inter ∷ minus ∷ subset ∷ product ∷ []) flatten
+    (more (decls_of c.args.items.now.items) (decls_of c.put-3.new.items.items) (decls_of c.put-4.new.items.items) (inter ∷ minus ∷ subset ∷ []) product
+    (more (decls_of c.args.items.now.items) (decls_of c.put-2.new.items.items) (decls_of c.put-3.new.items.items) (inter ∷ minus ∷ []) subset
+    (more (decls_of c.args.items.now.items) (decls_of c.put.new.items.items) (decls_of c.put-2.new.items.items) (inter ∷ []) minus
+    (more (decls_of c.args.items.now.items) (decls_of c.args.items.now.items) (decls_of c.put.new.items.items) [] inter
+    (none_pushed (decls_of c.args.items.now.items)) (c.in_ok-put.ensures inter c.inter.ensures)) (c.in_ok-put-2.ensures minus c.minus.ensures)) (c.in_ok-put-3.ensures subset c.subset.ensures)) (c.in_ok-put-4.ensures product c.product.ensures)) (c.in_ok-put-5.ensures flatten c.flatten.ensures)) (c.in_ok-put-6.ensures least c.least.ensures)) (c.in_ok-put-7.ensures greatest c.greatest.ensures)
