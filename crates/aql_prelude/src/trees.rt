@@ -1,6 +1,6 @@
 //! Trees of few parts, each over its parts as they were made: where memory was wanting for a part, it is wanting for the whole.
 
-ghost use Rattle.std.specs.Prelude.{ℕ, List, [], ◌∷◌, ◌≡◌, IfOk, IsOkAnd};
+ghost use Rattle.std.specs.Prelude.{ℕ, List, ◌≡◌, IfOk};
 ghost use Rattle.aql_value.specs.Strict.{Strict};
 ghost use Rattle.aql_syntax.specs.Tree as tree;
 ghost use Rattle.aql_syntax.specs.View.{tree_of, decl_of, of_one, of_two};
@@ -8,6 +8,8 @@ ghost use Rattle.aql_value.specs.declared.ops.CompareOp.TheVariants as compares;
 ghost use Rattle.aql_prelude.specs.Made.{MadeTree, MadePat, MadeQual};
 ghost use Rattle.aql_prelude.specs.Prelude as prelude;
 
+use aql_made as made;
+use aql_made::{both_boxed, boxed, listed, listed_both};
 use aql_syntax::ast::{Bind, Decl, Expr, Pattern, Qual};
 use aql_syntax::build::{comprehension, row, subscript, tabulation, tuple_pattern};
 use aql_value::{ArithOp, CompareOp, Memory, Str};
@@ -19,40 +21,6 @@ fn text(alloc: Global, content: &[u8]) -> Result<Str, Memory>
     let mut bytes = Vec::new(alloc);
     bytes.extend_from_slice(content)?;
     Ok(Str { bytes })
-}
-
-// A part in a box of its own.
-fn boxed<T: Drop>(alloc: Global, x: Result<T, Memory>) -> Result<Box<T>, Memory>
-    ensures { IfOk result (λ b. IsOkAnd x (λ a. a ≡ b.value)) }
-{
-    let x = x?;
-    Ok(Box::new(alloc, x)?)
-}
-
-// A list of one part.
-fn listed<T: Drop>(alloc: Global, x: Result<T, Memory>) -> Result<Vec<T>, Memory>
-    ensures { IfOk result (λ v. IsOkAnd x (λ a. v.items ≡ a ∷ [])) }
-{
-    let x = x?;
-    let mut items = Vec::new(alloc);
-    items.push(x)?;
-    Ok(items)
-}
-
-// A list of two parts.
-fn listed_both<T: Drop>(
-    alloc: Global,
-    x: Result<T, Memory>,
-    y: Result<T, Memory>,
-) -> Result<Vec<T>, Memory>
-    ensures { IfOk result (λ v. IsOkAnd x (λ a. IsOkAnd y (λ b. v.items ≡ a ∷ b ∷ []))) }
-{
-    let x = x?;
-    let y = y?;
-    let mut items = Vec::new(alloc);
-    items.push(x)?;
-    items.push(y)?;
-    Ok(items)
 }
 
 pub(crate) fn name(alloc: Global, x: &[u8]) -> Result<Expr, Memory>
@@ -98,8 +66,8 @@ pub(crate) fn bind_both(alloc: Global, x: &[u8], y: &[u8]) -> Result<Pattern, Me
 pub(crate) fn bind_three(alloc: Global, x: &[u8], y: &[u8], z: &[u8]) -> Result<Pattern, Memory>
     ensures { MadePat result (tree.tuple (tree.pat (tree.bind x.now) (tree.pat (tree.bind y.now) (tree.pat (tree.bind z.now) tree.no_pat)))) }
 {
-    let mut items = listed_both(alloc, bind(alloc, x), bind(alloc, y))?;
-    let z = bind(alloc, z)?;
+    let items = listed_both(alloc, bind(alloc, x), bind(alloc, y));
+    let (mut items, z) = made::both(items, bind(alloc, z))?;
     items.push(z)?;
     Ok(tuple_pattern(items))
 }
@@ -130,8 +98,7 @@ pub(crate) fn compare(
 ) -> Result<Expr, Memory>
     ensures { (t u : tree.Tree) → MadeTree a t → MadeTree b u → MadeTree result (of_two (Strict.compare op) t u) }
 {
-    let a = boxed(alloc, a)?;
-    let b = boxed(alloc, b)?;
+    let (a, b) = both_boxed(alloc, a, b)?;
     Ok(Expr::Compare(op, a, b))
 }
 
@@ -143,8 +110,7 @@ pub(crate) fn arith(
 ) -> Result<Expr, Memory>
     ensures { (t u : tree.Tree) → MadeTree a t → MadeTree b u → MadeTree result (of_two (Strict.arith op) t u) }
 {
-    let a = boxed(alloc, a)?;
-    let b = boxed(alloc, b)?;
+    let (a, b) = both_boxed(alloc, a, b)?;
     Ok(Expr::Arith(op, a, b))
 }
 
@@ -170,9 +136,7 @@ pub(crate) fn choose(
 ) -> Result<Expr, Memory>
     ensures { (s t u : tree.Tree) → MadeTree c s → MadeTree a t → MadeTree b u → MadeTree result (tree.choice s t u) }
 {
-    let c = boxed(alloc, c)?;
-    let a = boxed(alloc, a)?;
-    let b = boxed(alloc, b)?;
+    let (c, (a, b)) = made::both(boxed(alloc, c), both_boxed(alloc, a, b))?;
     Ok(Expr::If(c, a, b))
 }
 
@@ -210,8 +174,7 @@ pub(crate) fn dim_2(alloc: Global, x: &[u8]) -> Result<Expr, Memory>
 pub(crate) fn cell(alloc: Global, x: &[u8], i: Result<Expr, Memory>) -> Result<Expr, Memory>
     ensures { (t : tree.Tree) → MadeTree i t → MadeTree result (tree.op Strict.sub (tree.tree (tree.name x.now) (tree.tree t tree.no_tree))) }
 {
-    let at = listed(alloc, i)?;
-    let a = boxed(alloc, name(alloc, x))?;
+    let (a, at) = made::both(boxed(alloc, name(alloc, x)), listed(alloc, i))?;
     Ok(subscript(a, at))
 }
 
@@ -219,8 +182,8 @@ pub(crate) fn cell(alloc: Global, x: &[u8], i: Result<Expr, Memory>) -> Result<E
 pub(crate) fn cell_2(alloc: Global, x: &[u8], i: &[u8], j: &[u8]) -> Result<Expr, Memory>
     ensures { MadeTree result (tree.op Strict.sub (tree.tree (tree.name x.now) (tree.tree (tree.name i.now) (tree.tree (tree.name j.now) tree.no_tree)))) }
 {
-    let at = listed_both(alloc, name(alloc, i), name(alloc, j))?;
-    let a = boxed(alloc, name(alloc, x))?;
+    let at = listed_both(alloc, name(alloc, i), name(alloc, j));
+    let (a, at) = made::both(boxed(alloc, name(alloc, x)), at)?;
     Ok(subscript(a, at))
 }
 
@@ -228,8 +191,7 @@ pub(crate) fn cell_2(alloc: Global, x: &[u8], i: &[u8], j: &[u8]) -> Result<Expr
 pub(crate) fn call(alloc: Global, f: &[u8], a: Result<Expr, Memory>) -> Result<Expr, Memory>
     ensures { (t : tree.Tree) → MadeTree a t → MadeTree result (tree.apply f.now t) }
 {
-    let argument = boxed(alloc, a)?;
-    let name = text(alloc, f)?;
+    let (name, argument) = made::both(text(alloc, f), boxed(alloc, a))?;
     Ok(Expr::Apply { name, argument })
 }
 
@@ -241,9 +203,7 @@ pub(crate) fn sum_map(
 ) -> Result<Expr, Memory>
     ensures { (v : tree.Pat) (t u : tree.Tree) → MadePat pattern v → MadeTree body t → MadeTree over u → MadeTree result (tree.summap v t u) }
 {
-    let pattern = pattern?;
-    let body = boxed(alloc, body)?;
-    let over = boxed(alloc, over)?;
+    let (pattern, (body, over)) = made::both(pattern, both_boxed(alloc, body, over))?;
     Ok(Expr::SumMap {
         pattern,
         body,
@@ -259,8 +219,7 @@ pub(crate) fn rows(
 ) -> Result<Expr, Memory>
     ensures { (t : tree.Tree) (f : tree.Quals → tree.Quals) → MadeTree head t → MadeQual q f → MadeTree result (tree.comp t (f tree.no_qual)) }
 {
-    let head = boxed(alloc, head)?;
-    let items = listed(alloc, q)?;
+    let (head, items) = made::both(boxed(alloc, head), listed(alloc, q))?;
     Ok(comprehension(head, items))
 }
 
@@ -273,8 +232,7 @@ pub(crate) fn rows_of_two(
 ) -> Result<Expr, Memory>
     ensures { (t : tree.Tree) (f g : tree.Quals → tree.Quals) → MadeTree head t → MadeQual q f → MadeQual r g → MadeTree result (tree.comp t (f (g tree.no_qual))) }
 {
-    let items = listed_both(alloc, q, r)?;
-    let head = boxed(alloc, head)?;
+    let (head, items) = made::both(boxed(alloc, head), listed_both(alloc, q, r))?;
     Ok(comprehension(head, items))
 }
 
@@ -285,12 +243,11 @@ pub(crate) fn from(
 ) -> Result<Qual, Memory>
     ensures { (v : tree.Pat) (t : tree.Tree) → MadePat pattern v → MadeTree over t → MadeQual result (λ rest. tree.from v t rest) }
 {
-    let pattern = pattern?;
-    let over = over?;
+    let (pattern, over) = made::both(pattern, over)?;
     Ok(Qual::From { pattern, over })
 }
 
-/// `[P:\x] <- a`, for a name x of cells and an array's name.
+/// `[P:Q] <- e`.
 pub(crate) fn cells_of(
     index: Result<Pattern, Memory>,
     cell: Result<Pattern, Memory>,
@@ -298,9 +255,7 @@ pub(crate) fn cells_of(
 ) -> Result<Qual, Memory>
     ensures { (v w : tree.Pat) (t : tree.Tree) → MadePat index v → MadePat cell w → MadeTree over t → MadeQual result (λ rest. tree.cells v w t rest) }
 {
-    let index = index?;
-    let cell = cell?;
-    let over = over?;
+    let ((index, cell), over) = made::both(made::both(index, cell), over)?;
     Ok(Qual::Cells { index, cell, over })
 }
 
@@ -330,8 +285,7 @@ pub(crate) fn among(alloc: Global, x: &[u8], s: &[u8]) -> Result<Qual, Memory>
 pub(crate) fn index(alloc: Global, i: &[u8], bound: Result<Expr, Memory>) -> Result<Bind, Memory>
     ensures { (t : tree.Tree) → MadeTree bound t → IfOk result (λ b. (b.name ≡ i.now) × (tree_of b.bound ≡ t)) }
 {
-    let bound = bound?;
-    let name = text(alloc, i)?;
+    let (name, bound) = made::both(text(alloc, i), bound)?;
     Ok(Bind { name, bound })
 }
 
@@ -344,8 +298,8 @@ pub(crate) fn tabulate(
 ) -> Result<Expr, Memory>
     ensures { (t u : tree.Tree) → MadeTree body t → MadeTree bound u → MadeTree result (tree.tab (tree.axis i.now u tree.no_axis) t) }
 {
-    let items = listed(alloc, index(alloc, i, bound))?;
-    let body = boxed(alloc, body)?;
+    let items = listed(alloc, index(alloc, i, bound));
+    let (body, items) = made::both(boxed(alloc, body), items)?;
     Ok(tabulation(body, items))
 }
 
@@ -358,8 +312,7 @@ pub(crate) fn tabulate_2(
 ) -> Result<Expr, Memory>
     ensures { (t u w : tree.Tree) (x y : List ℕ) → MadeTree body t → IfOk outer (λ b. (b.name ≡ x) × (tree_of b.bound ≡ u)) → IfOk inner (λ b. (b.name ≡ y) × (tree_of b.bound ≡ w)) → MadeTree result (tree.tab (tree.axis x u (tree.axis y w tree.no_axis)) t) }
 {
-    let items = listed_both(alloc, outer, inner)?;
-    let body = boxed(alloc, body)?;
+    let (body, items) = made::both(boxed(alloc, body), listed_both(alloc, outer, inner))?;
     Ok(tabulation(body, items))
 }
 
@@ -372,9 +325,7 @@ pub(crate) fn define(
 ) -> Result<Decl, Memory>
     ensures { (v : tree.Pat) (t : tree.Tree) → MadePat pattern v → MadeTree body t → IfOk result (λ d. decl_of d ≡ tree.mac f.now v t) }
 {
-    let pattern = pattern?;
-    let body = body?;
-    let name = text(alloc, f)?;
+    let (name, (pattern, body)) = made::both(text(alloc, f), made::both(pattern, body))?;
     Ok(Decl::Macro {
         name,
         pattern,
