@@ -11,12 +11,13 @@ ghost use Rattle.aql_parse.specs.Words.{lexemes};
 ghost use Rattle.aql_parse.specs.Forms.{joiner_of, strict_of, opening_of, functional_of, front_seen};
 
 use crate::words::{Word, is_sign, next};
+use aql_made::{both, both_boxed, boxed};
 use aql_syntax::ast::{Expr, Pattern, Qual};
 use aql_syntax::build::row;
 use aql_syntax::sign::Sign;
 use aql_syntax::token::Token;
-use aql_value::{ArithOp, CompareOp};
-use std::alloc::{AllocError, Global};
+use aql_value::{ArithOp, CompareOp, Memory};
+use std::alloc::Global;
 
 /// An operator between two expressions.
 #[derive(Clone, Copy)]
@@ -83,16 +84,10 @@ pub fn turns(level: u64, depth: u64) -> u64
 }
 
 /// An operator applied.
-pub fn binary(
-    alloc: Global,
-    operator: Operator,
-    left: Expr,
-    right: Expr,
-) -> Result<Expr, AllocError>
+pub fn binary(alloc: Global, operator: Operator, left: Expr, right: Expr) -> Result<Expr, Memory>
     ensures { IfOk result (λ e. tree_of e ≡ joined_by (joiner_of operator) (tree_of left) (tree_of right)) }
 {
-    let left = Box::new(alloc, left)?;
-    let right = Box::new(alloc, right)?;
+    let (left, right) = both_boxed(alloc, Ok(left), Ok(right))?;
     match operator {
         Operator::Arith(op) => Ok(Expr::Arith(op, left, right)),
         Operator::Union => Ok(Expr::Union(left, right)),
@@ -199,10 +194,10 @@ fn behind<'a>(source: &[u8], words: &'a [Word], sign: Sign) -> Option<&'a [Word]
 }
 
 /// An operation applied.
-pub fn operated(alloc: Global, operation: Operation, part: Expr) -> Result<Expr, AllocError>
+pub fn operated(alloc: Global, operation: Operation, part: Expr) -> Result<Expr, Memory>
     ensures { IfOk result (λ e. tree_of e ≡ of_one (strict_of operation) (tree_of part)) }
 {
-    let part = Box::new(alloc, part)?;
+    let part = boxed(alloc, Ok(part))?;
     match operation {
         Operation::Gen => Ok(Expr::Gen(part)),
         Operation::Get => Ok(Expr::Get(part)),
@@ -218,11 +213,11 @@ pub fn function(
     pattern: Pattern,
     body: Expr,
     argument: Expr,
-) -> Result<Expr, AllocError>
+) -> Result<Expr, Memory>
     ensures { IfOk result (λ e. tree_of e ≡ functional_of functional (pat_of pattern) (tree_of body) (tree_of argument)) }
 {
-    let body = Box::new(alloc, body)?;
-    let argument = Box::new(alloc, argument)?;
+    let parts = both_boxed(alloc, Ok(body), Ok(argument));
+    let (pattern, (body, argument)) = both(Ok(pattern), parts)?;
     match functional {
         Functional::Plain => Ok(Expr::Fun {
             pattern,

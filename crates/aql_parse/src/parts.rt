@@ -13,11 +13,12 @@ use crate::fault::Refusal;
 use crate::forms::Front;
 use crate::patterns::{name, pattern, pattern_then};
 use crate::words::{Word, expect, name_in, next};
+use aql_made::{both, both_boxed, boxed};
 use aql_syntax::ast::{Expr, Pattern};
 use aql_syntax::sign::Sign;
 use aql_syntax::token::Token;
 use aql_value::{Memory, Str};
-use std::alloc::{AllocError, Global};
+use std::alloc::Global;
 
 /// A backslash, a name and that sign.
 #[tactic(auto, unfolding(aql_grammar::specs::Parsing::binder_at))]
@@ -115,26 +116,24 @@ fn cells_front<'a>(
 }
 
 /// A choice by a test.
-pub fn choice(alloc: Global, test: Expr, first: Expr, second: Expr) -> Result<Expr, AllocError>
+pub fn choice(alloc: Global, test: Expr, first: Expr, second: Expr) -> Result<Expr, Memory>
     ensures { IfOk result (λ e. tree_of e ≡ tree.choice (tree_of test) (tree_of first) (tree_of second)) }
 {
-    let test = Box::new(alloc, test)?;
-    let first = Box::new(alloc, first)?;
-    let second = Box::new(alloc, second)?;
+    let parts = both_boxed(alloc, Ok(first), Ok(second));
+    let (test, (first, second)) = both(boxed(alloc, Ok(test)), parts)?;
     Ok(Expr::If(test, first, second))
 }
 
 /// The first, or else the second where the first is undefined.
-pub fn chosen_else(alloc: Global, first: Expr, second: Expr) -> Result<Expr, AllocError>
+pub fn chosen_else(alloc: Global, first: Expr, second: Expr) -> Result<Expr, Memory>
     ensures { IfOk result (λ e. tree_of e ≡ tree.default (tree_of first) (tree_of second)) }
 {
-    let first = Box::new(alloc, first)?;
-    let second = Box::new(alloc, second)?;
+    let (first, second) = both_boxed(alloc, Ok(first), Ok(second))?;
     Ok(Expr::Default(first, second))
 }
 
 /// A negation.
-pub fn negated(alloc: Global, part: Expr) -> Result<Expr, AllocError>
+pub fn negated(alloc: Global, part: Expr) -> Result<Expr, Memory>
     ensures { IfOk result (λ e. tree_of e ≡ tree.negation (tree_of part)) }
 {
     Ok(Expr::Not(Box::new(alloc, part)?))
@@ -144,7 +143,7 @@ pub fn negated(alloc: Global, part: Expr) -> Result<Expr, AllocError>
 pub fn applied(alloc: Global, source: &[u8], token: Token, argument: Expr) -> Result<Expr, Memory>
     ensures { IfOk result (λ e. tree_of e ≡ tree.apply (text_of source.now token) (tree_of argument)) }
 {
-    let name = name_in(alloc, source, token)?;
-    let argument = Box::new(alloc, argument)?;
+    let argument = boxed(alloc, Ok(argument));
+    let (name, argument) = both(name_in(alloc, source, token), argument)?;
     Ok(Expr::Apply { name, argument })
 }
