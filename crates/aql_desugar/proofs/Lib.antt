@@ -1,3 +1,4 @@
+pub mod Making
 pub mod Scoping
 pub mod Finding
 pub mod Wrapping

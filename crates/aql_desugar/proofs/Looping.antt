@@ -5,10 +5,10 @@ use Rattle.aql_syntax.specs.View.{pat_of, pats_of}
 use Rattle.aql_syntax.specs.ViewLaws.{pats_from}
 use Rattle.aql_syntax.specs.declared.ast.Pattern.{Pattern}
 use Rattle.nrca_term.specs.Term.{Term}
-use Rattle.nrca_term.specs.Nodes.{variable, proj_term, dim_term, gen_term, big_union_term}
+use Rattle.nrca_term.specs.Nodes.{variable, let_term, proj_term, dim_term, gen_term, big_union_term}
 use Rattle.nrca_term.specs.View.{term_of}
 use Rattle.nrca_term.specs.declared.term.Core.{Core}
-use Rattle.aql_start.specs.Start.{Knowns, bound, grown, under, bound_axes, match_term, axes_term, index_terms, dimension, loops_term}
+use Rattle.aql_start.specs.Start.{Knowns, bound, grown, under, bound_axes, match_term, axes_term, index_terms, dimension, loops_term, cell_term}
 use Rattle.aql_start.specs.Scopes.{length-bound}
 use Rattle.aql_desugar.specs.Names.{scope}
 use Rattle.aql_desugar.proofs.Scoping.{length-scope, scope_last, count_pats-list}
@@ -83,19 +83,30 @@ pub grown_inside : {A : Type 0} (f : A → Name) (p : Pat) (xs zs : List (Option
 grown_inside f p xs zs h = omega (arith, length-scope f zs 0, length-scope f xs 0, ap length (h 0), length-bound p (scope f xs 0))
 
 -- the match of one number of an index around those of the others
-pub axes_made : {A : Type 0} (f : A → Name) (ps rest : List Pattern) (p : Pattern) (known : Knowns) (xs zs ws vs : List (Option A)) (mark added deeper at : ℕ) (inside inner other t : Term) →
+pub axes_made : {A : Type 0} (f : A → Name) (ps rest : List Pattern) (p : Pattern) (known : Knowns) (xs zs ws vs : List (Option A)) (mark added deeper at : ℕ) (inside taken inner under other t : Term) →
     ps ≡ p ∷ rest → ((base : ℕ) → scope f zs base ≡ bound (pat_of p) (scope f xs base)) → take (length xs) zs ≡ xs → mark ≡ length xs →
-    deeper ≡ added + (length zs - mark) → ((base : ℕ) → inner ≡ axes_term (pats_of rest) known (scope f zs base) deeper inside other) → ws ≡ zs → vs ≡ take mark ws → at ≡ added + length rest →
-    ((base : ℕ) → t ≡ match_term (pat_of p) known (scope f vs base) at inner other) → (base : ℕ) → t ≡ axes_term (pats_of ps) known (scope f xs base) added inside other
-axes_made f ps rest p known xs zs ws vs mark added deeper at inside inner other t e k around m d i w v a c base =
-    let far : deeper ≡ added + grown (pat_of p) = omega (arith, d, m, grown_inside f (pat_of p) xs zs k) in
+    deeper ≡ added + (length zs - length xs) → inside ≡ taken → ((base : ℕ) → inner ≡ axes_term (pats_of rest) known (scope f zs base) deeper taken other) → ws ≡ zs → vs ≡ take mark ws → at ≡ added + length rest → inner ≡ under →
+    ((base : ℕ) → t ≡ match_term (pat_of p) known (scope f vs base) at under other) → (base : ℕ) → t ≡ axes_term (pats_of ps) known (scope f xs base) added inside other
+axes_made f ps rest p known xs zs ws vs mark added deeper at inside taken inner under other t e k around m d s i w v a u c base =
+    let far : deeper ≡ added + grown (pat_of p) = omega (arith, d, grown_inside f (pat_of p) xs zs k) in
     let kept : vs ≡ xs = v ∙ ap (λ n. take n ws) m ∙ ap (take (length xs)) w ∙ around in
     let here : at ≡ added + count_pats (pats_of rest) = a ∙ ap (λ n. added + n) (sym (count_pats-list rest)) in
     let below : inner ≡ axes_term (pats_of rest) known (bound (pat_of p) (scope f xs base)) (added + grown (pat_of p)) inside other =
-    i base ∙ ap (λ s. axes_term (pats_of rest) known s deeper inside other) (k base) ∙ ap (λ n. axes_term (pats_of rest) known (bound (pat_of p) (scope f xs base)) n inside other) far in
-    c base ∙ ap (λ l. match_term (pat_of p) known (scope f l base) at inner other) kept ∙ ap (λ n. match_term (pat_of p) known (scope f xs base) n inner other) here
-    ∙ ap (λ u. match_term (pat_of p) known (scope f xs base) (added + count_pats (pats_of rest)) u other) below
+    i base ∙ ap (λ s. axes_term (pats_of rest) known s deeper taken other) (k base) ∙ ap (λ n. axes_term (pats_of rest) known (bound (pat_of p) (scope f xs base)) n taken other) far
+    ∙ ap (λ v. axes_term (pats_of rest) known (bound (pat_of p) (scope f xs base)) (added + grown (pat_of p)) v other) (sym s) in
+    c base ∙ ap (λ l. match_term (pat_of p) known (scope f l base) at under other) kept ∙ ap (λ n. match_term (pat_of p) known (scope f xs base) n under other) here
+    ∙ ap (λ v. match_term (pat_of p) known (scope f xs base) (added + count_pats (pats_of rest)) v other) (sym u ∙ below)
     ∙ sym (ap (λ l. axes_term (pats_of l) known (scope f xs base) added inside other) e)
 
 pub axes_kept : {A : Type 0} (xs zs ws vs us : List (Option A)) (mark : ℕ) → take (length xs) zs ≡ xs → mark ≡ length xs → ws ≡ zs → vs ≡ take mark ws → us ≡ vs → us ≡ xs
 axes_kept xs zs ws vs us mark around m w v u = u ∙ v ∙ ap (λ n. take n ws) m ∙ ap (take (length xs)) w ∙ around
+
+-- the loops around the matches of an index and the term of a cell
+pub walk_made : {A : Type 0} (f : A → Name) (ps : List Pattern) (known : Knowns) (xs vs : List (Option A)) (low rank added : ℕ) (body taken found bound ax walked other : Term) →
+    vs ≡ take low xs → body ≡ taken → found ≡ cell_term rank added → bound ≡ let_term found taken → ((b : ℕ) → ax ≡ axes_term (pats_of ps) known (scope f vs b) 0 bound other) →
+    walked ≡ loops_term (rank - 0) 0 rank ax → (base : ℕ) → walked ≡ loops_term rank 0 rank (axes_term (pats_of ps) known (scope f (take low xs) base) 0 (let_term (cell_term rank added) body) other)
+walk_made f ps known xs vs low rank added body taken found bound ax walked other v s c l a o base =
+    let zero : rank - 0 ≡ rank = omega arith in
+    o ∙ ap (λ n. loops_term n 0 rank ax) zero
+    ∙ ap (loops_term rank 0 rank) (a base ∙ ap (λ us. axes_term (pats_of ps) known (scope f us base) 0 bound other) v
+    ∙ ap (λ u. axes_term (pats_of ps) known (scope f (take low xs) base) 0 u other) (l ∙ ap (λ u. let_term u taken) c ∙ ap (let_term (cell_term rank added)) (sym s)))

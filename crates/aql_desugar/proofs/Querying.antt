@@ -22,6 +22,10 @@ use Rattle.aql_start.specs.Scopes.{length-bound_axes}
 use Rattle.aql_desugar.specs.Names.{scope, declaration_of}
 use Rattle.aql_desugar.proofs.Scoping.{scope_last, length-scope, count_pats-list, goes_on, extends_all, take_all}
 
+-- a node over two parts
+pub pair_made : (T : Term → Term → Term) (a b m n t whole : Term) → a ≡ m → b ≡ n → t ≡ T a b → whole ≡ T m n → t ≡ whole
+pair_made T a b m n t whole h k l r = l ∙ ap (λ x. T x b) h ∙ ap (T m) k ∙ sym r
+
 -- a node over two parts, the second made under the names that the first leaves
 pub two_made : {A : Type 0} (xs ys : List (Option A)) (c w : Expr) (T : Term → Term → Term) (B : List (Option A) → Expr → Term) (a m b t whole : Term) →
     a ≡ m → b ≡ B ys c → ys ≡ xs → c ≡ w → t ≡ T a b → whole ≡ T m (B xs w) → t ≡ whole
@@ -114,13 +118,12 @@ axis_next f bs i b v xs0 xs ys l h n e k base =
     ∙ sym (ap (λ a. under_axes a (scope f xs base)) (axes_next bs i b l h)) ∙ k base
 
 -- a tabulation
-pub tab_made : {A : Type 0} (f : A → Name) (known : Knowns) (xs ys zs : List (Option A)) (base : ℕ) (ax : Axes) (bs : List Core) (e v : Expr) (b t : Term) →
-    map term_of bs ≡ bound_terms ax known (scope f xs base) → ys ≡ xs → ((c : ℕ) → scope f zs c ≡ under_axes ax (scope f ys c)) → b ≡ start (tree_of e) known (scope f zs base) → e ≡ v →
+pub tab_made : {A : Type 0} (f : A → Name) (known : Knowns) (xs ys : List (Option A)) (base : ℕ) (ax : Axes) (bs : List Core) (e v : Expr) (b t : Term) →
+    map term_of bs ≡ bound_terms ax known (scope f xs base) → ys ≡ xs → b ≡ start (tree_of e) known (under_axes ax (scope f ys base)) → e ≡ v →
     t ≡ tab_term (map term_of bs) b → t ≡ tab_term (bound_terms ax known (scope f xs base)) (start (tree_of v) known (under_axes ax (scope f xs base)))
-tab_made f known xs ys zs base ax bs e v b t h k n i j l =
+tab_made f known xs ys base ax bs e v b t h k i j l =
     l ∙ ap (λ us. tab_term us b) h
-    ∙ ap (tab_term (bound_terms ax known (scope f xs base))) (i ∙ ap (start (tree_of e) known) (n base ∙ ap (λ us. under_axes ax (scope f us base)) k)
-    ∙ ap (λ x. start (tree_of x) known (under_axes ax (scope f xs base))) j)
+    ∙ ap (tab_term (bound_terms ax known (scope f xs base))) (i ∙ ap (λ us. start (tree_of e) known (under_axes ax (scope f us base))) k ∙ ap (λ x. start (tree_of x) known (under_axes ax (scope f xs base))) j)
 
 length-starts : (es : Trees) (known : Knowns) (s : Scope) → length (starts es known s) ≡ count_trees es
 length-starts tree.no_tree known s = refl
@@ -153,29 +156,27 @@ pub extent_some : (x : Name) (ds : List Declaration) (d : Declaration) (before :
 extent_some x ds d before e = find-extent x ds ∙ ap (option_map (λ r. extent r.0 (extents_of r.1))) (sym e)
 
 -- the loops over an array
-pub grid_made : {A : Type 0} (f : A → Name) (ps : List Pattern) (q : Pat) (known : Knowns) (xs ys hs zs ws vs : List (Option A)) (base low rank added : ℕ) (T : Scope → Term) (array body found bound ax walked other t : Term) →
+pub grid_made : {A : Type 0} (f : A → Name) (ps : List Pattern) (q : Pat) (known : Knowns) (xs ys hs zs ws : List (Option A)) (base low added : ℕ) (T : Scope → Term) (array body walked other : Term) →
     ys ≡ xs ++ None ∷ [] → ((b : ℕ) → scope f hs b ≡ under (length ps) (scope f ys b)) → ((b : ℕ) → scope f zs b ≡ bound_axes (pats_of ps) (scope f hs b)) → take (length hs) zs ≡ hs → low ≡ length hs →
-    added ≡ length zs - low → rank ≡ length ps → body ≡ matching q known (scope f zs base) T other → ws ≡ zs → vs ≡ take low ws → found ≡ cell_term rank added → bound ≡ let_term found body →
-    ((b : ℕ) → ax ≡ axes_term (pats_of ps) known (scope f vs b) 0 bound other) → walked ≡ loops_term (rank - 0) 0 rank ax → t ≡ let_term array walked →
-    t ≡ array_term (pats_of ps) known (scope f xs base) array (λ inner. matching q known inner T other) other
-grid_made f ps q known xs ys hs zs ws vs base low rank added T array body found bound ax walked other t e h k around m d r i w v c l a o p =
+    added ≡ length zs - low → body ≡ matching q known (scope f zs base) T other → ws ≡ zs →
+    ((b : ℕ) → walked ≡ loops_term (length ps) 0 (length ps) (axes_term (pats_of ps) known (scope f (take low ws) b) 0 (let_term (cell_term (length ps) added) body) other)) →
+    let_term array walked ≡ array_term (pats_of ps) known (scope f xs base) array (λ inner. matching q known inner T other) other
+grid_made f ps q known xs ys hs zs ws base low added T array body walked other e h k around m d i w o =
     let mid : scope f hs base ≡ under (count_pats (pats_of ps)) (None ∷ scope f xs base) =
     h base ∙ ap (under (length ps)) (ap (λ us. scope f us base) e ∙ scope_last f xs None base) ∙ ap (λ n. under n (None ∷ scope f xs base)) (sym (count_pats-list ps)) in
     let inside : scope f zs base ≡ bound_axes (pats_of ps) (under (count_pats (pats_of ps)) (None ∷ scope f xs base)) = k base ∙ ap (bound_axes (pats_of ps)) mid in
-    let kept : vs ≡ hs = v ∙ ap (λ n. take n ws) m ∙ ap (take (length hs)) w ∙ around in
+    let kept : take low ws ≡ hs = ap (λ n. take n ws) m ∙ ap (take (length hs)) w ∙ around in
     let more : added ≡ grown_axes (pats_of ps) = omega (arith, d, m, length-scope f zs 0, length-scope f hs 0, ap length (k 0), length-bound_axes (pats_of ps) (scope f hs 0)) in
-    let many : rank ≡ count_pats (pats_of ps) = r ∙ sym (count_pats-list ps) in
-    let zero : rank - 0 ≡ rank = omega arith in
+    let many : length ps ≡ count_pats (pats_of ps) = sym (count_pats-list ps) in
     let F : ℕ → ℕ → Scope → Scope → Term = λ n g outer inner. let_term array (loops_term n 0 n (axes_term (pats_of ps) known outer 0 (let_term (cell_term n g) (matching q known inner T other)) other)) in
-    p ∙ ap (let_term array) (o ∙ ap (λ n. loops_term n 0 rank ax) zero
-    ∙ ap (loops_term rank 0 rank) (a base ∙ ap (λ us. axes_term (pats_of ps) known (scope f us base) 0 bound other) kept
-    ∙ ap (λ u. axes_term (pats_of ps) known (scope f hs base) 0 u other) (l ∙ ap (λ u. let_term u body) c ∙ ap (let_term (cell_term rank added)) i)))
+    ap (let_term array) (o base ∙ ap (λ us. loops_term (length ps) 0 (length ps) (axes_term (pats_of ps) known (scope f us base) 0 (let_term (cell_term (length ps) added) body) other)) kept
+    ∙ ap (λ u. loops_term (length ps) 0 (length ps) (axes_term (pats_of ps) known (scope f hs base) 0 (let_term (cell_term (length ps) added) u) other)) i)
     ∙ (λ j. F (many j) (more j) (mid j) (inside j))
 
-pub grid_kept : {A : Type 0} (xs ys hs zs ws vs us rs : List (Option A)) (low mark : ℕ) → ys ≡ xs ++ None ∷ [] → take (length ys) hs ≡ ys → take (length hs) zs ≡ hs → low ≡ length hs → mark ≡ length xs → ws ≡ zs → vs ≡ take low ws →
-    us ≡ vs → rs ≡ take mark us → rs ≡ xs
-grid_kept xs ys hs zs ws vs us rs low mark e h k l m w v u r =
-    r ∙ ap (λ n. take n us) m ∙ ap (take (length xs)) (u ∙ v ∙ ap (λ n. take n ws) l ∙ ap (take (length hs)) w ∙ k) ∙ extends_all xs ys hs h (goes_on xs xs ys None e (take_all xs))
+pub grid_kept : {A : Type 0} (xs ys hs zs ws us rs : List (Option A)) (low mark : ℕ) → ys ≡ xs ++ None ∷ [] → take (length ys) hs ≡ ys → take (length hs) zs ≡ hs → low ≡ length hs → mark ≡ length xs → ws ≡ zs → us ≡ take low ws →
+    rs ≡ take mark us → rs ≡ xs
+grid_kept xs ys hs zs ws us rs low mark e h k l m w u r =
+    r ∙ ap (λ n. take n us) m ∙ ap (take (length xs)) (u ∙ ap (λ n. take n ws) l ∙ ap (take (length hs)) w ∙ k) ∙ extends_all xs ys hs h (goes_on xs xs ys None e (take_all xs))
 
 -- one part of a list that has a first
 pub no_quals : (qs : List Qual) → length qs ≡ 0 → quals_of qs ≡ tree.no_qual

@@ -1,5 +1,5 @@
 -- The code's matches around terms.
-use Rattle.std.proofs.Common.{◌≡◌, ◌<◌, ℕ, suc, ◌+◌, ◌-◌, ◌*◌, List, [], ◌∷◌, ◌++◌, length, take, Option, None, sym, ap, ◌∙◌, arith, length-append}
+use Rattle.std.proofs.Common.{◌≡◌, ◌<◌, ℕ, suc, ◌+◌, ◌-◌, ◌*◌, List, [], ◌∷◌, ◌++◌, length, take, Option, None, sym, ap, ◌∙◌, arith}
 use Rattle.aql_syntax.specs.Tree.{Name, Pat}
 use Rattle.aql_syntax.specs.Size.{pat_nodes, pats_nodes}
 use Rattle.aql_syntax.specs.View.{pat_of, pats_of}
@@ -12,7 +12,7 @@ use Rattle.nrca_term.specs.Nodes.{variable, let_term, proj_term}
 use Rattle.aql_start.specs.Start.{Knowns, bound, grown, match_term, parts_term}
 use Rattle.aql_start.specs.Scopes.{length-bound}
 use Rattle.aql_desugar.specs.Names.{scope}
-use Rattle.aql_desugar.proofs.Scoping.{length-scope, scope_last, count_pats-list, some-nodes, goes_on, extends_all, take_all, taken_off}
+use Rattle.aql_desugar.proofs.Scoping.{length-scope, count_pats-list, some-nodes, taken_off}
 
 -- the variables of a match are taken off
 pub closed_kept : {A : Type 0} (xs ts ys ws zs : List (Option A)) (mark : ℕ) → ts ≡ take mark xs → ys ≡ ts ++ None ∷ [] → ws ≡ ys → zs ≡ take (length ws - 1) ws → zs ≡ take mark xs
@@ -38,30 +38,27 @@ rest_smaller ps rest p e =
     omega (arith, some-nodes (pat_of p))
 
 -- inside a match stand as many variables more as it adds
-pub grown_by : {A : Type 0} (f : A → Name) (p : Pat) (xs ys zs : List (Option A)) → ys ≡ xs ++ None ∷ [] → ((base : ℕ) → scope f zs base ≡ bound p (scope f ys base)) →
-    length zs ≡ length xs + (grown p + 1)
-grown_by f p xs ys zs e h =
-    omega (arith, length-scope f zs 0, length-scope f ys 0, ap length (h 0), length-bound p (scope f ys 0), ap length e, length-append xs (None ∷ []))
+pub grown_by : {A : Type 0} (f : A → Name) (p : Pat) (xs zs : List (Option A)) → ((base : ℕ) → scope f zs base ≡ bound p (None ∷ scope f xs base)) → length zs ≡ length xs + (grown p + 1)
+grown_by f p xs zs h = omega (arith, length-scope f zs 0, length-scope f xs 0, ap length (h 0), length-bound p (None ∷ scope f xs 0))
 
 -- one part of a tuple, around the others
-pub parts_made : {A : Type 0} (f : A → Name) (ps rest : List Pattern) (p : Pattern) (known : Knowns) (xs ys zs ws : List (Option A)) (mark at deeper j n next : ℕ) (inside inner matched part other t v : Term) →
-    ps ≡ p ∷ rest → ys ≡ xs ++ None ∷ [] → ((base : ℕ) → scope f zs base ≡ bound (pat_of p) (scope f ys base)) → take (length ys) zs ≡ ys → mark ≡ length xs →
-    deeper ≡ at + (length zs - mark) → next ≡ j + 1 → ((base : ℕ) → inner ≡ parts_term (pats_of rest) known (scope f zs base) deeper next n inside other) → ws ≡ zs →
+pub parts_made : {A : Type 0} (f : A → Name) (ps rest : List Pattern) (p : Pattern) (known : Knowns) (xs zs ws : List (Option A)) (mark at deeper j n next : ℕ) (inside taken inner matched part other t v : Term) →
+    ps ≡ p ∷ rest → ((base : ℕ) → scope f zs base ≡ bound (pat_of p) (None ∷ scope f xs base)) → take (length xs) zs ≡ xs → mark ≡ length xs →
+    deeper ≡ at + (length zs - length xs) → next ≡ j + 1 → inside ≡ taken → ((base : ℕ) → inner ≡ parts_term (pats_of rest) known (scope f zs base) deeper next n taken other) → ws ≡ zs →
     ((base : ℕ) → matched ≡ match_term (pat_of p) known (None ∷ scope f (take mark ws) base) 0 inner other) → part ≡ proj_term j n v → v ≡ variable at → t ≡ let_term part matched →
     (base : ℕ) → t ≡ parts_term (pats_of ps) known (scope f xs base) at j n inside other
-parts_made f ps rest p known xs ys zs ws mark at deeper j n next inside inner matched part other t v e h k around m d x i w c q r l base =
-    let far : deeper ≡ at + (grown (pat_of p) + 1) = omega (arith, d, m, grown_by f (pat_of p) xs ys zs h k) in
+parts_made f ps rest p known xs zs ws mark at deeper j n next inside taken inner matched part other t v e k around m d x s i w c q r l base =
+    let far : deeper ≡ at + (grown (pat_of p) + 1) = omega (arith, d, grown_by f (pat_of p) xs zs k) in
     let one : next ≡ suc j = omega (arith, x) in
-    let kept : take mark ws ≡ xs = ap (λ n. take n ws) m ∙ ap (take (length xs)) w ∙ extends_all xs ys zs around (goes_on xs xs ys None h (take_all xs)) in
-    let scoped : scope f zs base ≡ bound (pat_of p) (None ∷ scope f xs base) = k base ∙ ap (bound (pat_of p)) (ap (λ l. scope f l base) h ∙ scope_last f xs None base) in
+    let kept : take mark ws ≡ xs = ap (λ n. take n ws) m ∙ ap (take (length xs)) w ∙ around in
     let below : inner ≡ parts_term (pats_of rest) known (bound (pat_of p) (None ∷ scope f xs base)) (at + (grown (pat_of p) + 1)) (suc j) n inside other =
-    i base ∙ ap (λ s. parts_term (pats_of rest) known s deeper next n inside other) scoped
-    ∙ ap (λ a. parts_term (pats_of rest) known (bound (pat_of p) (None ∷ scope f xs base)) a next n inside other) far
-    ∙ ap (λ a. parts_term (pats_of rest) known (bound (pat_of p) (None ∷ scope f xs base)) (at + (grown (pat_of p) + 1)) a n inside other) one in
+    i base ∙ ap (λ s. parts_term (pats_of rest) known s deeper next n taken other) (k base)
+    ∙ ap (λ a. parts_term (pats_of rest) known (bound (pat_of p) (None ∷ scope f xs base)) a next n taken other) far
+    ∙ ap (λ a. parts_term (pats_of rest) known (bound (pat_of p) (None ∷ scope f xs base)) (at + (grown (pat_of p) + 1)) a n taken other) one
+    ∙ ap (λ u. parts_term (pats_of rest) known (bound (pat_of p) (None ∷ scope f xs base)) (at + (grown (pat_of p) + 1)) (suc j) n u other) (sym s) in
     l ∙ ap (λ u. let_term u matched) (q ∙ ap (proj_term j n) r)
     ∙ ap (let_term (proj_term j n (variable at))) (c base ∙ ap (λ l. match_term (pat_of p) known (None ∷ scope f l base) 0 inner other) kept ∙ ap (λ u. match_term (pat_of p) known (None ∷ scope f xs base) 0 u other) below)
     ∙ sym (ap (λ l. parts_term (pats_of l) known (scope f xs base) at j n inside other) e)
 
-pub parts_kept : {A : Type 0} (xs ys zs ws vs : List (Option A)) (mark : ℕ) → ys ≡ xs ++ None ∷ [] → take (length ys) zs ≡ ys → mark ≡ length xs → ws ≡ zs → vs ≡ take mark ws → vs ≡ xs
-parts_kept xs ys zs ws vs mark h around m w c =
-    c ∙ ap (λ n. take n ws) m ∙ ap (take (length xs)) w ∙ extends_all xs ys zs around (goes_on xs xs ys None h (take_all xs))
+pub parts_kept : {A : Type 0} (xs zs ws vs : List (Option A)) (mark : ℕ) → take (length xs) zs ≡ xs → mark ≡ length xs → ws ≡ zs → vs ≡ take mark ws → vs ≡ xs
+parts_kept xs zs ws vs mark around m w c = c ∙ ap (λ n. take n ws) m ∙ ap (take (length xs)) w ∙ around

@@ -3,14 +3,16 @@
 ghost use Rattle.std.specs.Prelude.{◌≡◌, ℕ, ◌+◌, ◌-◌, ◌≤◌, length, take, OnOk, IfOk};
 ghost use Rattle.aql_syntax.specs.View.{pats_of};
 ghost use Rattle.aql_syntax.specs.Measured.{latest};
+ghost use Rattle.nrca_term.specs.Nodes.{let_term};
 ghost use Rattle.nrca_term.specs.View.{term_of};
 ghost use Rattle.aql_start.specs.Start as start_term;
-ghost use Rattle.aql_start.specs.Start.{knowns_of, under, bound_axes, axes_term};
+ghost use Rattle.aql_start.specs.Start.{knowns_of, under, bound_axes, axes_term, loops_term, cell_term};
 ghost use Rattle.aql_desugar.specs.Names.{scope, missing_term};
 
-use crate::matches::{Missing, plus, wrap};
+use crate::matches::{Missing, enter_past, plus, wrap};
 use crate::names::enter;
-use crate::nodes::{big_union, dim, generated, proj, sub};
+use crate::nodes::{big_union, dim, generated, let_in, proj, sub};
+use aql_made::both;
 use aql_syntax::ast::{Decl, Pattern};
 use aql_value::{Memory, Str};
 use nrca_term::Core;
@@ -29,24 +31,24 @@ fn dimension(alloc: Global, rank: u64, j: u64, at: u64) -> Result<Core, Memory>
     Ok(made)
 }
 
-/// Loops over the dimensions of the array in variable j, from the one with j before it on.
+// Loops over the dimensions of the array in variable j, from the one with j before it on.
 #[tactic(auto, using(crate::proofs::Looping::looping))]
-pub(crate) fn loops(alloc: Global, j: u64, rank: u64, inside: Core) -> Result<Core, Memory>
+fn loops(alloc: Global, j: u64, rank: u64, inside: Core) -> Result<Core, Memory>
     requires { j ≤ rank }
     ensures { IfOk result (λ c. term_of c ≡ start_term.loops_term (rank - j) j rank (term_of inside)) }
 {
     if j == rank {
         return Ok(inside);
     }
-    let body = loops(alloc, j + 1, rank, inside)?;
-    let bound = dimension(alloc, rank, j + 1, j)?;
-    let members = generated(alloc, bound)?;
+    let bound = dimension(alloc, rank, j + 1, j);
+    let (bound, body) = both(bound, loops(alloc, j + 1, rank, inside))?;
+    let (members, body) = both(generated(alloc, bound), Ok(body))?;
     let made = big_union(alloc, members, body)?;
     Ok(made)
 }
 
-/// The cell at the index of `rank` numbers under `added` further variables.
-pub(crate) fn cell(alloc: Global, rank: u64, added: u64) -> Result<Core, Memory>
+// The cell at the index of `rank` numbers under `added` further variables.
+fn cell(alloc: Global, rank: u64, added: u64) -> Result<Core, Memory>
     ensures { IfOk result (λ c. term_of c ≡ start_term.cell_term rank added) }
 {
     let mut at = Vec::new(alloc);
@@ -87,8 +89,8 @@ pub(crate) fn enter_axes<'a>(
     Ok(())
 }
 
-/// The matches of the numbers of an index, which stand under `added` further variables.
-pub(crate) fn wrap_axes<'a>(
+// The matches of the numbers of an index, which stand under `added` further variables.
+fn wrap_axes<'a>(
     alloc: Global,
     ps: &'a [Pattern],
     earlier: &[Decl],
@@ -104,13 +106,35 @@ pub(crate) fn wrap_axes<'a>(
         None => Ok(inside),
         Some((p, rest)) => {
             let mark = names.len();
-            enter(p, names)?;
-            let deeper = plus(added, (names.len() - mark) as u64)?;
+            let (deeper, inside) = both(enter_past(p, names, added), Ok(inside))?;
             let inside = wrap_axes(alloc, rest, earlier, names, deeper, inside, other)?;
             names.truncate(mark);
-            let at = plus(added, rest.len() as u64)?;
+            let (at, inside) = both(plus(added, rest.len() as u64), Ok(inside))?;
             let made = wrap(alloc, p, earlier, names, at, inside, other)?;
             Ok(made)
         }
     }
+}
+
+/// The loops over the array whose index parts match ps, around the term of each of its cells. The names from `low` on are
+/// those of the `added` variables that `enter_axes` has put on, and are taken off.
+pub(crate) fn walk<'a>(
+    alloc: Global,
+    ps: &'a [Pattern],
+    earlier: &[Decl],
+    names: &mut Vec<Option<&'a Str>>,
+    low: usize,
+    added: u64,
+    body: Core,
+) -> Result<Core, Memory>
+    ensures made { IfOk result (λ c. (base : ℕ) → term_of c ≡ loops_term (length ps.now) 0 (length ps.now) (axes_term (pats_of ps.now) (knowns_of (latest earlier.now)) (scope (λ x. x.now) (take low names.old.items) base) 0 (let_term (cell_term (length ps.now) added) (term_of body)) (missing_term Missing.Empty))) }
+    ensures kept { OnOk result (names.new.items ≡ take low names.old.items) }
+{
+    let rank = ps.len() as u64;
+    names.truncate(low);
+    let (found, body) = both(cell(alloc, rank, added), Ok(body))?;
+    let bound = let_in(alloc, found, body)?;
+    let axes = wrap_axes(alloc, ps, earlier, names, 0, bound, Missing::Empty)?;
+    let walked = loops(alloc, 0, rank, axes)?;
+    Ok(walked)
 }

@@ -1,6 +1,6 @@
 //! Matches of patterns around terms.
 
-ghost use Rattle.std.specs.Prelude.{◌≡◌, ℕ, ◌+◌, ◌∷◌, length, take, OnOk, IfOk, None};
+ghost use Rattle.std.specs.Prelude.{◌≡◌, ℕ, ◌+◌, ◌-◌, [], ◌∷◌, ◌++◌, length, take, OnOk, IfOk, None};
 ghost use Rattle.aql_syntax.specs.Names as surface_names;
 ghost use Rattle.aql_syntax.specs.View.{pat_of, pats_of};
 ghost use Rattle.aql_syntax.specs.Measured.{latest};
@@ -13,6 +13,7 @@ ghost use Rattle.aql_desugar.specs.Names.{scope, missing_term};
 use crate::names::{enter, index_of};
 use crate::nodes::{choose, compare, let_in, proj};
 use crate::positions::position_term;
+use aql_made::both;
 use aql_syntax::ast::{Decl, Pattern};
 use aql_value::{CompareOp, Memory, Str};
 use nrca_term::Core;
@@ -58,7 +59,8 @@ pub(crate) fn name_term(name: &Str, earlier: &[Decl], names: &[Option<&Str>]) ->
 fn test(alloc: Global, at: u64, c: Core, inside: Core, other: Missing) -> Result<Core, Memory>
     ensures { IfOk result (λ r. term_of r ≡ if_term (equal_term at (term_of c)) (term_of inside) (missing_term other)) }
 {
-    let equal = compare(alloc, CompareOp::Equal, Core::Var(at), c)?;
+    let equal = compare(alloc, CompareOp::Equal, Core::Var(at), c);
+    let (equal, inside) = both(equal, Ok(inside))?;
     choose(alloc, equal, inside, otherwise(other))
 }
 
@@ -83,7 +85,7 @@ pub(crate) fn wrap<'a>(
         Pattern::Nat(n) => test(alloc, at, Core::Nat(*n), inside, other),
         Pattern::Bool(b) => test(alloc, at, Core::Bool(*b), inside, other),
         Pattern::Text(s) => {
-            let text = s.copy(alloc)?;
+            let (text, inside) = both(s.copy(alloc), Ok(inside))?;
             test(alloc, at, Core::Text(text), inside, other)
         }
         Pattern::Name(x) => {
@@ -121,13 +123,11 @@ fn wrap_parts<'a>(
         None => Ok(inside),
         Some((p, rest)) => {
             let mark = names.len();
-            names.push(None)?;
-            enter(p, names)?;
-            let deeper = plus(at, (names.len() - mark) as u64)?;
-            let next = plus(j, 1)?;
+            let numbers = both(open_past(p, names, at), plus(j, 1));
+            let ((deeper, next), inside) = both(numbers, Ok(inside))?;
             let inside = wrap_parts(alloc, rest, earlier, names, deeper, next, n, inside, other)?;
-            let matched = close(alloc, p, earlier, names, mark, inside, other)?;
-            let part = proj(alloc, j, n, Core::Var(at))?;
+            let matched = close(alloc, p, earlier, names, mark, inside, other);
+            let (part, matched) = both(proj(alloc, j, n, Core::Var(at)), matched)?;
             let bound = let_in(alloc, part, matched)?;
             Ok(bound)
         }
@@ -151,10 +151,18 @@ pub(crate) fn close<'a>(
     ensures kept { OnOk result (names.new.items ≡ take mark names.old.items) }
 {
     names.truncate(mark);
-    names.push(None)?;
+    let (_, inside) = both(hide_one(names), Ok(inside))?;
     let matched = wrap(alloc, p, earlier, names, 0, inside, other)?;
     let _ = names.pop();
     Ok(matched)
+}
+
+// Puts on one variable without a name.
+fn hide_one(names: &mut Vec<Option<&Str>>) -> Result<(), Memory>
+    ensures { OnOk result (names.new.items ≡ names.old.items ++ None ∷ []) }
+{
+    names.push(None)?;
+    Ok(())
 }
 
 /// Puts on the variable that is matched and those inside its match.
@@ -165,4 +173,30 @@ pub(crate) fn open<'a>(p: &'a Pattern, names: &mut Vec<Option<&'a Str>>) -> Resu
 {
     names.push(None)?;
     enter(p, names)
+}
+
+/// Puts on the variables inside the match of a pattern, and answers the number of variable `at` inside it.
+pub(crate) fn enter_past<'a>(
+    p: &'a Pattern,
+    names: &mut Vec<Option<&'a Str>>,
+    at: u64,
+) -> Result<u64, Memory>
+    ensures inside { OnOk result ((base : ℕ) → scope (λ x. x.now) names.new.items base ≡ start_term.bound (pat_of p.now) (scope (λ x. x.now) names.old.items base)) }
+    ensures around { OnOk result (take (length names.old.items) names.new.items ≡ names.old.items) }
+    ensures number { IfOk result (λ n. n ≡ at + (length names.new.items - length names.old.items)) }
+{
+    let mark = names.len();
+    enter(p, names)?;
+    plus(at, (names.len() - mark) as u64)
+}
+
+// The same with the variable that is matched.
+fn open_past<'a>(p: &'a Pattern, names: &mut Vec<Option<&'a Str>>, at: u64) -> Result<u64, Memory>
+    ensures inside { OnOk result ((base : ℕ) → scope (λ x. x.now) names.new.items base ≡ start_term.bound (pat_of p.now) (None ∷ scope (λ x. x.now) names.old.items base)) }
+    ensures around { OnOk result (take (length names.old.items) names.new.items ≡ names.old.items) }
+    ensures number { IfOk result (λ n. n ≡ at + (length names.new.items - length names.old.items)) }
+{
+    let mark = names.len();
+    open(p, names)?;
+    plus(at, (names.len() - mark) as u64)
 }

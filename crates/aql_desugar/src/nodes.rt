@@ -4,6 +4,7 @@ ghost use Rattle.std.specs.Prelude.{◌≡◌, IfOk, map};
 ghost use Rattle.nrca_term.specs.Nodes.{let_term, if_term, default_term, tuple_term, proj_term, arith_term, compare_term, single_term, union_term, big_union_term, sum_term, gen_term, get_term, tab_term, sub_term, dim_term, index_term, literal_term};
 ghost use Rattle.nrca_term.specs.View.{term_of};
 
+use aql_made::{both, both_boxed, boxed};
 use aql_value::{ArithOp, CompareOp, Memory};
 use nrca_term::{Core, Terms};
 use std::alloc::Global;
@@ -11,25 +12,21 @@ use std::alloc::Global;
 pub(crate) fn let_in(alloc: Global, a: Core, b: Core) -> Result<Core, Memory>
     ensures { IfOk result (λ c. term_of c ≡ let_term (term_of a) (term_of b)) }
 {
-    let a = Box::new(alloc, a)?;
-    let b = Box::new(alloc, b)?;
+    let (a, b) = both_boxed(alloc, Ok(a), Ok(b))?;
     Ok(Core::Let(a, b))
 }
 
 pub(crate) fn choose(alloc: Global, c: Core, a: Core, b: Core) -> Result<Core, Memory>
     ensures { IfOk result (λ r. term_of r ≡ if_term (term_of c) (term_of a) (term_of b)) }
 {
-    let c = Box::new(alloc, c)?;
-    let a = Box::new(alloc, a)?;
-    let b = Box::new(alloc, b)?;
+    let (c, (a, b)) = both(boxed(alloc, Ok(c)), both_boxed(alloc, Ok(a), Ok(b)))?;
     Ok(Core::If(c, a, b))
 }
 
 pub(crate) fn default(alloc: Global, a: Core, b: Core) -> Result<Core, Memory>
     ensures { IfOk result (λ c. term_of c ≡ default_term (term_of a) (term_of b)) }
 {
-    let a = Box::new(alloc, a)?;
-    let b = Box::new(alloc, b)?;
+    let (a, b) = both_boxed(alloc, Ok(a), Ok(b))?;
     Ok(Core::Default(a, b))
 }
 
@@ -50,16 +47,14 @@ pub(crate) fn proj(alloc: Global, at: u64, of: u64, a: Core) -> Result<Core, Mem
 pub(crate) fn arith(alloc: Global, op: ArithOp, a: Core, b: Core) -> Result<Core, Memory>
     ensures { IfOk result (λ c. term_of c ≡ arith_term op (term_of a) (term_of b)) }
 {
-    let a = Box::new(alloc, a)?;
-    let b = Box::new(alloc, b)?;
+    let (a, b) = both_boxed(alloc, Ok(a), Ok(b))?;
     Ok(Core::Arith(op, a, b))
 }
 
 pub(crate) fn compare(alloc: Global, op: CompareOp, a: Core, b: Core) -> Result<Core, Memory>
     ensures { IfOk result (λ c. term_of c ≡ compare_term op (term_of a) (term_of b)) }
 {
-    let a = Box::new(alloc, a)?;
-    let b = Box::new(alloc, b)?;
+    let (a, b) = both_boxed(alloc, Ok(a), Ok(b))?;
     Ok(Core::Compare(op, a, b))
 }
 
@@ -73,24 +68,21 @@ pub(crate) fn single(alloc: Global, a: Core) -> Result<Core, Memory>
 pub(crate) fn union(alloc: Global, a: Core, b: Core) -> Result<Core, Memory>
     ensures { IfOk result (λ c. term_of c ≡ union_term (term_of a) (term_of b)) }
 {
-    let a = Box::new(alloc, a)?;
-    let b = Box::new(alloc, b)?;
+    let (a, b) = both_boxed(alloc, Ok(a), Ok(b))?;
     Ok(Core::Union(a, b))
 }
 
 pub(crate) fn big_union(alloc: Global, over: Core, body: Core) -> Result<Core, Memory>
     ensures { IfOk result (λ c. term_of c ≡ big_union_term (term_of over) (term_of body)) }
 {
-    let over = Box::new(alloc, over)?;
-    let body = Box::new(alloc, body)?;
+    let (over, body) = both_boxed(alloc, Ok(over), Ok(body))?;
     Ok(Core::BigUnion { over, body })
 }
 
 pub(crate) fn sum(alloc: Global, over: Core, body: Core) -> Result<Core, Memory>
     ensures { IfOk result (λ c. term_of c ≡ sum_term (term_of over) (term_of body)) }
 {
-    let over = Box::new(alloc, over)?;
-    let body = Box::new(alloc, body)?;
+    let (over, body) = both_boxed(alloc, Ok(over), Ok(body))?;
     Ok(Core::Sum { over, body })
 }
 

@@ -5,13 +5,14 @@ ghost use Rattle.aql_syntax.specs.Names as surface_names;
 ghost use Rattle.aql_syntax.specs.View.{tree_of, trees_of, quals_of, axes_in, defs_in, pat_of, pats_of, decl_of};
 ghost use Rattle.aql_syntax.specs.Tree.{axes};
 ghost use Rattle.aql_syntax.specs.Measured.{latest};
-ghost use Rattle.nrca_term.specs.Nodes.{empty_term};
+ghost use Rattle.nrca_term.specs.Nodes.{let_term, empty_term};
+ghost use Rattle.nrca_term.specs.Term.{Term};
 ghost use Rattle.nrca_term.specs.View.{term_of};
 ghost use Rattle.aql_start.specs.Start as start_term;
 ghost use Rattle.aql_start.specs.Start.{knowns_of, matching, starts, bound_terms, under_axes, quals_term, defs_term, array_term};
 ghost use Rattle.aql_desugar.specs.Names.{scope, missing_term};
 
-use crate::arrays::{cell, enter_axes, hide, loops, wrap_axes};
+use crate::arrays::{enter_axes, hide, walk};
 use crate::matches::{Missing, close, name_term, open, plus};
 use crate::names::index_of;
 use crate::nodes::{
@@ -20,6 +21,7 @@ use crate::nodes::{
 };
 use crate::positions::find;
 use crate::unions::united;
+use aql_made::both;
 use aql_syntax::ast::{Bind, Decl, Expr, LetBind, Pattern, Qual};
 use aql_syntax::build::{bindings_in, indices_in};
 use aql_value::{Memory, Str};
@@ -30,7 +32,6 @@ use std::slice;
 /// The start term of an expression after these declarations, under the names and, around them, `base` variables
 /// without a name.
 #[cycle(start)]
-#[tactic(auto, using(aql_syntax::specs::ViewLaws::tree_views))]
 pub(crate) fn start<'a>(
     alloc: Global,
     e: &'a Expr,
@@ -56,111 +57,85 @@ pub(crate) fn start<'a>(
         Expr::Empty => Ok(Core::Empty),
         Expr::Members(es) => {
             let parts = all(alloc, &es.items, earlier, base, names)?;
-            let made = united(alloc, parts)?;
-            Ok(made)
+            united(alloc, parts)
         }
         Expr::Comp { head, quals } => {
-            let made = comprehend(alloc, &quals.items, head, earlier, base, names)?;
-            Ok(made)
+            comprehend(alloc, &quals.items, head, earlier, base, names)
         }
         Expr::Tab { body, binds } => {
             let axes = indices_in(binds);
             let limits = bounds(alloc, axes, earlier, base, names)?;
-            let mark = names.len();
-            enter_binds(axes, names)?;
-            let inner = start(alloc, body, earlier, base, names)?;
-            names.truncate(mark);
-            let made = tab(alloc, limits, inner)?;
-            Ok(made)
+            let inner = indexed(alloc, axes, body, earlier, base, names);
+            let (limits, inner) = both(Ok(limits), inner)?;
+            tab(alloc, limits, inner)
         }
         Expr::Literal { dims, cells } => {
             let dims = all(alloc, &dims.items, earlier, base, names)?;
-            let cells = all(alloc, &cells.items, earlier, base, names)?;
+            let (dims, cells) = both(Ok(dims), all(alloc, &cells.items, earlier, base, names))?;
             Ok(literal(dims, cells))
         }
         Expr::Let { binds, body } => {
             let defs = bindings_in(binds);
-            let made = bind_all(alloc, defs, body, earlier, base, names)?;
-            Ok(made)
+            bind_all(alloc, defs, body, earlier, base, names)
         }
         Expr::Sub { array, at } => {
             let array = start(alloc, array, earlier, base, names)?;
-            let at = all(alloc, &at.items, earlier, base, names)?;
-            let made = sub(alloc, array, at)?;
-            Ok(made)
+            let (array, at) = both(Ok(array), all(alloc, &at.items, earlier, base, names))?;
+            sub(alloc, array, at)
         }
         Expr::If(c, a, b) => {
             let c = start(alloc, c, earlier, base, names)?;
-            let a = start(alloc, a, earlier, base, names)?;
-            let b = start(alloc, b, earlier, base, names)?;
-            let made = choose(alloc, c, a, b)?;
-            Ok(made)
+            let (c, (a, b)) = both(Ok(c), pair(alloc, a, b, earlier, base, names))?;
+            choose(alloc, c, a, b)
         }
         Expr::And(a, b) => {
-            let a = start(alloc, a, earlier, base, names)?;
-            let b = start(alloc, b, earlier, base, names)?;
-            let made = choose(alloc, a, b, Core::Bool(false))?;
-            Ok(made)
+            let (a, b) = pair(alloc, a, b, earlier, base, names)?;
+            choose(alloc, a, b, Core::Bool(false))
         }
         Expr::Or(a, b) => {
-            let a = start(alloc, a, earlier, base, names)?;
-            let b = start(alloc, b, earlier, base, names)?;
-            let made = choose(alloc, a, Core::Bool(true), b)?;
-            Ok(made)
+            let (a, b) = pair(alloc, a, b, earlier, base, names)?;
+            choose(alloc, a, Core::Bool(true), b)
         }
         Expr::Not(a) => {
             let a = start(alloc, a, earlier, base, names)?;
-            let made = choose(alloc, a, Core::Bool(false), Core::Bool(true))?;
-            Ok(made)
+            choose(alloc, a, Core::Bool(false), Core::Bool(true))
         }
         Expr::Compare(op, a, b) => {
-            let a = start(alloc, a, earlier, base, names)?;
-            let b = start(alloc, b, earlier, base, names)?;
-            let made = compare(alloc, *op, a, b)?;
-            Ok(made)
+            let (a, b) = pair(alloc, a, b, earlier, base, names)?;
+            compare(alloc, *op, a, b)
         }
         Expr::Arith(op, a, b) => {
-            let a = start(alloc, a, earlier, base, names)?;
-            let b = start(alloc, b, earlier, base, names)?;
-            let made = arith(alloc, *op, a, b)?;
-            Ok(made)
+            let (a, b) = pair(alloc, a, b, earlier, base, names)?;
+            arith(alloc, *op, a, b)
         }
         Expr::Union(a, b) => {
-            let a = start(alloc, a, earlier, base, names)?;
-            let b = start(alloc, b, earlier, base, names)?;
-            let made = union(alloc, a, b)?;
-            Ok(made)
+            let (a, b) = pair(alloc, a, b, earlier, base, names)?;
+            union(alloc, a, b)
         }
         Expr::Gen(a) => {
             let a = start(alloc, a, earlier, base, names)?;
-            let made = generated(alloc, a)?;
-            Ok(made)
+            generated(alloc, a)
         }
         Expr::Get(a) => {
             let a = start(alloc, a, earlier, base, names)?;
-            let made = get(alloc, a)?;
-            Ok(made)
+            get(alloc, a)
         }
         Expr::Len(a) => {
             let a = start(alloc, a, earlier, base, names)?;
-            let made = dim(alloc, 1, a)?;
-            Ok(made)
+            dim(alloc, 1, a)
         }
         Expr::Dim { rank, array } => {
             let a = start(alloc, array, earlier, base, names)?;
-            let made = dim(alloc, *rank, a)?;
-            Ok(made)
+            dim(alloc, *rank, a)
         }
         Expr::Index { rank, pairs } => {
             let a = start(alloc, pairs, earlier, base, names)?;
-            let made = index(alloc, *rank, a)?;
-            Ok(made)
+            index(alloc, *rank, a)
         }
         Expr::Apply { name, argument } => {
             let a = start(alloc, argument, earlier, base, names)?;
-            let body = call(alloc, name, earlier, base, names)?;
-            let made = let_in(alloc, a, body)?;
-            Ok(made)
+            let (a, body) = both(Ok(a), call(alloc, name, earlier, base, names))?;
+            let_in(alloc, a, body)
         }
         Expr::Fun {
             pattern,
@@ -168,9 +143,9 @@ pub(crate) fn start<'a>(
             argument,
         } => {
             let a = start(alloc, argument, earlier, base, names)?;
-            let body = within(alloc, pattern, body, earlier, base, names)?;
-            let made = let_in(alloc, a, body)?;
-            Ok(made)
+            let body = within(alloc, pattern, body, earlier, base, names);
+            let (a, body) = both(Ok(a), body)?;
+            let_in(alloc, a, body)
         }
         Expr::SumMap {
             pattern,
@@ -178,17 +153,34 @@ pub(crate) fn start<'a>(
             over,
         } => {
             let a = start(alloc, over, earlier, base, names)?;
-            let body = within(alloc, pattern, body, earlier, base, names)?;
-            let made = sum(alloc, a, body)?;
-            Ok(made)
+            let body = within(alloc, pattern, body, earlier, base, names);
+            let (a, body) = both(Ok(a), body)?;
+            sum(alloc, a, body)
         }
         Expr::Default(a, b) => {
-            let a = start(alloc, a, earlier, base, names)?;
-            let b = start(alloc, b, earlier, base, names)?;
-            let made = default(alloc, a, b)?;
-            Ok(made)
+            let (a, b) = pair(alloc, a, b, earlier, base, names)?;
+            default(alloc, a, b)
         }
     }
+}
+
+// The terms of two expressions.
+#[cycle(start)]
+fn pair<'a>(
+    alloc: Global,
+    a: &'a Expr,
+    b: &'a Expr,
+    earlier: &'a [Decl],
+    base: u64,
+    names: &mut Vec<Option<&'a Str>>,
+) -> Result<(Core, Core), Memory>
+    ensures first { IfOk result (λ x. term_of x.0 ≡ start_term.start (tree_of a.now) (knowns_of (latest earlier.now)) (scope (λ x. x.now) names.old.items base)) }
+    ensures second { IfOk result (λ x. term_of x.1 ≡ start_term.start (tree_of b.now) (knowns_of (latest earlier.now)) (scope (λ x. x.now) names.old.items base)) }
+    ensures kept { OnOk result (names.new.items ≡ names.old.items) }
+{
+    let a = start(alloc, a, earlier, base, names)?;
+    let (a, b) = both(Ok(a), start(alloc, b, earlier, base, names))?;
+    Ok((a, b))
 }
 
 // The terms of a list.
@@ -242,6 +234,26 @@ fn enter_binds<'a>(binds: &'a [Bind], names: &mut Vec<Option<&'a Str>>) -> Resul
         names.push(Some(&b.name))?;
     }
     Ok(())
+}
+
+// The body of a tabulation, under its indices.
+#[cycle(start)]
+fn indexed<'a>(
+    alloc: Global,
+    binds: &'a [Bind],
+    body: &'a Expr,
+    earlier: &'a [Decl],
+    base: u64,
+    names: &mut Vec<Option<&'a Str>>,
+) -> Result<Core, Memory>
+    ensures made { IfOk result (λ c. term_of c ≡ start_term.start (tree_of body.now) (knowns_of (latest earlier.now)) (under_axes (axes_in binds.now) (scope (λ x. x.now) names.old.items base))) }
+    ensures kept { OnOk result (names.new.items ≡ names.old.items) }
+{
+    let mark = names.len();
+    enter_binds(binds, names)?;
+    let inner = start(alloc, body, earlier, base, names)?;
+    names.truncate(mark);
+    Ok(inner)
 }
 
 // A body under the match of the variable that the node around it binds.
@@ -329,33 +341,33 @@ fn comprehend<'a>(
     match quals.split_first() {
         None => {
             let member = start(alloc, head, earlier, base, names)?;
-            let made = single(alloc, member)?;
-            Ok(made)
+            single(alloc, member)
         }
         Some((q, rest)) => match q {
             Qual::From { pattern, over } => {
                 let members = start(alloc, over, earlier, base, names)?;
-                let body = continued(alloc, pattern, rest, head, earlier, base, names)?;
-                let made = big_union(alloc, members, body)?;
-                Ok(made)
+                let body = continued(alloc, pattern, rest, head, earlier, base, names);
+                let (members, body) = both(Ok(members), body)?;
+                big_union(alloc, members, body)
             }
             Qual::Cells { index, cell, over } => {
                 let array = start(alloc, over, earlier, base, names)?;
                 let ps = index_parts(index);
-                let made = grid(alloc, ps, cell, array, rest, head, earlier, base, names)?;
-                Ok(made)
+                let walked = grid(alloc, ps, cell, rest, head, earlier, base, names);
+                let (array, walked) = both(Ok(array), walked)?;
+                let_in(alloc, array, walked)
             }
             Qual::Match { pattern, of } => {
                 let value = start(alloc, of, earlier, base, names)?;
-                let body = continued(alloc, pattern, rest, head, earlier, base, names)?;
-                let made = let_in(alloc, value, body)?;
-                Ok(made)
+                let body = continued(alloc, pattern, rest, head, earlier, base, names);
+                let (value, body) = both(Ok(value), body)?;
+                let_in(alloc, value, body)
             }
             Qual::Test(e) => {
                 let test = start(alloc, e, earlier, base, names)?;
-                let body = comprehend(alloc, rest, head, earlier, base, names)?;
-                let made = choose(alloc, test, body, Core::Empty)?;
-                Ok(made)
+                let body = comprehend(alloc, rest, head, earlier, base, names);
+                let (test, body) = both(Ok(test), body)?;
+                choose(alloc, test, body, Core::Empty)
             }
         },
     }
@@ -398,23 +410,21 @@ fn continued<'a>(
     Ok(made)
 }
 
-// The loops over an array, whose index parts match ps and whose cells match p.
+// The loops over the array in the variable that the node around them binds, whose index parts match ps and whose cells match p.
 #[cycle(start)]
 fn grid<'a>(
     alloc: Global,
     ps: &'a [Pattern],
     p: &'a Pattern,
-    array: Core,
     rest: &'a [Qual],
     head: &'a Expr,
     earlier: &'a [Decl],
     base: u64,
     names: &mut Vec<Option<&'a Str>>,
 ) -> Result<Core, Memory>
-    ensures made { IfOk result (λ c. term_of c ≡ array_term (pats_of ps.now) (knowns_of (latest earlier.now)) (scope (λ x. x.now) names.old.items base) (term_of array) (λ inner. matching (pat_of p.now) (knowns_of (latest earlier.now)) inner (quals_term (quals_of rest.now) (start_term.start (tree_of head.now) (knowns_of (latest earlier.now))) (knowns_of (latest earlier.now))) empty_term) empty_term) }
+    ensures made { IfOk result (λ c. (array : Term) → let_term array (term_of c) ≡ array_term (pats_of ps.now) (knowns_of (latest earlier.now)) (scope (λ x. x.now) names.old.items base) array (λ inner. matching (pat_of p.now) (knowns_of (latest earlier.now)) inner (quals_term (quals_of rest.now) (start_term.start (tree_of head.now) (knowns_of (latest earlier.now))) (knowns_of (latest earlier.now))) empty_term) empty_term) }
     ensures kept { OnOk result (names.new.items ≡ names.old.items) }
 {
-    let rank = ps.len() as u64;
     let mark = names.len();
     names.push(None)?;
     hide(names, ps.len())?;
@@ -422,14 +432,9 @@ fn grid<'a>(
     enter_axes(ps, names)?;
     let added = (names.len() - low) as u64;
     let body = continued(alloc, p, rest, head, earlier, base, names)?;
-    names.truncate(low);
-    let found = cell(alloc, rank, added)?;
-    let bound = let_in(alloc, found, body)?;
-    let axes = wrap_axes(alloc, ps, earlier, names, 0, bound, Missing::Empty)?;
+    let walked = walk(alloc, ps, earlier, names, low, added, body)?;
     names.truncate(mark);
-    let walked = loops(alloc, 0, rank, axes)?;
-    let made = let_in(alloc, array, walked)?;
-    Ok(made)
+    Ok(walked)
 }
 
 // The bindings of a let around its body.
@@ -446,26 +451,33 @@ fn bind_all<'a>(
     ensures kept { OnOk result (names.new.items ≡ names.old.items) }
 {
     match binds.split_first() {
-        None => {
-            let made = start(alloc, body, earlier, base, names)?;
-            Ok(made)
-        }
+        None => { start(alloc, body, earlier, base, names) }
         Some((b, rest)) => {
             let value = start(alloc, &b.expr, earlier, base, names)?;
-            let mark = names.len();
-            open(&b.pattern, names)?;
-            let term = bind_all(alloc, rest, body, earlier, base, names)?;
-            let matched = close(
-                alloc,
-                &b.pattern,
-                earlier,
-                names,
-                mark,
-                term,
-                Missing::Undefined,
-            )?;
-            let made = let_in(alloc, value, matched)?;
-            Ok(made)
+            let matched = bind_rest(alloc, &b.pattern, rest, body, earlier, base, names);
+            let (value, matched) = both(Ok(value), matched)?;
+            let_in(alloc, value, matched)
         }
     }
+}
+
+// The further bindings of a let under the match of the variable that the node around them binds.
+#[cycle(start)]
+fn bind_rest<'a>(
+    alloc: Global,
+    p: &'a Pattern,
+    rest: &'a [LetBind],
+    body: &'a Expr,
+    earlier: &'a [Decl],
+    base: u64,
+    names: &mut Vec<Option<&'a Str>>,
+) -> Result<Core, Memory>
+    ensures made { IfOk result (λ c. term_of c ≡ matching (pat_of p.now) (knowns_of (latest earlier.now)) (scope (λ x. x.now) names.old.items base) (defs_term (defs_in rest.now) (start_term.start (tree_of body.now) (knowns_of (latest earlier.now))) (knowns_of (latest earlier.now))) (missing_term Missing.Undefined)) }
+    ensures kept { OnOk result (names.new.items ≡ names.old.items) }
+{
+    let mark = names.len();
+    open(p, names)?;
+    let term = bind_all(alloc, rest, body, earlier, base, names)?;
+    let made = close(alloc, p, earlier, names, mark, term, Missing::Undefined)?;
+    Ok(made)
 }

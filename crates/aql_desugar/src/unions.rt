@@ -5,6 +5,7 @@ ghost use Rattle.nrca_term.specs.View.{term_of};
 ghost use Rattle.aql_start.specs.Start as start_term;
 
 use crate::nodes::{single, union};
+use aql_made::both;
 use aql_value::Memory;
 use nrca_term::Core;
 use std::alloc::Global;
@@ -39,7 +40,7 @@ fn unite_last(alloc: Global, items: &mut Vec<Core>, count: usize) -> Result<Core
     }
     let half = count / 2;
     let right = unite_last(alloc, items, count - half)?;
-    let left = unite_last(alloc, items, half)?;
+    let (left, right) = both(unite_last(alloc, items, half), Ok(right))?;
     let made = union(alloc, left, right)?;
     Ok(made)
 }

@@ -1,16 +1,17 @@
-use Rattle.std.proofs.Common.{◌+◌, ◌-◌, ap, ◌∙◌, take, arith}
+use Rattle.std.proofs.Common.{◌-◌, ap, ◌∙◌, take, arith}
 use Rattle.aql_syntax.specs.Measured.{latest}
 use Rattle.nrca_term.specs.Equations.{term_of-Var}
 use Rattle.nrca_term.specs.View.{term_of}
 use Rattle.aql_start.specs.Start.{knowns_of}
 use Rattle.aql_desugar.specs.Names.{scope, missing_term}
+use Rattle.aql_desugar.proofs.Making.{part_of, holds_of}
 use Rattle.aql_desugar.proofs.Wrapping.{closed_kept, row_made, rest_smaller, parts_made, parts_kept}
 use Rattle.aql_desugar.proofs.matches.+wrap.Goals as goal
 
 pub close-returns-clause-kept : goal.close-returns-clause-kept
 close-returns-clause-kept t c =
-    closed_kept c.args.names.now.items c.truncate.new.self.items c.push.new.self.items c.wrap.new.names.items c.pop.new.self.items c.args.mark c.truncate.ensures.items c.in_ok-push.ensures.items
-    c.in_ok-matched.ensures.kept (c.pop.ensures.rest ∙ ap (λ n. take (n - 1) c.wrap.new.names.items) c.wrap.new.names.ok.0)
+    closed_kept c.args.names.now.items c.truncate.new.self.items c.hide_one.new.names.items c.wrap.new.names.items c.pop.new.self.items c.args.mark c.truncate.ensures.items
+    (holds_of _ _ _ c.in_ok-inside.ensures.0 c.hide_one.ensures) c.in_ok-matched.ensures.kept (c.pop.ensures.rest ∙ ap (λ n. take (n - 1) c.wrap.new.names.items) c.wrap.new.names.ok.0)
 
 pub wrap-returns-in_ok-parts-in-Row-clause-made : goal.wrap-returns-in_ok-parts-in-Row-clause-made
 wrap-returns-in_ok-parts-in-Row-clause-made t c base =
@@ -23,14 +24,17 @@ wrap_parts-wrap_parts-requires t c = (omega (arith, rest_smaller c.args.ps.now c
 
 pub wrap_parts-returns-in_ok-bound-in-Some-clause-made : goal.wrap_parts-returns-in_ok-bound-in-Some-clause-made
 wrap_parts-returns-in_ok-bound-in-Some-clause-made t c =
-    parts_made (λ x. x.now) c.args.ps.now c.in-Some.rest.now c.in-Some.p.now (knowns_of (latest c.args.earlier.now)) c.args.names.now.items c.push.new.self.items c.enter.new.names.items c.wrap_parts.new.names.items
-    c.len-mark.result c.args.at c.in_ok-deeper-in-Some.deeper c.args.j c.args.n c.in_ok-next-in-Some.next (term_of c.args.inside) (term_of c.in_ok-inside-in-Some.inside)
-    (term_of c.in_ok-matched-in-Some.matched) (term_of c.in_ok-part-in-Some.part) (missing_term c.args.other) (term_of c.in_ok-bound-in-Some.bound) _
-    c.in-Some.ensures.cases.0 c.in_ok-push-in-Some.ensures.items c.in_ok-enter-in-Some.ensures.inside c.in_ok-enter-in-Some.ensures.around (c.len-mark.ensures ∙ c.args.names.now.ok.0)
-    (c.in_ok-deeper-in-Some.ensures ∙ ap (λ n. c.args.at + (n - c.len-mark.result)) (c.len.ensures ∙ c.enter.new.names.ok.0)) c.in_ok-next-in-Some.ensures c.in_ok-inside-in-Some.ensures.made
-    c.in_ok-inside-in-Some.ensures.kept c.in_ok-matched-in-Some.ensures.made c.in_ok-part-in-Some.ensures (term_of-Var c.args.at) c.in_ok-bound-in-Some.ensures
+    let numbers = part_of _ _ _ _ c.in_ok-deeper-in-Some.ensures.0 c.both-numbers.ensures in
+    parts_made (λ x. x.now) c.args.ps.now c.in-Some.rest.now c.in-Some.p.now (knowns_of (latest c.args.earlier.now)) c.args.names.now.items c.open_past.new.names.items c.wrap_parts.new.names.items
+    c.len-mark.result c.args.at c.in_ok-deeper-in-Some.deeper c.args.j c.args.n c.in_ok-deeper-in-Some.next (term_of c.args.inside) (term_of c.in_ok-deeper-in-Some.inside) (term_of c.in_ok-inside-in-Some.inside)
+    (term_of c.in_ok-part-in-Some.matched) (term_of c.in_ok-part-in-Some.part) (missing_term c.args.other) (term_of c.in_ok-bound-in-Some.bound) _
+    c.in-Some.ensures.cases.0 (holds_of _ _ _ numbers.0 c.open_past.ensures.inside) (holds_of _ _ _ numbers.0 c.open_past.ensures.around) (c.len-mark.ensures ∙ c.args.names.now.ok.0)
+    (part_of _ _ _ _ numbers.0 c.open_past.ensures.number) (part_of _ _ _ _ numbers.1 c.plus.ensures) (ap term_of c.in_ok-deeper-in-Some.ensures.1) c.in_ok-inside-in-Some.ensures.made
+    c.in_ok-inside-in-Some.ensures.kept (part_of _ _ _ _ c.in_ok-part-in-Some.ensures.1 c.close-matched.ensures.made) (part_of _ _ _ _ c.in_ok-part-in-Some.ensures.0 c.proj.ensures) (term_of-Var c.args.at)
+    c.in_ok-bound-in-Some.ensures
 
 pub wrap_parts-returns-in_ok-bound-in-Some-clause-kept : goal.wrap_parts-returns-in_ok-bound-in-Some-clause-kept
 wrap_parts-returns-in_ok-bound-in-Some-clause-kept t c =
-    parts_kept c.args.names.now.items c.push.new.self.items c.enter.new.names.items c.wrap_parts.new.names.items c.close.new.names.items c.len-mark.result c.in_ok-push-in-Some.ensures.items
-    c.in_ok-enter-in-Some.ensures.around (c.len-mark.ensures ∙ c.args.names.now.ok.0) c.in_ok-inside-in-Some.ensures.kept c.in_ok-matched-in-Some.ensures.kept
+    let numbers = part_of _ _ _ _ c.in_ok-deeper-in-Some.ensures.0 c.both-numbers.ensures in
+    parts_kept c.args.names.now.items c.open_past.new.names.items c.wrap_parts.new.names.items c.close-matched.new.names.items c.len-mark.result
+    (holds_of _ _ _ numbers.0 c.open_past.ensures.around) (c.len-mark.ensures ∙ c.args.names.now.ok.0) c.in_ok-inside-in-Some.ensures.kept (holds_of _ _ _ c.in_ok-part-in-Some.ensures.1 c.close-matched.ensures.kept)

@@ -11,11 +11,17 @@ use Rattle.aql_desugar.proofs.queries.+start.Given as goal
 abbrev pub decreases-start : goal.decreases-start
 decreases-start l = 6 * levels (tree_of l.e.now) (extents_of (latest l.earlier.now))
 
+abbrev pub decreases-pair : goal.decreases-pair
+decreases-pair l = 6 * max (levels (tree_of l.a.now) (extents_of (latest l.earlier.now))) (levels (tree_of l.b.now) (extents_of (latest l.earlier.now))) + 1
+
 abbrev pub decreases-all : goal.decreases-all
 decreases-all l = 6 * greatest (trees_of l.es.now) (extents_of (latest l.earlier.now)) + 1
 
 abbrev pub decreases-bounds : goal.decreases-bounds
 decreases-bounds l = 6 * axes_greatest (axes_in l.binds.now) (extents_of (latest l.earlier.now)) + 1
+
+abbrev pub decreases-indexed : goal.decreases-indexed
+decreases-indexed l = 6 * levels (tree_of l.body.now) (extents_of (latest l.earlier.now)) + 1
 
 abbrev pub decreases-within : goal.decreases-within
 decreases-within l = 6 * levels (tree_of l.body.now) (extents_of (latest l.earlier.now)) + 1
@@ -41,6 +47,10 @@ decreases-grid l =
 abbrev pub decreases-bind_all : goal.decreases-bind_all
 decreases-bind_all l =
     6 * max (defs_greatest (defs_in l.binds.now) (extents_of (latest l.earlier.now))) (levels (tree_of l.body.now) (extents_of (latest l.earlier.now))) + 2 * count_defs (defs_in l.binds.now) + 2
+
+abbrev pub decreases-bind_rest : goal.decreases-bind_rest
+decreases-bind_rest l =
+    6 * max (defs_greatest (defs_in l.rest.now) (extents_of (latest l.earlier.now))) (levels (tree_of l.body.now) (extents_of (latest l.earlier.now))) + 2 * count_defs (defs_in l.rest.now) + 3
 
 abbrev pub invariant-all-loop-e : goal.invariant-all-loop-e
 invariant-all-loop-e l = record {
