@@ -1,3 +1,4 @@
+mod building;
 mod reading;
 mod tokens;
 mod translation;

@@ -1,10 +1,12 @@
 // Each object in memory once, through its trait.
+use aql_made::both;
 use aql_outside::{
     Failed, Files, FreeGate, Gate, MemFiles, MemSink, MemSource, Sink, Source, SureFiles, SureSink,
     SureSource,
 };
+use aql_value::Memory;
+use std::alloc::Global;
 use std::collections::BTreeMap;
-use std::test::Fail;
 
 // What five reads into a piece of four bytes answer, 9 standing for a failure.
 fn five_reads(source: &mut impl Source) -> [usize; 5] {
@@ -25,10 +27,27 @@ fn five_writes(sink: &mut impl Sink) -> [usize; 5] {
     counts
 }
 
+fn list(alloc: Global, all: &[u64]) -> Result<Vec<u64>, Memory> {
+    Ok(all.to_vec(alloc)?)
+}
+
+fn digits(alloc: Global) -> Result<Vec<u8>, Memory> {
+    Ok(b"0123456789".to_vec(alloc)?)
+}
+
+fn cut_source(alloc: Global, pieces: &[u64], fails: &[u64]) -> Result<MemSource, Memory> {
+    let lists = both(list(alloc, pieces), list(alloc, fails));
+    let (content, (pieces, fails)) = both(digits(alloc), lists)?;
+    Ok(MemSource::cut(content, pieces, fails))
+}
+
+fn plain_source(alloc: Global, fails: &[u64]) -> Result<MemSource, Memory> {
+    let (content, fails) = both(digits(alloc), list(alloc, fails))?;
+    Ok(MemSource::new(content, fails))
+}
+
 #[test]
-fn sources(rt: HostRuntime) -> Result<(), Fail> {
-    let alloc = rt.alloc();
-    let content = b"0123456789";
+fn sources(rt: HostRuntime) -> Result<(), Memory> {
     let cases: [(&[u64], &[u64], [usize; 5], u64); 5] = [
         (&[], &[], [4, 4, 2, 0, 0], 0),
         (&[], &[1, 3], [9, 4, 9, 4, 2], 2),
@@ -37,44 +56,58 @@ fn sources(rt: HostRuntime) -> Result<(), Fail> {
         (&[3], &[0, 5], [3, 4, 3, 0, 9], 1),
     ];
     for (pieces, fails, counts, faults) in cases {
-        let mut source = MemSource::cut(
-            content.to_vec(alloc)?,
-            pieces.to_vec(alloc)?,
-            fails.to_vec(alloc)?,
-        );
+        let mut source = cut_source(rt.alloc(), pieces, fails)?;
         assert_eq!(rt; five_reads(&mut source), counts);
         assert_eq!(rt; source.faults(), faults);
     }
-    let mut plain = MemSource::new(content.to_vec(alloc)?, vec![in alloc; 1]?);
-    assert_eq!(rt; five_reads(&mut plain), [9, 4, 4, 2, 0]);
-    let mut sure = SureSource::new(content.to_vec(alloc)?);
-    assert_eq!(rt; five_reads(&mut sure), [4, 4, 2, 0, 0]);
     Ok(())
 }
 
 #[test]
-fn sinks(rt: HostRuntime) -> Result<(), Fail> {
-    let alloc = rt.alloc();
+fn uncut_sources(rt: HostRuntime) -> Result<(), Memory> {
+    let mut plain = plain_source(rt.alloc(), &[1])?;
+    assert_eq!(rt; five_reads(&mut plain), [9, 4, 4, 2, 0]);
+    let mut sure = SureSource::new(digits(rt.alloc())?);
+    assert_eq!(rt; five_reads(&mut sure), [4, 4, 2, 0, 0]);
+    Ok(())
+}
+
+fn room(alloc: Global, size: usize) -> Result<Vec<u8>, Memory> {
+    Ok(vec![in alloc; 0; size]?)
+}
+
+fn cut_sink(alloc: Global, size: usize, pieces: &[u64], fails: &[u64]) -> Result<MemSink, Memory> {
+    let lists = both(list(alloc, pieces), list(alloc, fails));
+    let (room, (pieces, fails)) = both(room(alloc, size), lists)?;
+    Ok(MemSink::cut(room, pieces, fails))
+}
+
+fn plain_sink(alloc: Global, size: usize, fails: &[u64]) -> Result<MemSink, Memory> {
+    let (room, fails) = both(room(alloc, size), list(alloc, fails))?;
+    Ok(MemSink::new(room, fails))
+}
+
+#[test]
+fn sinks(rt: HostRuntime) -> Result<(), Memory> {
     let cases: [(usize, &[u64], &[u64], [usize; 5], &[u8]); 4] = [
         (20, &[], &[], [3, 3, 3, 3, 3], b"abcabcabcabcabc"),
         (7, &[], &[2], [3, 9, 3, 1, 9], b"abcabca"),
         (20, &[1, 0, 2], &[], [1, 1, 2, 3, 3], b"aaababcabc"),
         (0, &[], &[], [9, 9, 9, 9, 9], b""),
     ];
-    for (room, pieces, fails, counts, written) in cases {
-        let mut sink = MemSink::cut(
-            vec![in alloc; 0; room]?,
-            pieces.to_vec(alloc)?,
-            fails.to_vec(alloc)?,
-        );
+    for (size, pieces, fails, counts, written) in cases {
+        let mut sink = cut_sink(rt.alloc(), size, pieces, fails)?;
         assert_eq!(rt; five_writes(&mut sink), counts);
         assert_eq!(rt; sink.written(), written);
-        assert_eq!(rt;
-            sink.faults(),
-            counts.iter().filter(|n| **n == 9).count() as u64
-        );
+        let faults = counts.iter().filter(|n| **n == 9).count() as u64;
+        assert_eq!(rt; sink.faults(), faults);
     }
-    let mut plain = MemSink::new(vec![in alloc; 0; 4]?, vec![in alloc; 1]?);
+    Ok(())
+}
+
+#[test]
+fn uncut_sinks(rt: HostRuntime) -> Result<(), Memory> {
+    let mut plain = plain_sink(rt.alloc(), 4, &[1])?;
     assert_eq!(rt; five_writes(&mut plain), [9, 3, 1, 9, 9]);
     assert_eq!(rt; five_writes(&mut SureSink::new()), [3, 3, 3, 3, 3]);
     Ok(())
@@ -90,9 +123,19 @@ fn asked(files: &mut impl Files) -> [Result<Option<u64>, Failed>; 4] {
     [first, second, third, fourth]
 }
 
+fn name(alloc: Global) -> Result<String, Memory> {
+    Ok(String::from_str(alloc, "ten")?)
+}
+
+fn told_files(alloc: Global, fails: &[u64]) -> Result<MemFiles, Memory> {
+    let (name, (digits, fails)) = both(name(alloc), both(digits(alloc), list(alloc, fails)))?;
+    let mut content = BTreeMap::new(alloc);
+    content.insert(name, digits)?;
+    Ok(MemFiles::new(content, fails))
+}
+
 #[test]
-fn files(rt: HostRuntime) -> Result<(), Fail> {
-    let alloc = rt.alloc();
+fn files(rt: HostRuntime) -> Result<(), Memory> {
     let cases: [(&[u64], [Result<Option<u64>, Failed>; 4]); 2] = [
         (&[], [Ok(Some(10)), Ok(None), Ok(Some(2)), Ok(Some(0))]),
         (
@@ -101,20 +144,21 @@ fn files(rt: HostRuntime) -> Result<(), Fail> {
         ),
     ];
     for (fails, answers) in cases {
-        let mut content = BTreeMap::new(alloc);
-        content.insert(
-            String::from_str(alloc, "ten")?,
-            b"0123456789".to_vec(alloc)?,
-        )?;
-        let mut told = MemFiles::new(content, fails.to_vec(alloc)?);
+        let mut told = told_files(rt.alloc(), fails)?;
         assert_eq!(rt; asked(&mut told), answers);
         assert_eq!(rt; told.faults(), fails.len() as u64);
     }
-    let mut sure = SureFiles::new(BTreeMap::new(alloc));
-    assert_eq!(rt;
-        asked(&mut sure),
-        [Ok(None), Ok(None), Ok(Some(0)), Ok(Some(0))]
-    );
-    FreeGate.pass(0);
     Ok(())
+}
+
+#[test]
+fn no_files(rt: HostRuntime) {
+    let mut sure = SureFiles::new(BTreeMap::new(rt.alloc()));
+    let answers = [Ok(None), Ok(None), Ok(Some(0)), Ok(Some(0))];
+    assert_eq!(rt; asked(&mut sure), answers);
+}
+
+#[test]
+fn a_free_gate() {
+    FreeGate.pass(0);
 }

@@ -6,7 +6,7 @@ use std::test::Fail;
 use std::{env, fs, process};
 
 #[test]
-fn streams(rt: HostRuntime) -> Result<(), Fail> {
+fn streams(rt: HostRuntime) {
     let mut input = InputStream::new("hello".as_bytes());
     let mut piece = [0u8; 3];
     assert_eq!(rt; input.read(&mut piece), Ok(3));
@@ -20,7 +20,6 @@ fn streams(rt: HostRuntime) -> Result<(), Fail> {
     let mut full = OutputStream::new(room.as_mut_slice());
     assert_eq!(rt; full.write(b"hello"), Ok(2));
     assert_eq!(rt; full.write(b"llo"), Err(Failed));
-    Ok(())
 }
 
 #[test]

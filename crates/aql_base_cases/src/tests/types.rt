@@ -1,34 +1,41 @@
 //! Worked types: what unifies and what does not, and the limits at their edge.
 
+use aql_made::{both, boxed, listed_both};
 use aql_types::fault::UnifyFault;
 use aql_types::solve::unify;
+use aql_types::subst::Subst;
 use aql_types::ty::{Ty, row};
 use aql_value::Memory;
 use std::alloc::Global;
 use std::test::Fail;
 
-fn set_of(alloc: Global, t: Ty) -> Result<Ty, Memory> {
-    Ok(Ty::SetOf(Box::new(alloc, t)?))
+// A type as it was made.
+type Made = Result<Ty, Memory>;
+
+fn set_of(alloc: Global, t: Made) -> Made {
+    Ok(Ty::SetOf(boxed(alloc, t)?))
 }
 
-fn pair(alloc: Global, a: Ty, b: Ty) -> Result<Ty, Memory> {
-    let mut items = Vec::new(alloc);
-    items.push(a)?;
-    items.push(b)?;
-    Ok(row(items))
+fn pair(alloc: Global, a: Made, b: Made) -> Made {
+    Ok(row(listed_both(alloc, a, b)?))
+}
+
+fn array(alloc: Global, rank: u64, cell: Made) -> Made {
+    let cell = boxed(alloc, cell)?;
+    Ok(Ty::ArrayOf { rank, cell })
 }
 
 // That many sets around a variable.
-fn nested(alloc: Global, depth: u64) -> Result<Ty, Memory> {
-    let mut t = Ty::Var(0);
+fn nested(alloc: Global, depth: u64) -> Made {
+    let mut t = Ok(Ty::Var(0));
     for _ in 0..depth {
-        t = set_of(alloc, t)?;
+        t = set_of(alloc, t);
     }
-    Ok(t)
+    t
 }
 
 // The variables 1 to n.
-fn variables(alloc: Global, n: u64) -> Result<Ty, Memory> {
+fn variables(alloc: Global, n: u64) -> Made {
     let mut items = Vec::new(alloc);
     for i in 0..n {
         items.push(Ty::Var(i.wrapping_add(1)))?;
@@ -37,60 +44,63 @@ fn variables(alloc: Global, n: u64) -> Result<Ty, Memory> {
 }
 
 // The pairs of the variables 0 to n - 1, each with itself.
-fn doubled(alloc: Global, n: u64) -> Result<Ty, Memory> {
+fn doubled(alloc: Global, n: u64) -> Made {
     let mut items = Vec::new(alloc);
     for i in 0..n {
-        let twice = pair(alloc, Ty::Var(i), Ty::Var(i))?;
-        items.push(twice)?;
+        items.push(pair(alloc, Ok(Ty::Var(i)), Ok(Ty::Var(i)))?)?;
     }
     Ok(row(items))
 }
 
-fn array(alloc: Global, rank: u64, cell: Ty) -> Result<Ty, Memory> {
-    Ok(Ty::ArrayOf {
-        rank,
-        cell: Box::new(alloc, cell)?,
-    })
-}
-
-fn clashes(alloc: Global, a: &Ty, b: &Ty) -> bool {
-    matches!(unify(alloc, a, b), Err(UnifyFault::Clash))
+fn clashes(alloc: Global, a: Made, b: Made) -> Result<bool, Memory> {
+    let (a, b) = both(a, b)?;
+    Ok(matches!(unify(alloc, &a, &b), Err(UnifyFault::Clash)))
 }
 
 #[test]
-fn clash_where_no_unifier_is(rt: HostRuntime) -> Result<(), Fail> {
+fn clash_where_no_unifier_is(rt: HostRuntime) -> Result<(), Memory> {
     let alloc = rt.alloc();
-    assert!(rt; clashes(alloc, &Ty::Var(0), &set_of(alloc, Ty::Var(0))?));
-    assert!(rt; clashes(alloc, &Ty::Nat, &Ty::Text));
-    assert!(rt;
-        clashes(
-            alloc,
-            &array(alloc, 1, Ty::Nat)?,
-            &array(alloc, 2, Ty::Nat)?
-        )
+    assert!(rt; clashes(alloc, Ok(Ty::Var(0)), set_of(alloc, Ok(Ty::Var(0))))?);
+    assert!(rt; clashes(alloc, Ok(Ty::Nat), Ok(Ty::Text))?);
+    let (one, two) = (array(alloc, 1, Ok(Ty::Nat)), array(alloc, 2, Ok(Ty::Nat)));
+    assert!(rt; clashes(alloc, one, two)?);
+    let (any, bools) = (
+        array(alloc, 2, Ok(Ty::Var(3))),
+        array(alloc, 2, Ok(Ty::Bool)),
     );
-    assert!(rt;
-        !clashes(
-            alloc,
-            &array(alloc, 2, Ty::Var(3))?,
-            &array(alloc, 2, Ty::Bool)?
-        )
-    );
-    assert!(rt; !clashes(alloc, &nested(alloc, 399)?, &Ty::Var(1)));
-    assert!(rt; clashes(alloc, &nested(alloc, 400)?, &Ty::Var(1)));
-    assert!(rt; !clashes(alloc, &variables(alloc, 11)?, &doubled(alloc, 11)?));
-    assert!(rt; clashes(alloc, &variables(alloc, 12)?, &doubled(alloc, 12)?));
-    assert!(rt; clashes(alloc, &variables(alloc, 300)?, &doubled(alloc, 300)?));
+    assert!(rt; !clashes(alloc, any, bools)?);
     Ok(())
+}
+
+#[test]
+fn clash_past_a_limit(rt: HostRuntime) -> Result<(), Memory> {
+    let alloc = rt.alloc();
+    for (depth, expected) in [(399, false), (400, true)] {
+        assert_eq!(rt;
+            clashes(alloc, nested(alloc, depth), Ok(Ty::Var(1)))?,
+            expected
+        );
+    }
+    for (n, expected) in [(11, false), (12, true), (300, true)] {
+        assert_eq!(rt;
+            clashes(alloc, variables(alloc, n), doubled(alloc, n))?,
+            expected
+        );
+    }
+    Ok(())
+}
+
+fn unified(alloc: Global, a: Made, b: Made) -> Result<Subst, Fail> {
+    let (a, b) = both(a, b)?;
+    Ok(unify(alloc, &a, &b)?)
 }
 
 #[test]
 fn instances(rt: HostRuntime) -> Result<(), Fail> {
     let alloc = rt.alloc();
-    let left = pair(alloc, Ty::Var(0), set_of(alloc, Ty::Var(0))?)?;
-    let right = pair(alloc, array(alloc, 1, Ty::Text)?, Ty::Var(7))?;
-    let unifier = unify(alloc, &left, &right)?;
-    let made = unifier.apply(alloc, &Ty::Var(7))?;
+    let left = pair(alloc, Ok(Ty::Var(0)), set_of(alloc, Ok(Ty::Var(0))));
+    let right = pair(alloc, array(alloc, 1, Ok(Ty::Text)), Ok(Ty::Var(7)));
+    let made = unified(alloc, left, right)?.apply(alloc, &Ty::Var(7))?;
     assert_eq!(rt; made.levels(), 3);
     assert_eq!(rt; made.nodes(), 3);
     assert!(rt; matches!(made, Ty::SetOf(_)));
@@ -98,14 +108,18 @@ fn instances(rt: HostRuntime) -> Result<(), Fail> {
 }
 
 #[test]
-fn counts(rt: HostRuntime) -> Result<(), Fail> {
-    let alloc = rt.alloc();
-    let deep = nested(alloc, 512)?;
+fn counts(rt: HostRuntime) -> Result<(), Memory> {
+    let deep = nested(rt.alloc(), 512)?;
     assert_eq!(rt; deep.levels(), 513);
     assert_eq!(rt; deep.nodes(), 513);
     assert!(rt; !deep.fits());
-    let wide = doubled(alloc, 10)?;
-    assert_eq!(rt; wide.copy(alloc)?.nodes(), 31);
+    Ok(())
+}
+
+#[test]
+fn counts_of_a_copy(rt: HostRuntime) -> Result<(), Memory> {
+    let wide = doubled(rt.alloc(), 10)?;
     assert_eq!(rt; wide.levels(), 3);
+    assert_eq!(rt; wide.copy(rt.alloc())?.nodes(), 31);
     Ok(())
 }

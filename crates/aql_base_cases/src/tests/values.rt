@@ -1,26 +1,24 @@
 ghost use Rattle.std.specs.Prelude.{◌≡◌, ◌≤◌, length, IfOk};
 
+use aql_made::both;
 use aql_value::{
-    ArithOp, Cells, CompareOp, Dims, Index, Items, Memory, Parts, Str, Value, add, canon, compare,
-    merge, monus, mul, quotient, remainder,
+    ArithOp, Ascending, Cells, CompareOp, Dims, Index, Items, Memory, Parts, Str, Value, add,
+    canon, compare, merge, monus, mul, quotient, remainder,
 };
 use std::alloc::Global;
 use std::cmp::Ordering;
+use std::process::Abort;
 
 const GREATEST: u128 = 340282366920938463463374607431768211455;
 
 const HALF: u128 = 170141183460469231731687303715884105728;
 
-fn items(values: Vec<Value>) -> Items {
-    Items { items: values }
-}
-
 fn numbers(alloc: Global, all: &[u128]) -> Result<Items, Memory> {
-    let mut values = Vec::new(alloc);
+    let mut items = Vec::new(alloc);
     for n in all {
-        values.push(Value::Nat(*n))?;
+        items.push(Value::Nat(*n))?;
     }
-    Ok(items(values))
+    Ok(Items { items })
 }
 
 fn dims(alloc: Global, all: &[u128]) -> Result<Dims, Memory>
@@ -38,28 +36,50 @@ fn text(alloc: Global, all: &[u8]) -> Result<Value, Memory> {
 }
 
 fn texts(alloc: Global, all: &[&[u8]]) -> Result<Items, Memory> {
-    let mut values = Vec::new(alloc);
+    let mut items = Vec::new(alloc);
     for bytes in all {
-        values.push(text(alloc, bytes)?)?;
+        items.push(text(alloc, bytes)?)?;
     }
-    Ok(items(values))
+    Ok(Items { items })
+}
+
+fn members(alloc: Global, items: Result<Items, Memory>) -> Result<Ascending, Memory> {
+    canon(alloc, items?)
 }
 
 fn set(alloc: Global, all: &[u128]) -> Result<Value, Memory> {
-    Ok(Value::Members(canon(alloc, numbers(alloc, all)?)?))
+    Ok(Value::Members(members(alloc, numbers(alloc, all))?))
+}
+
+fn sets(alloc: Global, all: &[&[u128]]) -> Result<Items, Memory> {
+    let mut items = Vec::new(alloc);
+    for members in all {
+        items.push(set(alloc, members)?)?;
+    }
+    Ok(Items { items })
+}
+
+fn tuple(alloc: Global, all: &[u128]) -> Result<Option<Parts>, Memory> {
+    Ok(Parts::new(numbers(alloc, all)?))
 }
 
 fn row(alloc: Global, all: &[u128]) -> Result<Value, Memory> {
-    let parts = Parts::new(numbers(alloc, all)?).ok_or(Memory)?;
-    Ok(Value::Row(parts))
+    Ok(Value::Row(tuple(alloc, all)?.ok_or(Memory)?))
+}
+
+fn array(alloc: Global, lengths: &[u128], cells: &[u128]) -> Result<Option<Cells>, Memory>
+    requires some { 1 ≤ length lengths.now }
+    requires few { length lengths.now ≤ 8 }
+{
+    let (dims, cells) = both(dims(alloc, lengths), numbers(alloc, cells))?;
+    Ok(Cells::new(dims, cells))
 }
 
 fn grid(alloc: Global, lengths: &[u128], cells: &[u128]) -> Result<Value, Memory>
     requires some { 1 ≤ length lengths.now }
     requires few { length lengths.now ≤ 8 }
 {
-    let cells = Cells::new(dims(alloc, lengths)?, numbers(alloc, cells)?).ok_or(Memory)?;
-    Ok(Value::Grid(cells))
+    Ok(Value::Grid(array(alloc, lengths, cells)?.ok_or(Memory)?))
 }
 
 fn are_equal(a: &Items, b: &Items) -> bool {
@@ -94,79 +114,145 @@ fn numbers_end_at_128_bits(rt: HostRuntime) {
     }
 }
 
+fn merged(
+    alloc: Global,
+    a: Result<Ascending, Memory>,
+    b: Result<Ascending, Memory>,
+) -> Result<Ascending, Memory> {
+    let (a, b) = both(a, b)?;
+    merge(alloc, a, b)
+}
+
+fn assert_members(
+    rt: &impl Abort,
+    set: Result<Ascending, Memory>,
+    expected: Result<Items, Memory>,
+) -> Result<(), Memory> {
+    let (set, expected) = both(set, expected)?;
+    assert!(rt; are_equal(set.items(), &expected));
+    assert!(rt; are_equal(&set.into_items(), &expected));
+    Ok(())
+}
+
 #[test]
 fn sets_have_each_member_once(rt: HostRuntime) -> Result<(), Memory> {
     let alloc = rt.alloc();
-    let strings = canon(alloc, texts(alloc, &[b"b", b"a", b"b"])?)?;
-    assert!(rt; are_equal(strings.items(), &texts(alloc, &[b"a", b"b"])?));
-    let squares = canon(alloc, numbers(alloc, &[9, 0, 4, 1, 4, 0])?)?;
-    assert!(rt; are_equal(squares.items(), &numbers(alloc, &[0, 1, 4, 9])?));
-    let others = canon(alloc, numbers(alloc, &[11, 4, 2])?)?;
-    let both = merge(alloc, squares, others)?;
-    assert!(rt; are_equal(both.items(), &numbers(alloc, &[0, 1, 2, 4, 9, 11])?));
-    let none = canon(alloc, numbers(alloc, &[])?)?;
-    let all = merge(alloc, none, both)?;
-    assert!(rt; are_equal(&all.into_items(), &numbers(alloc, &[0, 1, 2, 4, 9, 11])?));
-    Ok(())
+    let strings = members(alloc, texts(alloc, &[b"b", b"a", b"b"]));
+    assert_members(&rt, strings, texts(alloc, &[b"a", b"b"]))?;
+    let squares = members(alloc, numbers(alloc, &[9, 0, 4, 1, 4, 0]));
+    assert_members(&rt, squares, numbers(alloc, &[0, 1, 4, 9]))
+}
+
+// The squares below 10, and 2, 4 and 11.
+fn squares_and_others(alloc: Global) -> Result<Ascending, Memory> {
+    let squares = members(alloc, numbers(alloc, &[9, 0, 4, 1, 4, 0]));
+    merged(alloc, squares, members(alloc, numbers(alloc, &[11, 4, 2])))
+}
+
+#[test]
+fn merged_sets_have_each_member_once(rt: HostRuntime) -> Result<(), Memory> {
+    let alloc = rt.alloc();
+    let expected = &[0, 1, 2, 4, 9, 11];
+    assert_members(&rt, squares_and_others(alloc), numbers(alloc, expected))?;
+    let none = members(alloc, numbers(alloc, &[]));
+    let all = merged(alloc, none, squares_and_others(alloc));
+    assert_members(&rt, all, numbers(alloc, expected))
 }
 
 #[test]
 fn sets_of_sets_ascend(rt: HostRuntime) -> Result<(), Memory> {
     let alloc = rt.alloc();
-    let mut sets = Vec::new(alloc);
-    sets.push(set(alloc, &[0, 1])?)?;
-    sets.push(set(alloc, &[0])?)?;
-    sets.push(set(alloc, &[])?)?;
-    let mut ascending = Vec::new(alloc);
-    ascending.push(set(alloc, &[])?)?;
-    ascending.push(set(alloc, &[0])?)?;
-    ascending.push(set(alloc, &[0, 1])?)?;
-    assert!(rt; are_equal(canon(alloc, items(sets))?.items(), &items(ascending)));
+    let nested = members(alloc, sets(alloc, &[&[0, 1], &[0], &[]]));
+    assert_members(&rt, nested, sets(alloc, &[&[], &[0], &[0, 1]]))
+}
+
+fn put(v: Result<Value, Memory>, all: &mut Vec<Value>) -> Result<(), Memory> {
+    all.push(v?)?;
     Ok(())
+}
+
+fn put_plain(all: &mut Vec<Value>) -> Result<(), Memory> {
+    put(Ok(Value::Nat(7)), all)?;
+    put(Ok(Value::Nat(GREATEST)), all)?;
+    put(Ok(Value::Bool(false)), all)?;
+    put(Ok(Value::Bool(true)), all)
+}
+
+fn put_texts(alloc: Global, all: &mut Vec<Value>) -> Result<(), Memory> {
+    let rows: [&[u8]; 4] = [b"", b"a", b"ab", b"b"];
+    for bytes in rows {
+        put(text(alloc, bytes), all)?;
+    }
+    Ok(())
+}
+
+fn put_tuples(alloc: Global, all: &mut Vec<Value>) -> Result<(), Memory> {
+    let rows: [&[u128]; 3] = [&[1, 2], &[1, 2, 0], &[2, 0]];
+    for parts in rows {
+        put(row(alloc, parts), all)?;
+    }
+    Ok(())
+}
+
+fn put_sets(alloc: Global, all: &mut Vec<Value>) -> Result<(), Memory> {
+    let rows: [&[u128]; 4] = [&[], &[0], &[0, 1], &[1]];
+    for members in rows {
+        put(set(alloc, members), all)?;
+    }
+    Ok(())
+}
+
+fn put_arrays(alloc: Global, all: &mut Vec<Value>) -> Result<(), Memory> {
+    put(grid(alloc, &[1], &[9]), all)?;
+    put(grid(alloc, &[1, 2], &[0, 0]), all)?;
+    put(grid(alloc, &[2], &[0, 0]), all)?;
+    put(grid(alloc, &[2], &[0, 1]), all)
 }
 
 // One value of each kind, and of each kind several.
 fn ascending_values(alloc: Global) -> Result<Vec<Value>, Memory> {
     let mut all = Vec::new(alloc);
-    all.push(Value::Nat(7))?;
-    all.push(Value::Nat(GREATEST))?;
-    all.push(Value::Bool(false))?;
-    all.push(Value::Bool(true))?;
-    all.push(text(alloc, b"")?)?;
-    all.push(text(alloc, b"a")?)?;
-    all.push(text(alloc, b"ab")?)?;
-    all.push(text(alloc, b"b")?)?;
-    all.push(row(alloc, &[1, 2])?)?;
-    all.push(row(alloc, &[1, 2, 0])?)?;
-    all.push(row(alloc, &[2, 0])?)?;
-    all.push(set(alloc, &[])?)?;
-    all.push(set(alloc, &[0])?)?;
-    all.push(set(alloc, &[0, 1])?)?;
-    all.push(set(alloc, &[1])?)?;
-    all.push(grid(alloc, &[1], &[9])?)?;
-    all.push(grid(alloc, &[1, 2], &[0, 0])?)?;
-    all.push(grid(alloc, &[2], &[0, 0])?)?;
-    all.push(grid(alloc, &[2], &[0, 1])?)?;
+    put_plain(&mut all)?;
+    put_texts(alloc, &mut all)?;
+    put_tuples(alloc, &mut all)?;
+    put_sets(alloc, &mut all)?;
+    put_arrays(alloc, &mut all)?;
     Ok(all)
+}
+
+// The order of two of them is that of their places.
+fn assert_order(rt: &impl Abort, (i, x): (usize, &Value), (j, y): (usize, &Value)) {
+    let order = i.cmp(&j);
+    assert!(rt; compare(x, y) == order);
+    assert!(rt; x.cmp(y) == order);
+    assert!(rt; (x == y) == (i == j));
+    let holding = [
+        (CompareOp::Equal, i == j),
+        (CompareOp::Unequal, i != j),
+        (CompareOp::Less, i < j),
+        (CompareOp::LessEqual, i <= j),
+        (CompareOp::Greater, i > j),
+        (CompareOp::GreaterEqual, i >= j),
+    ];
+    for (op, holds) in holding {
+        assert!(rt; op.holds(x, y) == holds);
+    }
 }
 
 #[test]
 fn values_ascend_by_kind_and_content(rt: HostRuntime) -> Result<(), Memory> {
-    let alloc = rt.alloc();
-    let all = ascending_values(alloc)?;
-    for (i, x) in all.iter().enumerate() {
-        for (j, y) in all.iter().enumerate() {
-            let order = i.cmp(&j);
-            assert!(rt; compare(x, y) == order);
-            assert!(rt; x.cmp(y) == order);
-            assert!(rt; (x == y) == (i == j));
-            assert!(rt; CompareOp::Equal.holds(x, y) == (i == j));
-            assert!(rt; CompareOp::Unequal.holds(x, y) == (i != j));
-            assert!(rt; CompareOp::Less.holds(x, y) == (i < j));
-            assert!(rt; CompareOp::LessEqual.holds(x, y) == (i <= j));
-            assert!(rt; CompareOp::Greater.holds(x, y) == (i > j));
-            assert!(rt; CompareOp::GreaterEqual.holds(x, y) == (i >= j));
+    let all = ascending_values(rt.alloc())?;
+    assert_eq!(rt; all.len(), 19);
+    for x in all.iter().enumerate() {
+        for y in all.iter().enumerate() {
+            assert_order(&rt, x, y);
         }
+    }
+    Ok(())
+}
+
+fn assert_copies(rt: &impl Abort, alloc: Global, all: &[Value]) -> Result<(), Memory> {
+    for x in all {
         let copied = x.copy(alloc)?;
         assert!(rt; compare(x, &copied) == Ordering::Equal);
     }
@@ -174,42 +260,81 @@ fn values_ascend_by_kind_and_content(rt: HostRuntime) -> Result<(), Memory> {
 }
 
 #[test]
+fn values_equal_their_copies(rt: HostRuntime) -> Result<(), Memory> {
+    let all = ascending_values(rt.alloc())?;
+    assert_copies(&rt, rt.alloc(), &all)
+}
+
+#[test]
 fn arrays_have_a_cell_for_each_index(rt: HostRuntime) -> Result<(), Memory> {
     let alloc = rt.alloc();
-    assert!(rt; Cells::new(dims(alloc, &[2, 3])?, numbers(alloc, &[1, 2])?).is_none());
-    assert!(rt; Cells::new(dims(alloc, &[0, 3])?, numbers(alloc, &[])?).is_some());
-    assert!(rt; Cells::new(dims(alloc, &[HALF, 4, 0])?, numbers(alloc, &[])?).is_some());
-    assert!(rt; Cells::new(dims(alloc, &[HALF, 2])?, numbers(alloc, &[])?).is_none());
-    let table = Cells::new(
-        dims(alloc, &[2, 3])?,
-        numbers(alloc, &[10, 11, 12, 13, 14, 15])?,
-    );
-    let table = table.ok_or(Memory)?;
-    for (i, j, want) in [(0, 0, 10), (0, 2, 12), (1, 0, 13), (1, 2, 15)] {
-        let at: Index = Index::from_slice(alloc, &[i, j])?;
-        assert!(rt; table.cell(&at).is_some_and(|v| *v == Value::Nat(want)));
-    }
-    for at in [[0, 3], [2, 0], [GREATEST, 0]] {
-        let at: Index = Index::from_slice(alloc, &at)?;
-        assert!(rt; table.cell(&at).is_none());
-    }
-    let short: Index = Index::from_slice(alloc, &[1])?;
-    assert!(rt; table.cell(&short).is_none());
-    assert_eq!(rt; table.dims().dims.as_slice(), [2, 3].as_slice());
-    assert_eq!(rt; table.items().items.len(), 6);
-    let (lengths, cells) = table.into_parts();
-    assert_eq!(rt; lengths.dims.as_slice(), [2, 3].as_slice());
-    assert!(rt; are_equal(&cells, &numbers(alloc, &[10, 11, 12, 13, 14, 15])?));
+    assert!(rt; array(alloc, &[2, 3], &[1, 2])?.is_none());
+    assert!(rt; array(alloc, &[0, 3], &[])?.is_some());
+    assert!(rt; array(alloc, &[HALF, 4, 0], &[])?.is_some());
+    assert!(rt; array(alloc, &[HALF, 2], &[])?.is_none());
     Ok(())
+}
+
+fn two_by_three(alloc: Global) -> Result<Cells, Memory> {
+    array(alloc, &[2, 3], &[10, 11, 12, 13, 14, 15])?.ok_or(Memory)
+}
+
+// The number in a cell of it, or nothing where it has no such cell.
+fn number_at(alloc: Global, table: &Cells, at: &[u128]) -> Result<Option<u128>, Memory> {
+    let at: Index = Index::from_slice(alloc, at)?;
+    match table.cell(&at) {
+        Some(Value::Nat(n)) => Ok(Some(*n)),
+        _ => Ok(None),
+    }
+}
+
+#[test]
+fn cells_by_index(rt: HostRuntime) -> Result<(), Memory> {
+    let table = two_by_three(rt.alloc())?;
+    assert_cells(&rt, rt.alloc(), &table)
+}
+
+fn assert_cells(rt: &impl Abort, alloc: Global, table: &Cells) -> Result<(), Memory> {
+    let rows: [(&[u128], Option<u128>); 8] = [
+        (&[0, 0], Some(10)),
+        (&[0, 2], Some(12)),
+        (&[1, 0], Some(13)),
+        (&[1, 2], Some(15)),
+        (&[0, 3], None),
+        (&[2, 0], None),
+        (&[GREATEST, 0], None),
+        (&[1], None),
+    ];
+    for (at, expected) in rows {
+        assert_eq!(rt; number_at(alloc, table, at)?, expected);
+    }
+    Ok(())
+}
+
+#[test]
+fn parts_of_an_array(rt: HostRuntime) -> Result<(), Memory> {
+    let alloc = rt.alloc();
+    let expected = numbers(alloc, &[10, 11, 12, 13, 14, 15]);
+    let (table, expected) = both(two_by_three(alloc), expected)?;
+    assert!(rt; table.dims().dims.as_slice() == [2, 3].as_slice());
+    assert!(rt; are_equal(table.items(), &expected));
+    let (lengths, cells) = table.into_parts();
+    assert!(rt; lengths.dims.as_slice() == [2, 3].as_slice());
+    assert!(rt; are_equal(&cells, &expected));
+    Ok(())
+}
+
+fn pair(alloc: Global) -> Result<Parts, Memory> {
+    tuple(alloc, &[1, 2])?.ok_or(Memory)
 }
 
 #[test]
 fn tuples_have_two_parts_or_more(rt: HostRuntime) -> Result<(), Memory> {
     let alloc = rt.alloc();
-    assert!(rt; Parts::new(numbers(alloc, &[])?).is_none());
-    assert!(rt; Parts::new(numbers(alloc, &[1])?).is_none());
-    let pair = Parts::new(numbers(alloc, &[1, 2])?).ok_or(Memory)?;
-    assert!(rt; are_equal(pair.items(), &numbers(alloc, &[1, 2])?));
-    assert!(rt; are_equal(&pair.into_items(), &numbers(alloc, &[1, 2])?));
+    assert!(rt; tuple(alloc, &[])?.is_none());
+    assert!(rt; tuple(alloc, &[1])?.is_none());
+    let (pair, expected) = both(pair(alloc), numbers(alloc, &[1, 2]))?;
+    assert!(rt; are_equal(pair.items(), &expected));
+    assert!(rt; are_equal(&pair.into_items(), &expected));
     Ok(())
 }

@@ -1,8 +1,8 @@
 use aql_words::{Options, read_words};
-use std::test::Fail;
+use std::alloc::AllocError;
 
 // The options that words after the program's name ask for.
-fn read(rt: &impl AllocGlobal, words: &[&str]) -> Result<Option<Options>, Fail> {
+fn read(rt: &impl AllocGlobal, words: &[&str]) -> Result<Option<Options>, AllocError> {
     let mut all = Vec::new(rt.alloc());
     all.push(String::from_str(rt.alloc(), "aql")?)?;
     for word in words {
@@ -13,7 +13,7 @@ fn read(rt: &impl AllocGlobal, words: &[&str]) -> Result<Option<Options>, Fail> 
 
 // A row: the words, and then workers, budget, plan and sample.
 #[test]
-fn words_are_read(rt: HostRuntime) -> Result<(), Fail> {
+fn words_are_read(rt: HostRuntime) -> Result<(), AllocError> {
     let rows: [(&[&str], u64, u64, bool, Option<u64>); 9] = [
         (&[], 1, 10_000_000, false, None),
         (&["--workers", "8"], 8, 10_000_000, false, None),
@@ -50,7 +50,7 @@ fn words_are_read(rt: HostRuntime) -> Result<(), Fail> {
 }
 
 #[test]
-fn words_without_a_reading(rt: HostRuntime) -> Result<(), Fail> {
+fn words_without_a_reading(rt: HostRuntime) -> Result<(), AllocError> {
     let rows: [&[&str]; 14] = [
         &["--workers", "0"],
         &["--workers", "65"],

@@ -1,32 +1,44 @@
 use aql_lex::fault::LexFault;
 use aql_lex::lexer::tokens;
 use aql_parse::{ParseFault, script};
-use aql_syntax::ast::{Decl, Expr};
+use aql_syntax::ast::{Decl, Decls, Expr};
+use aql_syntax::token::Token;
 use aql_value::{ArithOp, CompareOp};
 use std::alloc::{AllocError, Global};
-use std::test::Fail;
+use std::process::Abort;
+
+// What reading tokens tells: the count of the declarations, or a fault.
+fn read(alloc: Global, found: &[Token], source: &[u8]) -> (&'static str, u64) {
+    match script(alloc, found, source) {
+        Ok(decls) => ("", decls.items.len() as u64),
+        Err(ParseFault::Syntax { declaration }) => ("syntax ", declaration),
+        Err(ParseFault::Memory) => ("memory ", 0),
+    }
+}
 
 // How many declarations a script has, or its fault.
-fn seen(alloc: Global, source: &[u8]) -> Result<String, Fail> {
-    let mut text = String::new(alloc);
-    match tokens(alloc, source) {
-        Ok(found) => match script(alloc, found.as_slice(), source) {
-            Ok(decls) => {
-                let count = decls.items.len();
-                write!(&mut text, "{count}")?;
-            }
-            Err(ParseFault::Syntax { declaration }) => write!(&mut text, "syntax {declaration}")?,
-            Err(ParseFault::Memory) => write!(&mut text, "memory")?,
-        },
-        Err(LexFault::Text { at }) => write!(&mut text, "text {at}")?,
-        Err(LexFault::Deep { at }) => write!(&mut text, "deep {at}")?,
-        Err(LexFault::Memory) => write!(&mut text, "memory")?,
-    }
-    Ok(text)
+fn seen(alloc: Global, source: &[u8]) -> Result<String, AllocError> {
+    let (kind, n) = match tokens(alloc, source) {
+        Ok(found) => read(alloc, &found, source),
+        Err(LexFault::Text { at }) => ("text ", at),
+        Err(LexFault::Deep { at }) => ("deep ", at),
+        Err(LexFault::Memory) => ("memory ", 0),
+    };
+    format!(in alloc; "{kind}{n}")
+}
+
+fn assert_seen(
+    rt: &impl Abort,
+    alloc: Global,
+    source: &[u8],
+    expected: &str,
+) -> Result<(), AllocError> {
+    assert_eq!(rt; seen(alloc, source)?.as_str(), expected);
+    Ok(())
 }
 
 #[test]
-fn productions_are_read(rt: HostRuntime) -> Result<(), Fail> {
+fn productions_are_read(rt: HostRuntime) -> Result<(), AllocError> {
     let rows: [(&[u8], &str); 24] = [
         (b"", "0"),
         (
@@ -63,13 +75,13 @@ fn productions_are_read(rt: HostRuntime) -> Result<(), Fail> {
         (b"{((1)) | (((\\x))) <- s, ((x)), ((x)) == y};", "1"),
     ];
     for (source, expected) in rows {
-        assert_eq!(rt; seen(rt.alloc(), source)?.as_str(), expected);
+        assert_seen(&rt, rt.alloc(), source, expected)?;
     }
     Ok(())
 }
 
 #[test]
-fn faults_are_named(rt: HostRuntime) -> Result<(), Fail> {
+fn faults_are_named(rt: HostRuntime) -> Result<(), AllocError> {
     let rows: [(&[u8], &str); 41] = [
         (b"1; 2", "syntax 2"),
         (b";", "syntax 1"),
@@ -117,37 +129,42 @@ fn faults_are_named(rt: HostRuntime) -> Result<(), Fail> {
         (b"340282366920938463463374607431768211456;", "text 0"),
     ];
     for (source, expected) in rows {
-        assert_eq!(rt; seen(rt.alloc(), source)?.as_str(), expected);
+        assert_seen(&rt, rt.alloc(), source, expected)?;
     }
     Ok(())
 }
 
+// A `1` in that many brackets.
+fn nested(alloc: Global, times: u64, open: &[u8], close: &[u8]) -> Result<Vec<u8>, AllocError> {
+    let mut source = Vec::new(alloc);
+    for _ in 0..times {
+        source.extend_from_slice(open)?;
+    }
+    source.push(b'1')?;
+    for _ in 0..times {
+        source.extend_from_slice(close)?;
+    }
+    source.push(b';')?;
+    Ok(source)
+}
+
 #[test]
-fn brackets_nest_to_the_scans_limit(rt: HostRuntime) -> Result<(), Fail> {
-    let alloc = rt.alloc();
+fn brackets_nest_to_the_scans_limit(rt: HostRuntime) -> Result<(), AllocError> {
     let rows: [(u64, &[u8], &[u8], &str); 4] = [
         (400, b"(", b")", "1"),
         (401, b"(", b")", "deep 400"),
         (400, b"{1|", b"}", "1"),
         (400, b"a[", b"]", "1"),
     ];
-    for (times, before, after, expected) in rows {
-        let mut source = Vec::new(alloc);
-        for _ in 0..times {
-            source.extend_from_slice(before)?;
-        }
-        source.push(b'1')?;
-        for _ in 0..times {
-            source.extend_from_slice(after)?;
-        }
-        source.push(b';')?;
-        assert_eq!(rt; seen(alloc, &source)?.as_str(), expected);
+    for (times, open, close, expected) in rows {
+        let source = nested(rt.alloc(), times, open, close)?;
+        assert_seen(&rt, rt.alloc(), &source, expected)?;
     }
     Ok(())
 }
 
 #[test]
-fn the_prelude_is_read(rt: HostRuntime) -> Result<(), Fail> {
+fn the_prelude_is_read(rt: HostRuntime) -> Result<(), AllocError> {
     let parts: [&[u8]; 24] = [
         b"macro \\fst = fn (\\x,_) => x;",
         b"macro \\snd = fn (_,\\y) => y;",
@@ -174,13 +191,11 @@ fn the_prelude_is_read(rt: HostRuntime) -> Result<(), Fail> {
         b"macro \\transpose = fn \\a => [[a[j,i] | \\i<snd!(dim_2!a), \\j<fst!(dim_2!a)]];",
         b"macro \\zip = fn (\\a,\\b) => [[(a[i],b[i]) | \\i<min2!(len!a,len!b)]];",
     ];
-    let alloc = rt.alloc();
-    let mut source = Vec::new(alloc);
+    let mut source = Vec::new(rt.alloc());
     for part in parts {
         source.extend_from_slice(part)?;
     }
-    assert_eq!(rt; seen(alloc, &source)?.as_str(), "24");
-    Ok(())
+    assert_seen(&rt, rt.alloc(), &source, "24")
 }
 
 // An expression of names in prefix form: a word for each operation, then its parts. Other forms are `?`.
@@ -190,60 +205,52 @@ fn put(e: &Expr, text: &mut Vec<u8>) -> Result<(), AllocError> {
         Expr::Name(x) => put_word(&x.bytes, text),
         Expr::Apply { name, argument } => {
             put_word(b"apply", text)?;
-            put_word(&name.bytes, text)?;
-            put(argument, text)
+            put_one(&name.bytes, argument, text)
         }
-        Expr::Gen(a) => {
-            put_word(b"gen", text)?;
-            put(a, text)
-        }
+        Expr::Gen(a) => put_one(b"gen", a, text),
         Expr::Sub { array, at } => {
-            put_word(b"sub", text)?;
-            put(array, text)?;
+            put_one(b"sub", array, text)?;
             put_all(&at.items, text)
         }
         Expr::If(c, a, b) => {
-            put_word(b"if", text)?;
-            put(c, text)?;
+            put_one(b"if", c, text)?;
             put(a, text)?;
             put(b, text)
         }
-        Expr::Not(a) => {
-            put_word(b"not", text)?;
-            put(a, text)
-        }
+        Expr::Not(a) => put_one(b"not", a, text),
         Expr::And(a, b) => {
-            put_word(b"and", text)?;
-            put(a, text)?;
+            put_one(b"and", a, text)?;
             put(b, text)
         }
         Expr::Or(a, b) => {
-            put_word(b"or", text)?;
-            put(a, text)?;
+            put_one(b"or", a, text)?;
             put(b, text)
         }
         Expr::Union(a, b) => {
-            put_word(b"union", text)?;
-            put(a, text)?;
+            put_one(b"union", a, text)?;
             put(b, text)
         }
         Expr::Default(a, b) => {
-            put_word(b"default", text)?;
-            put(a, text)?;
+            put_one(b"default", a, text)?;
             put(b, text)
         }
         Expr::Arith(o, a, b) => {
-            put_word(arithmetic(*o), text)?;
-            put(a, text)?;
+            put_one(arithmetic(*o), a, text)?;
             put(b, text)
         }
         Expr::Compare(o, a, b) => {
-            put_word(comparison(*o), text)?;
-            put(a, text)?;
+            put_one(comparison(*o), a, text)?;
             put(b, text)
         }
         _ => put_word(b"?", text),
     }
+}
+
+// A word, then its first part.
+#[cycle(put)]
+fn put_one(word: &[u8], a: &Expr, text: &mut Vec<u8>) -> Result<(), AllocError> {
+    put_word(word, text)?;
+    put(a, text)
 }
 
 #[cycle(put)]
@@ -281,22 +288,43 @@ fn comparison(o: CompareOp) -> &'static [u8] {
     }
 }
 
-// The first declaration of a script, an expression. Nothing where it is none.
-fn expression(alloc: Global, source: &[u8]) -> Result<Vec<u8>, AllocError> {
+fn parsed(alloc: Global, source: &[u8]) -> Option<Decls> {
+    let found = tokens(alloc, source).ok()?;
+    script(alloc, &found, source).ok()
+}
+
+// The text of the first of them, an expression. Nothing where it is none.
+fn first_text(alloc: Global, decls: &[Decl]) -> Result<Vec<u8>, AllocError> {
     let mut text = Vec::new(alloc);
-    if let Ok(found) = tokens(alloc, source) {
-        if let Ok(decls) = script(alloc, &found, source) {
-            if let Some(Decl::Bare { expr }) = decls.items.first() {
-                put(expr, &mut text)?;
-            }
-        }
+    if let Some(Decl::Bare { expr }) = decls.first() {
+        put(expr, &mut text)?;
     }
     Ok(text)
 }
 
+// The first declaration of a script, an expression. Nothing where it is none.
+fn expression(alloc: Global, source: &[u8]) -> Result<Vec<u8>, AllocError> {
+    match parsed(alloc, source) {
+        Some(decls) => first_text(alloc, &decls.items),
+        None => Ok(Vec::new(alloc)),
+    }
+}
+
+fn assert_same(
+    rt: &impl Abort,
+    alloc: Global,
+    plain: &[u8],
+    parted: &[u8],
+) -> Result<(), AllocError> {
+    let seen = expression(alloc, plain)?;
+    let expected = expression(alloc, parted)?;
+    assert!(rt; !seen.is_empty() && !seen.contains(&b'?'));
+    assert_eq!(rt; seen.as_slice(), expected.as_slice());
+    Ok(())
+}
+
 #[test]
-fn levels_bind_as_parentheses_say(rt: HostRuntime) -> Result<(), Fail> {
-    let alloc = rt.alloc();
+fn levels_bind_as_parentheses_say(rt: HostRuntime) -> Result<(), AllocError> {
     let rows: [(&[u8], &[u8]); 33] = [
         (b"a default b or c;", b"a default (b or c);"),
         (b"a or b default c;", b"(a or b) default c;"),
@@ -344,9 +372,7 @@ fn levels_bind_as_parentheses_say(rt: HostRuntime) -> Result<(), Fail> {
         ),
     ];
     for (plain, parted) in rows {
-        let seen = expression(alloc, plain)?;
-        assert!(rt; !seen.is_empty() && !seen.contains(&b'?'));
-        assert_eq!(rt; seen, expression(alloc, parted)?);
+        assert_same(&rt, rt.alloc(), plain, parted)?;
     }
     Ok(())
 }

@@ -1,36 +1,62 @@
 use aql_lex::fault::LexFault;
 use aql_lex::lexer::tokens;
-use aql_syntax::token::TokenKind;
-use std::alloc::Global;
-use std::test::Fail;
+use aql_syntax::token::{Token, TokenKind};
+use std::alloc::{AllocError, Global};
+use std::process::Abort;
 
-// The kinds and spans of a script's tokens, as `N0-1` for a name, `D`, `T`, `W` for a word, `S`; or its fault.
-fn seen(alloc: Global, script: &[u8]) -> Result<String, Fail> {
+fn letter(kind: TokenKind) -> &'static str {
+    match kind {
+        TokenKind::Name => "N",
+        TokenKind::Number => "D",
+        TokenKind::Text => "T",
+        TokenKind::Reserved => "W",
+        TokenKind::Sign => "S",
+    }
+}
+
+// The kinds and spans of tokens, as `N0-1` for a name, `D`, `T`, `W` for a word, `S`.
+fn told(alloc: Global, found: &[Token]) -> Result<String, AllocError> {
     let mut text = String::new(alloc);
-    match tokens(alloc, script) {
-        Ok(found) => {
-            for token in found.as_slice() {
-                let letter = match token.kind {
-                    TokenKind::Name => "N",
-                    TokenKind::Number => "D",
-                    TokenKind::Text => "T",
-                    TokenKind::Reserved => "W",
-                    TokenKind::Sign => "S",
-                };
-                let from = token.from;
-                let to = token.to;
-                write!(&mut text, "{letter}{from}-{to} ")?;
-            }
-        }
-        Err(LexFault::Text { at }) => write!(&mut text, "text {at}")?,
-        Err(LexFault::Deep { at }) => write!(&mut text, "deep {at}")?,
-        Err(LexFault::Memory) => write!(&mut text, "memory")?,
+    for token in found {
+        let letter = letter(token.kind);
+        let from = token.from;
+        let to = token.to;
+        write!(&mut text, "{letter}{from}-{to} ")?;
     }
     Ok(text)
 }
 
+fn fault(fault: &LexFault) -> (&'static str, u64) {
+    match fault {
+        LexFault::Text { at } => ("text", *at),
+        LexFault::Deep { at } => ("deep", *at),
+        LexFault::Memory => ("memory", 0),
+    }
+}
+
+// The tokens of a script, or its fault.
+fn seen(alloc: Global, script: &[u8]) -> Result<String, AllocError> {
+    match tokens(alloc, script) {
+        Ok(found) => told(alloc, &found),
+        Err(why) => {
+            let (kind, at) = fault(&why);
+            format!(in alloc; "{kind} {at}")
+        }
+    }
+}
+
+fn assert_seen(
+    rt: &impl Abort,
+    alloc: Global,
+    script: &[u8],
+    expected: &str,
+) -> Result<(), AllocError> {
+    assert_eq!(rt; seen(alloc, script)?.as_str(), expected);
+    Ok(())
+}
+
 #[test]
-fn scripts_have_their_tokens(rt: HostRuntime) -> Result<(), Fail> {
+fn scripts_have_their_tokens(rt: HostRuntime) -> Result<(), AllocError> {
     let rows: [(&[u8], &str); 24] = [
         (b"", ""),
         (b" \t\r\n", ""),
@@ -58,35 +84,64 @@ fn scripts_have_their_tokens(rt: HostRuntime) -> Result<(), Fail> {
         (b"_ ' 1", "text 2"),
     ];
     for (script, expected) in rows {
-        assert_eq!(rt; seen(rt.alloc(), script)?.as_str(), expected);
+        assert_seen(&rt, rt.alloc(), script, expected)?;
+    }
+    Ok(())
+}
+
+// A part repeated that many times.
+fn repeated(alloc: Global, times: u64, part: &[u8]) -> Result<Vec<u8>, AllocError> {
+    let mut script = Vec::new(alloc);
+    for _ in 0..times {
+        script.extend_from_slice(part)?;
+    }
+    Ok(script)
+}
+
+fn begins_with(alloc: Global, script: &[u8], kind: &str) -> Result<bool, AllocError> {
+    Ok(seen(alloc, script)?.starts_with(kind))
+}
+
+#[test]
+fn deep_scripts_are_refused(rt: HostRuntime) -> Result<(), AllocError> {
+    let rows: [(u64, &[u8], &str); 4] = [
+        (401, b"(", "deep 400"),
+        (401, b"let end ", "deep 3200"),
+        (401, b"+", "deep 400"),
+        (401, b"(+", "deep 400"),
+    ];
+    for (times, part, expected) in rows {
+        let script = repeated(rt.alloc(), times, part)?;
+        assert_seen(&rt, rt.alloc(), &script, expected)?;
     }
     Ok(())
 }
 
 #[test]
-fn deep_scripts_are_refused(rt: HostRuntime) -> Result<(), Fail> {
-    let alloc = rt.alloc();
-    let rows: [(u64, &[u8], &str); 6] = [
-        (400, b"(", ""),
-        (401, b"(", "deep 400"),
-        (401, b"let end ", "deep 3200"),
-        (401, b"let,end", ""),
-        (401, b"+", "deep 400"),
-        (401, b"(+", "deep 400"),
+fn scripts_at_the_limit_are_not_deep(rt: HostRuntime) -> Result<(), AllocError> {
+    let rows: [(u64, &[u8]); 2] = [(400, b"("), (401, b"let,end")];
+    for (times, part) in rows {
+        let script = repeated(rt.alloc(), times, part)?;
+        assert!(rt; !begins_with(rt.alloc(), &script, "deep")?);
+    }
+    Ok(())
+}
+
+// A fault of text comes before one of depth.
+#[test]
+fn deep_scripts_may_have_a_fault_of_text(rt: HostRuntime) -> Result<(), AllocError> {
+    let rows: [(u64, &[u8]); 6] = [
+        (400, b"("),
+        (401, b"("),
+        (401, b"let end "),
+        (401, b"let,end"),
+        (401, b"+"),
+        (401, b"(+"),
     ];
-    for (times, part, expected) in rows {
-        let mut script = Vec::new(alloc);
-        for _ in 0..times {
-            script.extend_from_slice(part)?;
-        }
-        let found = seen(alloc, &script)?;
-        if expected == "" {
-            assert!(rt; !found.starts_with("deep"));
-        } else {
-            assert_eq!(rt; found.as_str(), expected);
-        }
+    for (times, part) in rows {
+        let mut script = repeated(rt.alloc(), times, part)?;
         script.extend_from_slice(b"\"")?;
-        assert!(rt; seen(alloc, &script)?.starts_with("text"));
+        assert!(rt; begins_with(rt.alloc(), &script, "text")?);
     }
     Ok(())
 }

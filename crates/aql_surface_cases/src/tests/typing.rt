@@ -1,19 +1,17 @@
+use crate::tests::building::{Made, applied, definition, local, name};
 use aql_infer::check::{Typed, check};
 use aql_infer::fault::TypeFault;
-use aql_syntax::ast::{Decl, Decls, Expr, Exprs, Pattern};
+use aql_made::{both_boxed, listed, listed_both};
+use aql_syntax::ast::{Decl, Decls, Expr};
+use aql_syntax::build::members;
 use aql_types::ty::{Scheme, Ty};
-use aql_value::{CompareOp, Memory, Str};
+use aql_value::{CompareOp, Memory};
 use std::alloc::Global;
 
-fn text(alloc: Global, content: &[u8]) -> Result<Str, Memory> {
-    let mut bytes = Vec::new(alloc);
-    bytes.extend_from_slice(content)?;
-    Ok(Str { bytes })
-}
-
 // The number of the first declaration without a typing, or 0.
-fn first_untyped(alloc: Global, decls: &Decls) -> Result<u64, Memory> {
-    match check(alloc, decls) {
+fn first_untyped(alloc: Global, items: Result<Vec<Decl>, Memory>) -> Result<u64, Memory> {
+    let items = items?;
+    match check(alloc, &Decls { items }) {
         Ok(_) => Ok(0),
         Err(TypeFault::NoType { declaration }) => Ok(declaration),
         Err(TypeFault::Memory) => Err(Memory),
@@ -31,8 +29,7 @@ fn is_any_set(typed: &Typed) -> bool {
 #[test]
 fn the_empty_set_has_every_set_type(rt: HostRuntime) -> Result<(), Memory> {
     let alloc = rt.alloc();
-    let mut items = Vec::new(alloc);
-    items.push(Decl::Bare { expr: Expr::Empty })?;
+    let items = listed(alloc, Ok(Decl::Bare { expr: Expr::Empty }))?;
     match check(alloc, &Decls { items }) {
         Ok(typed) => assert!(rt; is_any_set(&typed)),
         Err(_) => assert!(rt; false),
@@ -40,62 +37,49 @@ fn the_empty_set_has_every_set_type(rt: HostRuntime) -> Result<(), Memory> {
     Ok(())
 }
 
-// `val \x = 1; 1 = true;`
+// `val \x = 1;`
+fn one(alloc: Global) -> Result<Decl, Memory> {
+    Ok(Decl::Val {
+        name: name(alloc, b'x', 0)?,
+        expr: Expr::Nat(1),
+    })
+}
+
+// `1 = true;`
+fn unlike(alloc: Global) -> Result<Decl, Memory> {
+    let (left, right) = both_boxed(alloc, Ok(Expr::Nat(1)), Ok(Expr::Bool(true)))?;
+    Ok(Decl::Bare {
+        expr: Expr::Compare(CompareOp::Equal, left, right),
+    })
+}
+
 #[test]
 fn sides_of_two_types(rt: HostRuntime) -> Result<(), Memory> {
     let alloc = rt.alloc();
-    let left = Box::new(alloc, Expr::Nat(1))?;
-    let right = Box::new(alloc, Expr::Bool(true))?;
-    let mut items = Vec::new(alloc);
-    items.push(Decl::Val {
-        name: text(alloc, b"x")?,
-        expr: Expr::Nat(1),
-    })?;
-    items.push(Decl::Bare {
-        expr: Expr::Compare(CompareOp::Equal, left, right),
-    })?;
-    assert_eq!(rt; first_untyped(alloc, &Decls { items })?, 2);
+    let items = listed_both(alloc, one(alloc), unlike(alloc));
+    assert_eq!(rt; first_untyped(alloc, items)?, 2);
     Ok(())
 }
 
-fn applied(alloc: Global, name: &[u8], argument: Expr) -> Result<Expr, Memory> {
-    Ok(Expr::Apply {
-        name: text(alloc, name)?,
-        argument: Box::new(alloc, argument)?,
-    })
+// `{x}`
+fn single(alloc: Global) -> Made {
+    Ok(members(listed(alloc, local(alloc))?))
 }
 
-// `macro \t0 = fn \x => {x};`
-fn single(alloc: Global) -> Result<Decl, Memory> {
-    let mut items = Vec::new(alloc);
-    items.push(Expr::Name(text(alloc, b"x")?))?;
-    Ok(Decl::Macro {
-        name: text(alloc, b"t0")?,
-        pattern: Pattern::Bind(text(alloc, b"x")?),
-        body: Expr::Members(Exprs { items }),
-    })
+// `macro \m0 = fn \x => {x};`, and then `macro \mK = fn \x => mJ!(mJ!x);` with J one less than K, up to m9.
+fn nestings(alloc: Global) -> Result<Vec<Decl>, Memory> {
+    let mut items = listed(alloc, definition(alloc, 0, single(alloc)))?;
+    for k in 0..9u8 {
+        let twice = applied(alloc, k, applied(alloc, k, local(alloc)));
+        items.push(definition(alloc, k.wrapping_add(1), twice)?)?;
+    }
+    Ok(items)
 }
 
-// `macro \tK = fn \x => tJ!(tJ!x);`
-fn twice(alloc: Global, k: u8, j: u8) -> Result<Decl, Memory> {
-    let inner = applied(alloc, &[b't', j], Expr::Name(text(alloc, b"x")?))?;
-    Ok(Decl::Macro {
-        name: text(alloc, &[b't', k])?,
-        pattern: Pattern::Bind(text(alloc, b"x")?),
-        body: applied(alloc, &[b't', j], inner)?,
-    })
-}
-
-// The result of t8 has 257 levels, and that of t9 would have 513.
+// The result of m8 has 257 levels, and that of m9 would have 513.
 #[test]
 fn a_doubling_chain_passes_the_levels(rt: HostRuntime) -> Result<(), Memory> {
     let alloc = rt.alloc();
-    let mut items = Vec::new(alloc);
-    items.push(single(alloc)?)?;
-    for k in b'1'..b'9' {
-        items.push(twice(alloc, k, k - 1)?)?;
-    }
-    items.push(twice(alloc, b'9', b'8')?)?;
-    assert_eq!(rt; first_untyped(alloc, &Decls { items })?, 10);
+    assert_eq!(rt; first_untyped(alloc, nestings(alloc))?, 10);
     Ok(())
 }

@@ -2,9 +2,18 @@
 
 use aql_syntax::ast::{Bind, Decl, Expr, Pattern, Qual};
 use aql_value::{ArithOp, CompareOp, Memory, Str};
+use std::alloc::Global;
 
-/// Appends the text of a declaration.
-pub fn put_declaration(d: &Decl, out: &mut Vec<u8>) -> Result<(), Memory> {
+/// The text of declarations, one after the other.
+pub fn tree_text(alloc: Global, ds: &[Decl]) -> Result<Vec<u8>, Memory> {
+    let mut out = Vec::new(alloc);
+    for d in ds {
+        put_declaration(d, &mut out)?;
+    }
+    Ok(out)
+}
+
+fn put_declaration(d: &Decl, out: &mut Vec<u8>) -> Result<(), Memory> {
     match d {
         Decl::Macro {
             name,
@@ -63,13 +72,7 @@ fn put_patterns(ps: &[Pattern], out: &mut Vec<u8>) -> Result<(), Memory> {
 #[cycle(put_expression)]
 fn put_expression(e: &Expr, out: &mut Vec<u8>) -> Result<(), Memory> {
     match e {
-        Expr::Nat(n) => {
-            if *n == 1 {
-                put(b"1 ", out)
-            } else {
-                put(b"? ", out)
-            }
-        }
+        Expr::Nat(n) => put(if *n == 1 { b"1 " } else { b"? " }, out),
         Expr::Name(x) => put_name(b"name ", x, out),
         Expr::Empty => put(b"empty ", out),
         Expr::Row(es) => put_expressions(b"row ", &es.items, out),
@@ -86,37 +89,22 @@ fn put_expression(e: &Expr, out: &mut Vec<u8>) -> Result<(), Memory> {
             put_expression(array, out)
         }
         Expr::If(c, a, b) => {
-            put(b"if ", out)?;
-            put_expression(c, out)?;
+            put_one(b"if ", c, out)?;
             put_expression(a, out)?;
             put_expression(b, out)
         }
-        Expr::Not(a) => {
-            put(b"not ", out)?;
-            put_expression(a, out)
-        }
+        Expr::Not(a) => put_one(b"not ", a, out),
         Expr::Compare(o, a, b) => {
-            put(comparison(*o), out)?;
-            put_expression(a, out)?;
+            put_one(comparison(*o), a, out)?;
             put_expression(b, out)
         }
         Expr::Arith(o, a, b) => {
-            put(arithmetic(*o), out)?;
-            put_expression(a, out)?;
+            put_one(arithmetic(*o), a, out)?;
             put_expression(b, out)
         }
-        Expr::Gen(a) => {
-            put(b"gen ", out)?;
-            put_expression(a, out)
-        }
-        Expr::Get(a) => {
-            put(b"get ", out)?;
-            put_expression(a, out)
-        }
-        Expr::Len(a) => {
-            put(b"dim | ", out)?;
-            put_expression(a, out)
-        }
+        Expr::Gen(a) => put_one(b"gen ", a, out),
+        Expr::Get(a) => put_one(b"get ", a, out),
+        Expr::Len(a) => put_one(b"dim | ", a, out),
         Expr::Dim { rank, array } => {
             put(b"dim ", out)?;
             put_count(*rank, out)?;
@@ -138,6 +126,13 @@ fn put_expression(e: &Expr, out: &mut Vec<u8>) -> Result<(), Memory> {
         }
         _ => put(b"? ", out),
     }
+}
+
+// A word, then its first part.
+#[cycle(put_expression)]
+fn put_one(form: &[u8], a: &Expr, out: &mut Vec<u8>) -> Result<(), Memory> {
+    put(form, out)?;
+    put_expression(a, out)
 }
 
 #[cycle(put_expression)]
