@@ -4,3 +4,4 @@ mod pieces;
 mod serial;
 mod substitution;
 mod terms;
+mod words;

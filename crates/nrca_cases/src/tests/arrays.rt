@@ -1,6 +1,8 @@
 ghost use Rattle.std.specs.Prelude.{◌≡◌, IfOk};
 
-use aql_value::{Cells, Dims, Index, Items, Memory, Value};
+use crate::tests::words::value;
+use aql_made::both;
+use aql_value::{Dims, Index, Memory, Value};
 use nrca_array::{Builder, Flat, Held};
 use std::alloc::Global;
 use std::test::Fail;
@@ -21,111 +23,200 @@ fn naturals(alloc: Global, cells: &[u128]) -> Result<Builder, Memory> {
     Ok(packed)
 }
 
-fn row(alloc: Global, length: u128, cells: Builder) -> Result<Flat, Memory> {
-    cells.finish(dims(alloc, &[length])?)?.ok_or(Memory)
+fn pairs(alloc: Global, cells: &[(bool, u128)]) -> Result<Builder, Memory> {
+    let mut packed = Builder::new(alloc);
+    for (b, n) in cells {
+        packed = packed.push_pair(alloc, *b, *n)?;
+    }
+    Ok(packed)
 }
 
-fn is_packed(flat: &Flat, width: u64, bytes: &[u8]) -> bool {
-    match flat.packed() {
-        Some((w, b)) => w == width && b == bytes,
-        None => false,
+fn truth(alloc: Global) -> Result<Builder, Memory> {
+    Builder::new(alloc).push_truth(alloc, true)
+}
+
+fn appended(
+    alloc: Global,
+    cells: Result<Builder, Memory>,
+    others: Result<Builder, Memory>,
+) -> Result<Builder, Memory> {
+    let (cells, others) = both(cells, others)?;
+    cells.append(alloc, others)
+}
+
+fn row(alloc: Global, length: u128, cells: Result<Builder, Memory>) -> Result<Flat, Memory> {
+    let (dims, cells) = both(dims(alloc, &[length]), cells)?;
+    cells.finish(dims)?.ok_or(Memory)
+}
+
+fn packs(flat: &Flat, wanted: Option<(u64, &[u8])>) -> bool {
+    match (flat.packed(), wanted) {
+        (Some((width, bytes)), Some((w, b))) => width == w && bytes == b,
+        (None, None) => true,
+        _ => false,
     }
+}
+
+// Whether a row of these cells is packed in so many bits each, in these bytes.
+fn is_packed(
+    alloc: Global,
+    length: u128,
+    cells: Result<Builder, Memory>,
+    width: u64,
+    bytes: &[u8],
+) -> Result<bool, Memory> {
+    let flat = row(alloc, length, cells)?;
+    Ok(packs(&flat, Some((width, bytes))))
+}
+
+fn is_unpacked(
+    alloc: Global,
+    length: u128,
+    cells: Result<Builder, Memory>,
+) -> Result<bool, Memory> {
+    let flat = row(alloc, length, cells)?;
+    Ok(packs(&flat, None))
 }
 
 #[test]
 fn naturals_are_packed(rt: HostRuntime) -> Result<(), Fail> {
     let alloc = rt.alloc();
-    let one = naturals(alloc, &[1])?;
-    let all = one.append(alloc, naturals(alloc, &[300, 2])?)?;
-    let flat = row(alloc, 3, all)?;
-    assert!(rt; is_packed(&flat, 16, &[0x01, 0x00, 0x2c, 0x01, 0x02, 0x00]));
-    let none = row(alloc, 0, Builder::new(alloc))?;
-    assert!(rt; none.packed().is_none());
+    let all = appended(alloc, naturals(alloc, &[1]), naturals(alloc, &[300, 2]));
+    let bytes = [0x01, 0x00, 0x2c, 0x01, 0x02, 0x00];
+    assert!(rt; is_packed(alloc, 3, all, 16, &bytes)?);
+    assert!(rt; is_unpacked(alloc, 0, naturals(alloc, &[]))?);
     Ok(())
 }
 
 #[test]
 fn pairs_are_packed(rt: HostRuntime) -> Result<(), Fail> {
     let alloc = rt.alloc();
-    let pairs = Builder::new(alloc).push_pair(alloc, true, 1)?;
-    let flat = row(alloc, 2, pairs.push_pair(alloc, false, 2)?)?;
-    assert!(rt; is_packed(&flat, 8, &[0x01, 0x02, 0x01, 0x00]));
+    let all = pairs(alloc, &[(true, 1), (false, 2)]);
+    assert!(rt; is_packed(alloc, 2, all, 8, &[0x01, 0x02, 0x01, 0x00])?);
     Ok(())
+}
+
+// One row of 5, true and 7.
+fn mixed(alloc: Global) -> Result<Flat, Memory> {
+    match value(alloc, "1 3 5 T 7 arr2.3")? {
+        Some(Value::Grid(cells)) => Flat::from_cells(alloc, cells),
+        _ => Err(Memory),
+    }
+}
+
+// How many cells the window from number 1 up to 3 has: 0 where there are not so many cells.
+fn window_length(alloc: Global, flat: &Flat) -> Result<usize, Memory> {
+    if flat.len() < 3 {
+        return Ok(0);
+    }
+    Ok(flat.window(alloc, 1, 3)?.items.len())
+}
+
+fn cell(alloc: Global, flat: &Flat, at: &[u128]) -> Result<Option<Value>, Memory> {
+    let at = Index::from_slice(alloc, at)?;
+    flat.cell(alloc, &at)
+}
+
+fn natural_at(alloc: Global, flat: &Flat, at: &[u128]) -> Result<Option<u128>, Memory> {
+    match cell(alloc, flat, at)? {
+        Some(Value::Nat(n)) => Ok(Some(n)),
+        _ => Ok(None),
+    }
+}
+
+fn kind_of_copy(alloc: Global, held: &Held) -> Result<u8, Memory> {
+    let copied = held.copy(alloc)?;
+    Ok(copied.to_value(alloc)?.kind())
 }
 
 #[test]
 fn cells_stay(rt: HostRuntime) -> Result<(), Fail> {
     let alloc = rt.alloc();
-    let items = Items {
-        items: vec![in alloc; Value::Nat(5), Value::Bool(true), Value::Nat(7)]?,
-    };
-    let cells = Cells::new(dims(alloc, &[1, 3])?, items).ok_or(Memory)?;
-    let held = Held::Flat(Flat::from_cells(alloc, cells)?);
-    let back = held.copy(alloc)?.to_value(alloc)?;
-    if let Held::Flat(flat) = &held {
-        assert_eq!(rt; flat.window(alloc, 1, 3).map(|w| w.items.len()), Ok(2));
-        let at = Index::from_slice(alloc, &[0, 2])?;
-        assert!(rt; flat.cell(alloc, &at)? == Some(Value::Nat(7)));
-    }
-    assert_eq!(rt; back.kind(), 5);
+    let flat = mixed(alloc)?;
+    assert_eq!(rt; window_length(alloc, &flat)?, 2);
+    assert_eq!(rt; natural_at(alloc, &flat, &[0, 2])?, Some(7));
+    assert_eq!(rt; kind_of_copy(alloc, &Held::Flat(flat))?, 5);
     Ok(())
 }
 
-// The same naturals behind two builders' cells: at once, and one at a time.
-fn pushed(
+// Naturals behind a builder's cells, each piece at once.
+fn at_once(
     alloc: Global,
-    cells: (Builder, Builder),
-    piece: &[u64],
-) -> Result<(Builder, Builder), Memory> {
-    let (many, mut each) = cells;
-    for n in piece {
-        each = each.push_natural(alloc, u128::from(*n))?;
+    first: Result<Builder, Memory>,
+    pieces: &[&[u64]],
+) -> Result<Builder, Memory> {
+    let mut cells = first?;
+    for piece in pieces {
+        cells = cells.push_naturals(alloc, piece)?;
     }
-    Ok((many.push_naturals(alloc, piece)?, each))
+    Ok(cells)
 }
 
-fn packed_alike(many: &Flat, each: &Flat) -> bool {
-    match each.packed() {
-        Some((width, bytes)) => is_packed(many, width, bytes),
-        None => many.packed().is_none(),
+// The same one at a time.
+fn one_at_a_time(
+    alloc: Global,
+    first: Result<Builder, Memory>,
+    pieces: &[&[u64]],
+) -> Result<Builder, Memory> {
+    let mut cells = first?;
+    for piece in pieces {
+        for n in *piece {
+            cells = cells.push_natural(alloc, u128::from(*n))?;
+        }
     }
+    Ok(cells)
 }
 
-fn alike(alloc: Global, length: u128, cells: (Builder, Builder)) -> Result<bool, Memory> {
-    let many = row(alloc, length, cells.0)?;
-    let each = row(alloc, length, cells.1)?;
+fn cell_alike(alloc: Global, many: &Flat, each: &Flat, i: u128) -> Result<bool, Memory> {
+    let (many, each) = both(cell(alloc, many, &[i]), cell(alloc, each, &[i]))?;
+    Ok(many == each)
+}
+
+fn rows_alike(alloc: Global, length: u128, many: &Flat, each: &Flat) -> Result<bool, Memory> {
     for i in 0..length {
-        let at = Index::from_slice(alloc, &[i])?;
-        if many.cell(alloc, &at)? != each.cell(alloc, &at)? {
+        if !cell_alike(alloc, many, each, i)? {
             return Ok(false);
         }
     }
-    Ok(packed_alike(&many, &each))
+    Ok(packs(many, each.packed()))
 }
+
+fn alike(
+    alloc: Global,
+    length: u128,
+    many: Result<Builder, Memory>,
+    each: Result<Builder, Memory>,
+) -> Result<bool, Memory> {
+    match (row(alloc, length, many), row(alloc, length, each)) {
+        (Ok(many), Ok(each)) => rows_alike(alloc, length, &many, &each),
+        _ => Err(Memory),
+    }
+}
+
+const PIECES: [&[u64]; 6] = [
+    &[],
+    &[1, 255],
+    &[256, 7],
+    &[],
+    &[8, 65_536],
+    &[4_294_967_296, 9, 18_446_744_073_709_551_615],
+];
 
 #[test]
 fn naturals_at_once(rt: HostRuntime) -> Result<(), Fail> {
     let alloc = rt.alloc();
-    let few = Builder::new(alloc).push_naturals(alloc, &[1, 255])?;
-    let few = row(alloc, 3, few.push_naturals(alloc, &[256])?)?;
-    assert!(rt; is_packed(&few, 16, &[0x01, 0x00, 0xff, 0x00, 0x00, 0x01]));
-    let mut rising = (Builder::new(alloc), Builder::new(alloc));
-    rising = pushed(alloc, rising, &[])?;
-    rising = pushed(alloc, rising, &[1, 255])?;
-    rising = pushed(alloc, rising, &[256, 7])?;
-    rising = pushed(alloc, rising, &[])?;
-    rising = pushed(alloc, rising, &[8, 65_536])?;
-    rising = pushed(
-        alloc,
-        rising,
-        &[4_294_967_296, 9, 18_446_744_073_709_551_615],
-    )?;
-    assert!(rt; alike(alloc, 9, rising)?);
-    let wide = naturals(alloc, &[18_446_744_073_709_551_616])?;
-    let wide = (wide, naturals(alloc, &[18_446_744_073_709_551_616])?);
-    assert!(rt; alike(alloc, 3, pushed(alloc, wide, &[2, 300])?)?);
-    let mixed = Builder::new(alloc).push_truth(alloc, true)?;
-    let mixed = (mixed, Builder::new(alloc).push_truth(alloc, true)?);
-    assert!(rt; alike(alloc, 3, pushed(alloc, mixed, &[0, 70_000])?)?);
+    let few = at_once(alloc, naturals(alloc, &[]), &[&[1, 255], &[256]]);
+    let bytes = [0x01, 0x00, 0xff, 0x00, 0x00, 0x01];
+    assert!(rt; is_packed(alloc, 3, few, 16, &bytes)?);
+    let many = at_once(alloc, naturals(alloc, &[]), &PIECES);
+    let each = one_at_a_time(alloc, naturals(alloc, &[]), &PIECES);
+    assert!(rt; alike(alloc, 9, many, each)?);
+    let wide = [18_446_744_073_709_551_616];
+    let many = at_once(alloc, naturals(alloc, &wide), &[&[2, 300]]);
+    let each = one_at_a_time(alloc, naturals(alloc, &wide), &[&[2, 300]]);
+    assert!(rt; alike(alloc, 3, many, each)?);
+    let many = at_once(alloc, truth(alloc), &[&[0, 70_000]]);
+    let each = one_at_a_time(alloc, truth(alloc), &[&[0, 70_000]]);
+    assert!(rt; alike(alloc, 3, many, each)?);
     Ok(())
 }
