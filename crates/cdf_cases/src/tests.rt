@@ -1,3 +1,5 @@
+mod asked;
 mod files;
 mod headers;
 mod hyperslabs;
+mod reads;

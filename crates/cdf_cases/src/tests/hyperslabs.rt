@@ -1,16 +1,11 @@
-// Hyperslabs of small files byte by byte, and over devices that fail or give few bytes.
-ghost use Rattle.std.specs.Prelude.{◌≡◌, ◌≤◌, ◌<◌, length, IfOk, IfSome, IsTrue};
-ghost use Rattle.aql_value.specs.Indices.{product};
-
+// Hyperslabs of small files byte by byte.
+use crate::tests::asked::{ALL, Answer, Asked, CELLS, agrees, read_sure};
 use crate::tests::files::{
-    ONE_RECORD_VARIABLE, TEMPERATURES, TWO_RECORD_VARIABLES, VERSION_5, bytes_of, changed, failing,
-    few_bytes, header_of, index_of, name_of, sure,
+    ONE_RECORD_VARIABLE, TEMPERATURES, TWO_RECORD_VARIABLES, VERSION_5, bytes_of, changed,
+    header_of, sure,
 };
-use aql_outside::{Files, SureFiles};
-use aql_value::{Memory, saturating_product};
-use cdf_header::{CdfFault, Header};
-use cdf_slab::read_slab;
-use nrca_array::Flat;
+use aql_value::Memory;
+use cdf_header::CdfFault;
 use std::alloc::Global;
 use std::test::*;
 
@@ -21,122 +16,6 @@ const EIGHT_DIMENSIONS: [u32; 48] = [
     1, 0x65000000, 2, 1, 0x66000000, 2, 1, 0x67000000, 2, 1, 0x68000000, 2, 0, 0, 0xb, 1, 1,
     0x63000000, 8, 0, 1, 2, 3, 4, 5, 6, 7, 0, 0, 2, 128, 192,
 ];
-
-// The start, the count and the stride of what is read of a variable, as naturals or as pairs of whether it is below 0
-// and a natural.
-#[derive(Clone, Copy)]
-enum Asked<'a> {
-    Naturals(&'a [u128], &'a [u128], &'a [u128]),
-    Pairs(&'a [u128], &'a [u128], &'a [u128]),
-}
-
-// The hyperslab of a variable of the file with this header, read over the files.
-fn read_over<F: Files>(
-    alloc: Global,
-    files: &mut F,
-    header: Result<Header, CdfFault>,
-    variable: &[u8],
-    request: Asked,
-) -> Result<Flat, CdfFault> {
-    let header = header?;
-    match find(alloc, &header, variable)? {
-        Some(v) => read_asked(alloc, files, &header, v, request),
-        None => Err(CdfFault::NoVariable),
-    }
-}
-
-// The same, where the files are sure.
-fn read_sure(
-    alloc: Global,
-    files: Result<SureFiles, Memory>,
-    header: Result<Header, CdfFault>,
-    variable: &[u8],
-    request: Asked,
-) -> Result<Flat, CdfFault> {
-    let mut files = files?;
-    read_over(alloc, &mut files, header, variable, request)
-}
-
-fn find(alloc: Global, header: &Header, variable: &[u8]) -> Result<Option<u64>, Memory>
-    ensures { IfOk result (λ found. IfSome found (λ v. v < length header.now.vars)) }
-{
-    let name = name_of(alloc, variable)?;
-    Ok(header.find(&name))
-}
-
-fn read_asked<F: Files>(
-    alloc: Global,
-    files: &mut F,
-    header: &Header,
-    v: u64,
-    request: Asked,
-) -> Result<Flat, CdfFault>
-    requires { v < length header.now.vars }
-{
-    match request {
-        Asked::Naturals(start, count, stride) => {
-            read(alloc, files, header, v, start, count, stride, false)
-        }
-        Asked::Pairs(start, count, stride) => {
-            read(alloc, files, header, v, start, count, stride, true)
-        }
-    }
-}
-
-fn is_asked(start: &[u128], count: &[u128], stride: &[u128]) -> bool
-    ensures some { IsTrue result → 1 ≤ length start.now }
-    ensures few { IsTrue result → length start.now ≤ 8 }
-    ensures counts { IsTrue result → length count.now ≡ length start.now }
-    ensures strides { IsTrue result → length stride.now ≡ length start.now }
-    ensures cells { IsTrue result → product count.now ≤ 50000000 }
-{
-    let rank = start.len();
-    if rank == 0 || rank > 8 || count.len() != rank || stride.len() != rank {
-        return false;
-    }
-    saturating_product(count) <= 50000000
-}
-
-fn read<F: Files>(
-    alloc: Global,
-    files: &mut F,
-    header: &Header,
-    v: u64,
-    start: &[u128],
-    count: &[u128],
-    stride: &[u128],
-    signed: bool,
-) -> Result<Flat, CdfFault>
-    requires { v < length header.now.vars }
-{
-    if !is_asked(start, count, stride) {
-        return Err(CdfFault::Memory);
-    }
-    let name = name_of(alloc, b"s");
-    let start = index_of(alloc, start);
-    let count = index_of(alloc, count);
-    let stride = index_of(alloc, stride);
-    match (&name, &start, &count, &stride) {
-        (Ok(name), Ok(start), Ok(count), Ok(stride)) => {
-            read_slab(alloc, files, name, header, v, start, count, stride, signed)
-        }
-        _ => Err(CdfFault::Memory),
-    }
-}
-
-// What is answered: the width and the bytes of the packed cells, 0 and none where there is no cell; or the fault.
-type Answer<'a> = Result<(u64, &'a [u8]), CdfFault>;
-
-fn agrees(found: &Result<Flat, CdfFault>, expected: Answer) -> bool {
-    match (found, expected) {
-        (Ok(flat), Ok((w, cells))) => match flat.packed() {
-            Some((width, bytes)) => width == w && bytes == cells,
-            None => w == 0 && cells.is_empty(),
-        },
-        (Err(fault), Err(e)) => *fault == e,
-        _ => false,
-    }
-}
 
 // A file's words, the changed words, how many bytes are left, the variable, what is asked, and what is answered.
 type Case<'a> = (
@@ -177,10 +56,6 @@ const T: &[u32] = &TEMPERATURES;
 const V: &[u32] = &VERSION_5;
 
 const HUGE: u128 = 340282366920938463463374607431768211455;
-
-const ALL: Asked = Asked::Naturals(&[0, 0], &[2, 3], &[1, 1]);
-
-const CELLS: &[u8] = &[1, 2, 3, 4, 5, 6];
 
 const ANSWERED: [Case; 10] = [
     (
@@ -514,117 +389,5 @@ fn eight_dimensions(rt: HostRuntime) -> Result<(), Fail> {
     let header = header_of(alloc, eight_dimensional(alloc));
     let found = read_sure(alloc, files, header, b"c", request);
     assert!(rt; agrees(&found, Ok((8, &[126, 127, 254, 255]))));
-    Ok(())
-}
-
-fn failing_agrees(alloc: Global, fails: u64, expected: Answer) -> Result<bool, Memory> {
-    let mut files = failing(alloc, bytes_of(alloc, S), fails)?;
-    let header = header_of(alloc, bytes_of(alloc, S));
-    let found = read_over(alloc, &mut files, header, b"v", ALL);
-    Ok(agrees(&found, expected))
-}
-
-fn few_agrees(alloc: Global, most: usize, expected: Answer) -> Result<bool, Memory> {
-    let mut files = few_bytes(alloc, bytes_of(alloc, S), most)?;
-    let header = header_of(alloc, bytes_of(alloc, S));
-    let found = read_over(alloc, &mut files, header, b"v", ALL);
-    Ok(agrees(&found, expected))
-}
-
-#[test]
-fn devices(rt: HostRuntime) -> Result<(), Fail> {
-    let alloc = rt.alloc();
-    for (fails, expected) in [(1, Err(CdfFault::Device)), (2, Ok((8, CELLS)))] {
-        assert!(rt; failing_agrees(alloc, fails, expected)?);
-    }
-    for (most, expected) in [(5, Err(CdfFault::Cut { at: 100 })), (12, Ok((8, CELLS)))] {
-        assert!(rt; few_agrees(alloc, most, expected)?);
-    }
-    Ok(())
-}
-
-// The furthest byte that is asked for, where the hyperslab is read.
-fn furthest(alloc: Global, words: &[u32], request: Asked) -> Result<Option<u64>, Memory> {
-    let mut files = few_bytes(alloc, bytes_of(alloc, words), 1000)?;
-    let header = header_of(alloc, bytes_of(alloc, words));
-    let found = read_over(alloc, &mut files, header, b"v", request);
-    Ok(if found.is_ok() {
-        Some(files.furthest())
-    } else {
-        None
-    })
-}
-
-const FURTHEST: [(&[u32], Asked, u64); 4] = [
-    (S, ALL, 108),
-    (S, Asked::Naturals(&[0, 0], &[1, 2], &[1, 1]), 100),
-    (S, Asked::Naturals(&[0, 2], &[2, 0], &[1, 1]), 0),
-    (P, Asked::Naturals(&[0, 0], &[2, 2], &[1, 1]), 148),
-];
-
-// No byte behind the last cell is asked for.
-#[test]
-fn furthest_bytes(rt: HostRuntime) -> Result<(), Fail> {
-    for (words, request, wanted) in FURTHEST {
-        assert_eq!(rt; furthest(rt.alloc(), words, request)?, Some(wanted));
-    }
-    Ok(())
-}
-
-// One variable `v` of 40,000 shorts over one dimension; the one at i is i * 40503 modulo 32768, but that at `below` is -1.
-fn long_row(alloc: Global, below: u32) -> Result<Vec<u8>, Memory> {
-    let words: [u32; 20] = [
-        0x43444601, 0, 0xa, 1, 1, 0x78000000, 40000, 0, 0, 0xb, 1, 1, 0x76000000, 1, 0, 0, 0, 3,
-        80000, 80,
-    ];
-    let mut bytes = bytes_of(alloc, &words)?;
-    for i in 0..40000u32 {
-        let short = if i == below { 0xffff } else { short_at(i) };
-        bytes.extend_from_slice(&short.to_be_bytes())?;
-    }
-    Ok(bytes)
-}
-
-fn short_at(i: u32) -> u16 {
-    (i.wrapping_mul(40503) % 32768) as u16
-}
-
-// The bytes of every so many-th short from the first.
-fn spaced(alloc: Global, stride: u32, count: u32) -> Result<Vec<u8>, Memory> {
-    let mut bytes = Vec::new(alloc);
-    for i in 0..count {
-        let short = short_at(i.wrapping_mul(stride));
-        bytes.extend_from_slice(&short.to_le_bytes())?;
-    }
-    Ok(bytes)
-}
-
-fn read_row(alloc: Global, below: u32, count: u128, stride: u128) -> Result<Flat, CdfFault> {
-    let (count, stride) = ([count], [stride]);
-    let request = Asked::Naturals(&[0], &count, &stride);
-    let files = sure(alloc, long_row(alloc, below));
-    let header = header_of(alloc, long_row(alloc, below));
-    read_sure(alloc, files, header, b"v", request)
-}
-
-fn row_agrees(alloc: Global, stride: u32, count: u32) -> Result<bool, Memory> {
-    let expected = spaced(alloc, stride, count)?;
-    let found = read_row(alloc, 40000, u128::from(count), u128::from(stride));
-    Ok(agrees(&found, Ok((16, &expected))))
-}
-
-// Rows that are longer than what is read or decoded at once, and the first number below 0 behind it.
-#[test]
-fn long_rows(rt: HostRuntime) -> Result<(), Fail> {
-    let alloc = rt.alloc();
-    let cases: [(u32, u32); 4] = [(1, 40000), (7, 5714), (4000, 10), (39999, 2)];
-    for (stride, count) in cases {
-        assert!(rt; row_agrees(alloc, stride, count)?);
-    }
-    let negatives: [(u32, u128, u128, u64); 2] = [(39998, 40000, 1, 39998), (21000, 5714, 7, 3000)];
-    for (below, count, stride, cell) in negatives {
-        let fault = read_row(alloc, below, count, stride).err();
-        assert_eq!(rt; fault, Some(CdfFault::Negative { cell }));
-    }
     Ok(())
 }
