@@ -1,6 +1,7 @@
 -- The lemmas that functions go by.
 use Rattle.aql_syntax.specs.ViewLaws.{pats_steps, trees_steps, axes_steps, quals_steps, defs_steps}
-use Rattle.aql_parse.proofs.Steps.{pat_at_above, pat_at_none, pats_at_turn, pats_at_end, with_no_pats, count_trees_of, count_axes_in, short_ok, short_long, parse_at_none, parse_at_whole, parse_at_level, level_at_none, level_at_five, level_at_above, chain_rest_turn, chain_rest_end, sub_rest_turn, sub_rest_end, list_at_turn, list_at_end, axes_at_turn, axes_at_end, quals_at_turn, quals_at_end, defs_at_turn, defs_at_end, with_no_trees, with_no_axes, with_no_quals, with_no_defs}
+use Rattle.aql_parse.proofs.Steps.{pat_at_above, pat_at_none, pats_at_turn, pats_at_end, with_no_pats, count_axes_in, short_ok, short_long, parse_at_none, parse_at_whole, parse_at_level, level_at_none, level_at_above, chain_rest_turn, chain_rest_end, sub_rest_end, list_at_end, axes_at_end, quals_at_end, defs_at_end, with_no_trees, with_no_axes, with_no_quals, with_no_defs}
+use Rattle.aql_parse.proofs.Branches.{level_at_five, sub_rest_turn, list_at_turn, axes_at_turn, quals_at_turn, defs_at_turn, few_ok, few_long, not_one, the_one, chain_joined}
 
 pub ruleset pattern_steps = (pat_at_above, pat_at_none)
 
@@ -10,11 +11,15 @@ pub ruleset parse_steps = (parse_at_none, parse_at_whole, parse_at_level)
 
 pub ruleset level_steps = (level_at_none, level_at_five, level_at_above)
 
-pub ruleset loop_operators = (chain_rest_turn, chain_rest_end)
+pub ruleset loop_operators = (chain_rest_turn, chain_rest_end, chain_joined)
 
-pub ruleset loop_subscripts = (sub_rest_turn, sub_rest_end, count_trees_of, short_ok, short_long)
+pub ruleset loop_subscripts = (sub_rest_turn, sub_rest_end)
 
-pub ruleset bracket_steps = (count_trees_of, count_axes_in, short_ok, short_long)
+pub ruleset few_steps = (few_ok, few_long)
+
+pub ruleset one_steps = (not_one, the_one)
+
+pub ruleset table_steps = (count_axes_in, short_ok, short_long)
 
 pub ruleset loop_list = (list_at_turn, list_at_end, with_no_trees, trees_steps)
 

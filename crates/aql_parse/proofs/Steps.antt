@@ -1,7 +1,6 @@
 -- The functions on lists, a turn at a time.
 use Rattle.std.proofs.Common.{ℕ, zero, suc, ◌≡◌, ◌≢◌, length, ◌<◌, ◌≤◌, ◌+◌, ◌-◌, List, [], ◌∷◌, Some, None, if◌then◌else◌, ◌==◌, Bool, true, false, refl, ap, arith, sub-one}
 use Rattle.std.proofs.lemmas.Bool.{eqb-true}
-use Rattle.aql_syntax.specs.declared.sign.Sign.TheVariants as signs
 use Rattle.aql_syntax.specs.Lexis.{Lexeme}
 use Rattle.aql_value.specs.Strict.{Strict}
 use Rattle.aql_syntax.specs.declared.ast.Expr.{Expr}
@@ -9,7 +8,7 @@ use Rattle.aql_syntax.specs.declared.ast.Pattern.{Pattern}
 use Rattle.aql_syntax.specs.declared.ast.Bind.{Bind}
 use Rattle.aql_syntax.specs.Tree.{Tree, Trees, no_tree, Pat, Pats, no_pat, tuple, op, Axes, no_axis, Quals, no_qual, Defs, no_def, count_trees, count_axes}
 use Rattle.aql_syntax.specs.View.{pats_of, trees_of, axes_in}
-use Rattle.aql_grammar.specs.Parsing.{Out, ◌>>=◌, pat_at, pat_in, pats_at, pats_rest, enclosed_pats, enclosed, only, short, Parser, Parsers, parse_at, whole_at, level_at, application_at, chain_rest, chain_step, operator_at, turns, negation_at, sub_rest, sub_step, list_at, list_rest, axes_at, axes_rest, binder_at, quals_at, quals_rest, front_at, defs_at, defs_rest, def_at}
+use Rattle.aql_grammar.specs.Parsing.{Out, ◌>>=◌, pat_at, pat_in, pats_at, pats_rest, enclosed_pats, enclosed, short, Parser, Parsers, parse_at, whole_at, level_at, application_at, chain_rest, chain_step, operator_at, turns, negation_at, sub_rest, list_at, axes_at, quals_at, defs_at}
 use Rattle.aql_parse.specs.Words.{with_pats}
 use Rattle.aql_parse.specs.Forms.{with_trees, with_axes, with_quals, with_defs}
 
@@ -46,11 +45,6 @@ pub enclosed_many : (xs : List Expr) → length xs ≢ 1 → enclosed (trees_of 
 enclosed_many [] h = refl
 enclosed_many (x ∷ []) h = absurd (h refl)
 enclosed_many (x ∷ y ∷ xs) h = refl
-
-pub only_one : (xs : List Expr) → length xs ≢ 1 → only (trees_of xs) ≡ None
-only_one [] h = refl
-only_one (x ∷ []) h = absurd (h refl)
-only_one (x ∷ y ∷ xs) h = refl
 
 -- a list of expressions has as many as its trees
 pub count_trees_of : (xs : List Expr) → count_trees (trees_of xs) ≡ length xs
@@ -92,10 +86,6 @@ unfolding level_at
 level_at_none p k zero s e = refl
 level_at_none p k (suc h) s e = cc
 
-pub level_at_five : (p : Parsers) (k h : ℕ) (s : List Lexeme) → h ≡ 5 → level_at p k h s ≡ negation_at p (level_at p k 4) s
-unfolding level_at
-level_at_five p k h s e = rw e refl
-
 pub level_at_above : (p : Parsers) (k h : ℕ) (s : List Lexeme) → h ≢ 0 → h ≢ 5 →
     level_at p k h s ≡ (level_at p k (h - 1) s >>= λ x. chain_rest (level_at p k (h - 1)) h (turns h k) x.0 x.1)
 unfolding level_at
@@ -118,46 +108,21 @@ pub chain_rest_end : (q : Parser) (h d i : ℕ) (a : Tree) (s : List Lexeme) →
 unfolding chain_rest
 chain_rest_end q h d i a s l = let e : d - i ≡ zero = omega arith in rw e refl
 
-pub sub_rest_turn : (p : Parsers) (k d i : ℕ) (a : Tree) (s : List Lexeme) → i < d →
-    sub_rest p k (d - i) a s ≡ sub_step p k (sub_rest p k (d - (i + 1))) a s
-unfolding sub_rest
-sub_rest_turn p k d i a s l = let e : d - i ≡ suc (d - (i + 1)) = omega arith in rw e refl
-
 pub sub_rest_end : (p : Parsers) (k d i : ℕ) (a : Tree) (s : List Lexeme) → d ≤ i → sub_rest p k (d - i) a s ≡ Some (a, s)
 unfolding sub_rest
 sub_rest_end p k d i a s l = let e : d - i ≡ zero = omega arith in rw e refl
-
-pub list_at_turn : (p : Parsers) (d i : ℕ) (s : List Lexeme) → i < d →
-    list_at p (d - i) s ≡ (p 8 s >>= λ x. list_rest (list_at p (d - (i + 1))) x.0 x.1)
-unfolding list_at
-list_at_turn p d i s l = let e : d - i ≡ suc (d - (i + 1)) = omega arith in rw e refl
 
 pub list_at_end : (p : Parsers) (d i : ℕ) (s : List Lexeme) → d ≤ i → list_at p (d - i) s ≡ None
 unfolding list_at
 list_at_end p d i s l = let e : d - i ≡ zero = omega arith in rw e refl
 
-pub axes_at_turn : (p : Parsers) (d i : ℕ) (s : List Lexeme) → i < d →
-    axes_at p (d - i) s ≡ (binder_at signs.Less s >>= λ x. p 8 x.1 >>= λ e. axes_rest (axes_at p (d - (i + 1))) x.0 e.0 e.1)
-unfolding axes_at
-axes_at_turn p d i s l = let e : d - i ≡ suc (d - (i + 1)) = omega arith in rw e refl
-
 pub axes_at_end : (p : Parsers) (d i : ℕ) (s : List Lexeme) → d ≤ i → axes_at p (d - i) s ≡ None
 unfolding axes_at
 axes_at_end p d i s l = let e : d - i ≡ zero = omega arith in rw e refl
 
-pub quals_at_turn : (p : Parsers) (n d i : ℕ) (s : List Lexeme) → i < d →
-    quals_at p n (d - i) s ≡ (p 8 (front_at n s).1 >>= λ e. quals_rest (quals_at p n (d - (i + 1))) (front_at n s).0 e.0 e.1)
-unfolding quals_at
-quals_at_turn p n d i s l = let e : d - i ≡ suc (d - (i + 1)) = omega arith in rw e refl
-
 pub quals_at_end : (p : Parsers) (n d i : ℕ) (s : List Lexeme) → d ≤ i → quals_at p n (d - i) s ≡ None
 unfolding quals_at
 quals_at_end p n d i s l = let e : d - i ≡ zero = omega arith in rw e refl
-
-pub defs_at_turn : (p : Parsers) (n d i : ℕ) (s : List Lexeme) → i < d →
-    defs_at p n (d - i) s ≡ (def_at n s >>= λ x. p 8 x.1 >>= λ e. defs_rest (defs_at p n (d - (i + 1))) x.0 e.0 e.1)
-unfolding defs_at
-defs_at_turn p n d i s l = let e : d - i ≡ suc (d - (i + 1)) = omega arith in rw e refl
 
 pub defs_at_end : (p : Parsers) (n d i : ℕ) (s : List Lexeme) → d ≤ i → defs_at p n (d - i) s ≡ None
 unfolding defs_at

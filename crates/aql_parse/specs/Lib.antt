@@ -1,4 +1,5 @@
 pub mod Words
 pub mod Forms
+pub mod Parts
 pub mod Parsed
 pub mod Fields

@@ -6,7 +6,7 @@ ghost use Rattle.aql_grammar.specs.Scripts.{bare_at};
 ghost use Rattle.aql_grammar.specs.Parsing.{decl_at, val_at, macro_at, readval_at, ended_at, reader_at};
 ghost use Rattle.aql_parse.specs.Words.{lexemes, Gives};
 
-use crate::expressions::parse;
+use crate::expressions::parse_then;
 use crate::fault::Refusal;
 use crate::parts::binder;
 use crate::patterns::pattern_then;
@@ -104,7 +104,7 @@ fn bare_declaration<'a>(
 }
 
 // An expression and a semicolon.
-#[tactic(auto, unfolding(aql_grammar::specs::Parsing::ended_at))]
+#[tactic(auto, unfolding(aql_grammar::specs::Parsing::ended_at, crate::specs::Parts::expr_then))]
 fn ended<'a>(
     alloc: Global,
     source: &[u8],
@@ -113,9 +113,8 @@ fn ended<'a>(
 ) -> Result<(Expr, &'a [Word]), Refusal>
     ensures { Gives (λ x. (tree_of x.0, lexemes source.now x.1.now)) result (ended_at depth (lexemes source.now words.now)) }
 {
-    let (expr, rest) = parse(alloc, source, 8, words, depth)?;
-    let rest = expect(source, rest, Sign::Semicolon)?;
-    Ok((expr, rest))
+    let (expr, rest) = parse_then(alloc, source, words, Sign::Semicolon, depth)?;
+    Ok((Box::into_inner(expr), rest))
 }
 
 // The reader that a name stands for.

@@ -1,34 +1,33 @@
 //! Expressions, by recursive descent.
 //!
-//! Each function is one of the functions on lists of `aql_grammar`. `depth` bounds how deep a reading may still go, and
-//! how many turns a loop may take.
+//! Each function is one of the functions on lists of `aql_grammar`, or the part of one that its contract names. `depth`
+//! bounds how deep a reading may still go, and how many turns a loop may take.
 
-ghost use Rattle.std.specs.Prelude.{◌≡◌, ◌<◌, ◌≤◌, ◌-◌, Some};
+ghost use Rattle.std.specs.Prelude.{◌≡◌, ◌<◌, ◌≤◌, ◌-◌};
 ghost use Rattle.aql_syntax.specs.View.{tree_of, trees_of, axes_in, quals_of, defs_in};
 ghost use Rattle.aql_grammar.specs.Parsing as grammar;
-ghost use Rattle.aql_grammar.specs.Parsing.{parse_at, whole_at, default_rest, level_at, chain_rest, application_at, function_at, postfix_at, primary_at, list_at, braces_at, brace_rest, brackets_at, axes_at, quals_at, defs_at};
+ghost use Rattle.aql_grammar.specs.Parsing.{parse_at, whole_at, choice_at, level_at, chain_rest, application_at, function_at, postfix_at, primary_at, paren_at, let_at, list_at, braces_at, brace_rest, bracket_rest, axes_at, quals_at, defs_at};
 ghost use Rattle.aql_parse.specs.Words.{lexemes, Gives};
-ghost use Rattle.aql_parse.specs.Forms.{functional_of};
+ghost use Rattle.aql_parse.specs.Forms.{functional_of, joiner_of};
+ghost use Rattle.aql_parse.specs.Parts.{expr_then, default_at, argument_at, joined_at, subs_at, double_at, cells_at, table_at, comp_at, list_or_none_at};
 
 use crate::fault::Refusal;
 use crate::forms::{
-    Functional, Head, binary, enclosed, function, only, opening, operated, operator_at, qualifier,
-    turns,
+    Functional, Head, Operator, binary, enclosed, few, function, only, opening, operated,
+    operator_at, qualifier, turns,
 };
-use crate::parts::{
-    applied, binder, choice, chosen_else, closed_twice, definition, front, negated,
-};
+use crate::parts::{applied, binder, closed_twice, definition, front, leaf};
 use crate::patterns::pattern_then;
-use crate::words::{Word, expect, name_in, next, string_in};
+use crate::words::{Word, behind, expect};
 use aql_syntax::ast::{Bind, Expr, LetBind, Qual};
 use aql_syntax::build::{comprehension, let_in, literal, members, subscript, tabulation};
 use aql_syntax::sign::Sign;
 use std::alloc::Global;
 
-/// An expression of that level, of at most that depth.
+// An expression of that level, of at most that depth.
 #[cycle(expr)]
 #[tactic(auto, using(crate::proofs::Loops::parse_steps))]
-pub fn parse<'a>(
+fn parse<'a>(
     alloc: Global,
     source: &[u8],
     level: u64,
@@ -48,8 +47,43 @@ pub fn parse<'a>(
     }
 }
 
+// An expression of that level, in a box.
 #[cycle(expr)]
-#[tactic(auto, unfolding(aql_grammar::specs::Parsing::whole_at, aql_grammar::specs::Parsing::choice_at))]
+#[tactic(auto)]
+fn parse_boxed<'a>(
+    alloc: Global,
+    source: &[u8],
+    level: u64,
+    words: &'a [Word],
+    depth: u64,
+) -> Result<(Box<Expr>, &'a [Word]), Refusal>
+    requires { level ≤ 8 }
+    ensures { Gives (λ x. (tree_of x.0.value, lexemes source.now x.1.now)) result (parse_at depth level (lexemes source.now words.now)) }
+{
+    let (expr, rest) = parse(alloc, source, level, words, depth)?;
+    Ok((Box::new(alloc, expr)?, rest))
+}
+
+/// An expression, in a box, and then that sign.
+#[cycle(expr)]
+#[tactic(auto, unfolding(crate::specs::Parts::expr_then))]
+pub fn parse_then<'a>(
+    alloc: Global,
+    source: &[u8],
+    words: &'a [Word],
+    sign: Sign,
+    depth: u64,
+) -> Result<(Box<Expr>, &'a [Word]), Refusal>
+    ensures { Gives (λ x. (tree_of x.0.value, lexemes source.now x.1.now)) result (expr_then sign (parse_at depth) (lexemes source.now words.now)) }
+{
+    let (expr, rest) = parse_boxed(alloc, source, 8, words, depth)?;
+    let rest = expect(source, rest, sign)?;
+    Ok((expr, rest))
+}
+
+// An expression of level 8.
+#[cycle(expr)]
+#[tactic(auto, using(crate::proofs::Branches::whole_parts))]
 fn whole<'a>(
     alloc: Global,
     source: &[u8],
@@ -58,25 +92,35 @@ fn whole<'a>(
 ) -> Result<(Expr, &'a [Word]), Refusal>
     ensures { Gives (λ x. (tree_of x.0, lexemes source.now x.1.now)) result (whole_at (parse_at depth) depth (lexemes source.now words.now)) }
 {
-    match next(words) {
-        Some((Word::Mark(Sign::If), rest)) => {
-            let (test, rest) = parse(alloc, source, 8, rest, depth)?;
-            let rest = expect(source, rest, Sign::Then)?;
-            let (first, rest) = parse(alloc, source, 8, rest, depth)?;
-            let rest = expect(source, rest, Sign::Else)?;
-            let (second, rest) = parse(alloc, source, 8, rest, depth)?;
-            Ok((choice(alloc, test, first, second)?, rest))
-        }
-        _ => {
+    match behind(source, words, Sign::If) {
+        Some(rest) => chosen(alloc, source, rest, depth),
+        None => {
             let (left, rest) = chain(alloc, source, 7, words, depth)?;
             defaulted(alloc, source, left, rest, depth)
         }
     }
 }
 
+// Behind the word `if`.
+#[cycle(expr)]
+#[tactic(auto, using(crate::proofs::Branches::choice_parts))]
+fn chosen<'a>(
+    alloc: Global,
+    source: &[u8],
+    words: &'a [Word],
+    depth: u64,
+) -> Result<(Expr, &'a [Word]), Refusal>
+    ensures { Gives (λ x. (tree_of x.0, lexemes source.now x.1.now)) result (choice_at (parse_at depth) (lexemes source.now words.now)) }
+{
+    let (test, rest) = parse_then(alloc, source, words, Sign::Then, depth)?;
+    let (first, rest) = parse_then(alloc, source, rest, Sign::Else, depth)?;
+    let (second, rest) = parse_boxed(alloc, source, 8, rest, depth)?;
+    Ok((Expr::If(test, first, second), rest))
+}
+
 // What may follow the first part of an expression: `default` and the second.
 #[cycle(expr)]
-#[tactic(auto)]
+#[tactic(auto, unfolding(crate::specs::Parts::default_at))]
 fn defaulted<'a>(
     alloc: Global,
     source: &[u8],
@@ -84,20 +128,21 @@ fn defaulted<'a>(
     words: &'a [Word],
     depth: u64,
 ) -> Result<(Expr, &'a [Word]), Refusal>
-    ensures { Gives (λ x. (tree_of x.0, lexemes source.now x.1.now)) result (default_rest (parse_at depth) (tree_of left) (lexemes source.now words.now)) }
+    ensures { Gives (λ x. (tree_of x.0, lexemes source.now x.1.now)) result (default_at (parse_at depth) (tree_of left) (lexemes source.now words.now)) }
 {
-    match next(words) {
-        Some((Word::Mark(Sign::Default), rest)) => {
-            let (right, rest) = parse(alloc, source, 8, rest, depth)?;
-            Ok((chosen_else(alloc, left, right)?, rest))
+    match behind(source, words, Sign::Default) {
+        Some(rest) => {
+            let left = Box::new(alloc, left)?;
+            let (right, rest) = parse_boxed(alloc, source, 8, rest, depth)?;
+            Ok((Expr::Default(left, right), rest))
         }
-        _ => Ok((left, words)),
+        None => Ok((left, words)),
     }
 }
 
 // Levels 0 to 7.
 #[cycle(expr)]
-#[tactic(auto, using(crate::proofs::Loops::level_steps))]
+#[tactic(auto, using(crate::proofs::Loops::level_steps), unfolding(crate::specs::Parts::not_at))]
 fn chain<'a>(
     alloc: Global,
     source: &[u8],
@@ -112,12 +157,12 @@ fn chain<'a>(
         return application(alloc, source, words, depth);
     }
     if level == 5 {
-        return match next(words) {
-            Some((Word::Mark(Sign::Not), rest)) => {
-                let (part, rest) = parse(alloc, source, 5, rest, depth)?;
-                Ok((negated(alloc, part)?, rest))
+        return match behind(source, words, Sign::Not) {
+            Some(rest) => {
+                let (part, rest) = parse_boxed(alloc, source, 5, rest, depth)?;
+                Ok((Expr::Not(part), rest))
             }
-            _ => chain(alloc, source, 4, words, depth),
+            None => chain(alloc, source, 4, words, depth),
         };
     }
     let (left, rest) = chain(alloc, source, level - 1, words, depth)?;
@@ -143,9 +188,9 @@ fn operators<'a>(
     let mut rest = words;
     for _turn in 0..turns(level, depth) {
         match operator_at(source, level, rest) {
-            Some((operator, behind)) => {
-                let (right, behind) = chain(alloc, source, level - 1, behind, depth)?;
-                left = binary(alloc, operator, left, right)?;
+            Some((operator, right)) => {
+                let (both, behind) = joined(alloc, source, level, operator, left, right, depth)?;
+                left = both;
                 rest = behind;
             }
             None => return Ok((left, rest)),
@@ -154,6 +199,29 @@ fn operators<'a>(
     Ok((left, rest))
 }
 
+// Behind an operator of that level: its second part, joined to the first.
+#[cycle(expr)]
+#[tactic(auto, unfolding(crate::specs::Parts::joined_at))]
+fn joined<'a>(
+    alloc: Global,
+    source: &[u8],
+    level: u64,
+    operator: Operator,
+    left: Expr,
+    words: &'a [Word],
+    depth: u64,
+) -> Result<(Expr, &'a [Word]), Refusal>
+    requires above { 0 < level }
+    requires below { level ≤ 7 }
+    ensures { Gives (λ x. (tree_of x.0, lexemes source.now x.1.now)) result (joined_at (level_at (parse_at depth) depth (level - 1)) (joiner_of operator) (tree_of left) (lexemes source.now words.now)) }
+{
+    let left = Box::new(alloc, left)?;
+    let (right, rest) = chain(alloc, source, level - 1, words, depth)?;
+    let right = Box::new(alloc, right)?;
+    Ok((binary(operator, left, right), rest))
+}
+
+// An application, or what is tighter.
 #[cycle(expr)]
 #[tactic(auto, unfolding(aql_grammar::specs::Parsing::application_at))]
 fn application<'a>(
@@ -166,12 +234,12 @@ fn application<'a>(
 {
     match opening(source, words) {
         Some((Head::Macro(token), rest)) => {
-            let (argument, rest) = parse(alloc, source, 0, rest, depth)?;
+            let (argument, rest) = parse_boxed(alloc, source, 0, rest, depth)?;
             Ok((applied(alloc, source, token, argument)?, rest))
         }
         Some((Head::Operation(operation), rest)) => {
-            let (part, rest) = parse(alloc, source, 0, rest, depth)?;
-            Ok((operated(alloc, operation, part)?, rest))
+            let (part, rest) = parse_boxed(alloc, source, 0, rest, depth)?;
+            Ok((operated(operation, part), rest))
         }
         Some((Head::Function(functional), rest)) => in_place(
             alloc, source, functional, rest, depth,
@@ -182,7 +250,7 @@ fn application<'a>(
 
 // Behind the word `fn`.
 #[cycle(expr)]
-#[tactic(auto, unfolding(aql_grammar::specs::Parsing::function_at))]
+#[tactic(auto, using(crate::proofs::Branches::function_parts))]
 fn in_place<'a>(
     alloc: Global,
     source: &[u8],
@@ -193,15 +261,29 @@ fn in_place<'a>(
     ensures { Gives (λ x. (tree_of x.0, lexemes source.now x.1.now)) result (function_at (functional_of functional) (parse_at depth) depth (lexemes source.now words.now)) }
 {
     let (pattern, rest) = pattern_then(alloc, source, words, Sign::FatArrow, depth)?;
-    let (body, rest) = parse(alloc, source, 8, rest, depth)?;
-    let rest = expect(source, rest, Sign::Close)?;
-    let rest = expect(source, rest, Sign::Bang)?;
-    let (argument, rest) = parse(alloc, source, 0, rest, depth)?;
-    Ok((function(alloc, functional, pattern, body, argument)?, rest))
+    let (body, rest) = parse_then(alloc, source, rest, Sign::Close, depth)?;
+    let (argument, rest) = argument(alloc, source, rest, depth)?;
+    Ok((function(functional, pattern, body, argument), rest))
 }
 
+// An exclamation mark and an application, in a box.
 #[cycle(expr)]
-#[tactic(auto, using(crate::proofs::Loops::loop_subscripts), unfolding(aql_grammar::specs::Parsing::postfix_at))]
+#[tactic(auto, unfolding(crate::specs::Parts::argument_at))]
+fn argument<'a>(
+    alloc: Global,
+    source: &[u8],
+    words: &'a [Word],
+    depth: u64,
+) -> Result<(Box<Expr>, &'a [Word]), Refusal>
+    ensures { Gives (λ x. (tree_of x.0.value, lexemes source.now x.1.now)) result (argument_at (parse_at depth) (lexemes source.now words.now)) }
+{
+    let rest = expect(source, words, Sign::Bang)?;
+    parse_boxed(alloc, source, 0, rest, depth)
+}
+
+// An expression and its subscripts.
+#[cycle(expr)]
+#[tactic(auto, using(crate::proofs::Loops::loop_subscripts), unfolding(aql_grammar::specs::Parsing::postfix_at, crate::specs::Parts::sub_at))]
 fn postfix<'a>(
     alloc: Global,
     source: &[u8],
@@ -210,27 +292,43 @@ fn postfix<'a>(
 ) -> Result<(Expr, &'a [Word]), Refusal>
     ensures { Gives (λ x. (tree_of x.0, lexemes source.now x.1.now)) result (postfix_at (parse_at depth) depth (lexemes source.now words.now)) }
 {
-    let (array, rest) = primary(alloc, source, words, depth)?;
-    let mut left = array;
+    let (first, rest) = primary(alloc, source, words, depth)?;
+    let mut left = first;
     let mut rest = rest;
     for _turn in 0..depth {
-        match next(rest) {
-            Some((Word::Mark(Sign::OpenBracket), inner)) => {
-                let (at, inner) = list(alloc, source, inner, depth)?;
-                if at.len() > 8 {
-                    return Err(Refusal::Syntax);
-                }
-                rest = expect(source, inner, Sign::CloseBracket)?;
-                left = subscript(Box::new(alloc, left)?, at);
+        match behind(source, rest, Sign::OpenBracket) {
+            Some(inner) => {
+                let array = Box::new(alloc, left)?;
+                let (at, behind) = subscripts(alloc, source, inner, depth)?;
+                left = subscript(array, at);
+                rest = behind;
             }
-            _ => return Ok((left, rest)),
+            None => return Ok((left, rest)),
         }
     }
     Ok((left, rest))
 }
 
+// Behind an opening bracket: subscripts and the closing one.
 #[cycle(expr)]
-#[tactic(auto, unfolding(aql_grammar::specs::Parsing::primary_at, aql_grammar::specs::Parsing::paren_at, aql_grammar::specs::Parsing::let_at, aql_grammar::specs::Parsing::after))]
+#[tactic(auto, unfolding(crate::specs::Parts::subs_at))]
+fn subscripts<'a>(
+    alloc: Global,
+    source: &[u8],
+    words: &'a [Word],
+    depth: u64,
+) -> Result<(Vec<Expr>, &'a [Word]), Refusal>
+    ensures { Gives (λ x. (trees_of x.0.items, lexemes source.now x.1.now)) result (subs_at (parse_at depth) depth (lexemes source.now words.now)) }
+{
+    let (at, rest) = list(alloc, source, words, depth)?;
+    let at = few(at)?;
+    let rest = expect(source, rest, Sign::CloseBracket)?;
+    Ok((at, rest))
+}
+
+// What stands before subscripts.
+#[cycle(expr)]
+#[tactic(auto, using(crate::proofs::Branches::primary_parts))]
 fn primary<'a>(
     alloc: Global,
     source: &[u8],
@@ -239,36 +337,57 @@ fn primary<'a>(
 ) -> Result<(Expr, &'a [Word]), Refusal>
     ensures { Gives (λ x. (tree_of x.0, lexemes source.now x.1.now)) result (primary_at (parse_at depth) depth (lexemes source.now words.now)) }
 {
-    match next(words) {
-        Some((Word::Name(token), rest)) => Ok((Expr::Name(name_in(alloc, source, token)?), rest)),
-        Some((Word::Number(n), rest)) => Ok((Expr::Nat(n), rest)),
-        Some((Word::Text(token), rest)) => Ok((Expr::Text(string_in(alloc, source, token)?), rest)),
-        Some((Word::Mark(Sign::True), rest)) => Ok((Expr::Bool(true), rest)),
-        Some((Word::Mark(Sign::False), rest)) => Ok((Expr::Bool(false), rest)),
-        Some((Word::Mark(Sign::Open), rest)) => {
-            let (items, rest) = list(alloc, source, rest, depth)?;
-            let rest = expect(source, rest, Sign::Close)?;
-            Ok((enclosed(items), rest))
-        }
-        Some((Word::Mark(Sign::OpenBrace), rest)) => braces(alloc, source, rest, depth),
-        Some((Word::Mark(Sign::OpenBracket), rest)) => {
-            let rest = expect(source, rest, Sign::OpenBracket)?;
-            brackets(alloc, source, rest, depth)
-        }
-        Some((Word::Mark(Sign::Let), rest)) => {
-            let (items, rest) = definitions(alloc, source, rest, depth)?;
-            let rest = expect(source, rest, Sign::In)?;
-            let (body, rest) = parse(alloc, source, 8, rest, depth)?;
-            let rest = expect(source, rest, Sign::End)?;
-            Ok((let_in(items, Box::new(alloc, body)?), rest))
-        }
-        _ => Err(Refusal::Syntax),
+    if let Some(rest) = behind(source, words, Sign::Open) {
+        return grouped(alloc, source, rest, depth);
     }
+    if let Some(rest) = behind(source, words, Sign::OpenBrace) {
+        return braces(alloc, source, rest, depth);
+    }
+    if let Some(rest) = behind(source, words, Sign::OpenBracket) {
+        return brackets(alloc, source, rest, depth);
+    }
+    if let Some(rest) = behind(source, words, Sign::Let) {
+        return bound(alloc, source, rest, depth);
+    }
+    leaf(alloc, source, words)
 }
 
-// Behind an open brace.
+// Behind an opening parenthesis.
 #[cycle(expr)]
-#[tactic(auto, unfolding(aql_grammar::specs::Parsing::braces_at))]
+#[tactic(auto, unfolding(aql_grammar::specs::Parsing::paren_at))]
+fn grouped<'a>(
+    alloc: Global,
+    source: &[u8],
+    words: &'a [Word],
+    depth: u64,
+) -> Result<(Expr, &'a [Word]), Refusal>
+    ensures { Gives (λ x. (tree_of x.0, lexemes source.now x.1.now)) result (paren_at (parse_at depth) depth (lexemes source.now words.now)) }
+{
+    let (items, rest) = list(alloc, source, words, depth)?;
+    let rest = expect(source, rest, Sign::Close)?;
+    Ok((enclosed(items), rest))
+}
+
+// Behind the word `let`.
+#[cycle(expr)]
+#[tactic(auto, using(crate::proofs::Branches::let_parts))]
+fn bound<'a>(
+    alloc: Global,
+    source: &[u8],
+    words: &'a [Word],
+    depth: u64,
+) -> Result<(Expr, &'a [Word]), Refusal>
+    ensures { Gives (λ x. (tree_of x.0, lexemes source.now x.1.now)) result (let_at (parse_at depth) depth (lexemes source.now words.now)) }
+{
+    let (items, rest) = definitions(alloc, source, words, depth)?;
+    let rest = expect(source, rest, Sign::In)?;
+    let (body, rest) = parse_then(alloc, source, rest, Sign::End, depth)?;
+    Ok((let_in(items, body), rest))
+}
+
+// Behind an opening brace.
+#[cycle(expr)]
+#[tactic(auto, using(crate::proofs::Branches::braces_parts))]
 fn braces<'a>(
     alloc: Global,
     source: &[u8],
@@ -277,9 +396,9 @@ fn braces<'a>(
 ) -> Result<(Expr, &'a [Word]), Refusal>
     ensures { Gives (λ x. (tree_of x.0, lexemes source.now x.1.now)) result (braces_at (parse_at depth) depth (lexemes source.now words.now)) }
 {
-    match next(words) {
-        Some((Word::Mark(Sign::CloseBrace), rest)) => Ok((Expr::Empty, rest)),
-        _ => {
+    match behind(source, words, Sign::CloseBrace) {
+        Some(rest) => Ok((Expr::Empty, rest)),
+        None => {
             let (items, rest) = list(alloc, source, words, depth)?;
             in_braces(alloc, source, items, rest, depth)
         }
@@ -288,7 +407,7 @@ fn braces<'a>(
 
 // Behind the first expressions in braces.
 #[cycle(expr)]
-#[tactic(auto, unfolding(aql_grammar::specs::Parsing::brace_rest))]
+#[tactic(auto, using(crate::proofs::Branches::brace_parts))]
 fn in_braces<'a>(
     alloc: Global,
     source: &[u8],
@@ -298,63 +417,132 @@ fn in_braces<'a>(
 ) -> Result<(Expr, &'a [Word]), Refusal>
     ensures { Gives (λ x. (tree_of x.0, lexemes source.now x.1.now)) result (brace_rest (parse_at depth) depth (trees_of items.items) (lexemes source.now words.now)) }
 {
-    match next(words) {
-        Some((Word::Mark(Sign::CloseBrace), rest)) => Ok((members(items), rest)),
-        Some((Word::Mark(Sign::Bar), rest)) => match only(items) {
-            Some(head) => {
-                let (quals, rest) = qualifiers(alloc, source, rest, depth)?;
-                let rest = expect(source, rest, Sign::CloseBrace)?;
-                Ok((comprehension(Box::new(alloc, head)?, quals), rest))
-            }
+    if let Some(rest) = behind(source, words, Sign::CloseBrace) {
+        return Ok((members(items), rest));
+    }
+    match behind(source, words, Sign::Bar) {
+        Some(rest) => match only(items) {
+            Some(head) => comprehended(alloc, source, Box::new(alloc, head)?, rest, depth),
             None => Err(Refusal::Syntax),
         },
-        _ => Err(Refusal::Syntax),
+        None => Err(Refusal::Syntax),
     }
 }
 
-// Behind two open brackets.
+// Behind the head of a comprehension and its bar.
 #[cycle(expr)]
-#[tactic(auto, using(crate::proofs::Loops::bracket_steps), unfolding(aql_grammar::specs::Parsing::brackets_at, aql_grammar::specs::Parsing::bracket_rest))]
+#[tactic(auto, unfolding(crate::specs::Parts::comp_at))]
+fn comprehended<'a>(
+    alloc: Global,
+    source: &[u8],
+    head: Box<Expr>,
+    words: &'a [Word],
+    depth: u64,
+) -> Result<(Expr, &'a [Word]), Refusal>
+    ensures { Gives (λ x. (tree_of x.0, lexemes source.now x.1.now)) result (comp_at (parse_at depth) depth (tree_of head.value) (lexemes source.now words.now)) }
+{
+    let (quals, rest) = qualifiers(alloc, source, words, depth)?;
+    let rest = expect(source, rest, Sign::CloseBrace)?;
+    Ok((comprehension(head, quals), rest))
+}
+
+// Behind an opening bracket: another, and what stands in double brackets.
+#[cycle(expr)]
+#[tactic(auto, unfolding(crate::specs::Parts::double_at, aql_grammar::specs::Parsing::brackets_at))]
 fn brackets<'a>(
     alloc: Global,
     source: &[u8],
     words: &'a [Word],
     depth: u64,
 ) -> Result<(Expr, &'a [Word]), Refusal>
-    ensures { Gives (λ x. (tree_of x.0, lexemes source.now x.1.now)) result (brackets_at (parse_at depth) depth (lexemes source.now words.now)) }
+    ensures { Gives (λ x. (tree_of x.0, lexemes source.now x.1.now)) result (double_at (parse_at depth) depth (lexemes source.now words.now)) }
 {
-    let (items, rest) = list(alloc, source, words, depth)?;
-    match next(rest) {
-        Some((Word::Mark(Sign::Semicolon), rest)) => {
-            if items.len() > 8 {
-                return Err(Refusal::Syntax);
-            }
-            if let Some((Word::Mark(Sign::CloseBracket), _)) = next(rest) {
-                let rest = closed_twice(source, rest)?;
-                return Ok((literal(items, Vec::new(alloc)), rest));
-            }
-            let (cells, rest) = list(alloc, source, rest, depth)?;
-            let rest = closed_twice(source, rest)?;
-            Ok((literal(items, cells), rest))
-        }
-        Some((Word::Mark(Sign::Bar), rest)) => match only(items) {
-            Some(body) => {
-                let (binds, rest) = indices(alloc, source, rest, depth)?;
-                if binds.len() > 8 {
-                    return Err(Refusal::Syntax);
-                }
-                let rest = closed_twice(source, rest)?;
-                Ok((tabulation(Box::new(alloc, body)?, binds), rest))
-            }
+    let rest = expect(source, words, Sign::OpenBracket)?;
+    let (items, rest) = list(alloc, source, rest, depth)?;
+    in_brackets(alloc, source, items, rest, depth)
+}
+
+// Behind the first expressions in double brackets.
+#[cycle(expr)]
+#[tactic(auto, using(crate::proofs::Branches::bracket_parts))]
+fn in_brackets<'a>(
+    alloc: Global,
+    source: &[u8],
+    items: Vec<Expr>,
+    words: &'a [Word],
+    depth: u64,
+) -> Result<(Expr, &'a [Word]), Refusal>
+    ensures { Gives (λ x. (tree_of x.0, lexemes source.now x.1.now)) result (bracket_rest (parse_at depth) depth (trees_of items.items) (lexemes source.now words.now)) }
+{
+    if let Some(rest) = behind(source, words, Sign::Semicolon) {
+        return cells(alloc, source, few(items)?, rest, depth);
+    }
+    match behind(source, words, Sign::Bar) {
+        Some(rest) => match only(items) {
+            Some(body) => tabulated(alloc, source, Box::new(alloc, body)?, rest, depth),
             None => Err(Refusal::Syntax),
         },
-        _ => Err(Refusal::Syntax),
+        None => Err(Refusal::Syntax),
+    }
+}
+
+// Behind the dimensions of a literal and their semicolon.
+#[cycle(expr)]
+#[tactic(auto, unfolding(crate::specs::Parts::cells_at))]
+fn cells<'a>(
+    alloc: Global,
+    source: &[u8],
+    dims: Vec<Expr>,
+    words: &'a [Word],
+    depth: u64,
+) -> Result<(Expr, &'a [Word]), Refusal>
+    ensures { Gives (λ x. (tree_of x.0, lexemes source.now x.1.now)) result (cells_at (parse_at depth) depth (trees_of dims.items) (lexemes source.now words.now)) }
+{
+    let (cells, rest) = list_or_none(alloc, source, words, depth)?;
+    let rest = closed_twice(source, rest)?;
+    Ok((literal(dims, cells), rest))
+}
+
+// Behind the body of a tabulation and its bar.
+#[cycle(expr)]
+#[tactic(auto, using(crate::proofs::Loops::table_steps), unfolding(crate::specs::Parts::table_at))]
+fn tabulated<'a>(
+    alloc: Global,
+    source: &[u8],
+    body: Box<Expr>,
+    words: &'a [Word],
+    depth: u64,
+) -> Result<(Expr, &'a [Word]), Refusal>
+    ensures { Gives (λ x. (tree_of x.0, lexemes source.now x.1.now)) result (table_at (parse_at depth) depth (tree_of body.value) (lexemes source.now words.now)) }
+{
+    let (binds, rest) = indices(alloc, source, words, depth)?;
+    if binds.len() > 8 {
+        return Err(Refusal::Syntax);
+    }
+    let rest = closed_twice(source, rest)?;
+    Ok((tabulation(body, binds), rest))
+}
+
+// Expressions up to a closing bracket, or none.
+#[cycle(expr)]
+#[tactic(auto, unfolding(crate::specs::Parts::list_or_none_at))]
+fn list_or_none<'a>(
+    alloc: Global,
+    source: &[u8],
+    words: &'a [Word],
+    depth: u64,
+) -> Result<(Vec<Expr>, &'a [Word]), Refusal>
+    ensures { Gives (λ x. (trees_of x.0.items, lexemes source.now x.1.now)) result (list_or_none_at (parse_at depth) depth (lexemes source.now words.now)) }
+{
+    match behind(source, words, Sign::CloseBracket) {
+        Some(_) => Ok((Vec::new(alloc), words)),
+        None => list(alloc, source, words, depth),
     }
 }
 
 // One expression or more, with commas between them.
 #[cycle(expr)]
-#[tactic(auto, using(crate::proofs::Loops::loop_list))]
+#[tactic(auto, using(crate::proofs::Loops::loop_list), unfolding(crate::specs::Parts::more_trees))]
 fn list<'a>(
     alloc: Global,
     source: &[u8],
@@ -366,13 +554,13 @@ fn list<'a>(
     let mut items = Vec::new(alloc);
     let mut rest = words;
     for _turn in 0..depth {
-        let (item, behind) = parse(alloc, source, 8, rest, depth)?;
+        let (item, after) = parse(alloc, source, 8, rest, depth)?;
         items.push(item)?;
-        match next(behind) {
-            Some((Word::Mark(Sign::Comma), more)) => {
+        match behind(source, after, Sign::Comma) {
+            Some(more) => {
                 rest = more;
             }
-            _ => return Ok((items, behind)),
+            None => return Ok((items, after)),
         }
     }
     Err(Refusal::Syntax)
@@ -380,7 +568,7 @@ fn list<'a>(
 
 // The indices of a tabulation.
 #[cycle(expr)]
-#[tactic(auto, using(crate::proofs::Loops::loop_indices))]
+#[tactic(auto, using(crate::proofs::Loops::loop_indices), unfolding(crate::specs::Parts::more_axes))]
 fn indices<'a>(
     alloc: Global,
     source: &[u8],
@@ -392,14 +580,14 @@ fn indices<'a>(
     let mut items = Vec::new(alloc);
     let mut rest = words;
     for _turn in 0..depth {
-        let (name, behind) = binder(alloc, source, rest, Sign::Less)?;
-        let (bound, behind) = parse(alloc, source, 8, behind, depth)?;
+        let (name, after) = binder(alloc, source, rest, Sign::Less)?;
+        let (bound, after) = parse(alloc, source, 8, after, depth)?;
         items.push(Bind { name, bound })?;
-        match next(behind) {
-            Some((Word::Mark(Sign::Comma), more)) => {
+        match behind(source, after, Sign::Comma) {
+            Some(more) => {
                 rest = more;
             }
-            _ => return Ok((items, behind)),
+            None => return Ok((items, after)),
         }
     }
     Err(Refusal::Syntax)
@@ -407,7 +595,7 @@ fn indices<'a>(
 
 // The qualifiers of a comprehension.
 #[cycle(expr)]
-#[tactic(auto, using(crate::proofs::Loops::loop_qualifiers))]
+#[tactic(auto, using(crate::proofs::Loops::loop_qualifiers), unfolding(crate::specs::Parts::more_quals))]
 fn qualifiers<'a>(
     alloc: Global,
     source: &[u8],
@@ -419,14 +607,14 @@ fn qualifiers<'a>(
     let mut items = Vec::new(alloc);
     let mut rest = words;
     for _turn in 0..depth {
-        let (front, behind) = front(alloc, source, rest, depth)?;
-        let (expr, behind) = parse(alloc, source, 8, behind, depth)?;
+        let (front, after) = front(alloc, source, rest, depth)?;
+        let (expr, after) = parse(alloc, source, 8, after, depth)?;
         items.push(qualifier(front, expr))?;
-        match next(behind) {
-            Some((Word::Mark(Sign::Comma), more)) => {
+        match behind(source, after, Sign::Comma) {
+            Some(more) => {
                 rest = more;
             }
-            _ => return Ok((items, behind)),
+            None => return Ok((items, after)),
         }
     }
     Err(Refusal::Syntax)
@@ -434,7 +622,7 @@ fn qualifiers<'a>(
 
 // The bindings of a let.
 #[cycle(expr)]
-#[tactic(auto, using(crate::proofs::Loops::loop_definitions))]
+#[tactic(auto, using(crate::proofs::Loops::loop_definitions), unfolding(crate::specs::Parts::more_defs))]
 fn definitions<'a>(
     alloc: Global,
     source: &[u8],
@@ -446,14 +634,14 @@ fn definitions<'a>(
     let mut items = Vec::new(alloc);
     let mut rest = words;
     for _turn in 0..depth {
-        let (pattern, behind) = definition(alloc, source, rest, depth)?;
-        let (expr, behind) = parse(alloc, source, 8, behind, depth)?;
+        let (pattern, after) = definition(alloc, source, rest, depth)?;
+        let (expr, after) = parse(alloc, source, 8, after, depth)?;
         items.push(LetBind { pattern, expr })?;
-        match next(behind) {
-            Some((Word::Mark(Sign::Val), _)) => {
-                rest = behind;
+        match behind(source, after, Sign::Val) {
+            Some(_) => {
+                rest = after;
             }
-            _ => return Ok((items, behind)),
+            None => return Ok((items, after)),
         }
     }
     Err(Refusal::Syntax)

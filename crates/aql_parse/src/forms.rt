@@ -1,23 +1,23 @@
 //! Operators, heads of applications, and trees made of what was read.
 
-ghost use Rattle.std.specs.Prelude.{◌≡◌, IfOk, MatchOption, Some, None};
+ghost use Rattle.std.specs.Prelude.{◌≡◌, MatchOption, Some, None};
 ghost use Rattle.aql_syntax.specs.Lexis.{mark};
 ghost use Rattle.aql_syntax.specs.Tree as tree;
 ghost use Rattle.aql_syntax.specs.View.{tree_of, trees_of, pat_of, qual_of, of_one};
 ghost use Rattle.aql_syntax.specs.Grammar.{head_operator};
 ghost use Rattle.aql_grammar.specs.Parsing as grammar;
-ghost use Rattle.aql_grammar.specs.Parsing.{joined_by, operand, enclosed, only, qualified};
-ghost use Rattle.aql_parse.specs.Words.{lexemes};
+ghost use Rattle.aql_grammar.specs.Parsing.{joined_by, operand, enclosed, qualified};
+ghost use Rattle.aql_parse.specs.Words.{lexemes, Gives};
+ghost use Rattle.aql_parse.specs.Parts.{few_of, one_of};
 ghost use Rattle.aql_parse.specs.Forms.{joiner_of, strict_of, opening_of, functional_of, front_seen};
 
-use crate::words::{Word, is_sign, next};
-use aql_made::{both, both_boxed, boxed};
+use crate::fault::Refusal;
+use crate::words::{Word, behind, next};
 use aql_syntax::ast::{Expr, Pattern, Qual};
 use aql_syntax::build::row;
 use aql_syntax::sign::Sign;
 use aql_syntax::token::Token;
-use aql_value::{ArithOp, CompareOp, Memory};
-use std::alloc::Global;
+use aql_value::{ArithOp, CompareOp};
 
 /// An operator between two expressions.
 #[derive(Clone, Copy)]
@@ -84,16 +84,15 @@ pub fn turns(level: u64, depth: u64) -> u64
 }
 
 /// An operator applied.
-pub fn binary(alloc: Global, operator: Operator, left: Expr, right: Expr) -> Result<Expr, Memory>
-    ensures { IfOk result (λ e. tree_of e ≡ joined_by (joiner_of operator) (tree_of left) (tree_of right)) }
+pub fn binary(operator: Operator, left: Box<Expr>, right: Box<Expr>) -> Expr
+    ensures { tree_of result ≡ joined_by (joiner_of operator) (tree_of left.value) (tree_of right.value) }
 {
-    let (left, right) = both_boxed(alloc, Ok(left), Ok(right))?;
     match operator {
-        Operator::Arith(op) => Ok(Expr::Arith(op, left, right)),
-        Operator::Union => Ok(Expr::Union(left, right)),
-        Operator::Compare(op) => Ok(Expr::Compare(op, left, right)),
-        Operator::And => Ok(Expr::And(left, right)),
-        Operator::Or => Ok(Expr::Or(left, right)),
+        Operator::Arith(op) => Expr::Arith(op, left, right),
+        Operator::Union => Expr::Union(left, right),
+        Operator::Compare(op) => Expr::Compare(op, left, right),
+        Operator::And => Expr::And(left, right),
+        Operator::Or => Expr::Or(left, right),
     }
 }
 
@@ -176,59 +175,38 @@ pub fn opening<'a>(source: &[u8], words: &'a [Word]) -> Option<(Head, &'a [Word]
     }
 }
 
-// The words behind that sign.
-#[tactic(auto, unfolding(aql_grammar::specs::Parsing::after))]
-fn behind<'a>(source: &[u8], words: &'a [Word], sign: Sign) -> Option<&'a [Word]>
-    ensures { MatchOption result (grammar.after sign (lexemes source.now words.now) ≡ None) (λ x. grammar.after sign (lexemes source.now words.now) ≡ Some (lexemes source.now x.now)) }
-{
-    match next(words) {
-        Some((Word::Mark(found), rest)) => {
-            if is_sign(found, sign) {
-                Some(rest)
-            } else {
-                None
-            }
-        }
-        _ => None,
-    }
-}
-
 /// An operation applied.
-pub fn operated(alloc: Global, operation: Operation, part: Expr) -> Result<Expr, Memory>
-    ensures { IfOk result (λ e. tree_of e ≡ of_one (strict_of operation) (tree_of part)) }
+pub fn operated(operation: Operation, part: Box<Expr>) -> Expr
+    ensures { tree_of result ≡ of_one (strict_of operation) (tree_of part.value) }
 {
-    let part = boxed(alloc, Ok(part))?;
     match operation {
-        Operation::Gen => Ok(Expr::Gen(part)),
-        Operation::Get => Ok(Expr::Get(part)),
-        Operation::Dim(rank) => Ok(Expr::Dim { rank, array: part }),
-        Operation::Index(rank) => Ok(Expr::Index { rank, pairs: part }),
+        Operation::Gen => Expr::Gen(part),
+        Operation::Get => Expr::Get(part),
+        Operation::Dim(rank) => Expr::Dim { rank, array: part },
+        Operation::Index(rank) => Expr::Index { rank, pairs: part },
     }
 }
 
 /// A function applied, or summed over a set.
 pub fn function(
-    alloc: Global,
     functional: Functional,
     pattern: Pattern,
-    body: Expr,
-    argument: Expr,
-) -> Result<Expr, Memory>
-    ensures { IfOk result (λ e. tree_of e ≡ functional_of functional (pat_of pattern) (tree_of body) (tree_of argument)) }
+    body: Box<Expr>,
+    argument: Box<Expr>,
+) -> Expr
+    ensures { tree_of result ≡ functional_of functional (pat_of pattern) (tree_of body.value) (tree_of argument.value) }
 {
-    let parts = both_boxed(alloc, Ok(body), Ok(argument));
-    let (pattern, (body, argument)) = both(Ok(pattern), parts)?;
     match functional {
-        Functional::Plain => Ok(Expr::Fun {
+        Functional::Plain => Expr::Fun {
             pattern,
             body,
             argument,
-        }),
-        Functional::Sum => Ok(Expr::SumMap {
+        },
+        Functional::Sum => Expr::SumMap {
             pattern,
             body,
             over: argument,
-        }),
+        },
     }
 }
 
@@ -248,15 +226,27 @@ pub fn enclosed(items: Vec<Expr>) -> Expr
 }
 
 /// The one expression of a list.
-#[tactic(auto, using(crate::proofs::Steps::only_one))]
+#[tactic(auto, using(crate::proofs::Loops::one_steps))]
 pub fn only(items: Vec<Expr>) -> Option<Expr>
-    ensures { MatchOption result (grammar.only (trees_of items.items) ≡ None) (λ e. grammar.only (trees_of items.items) ≡ Some (tree_of e)) }
+    ensures { MatchOption result (one_of (trees_of items.items) ≡ None) (λ e. one_of (trees_of items.items) ≡ Some (tree_of e)) }
 {
     if items.len() != 1 {
         return None;
     }
     let mut items = items;
     items.pop()
+}
+
+/// No more than 8 expressions.
+#[tactic(auto, using(crate::proofs::Loops::few_steps))]
+pub fn few(items: Vec<Expr>) -> Result<Vec<Expr>, Refusal>
+    ensures { Gives (λ v. trees_of v.items) result (few_of (trees_of items.items)) }
+{
+    if items.len() > 8 {
+        Err(Refusal::Syntax)
+    } else {
+        Ok(items)
+    }
 }
 
 /// What a qualifier is before its expression.

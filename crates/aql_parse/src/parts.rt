@@ -8,12 +8,12 @@ ghost use Rattle.aql_grammar.specs.Parsing as grammar;
 ghost use Rattle.aql_grammar.specs.Parsing.{binder_at, def_at, pat_at, front_of, front_at};
 ghost use Rattle.aql_parse.specs.Words.{lexemes, Gives};
 ghost use Rattle.aql_parse.specs.Forms.{front_seen};
+ghost use Rattle.aql_parse.specs.Parts.{leaf_at};
 
 use crate::fault::Refusal;
 use crate::forms::Front;
 use crate::patterns::{name, pattern, pattern_then};
-use crate::words::{Word, expect, name_in, next};
-use aql_made::{both, both_boxed, boxed};
+use crate::words::{Word, expect, name_in, next, string_in};
 use aql_syntax::ast::{Expr, Pattern};
 use aql_syntax::sign::Sign;
 use aql_syntax::token::Token;
@@ -115,35 +115,34 @@ fn cells_front<'a>(
     Ok((Front::Cells(index, cell), rest))
 }
 
-/// A choice by a test.
-pub fn choice(alloc: Global, test: Expr, first: Expr, second: Expr) -> Result<Expr, Memory>
-    ensures { IfOk result (λ e. tree_of e ≡ tree.choice (tree_of test) (tree_of first) (tree_of second)) }
+/// An expression of one word.
+#[tactic(auto, unfolding(crate::specs::Parts::leaf_at))]
+pub fn leaf<'a>(
+    alloc: Global,
+    source: &[u8],
+    words: &'a [Word],
+) -> Result<(Expr, &'a [Word]), Refusal>
+    ensures { Gives (λ x. (tree_of x.0, lexemes source.now x.1.now)) result (leaf_at (lexemes source.now words.now)) }
 {
-    let parts = both_boxed(alloc, Ok(first), Ok(second));
-    let (test, (first, second)) = both(boxed(alloc, Ok(test)), parts)?;
-    Ok(Expr::If(test, first, second))
-}
-
-/// The first, or else the second where the first is undefined.
-pub fn chosen_else(alloc: Global, first: Expr, second: Expr) -> Result<Expr, Memory>
-    ensures { IfOk result (λ e. tree_of e ≡ tree.default (tree_of first) (tree_of second)) }
-{
-    let (first, second) = both_boxed(alloc, Ok(first), Ok(second))?;
-    Ok(Expr::Default(first, second))
-}
-
-/// A negation.
-pub fn negated(alloc: Global, part: Expr) -> Result<Expr, Memory>
-    ensures { IfOk result (λ e. tree_of e ≡ tree.negation (tree_of part)) }
-{
-    Ok(Expr::Not(Box::new(alloc, part)?))
+    match next(words) {
+        Some((Word::Name(token), rest)) => Ok((Expr::Name(name_in(alloc, source, token)?), rest)),
+        Some((Word::Number(n), rest)) => Ok((Expr::Nat(n), rest)),
+        Some((Word::Text(token), rest)) => Ok((Expr::Text(string_in(alloc, source, token)?), rest)),
+        Some((Word::Mark(Sign::True), rest)) => Ok((Expr::Bool(true), rest)),
+        Some((Word::Mark(Sign::False), rest)) => Ok((Expr::Bool(false), rest)),
+        _ => Err(Refusal::Syntax),
+    }
 }
 
 /// A macro applied.
-pub fn applied(alloc: Global, source: &[u8], token: Token, argument: Expr) -> Result<Expr, Memory>
-    ensures { IfOk result (λ e. tree_of e ≡ tree.apply (text_of source.now token) (tree_of argument)) }
+pub fn applied(
+    alloc: Global,
+    source: &[u8],
+    token: Token,
+    argument: Box<Expr>,
+) -> Result<Expr, Memory>
+    ensures { IfOk result (λ e. tree_of e ≡ tree.apply (text_of source.now token) (tree_of argument.value)) }
 {
-    let argument = boxed(alloc, Ok(argument));
-    let (name, argument) = both(name_in(alloc, source, token), argument)?;
+    let name = name_in(alloc, source, token)?;
     Ok(Expr::Apply { name, argument })
 }

@@ -1,6 +1,6 @@
 //! Tokens with what they say.
 
-ghost use Rattle.std.specs.Prelude.{◌≡◌, ◌<◌, ◌+◌, ◌*◌, ◌^◌, IfOk, MatchOption, [], ◌∷◌};
+ghost use Rattle.std.specs.Prelude.{◌≡◌, ◌<◌, ◌+◌, ◌*◌, ◌^◌, IfOk, MatchOption, Some, None, [], ◌∷◌};
 ghost use Rattle.aql_syntax.specs.Lexis.{hex_value};
 ghost use Rattle.aql_lex.specs.Texts.{text_of, digits_value, unescaped, within};
 ghost use Rattle.aql_grammar.specs.SignNumbers.{same_sign};
@@ -40,20 +40,30 @@ pub fn is_sign(a: Sign, b: Sign) -> bool
     a == b
 }
 
-/// The words after that sign.
+/// The words behind that sign, where it stands first.
 #[tactic(auto, unfolding(aql_grammar::specs::Parsing::after))]
-pub fn expect<'a>(source: &[u8], words: &'a [Word], sign: Sign) -> Result<&'a [Word], Refusal>
-    ensures { Gives (λ x. lexemes source.now x.now) result (after sign (lexemes source.now words.now)) }
+pub fn behind<'a>(source: &[u8], words: &'a [Word], sign: Sign) -> Option<&'a [Word]>
+    ensures { MatchOption result (after sign (lexemes source.now words.now) ≡ None) (λ x. after sign (lexemes source.now words.now) ≡ Some (lexemes source.now x.now)) }
 {
     match next(words) {
         Some((Word::Mark(found), rest)) => {
             if is_sign(found, sign) {
-                Ok(rest)
+                Some(rest)
             } else {
-                Err(Refusal::Syntax)
+                None
             }
         }
-        _ => Err(Refusal::Syntax),
+        _ => None,
+    }
+}
+
+/// The words behind that sign, which is to stand first.
+pub fn expect<'a>(source: &[u8], words: &'a [Word], sign: Sign) -> Result<&'a [Word], Refusal>
+    ensures { Gives (λ x. lexemes source.now x.now) result (after sign (lexemes source.now words.now)) }
+{
+    match behind(source, words, sign) {
+        Some(rest) => Ok(rest),
+        None => Err(Refusal::Syntax),
     }
 }
 
