@@ -1,5 +1,5 @@
 //! Readvals: what a reader's argument asks for, and the reading of files.
-ghost use Rattle.std.specs.Prelude.{◌≡◌, ◌<◌, ◌≤◌, ◌∷◌, [], Some, map, vec_len, IfOk, IfErr, replicate};
+ghost use Rattle.std.specs.Prelude.{◌≡◌, ◌<◌, ◌≤◌, ◌∷◌, [], Some, map, vec_len, IfOk, IsOkAnd, IfErr, replicate};
 ghost use Rattle.std.specs.Option.{option_map, ForSome};
 ghost use Rattle.aql_syntax.specs.Typing.{argument_type, reader_type};
 ghost use Rattle.aql_syntax.specs.View.{reader_of};
@@ -15,6 +15,7 @@ ghost use Rattle.aql_session.specs.Step.{IsOfArrays};
 ghost use Rattle.aql_session.specs.Runs.{request_asked, asked_in, numbers_with, single_index, handed_on, HasRank, IsRequestOf, IsReadBy, IsArgumentCause, IsOpened, IsSlabOf, IsFileCause, IsReadOf, IsReadCause};
 
 use crate::answer::StepFault;
+use aql_made::both;
 use aql_outside::Files;
 use aql_syntax::ast::Reader;
 use aql_value::{Index, Items, Memory, Str, Value, saturating_product};
@@ -246,8 +247,8 @@ fn request_unstrided(
     if parts.items.len() != 4 {
         return Ok(None);
     }
-    let (file, variable, start, count) = four(parts.items);
     let stride = ones(alloc, rank)?;
+    let (file, variable, start, count) = four(parts.items);
     make_request(
         alloc,
         rank,
@@ -256,7 +257,7 @@ fn request_unstrided(
         variable,
         start,
         count,
-        Some(stride),
+        Ok(Some(stride)),
     )
 }
 
@@ -268,7 +269,7 @@ fn request_strided(alloc: Global, rank: u64, parts: Items) -> Result<Option<Requ
         return Ok(None);
     }
     let (file, variable, start, count, stride) = five(parts.items);
-    let stride = index(alloc, rank, stride)?;
+    let stride = index(alloc, rank, stride);
     make_request(alloc, rank, false, file, variable, start, count, stride)
 }
 
@@ -281,33 +282,24 @@ fn make_request(
     variable: Value,
     start: Value,
     count: Value,
-    stride: Option<Index>,
+    stride: Result<Option<Index>, Memory>,
 ) -> Result<Option<Request>, Memory>
-    ensures { IfOk result (λ r. option_map request_asked r ≡ asked rank signed (datum file) (datum variable) (datum start) (datum count) (option_map (λ i. i.items) stride)) }
+    ensures { IfOk result (λ r. IsOkAnd stride (λ st. option_map request_asked r ≡ asked rank signed (datum file) (datum variable) (datum start) (datum count) (option_map (λ i. i.items) st))) }
 {
-    let Some(file) = text(file) else {
-        return Ok(None);
-    };
-    let Some(variable) = text(variable) else {
-        return Ok(None);
-    };
-    let Some(start) = index(alloc, rank, start)? else {
-        return Ok(None);
-    };
-    let Some(count) = index(alloc, rank, count)? else {
-        return Ok(None);
-    };
-    let Some(stride) = stride else {
-        return Ok(None);
-    };
-    Ok(Some(Request {
-        file,
-        variable,
-        start,
-        count,
-        stride,
-        signed,
-    }))
+    let names = text(file).zip(text(variable));
+    let corner = both(index(alloc, rank, start), index(alloc, rank, count));
+    let (names, ((start, count), stride)) = both(Ok(names), both(corner, stride))?;
+    match names.zip(start.zip(count).zip(stride)) {
+        Some(((file, variable), ((start, count), stride))) => Ok(Some(Request {
+            file,
+            variable,
+            start,
+            count,
+            stride,
+            signed,
+        })),
+        None => Ok(None),
+    }
 }
 
 // The string that a value is.

@@ -8,6 +8,7 @@ ghost use Rattle.aql_syntax.specs.Tree.{declared, it};
 ghost use Rattle.aql_syntax.specs.View.{decl_of, decls_of};
 ghost use Rattle.aql_types.specs.View.{sort_of};
 ghost use Rattle.nrca_serial.specs.Scope.{held_value};
+ghost use Rattle.nrca_term.specs.View.{term_of};
 ghost use Rattle.aql_session.specs.Bound.{AreBound, earlier_of, outcomes};
 ghost use Rattle.aql_session.specs.Step.{AreWithinLimits, ReadsNoRecords, IsAnswer, IsAnswerable, Binds, IsCause, ReadsNoFile};
 ghost use Rattle.aql_session.specs.Runs.{Stands, IsRun, IsAnswerOf};
@@ -16,12 +17,14 @@ use crate::answer::{Answer, StepFault};
 use crate::runs::{Run, declaration, run_declaration};
 use crate::session::Session;
 use aql_constraints::typed::Typed;
+use aql_made::both;
 use aql_outside::{Files, Gate};
 use aql_syntax::ast::{Decl, Decls};
 use aql_types::ty::Scheme;
 use aql_value::{Memory, Str};
 use aql_words::Options;
-use nrca_term::Trace;
+use nrca_array::Held;
+use nrca_term::{Core, Trace};
 use std::alloc::Global;
 use std::thread::Threads;
 
@@ -136,26 +139,57 @@ impl Session {
             self.new ≡ self.old ++ (declared d, held_value run.value) ∷ [])) }
         ensures as_before { OnErr result (self.new ≡ self.old) }
     {
-        let Run {
-            start,
-            by,
-            turns,
-            value,
-        } = run;
-        let name = name_of(alloc, declaration(decls, n))?;
-        let ty = scheme(typed, n).copy(alloc)?;
-        let plan = start.copy(alloc)?;
-        self.bind(alloc, &name, value)?;
-        Ok(Answer {
-            name,
-            ty,
-            start,
-            plan,
-            trace: Trace(Vec::new(alloc)),
-            by,
-            turns,
-        })
+        let (answer, value) = answer_of(alloc, decls, typed, n, run)?;
+        let bound = self.bind(alloc, &answer.name, value);
+        let (answer, _) = both(Ok(answer), bound)?;
+        Ok(answer)
     }
+}
+
+// The answer of a run, and its value.
+fn answer_of(
+    alloc: Global,
+    decls: &Decls,
+    typed: &Typed,
+    n: u64,
+    run: Run,
+) -> Result<(Answer, Option<Held>), Memory>
+    requires first { 1 ≤ n }
+    requires last { n ≤ length (decls_of decls.now.items.items) }
+    requires typed { length (sorts_of typed.now.items.items) ≡ length (decls_of decls.now.items.items) }
+    ensures answer { IfOk result (λ x. ForSome (slice_get (decls_of decls.now.items.items) (n - 1)) (λ d.
+        IsAnswerOf d (slice_get (sorts_of typed.now.items.items) (n - 1)) run x.0)) }
+    ensures name { IfOk result (λ x. ForSome (slice_get (decls_of decls.now.items.items) (n - 1)) (λ d. x.0.name ≡ declared d)) }
+    ensures value { IfOk result (λ x. held_value x.1 ≡ held_value run.value) }
+{
+    let Run {
+        start,
+        by,
+        turns,
+        value,
+    } = run;
+    let name = name_of(alloc, declaration(decls, n));
+    let head = both(name, scheme(typed, n).copy(alloc));
+    let parts = both(head, with_copy(alloc, start));
+    let (value, ((name, ty), (start, plan))) = both(Ok(value), parts)?;
+    let answer = Answer {
+        name,
+        ty,
+        start,
+        plan,
+        trace: Trace(Vec::new(alloc)),
+        by,
+        turns,
+    };
+    Ok((answer, value))
+}
+
+// A term and its copy.
+fn with_copy(alloc: Global, term: Core) -> Result<(Core, Core), Memory>
+    ensures { IfOk result (λ x. (x.0 ≡ term) × (term_of x.1 ≡ term_of term)) }
+{
+    let copy = term.copy(alloc);
+    both(Ok(term), copy)
 }
 
 // The scheme of declaration n.

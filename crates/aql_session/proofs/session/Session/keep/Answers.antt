@@ -1,19 +1,9 @@
-use Rattle.std.proofs.Common.{◌∙◌, ap, sym, refl, Some}
+use Rattle.std.proofs.Common.{subst}
 use Rattle.std.specs.Prelude.{slice_get, ◌-◌}
-use Rattle.aql_syntax.specs.Tree.{declared}
-use Rattle.aql_syntax.specs.View.{decl_of, decls_of}
-use Rattle.aql_session.proofs.Running.{same-position}
+use Rattle.aql_constraints.specs.Typed.{sorts_of}
+use Rattle.aql_session.specs.Runs.{IsAnswerOf}
 use Rattle.aql_session.proofs.session.Session.keep.Goals as goal
 
 pub returns-clause-answer : goal.returns-clause-answer
 returns-clause-answer c = λ d e.
-    let z = same-position (slice_get (decls_of c.args.decls.now.items.items) (c.args.n - 1)) (decl_of c.declaration.result.now) d c.declaration.ensures e in
-    record {
-      name = c.in_ok-name.ensures ∙ ap declared z;
-      found = c.scheme.ensures ∙ ap Some (sym c.in_ok-ty.ensures);
-      start = refl;
-      plan = c.in_ok-plan.ensures;
-      trace = c.new.ensures.items;
-      by = refl;
-      turns = refl;
-    }
+    subst (IsAnswerOf d (slice_get (sorts_of c.args.typed.now.items.items) (c.args.n - 1)) c.args.run) (c.in_ok-answer-2.ensures.0) (c.in_ok-answer.ensures.answer d e)
