@@ -1,5 +1,5 @@
 //! The declarations of a script, one after another.
-ghost use Rattle.std.specs.Prelude.{◌≡◌, ◌≤◌, ◌<◌, ◌+◌, ◌-◌, ◌∷◌, [], length, vec_len, OnOk, IfOk, IfErr, IsErrOf, Some};
+ghost use Rattle.std.specs.Prelude.{◌≡◌, ◌≤◌, ◌<◌, ◌+◌, ◌-◌, ◌∷◌, [], length, vec_len, OnOk, IfOk, IfErr, IsOk, IsErrOf, Some};
 ghost use Rattle.std.specs.Option.{option_map};
 ghost use Rattle.nrca_array.specs.Held.{held_datum};
 ghost use Rattle.aql_outside.specs.Causes.{Rose};
@@ -118,7 +118,7 @@ fn declare_next<R: Threads + Sync, F: Files, G: Gate>(
     ensures kept { F.holds files.new ≡ F.holds files.old }
     ensures later_files { F.faults files.old ≤ F.faults files.new }
 {
-    match session.step(
+    let stepped = session.step(
         rt,
         alloc,
         &prepared.decls,
@@ -127,9 +127,17 @@ fn declare_next<R: Threads + Sync, F: Files, G: Gate>(
         options,
         files,
         gate,
-    ) {
+    );
+    // A macro has no fault but want of memory.
+    done(stepped)
+}
+
+// That something was made. A fault is taken for want of memory.
+fn done<T: Drop, E: Drop>(made: Result<T, E>) -> Result<(), Memory>
+    ensures { OnOk result (IsOk made) }
+{
+    match made {
         Ok(_) => Ok(()),
-        // A macro has no fault but want of memory.
         Err(_) => Err(Memory),
     }
 }
