@@ -14,7 +14,7 @@ ghost use Rattle.nrca_serial.specs.Within.{Within};
 use crate::done::Counted;
 use crate::forms::strict;
 use crate::members::truth;
-use crate::operations::{cell_at, dim, numbers};
+use crate::operations::{cell_of_parts, dim};
 use crate::runs::parts_and;
 use aql_value::Memory;
 use nrca_array::Held;
@@ -85,10 +85,7 @@ pub(crate) fn cell_boxed(
 ) -> Result<Option<Box<Held>>, Memory>
     ensures { IfOk result (λ v. boxed_value v ≡ cell_in (held_datum array.now) (numbers_in (parts_value at))) }
 {
-    let Some(at) = numbers(alloc, at)? else {
-        return Ok(None);
-    };
-    let cell = cell_at(alloc, array, &at)?;
+    let cell = cell_of_parts(alloc, array, at)?;
     boxed(alloc, cell)
 }
 

@@ -1,12 +1,13 @@
 //! What a form that evaluates all its parts and binds nothing makes of their values.
 
-ghost use Rattle.std.specs.Prelude.{◌≡◌, ◌∷◌, [], IfOk, Some};
+ghost use Rattle.std.specs.Prelude.{◌≡◌, ◌∷◌, [], IfOk, IsOkAnd, MatchResult, Some};
 ghost use Rattle.std.specs.Option.{option_map};
 ghost use Rattle.aql_value.specs.Datum.{text, set, nil};
 ghost use Rattle.aql_value.specs.Meaning.{datum};
 ghost use Rattle.aql_value.specs.Operations.{part_of, get_of, dim_of, arith_of, compare_of, union_of as union_datum, set_of, gen_of, index_of, literal_of, only};
 ghost use Rattle.aql_value.specs.Strict.{nullary, unary, binary, sub_value, strict_value, strict_turns, gen_turns, index_turns};
 ghost use Rattle.nrca_array.specs.Held.{held_datum};
+ghost use Rattle.nrca_par.specs.declared.fault.EvalFault.TheVariants as fault;
 ghost use Rattle.nrca_term.specs.Term.{form_of};
 ghost use Rattle.nrca_term.specs.View.{term_of};
 ghost use Rattle.nrca_serial.specs.Scope.{held_value};
@@ -43,7 +44,7 @@ pub fn strict(
     }
 }
 
-#[tactic(auto, using(crate::proofs::Arities::list_forms))]
+#[tactic(auto, using(crate::proofs::Arities::made_forms))]
 fn made(
     alloc: Global,
     term: &Core,
@@ -57,18 +58,18 @@ fn made(
         Core::Index { rank, pairs: _ } => made_index(alloc, *rank, parts, budget),
         Core::Nat(n) => Ok(free(constant(parts, Value::Nat(*n)))),
         Core::Bool(b) => Ok(free(constant(parts, Value::Bool(*b)))),
-        Core::Text(s) => Ok(free(made_text(alloc, parts, s)?)),
-        Core::Tuple(_) => Ok(free(tuple(alloc, parts)?)),
-        Core::Proj { at, of, part: _ } => Ok(free(made_proj(alloc, parts, *at, *of)?)),
+        Core::Text(s) => freed(made_text(alloc, parts, s)),
+        Core::Tuple(_) => freed(tuple(alloc, parts)),
+        Core::Proj { at, of, part: _ } => freed(made_proj(alloc, parts, *at, *of)),
         Core::Arith(op, _, _) => Ok(free(made_arith(parts, *op))),
-        Core::Compare(op, _, _) => Ok(free(made_comparison(alloc, parts, *op)?)),
-        Core::Empty => Ok(free(made_empty(alloc, parts)?)),
-        Core::Single(_) => Ok(free(made_single(alloc, parts)?)),
-        Core::Union(_, _) => Ok(free(made_union(alloc, parts)?)),
-        Core::Get(_) => Ok(free(made_get(alloc, parts)?)),
-        Core::Sub { array: _, at: _ } => Ok(free(made_sub(alloc, parts)?)),
-        Core::Dim { rank, array: _ } => Ok(free(made_dim(alloc, parts, *rank)?)),
-        Core::Literal { dims, cells: _ } => Ok(free(made_literal(alloc, dims.0.len(), parts)?)),
+        Core::Compare(op, _, _) => freed(made_comparison(alloc, parts, *op)),
+        Core::Empty => freed(made_empty(alloc, parts)),
+        Core::Single(_) => freed(made_single(alloc, parts)),
+        Core::Union(_, _) => freed(made_union(alloc, parts)),
+        Core::Get(_) => freed(made_get(alloc, parts)),
+        Core::Sub { array: _, at: _ } => freed(made_sub(alloc, parts)),
+        Core::Dim { rank, array: _ } => freed(made_dim(alloc, parts, *rank)),
+        Core::Literal { dims, cells: _ } => freed(made_literal(alloc, dims.0.len(), parts)),
         Core::Bottom => Ok(free(None)),
         Core::Var(_) => Ok(free(None)),
         Core::Global(_) => Ok(free(None)),
@@ -79,6 +80,13 @@ fn made(
         Core::Sum { over: _, body: _ } => Ok(free(None)),
         Core::Tab { bounds: _, body: _ } => Ok(free(None)),
     }
+}
+
+// A value that was made without turns of its own.
+fn freed(value: Result<Option<Held>, Memory>) -> Result<Counted<Option<Held>>, EvalFault>
+    ensures { MatchResult result (λ d. IsOkAnd value (λ v. d.answer ≡ v) × (d.turns ≡ 0)) (λ e. e ≡ fault.Memory) }
+{
+    Ok(free(value?))
 }
 
 // The one part: none where there is another number of parts.
@@ -196,7 +204,11 @@ fn made_dim(alloc: Global, parts: Vec<Held>, rank: u64) -> Result<Option<Held>, 
     ensures { IfOk result (λ r. held_value r ≡ unary (dim_of rank) (held_values parts)) }
 {
     match one_part(parts) {
-        Some(v) => dim(alloc, &v, rank),
+        Some(v) => {
+            let dims = dim(alloc, &v, rank);
+            drop(v);
+            dims
+        }
         None => Ok(None),
     }
 }

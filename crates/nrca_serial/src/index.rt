@@ -16,6 +16,7 @@ ghost use Rattle.nrca_serial.specs.Within.{Within};
 use crate::done::Counted;
 use crate::members::set_of;
 use crate::operations::{free, table_of};
+use crate::runs::with_cell;
 use crate::walk::member_at;
 use aql_value::{
     Ascending, Dims, Items, Memory, Value, canon, is_below, place, saturating_product,
@@ -48,7 +49,9 @@ pub(crate) fn index_set(
     if count > budget {
         return Err(EvalFault::Spent);
     }
-    let pairs = index_run(alloc, rank, &set, 0, count)?;
+    let pairs = index_run(alloc, rank, &set, 0, count);
+    drop(set);
+    let pairs = pairs?;
     let made = index_pairs(alloc, rank, pairs, budget - count)?;
     Ok(Counted {
         answer: made.answer,
@@ -85,12 +88,12 @@ fn pairs_and(
 ) -> Result<Option<Vec<Indexed>>, Memory>
     ensures { IfOk result (λ ps. pairs_of ps ≡ pairs_with (pairs_of pairs) (option_map pair_of pair)) }
 {
-    match (pairs, pair) {
-        (Some(mut pairs), Some(pair)) => {
+    match pairs.zip(pair) {
+        Some((mut pairs, pair)) => {
             pairs.push(pair)?;
             Ok(Some(pairs))
         }
-        _ => Ok(None),
+        None => Ok(None),
     }
 }
 
@@ -365,13 +368,19 @@ fn empty_groups(alloc: Global, count: usize) -> Result<Vec<Vec<Value>>, Memory>
     Ok(groups)
 }
 
+// The set of values, as a value.
+fn set_value(alloc: Global, items: Vec<Value>) -> Result<Value, Memory>
+    ensures { IfOk result (λ v. datum v ≡ set_datum (values_of items)) }
+{
+    Ok(Value::Members(canon(alloc, Items { items })?))
+}
+
 fn sets_of(alloc: Global, groups: Vec<Vec<Value>>) -> Result<Builder, Memory>
     ensures { IfOk result (λ cells. cells ≡ map (λ g. set_datum (values_of g)) groups.items) }
 {
     let mut cells = Builder::new(alloc);
     for items in groups {
-        let set = canon(alloc, Items { items })?;
-        cells = cells.push(alloc, Value::Members(set))?;
+        cells = with_cell(alloc, cells, set_value(alloc, items))?;
     }
     Ok(cells)
 }

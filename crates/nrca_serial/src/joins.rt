@@ -41,9 +41,9 @@ pub fn join_cells(
 ) -> Result<Option<Builder>, Memory>
     ensures { IfOk result (λ cells. cells ≡ lists_join first second) }
 {
-    match (first, second) {
-        (Some(first), Some(second)) => Ok(Some(first.append(alloc, second)?)),
-        _ => Ok(None),
+    match first.zip(second) {
+        Some((first, second)) => Ok(Some(first.append(alloc, second)?)),
+        None => Ok(None),
     }
 }
 

@@ -94,9 +94,9 @@ pub(crate) fn item(alloc: Global, items: &Items, at: usize) -> Result<Value, Mem
 pub fn as_members(value: Option<Held>) -> Option<Members>
     ensures { option_map member_list result ≡ set_in (held_value value) }
 {
-    match value {
-        Some(Held::Value(Value::Members(set))) => Some(Members::Listed(set)),
-        _ => None,
+    match ascending(value) {
+        Some(set) => Some(Members::Listed(set)),
+        None => None,
     }
 }
 
@@ -131,20 +131,20 @@ pub fn members_below(
 pub fn members_of_both(first: Option<Held>, second: Option<Held>) -> Option<Members>
     ensures { members_value result ≡ set_in (united (held_value first) (held_value second)) }
 {
-    match (ascending(first), ascending(second)) {
-        (Some(first), Some(second)) => Some(Members::Both(first, second)),
-        _ => None,
+    match ascending(first).zip(ascending(second)) {
+        Some((first, second)) => Some(Members::Both(first, second)),
+        None => None,
     }
 }
 
 // The set that a value is.
 #[tactic(auto, using(aql_value::specs::Datum::data_lists))]
-fn ascending(value: Option<Held>) -> Option<Ascending>
+pub(crate) fn ascending(value: Option<Held>) -> Option<Ascending>
     ensures { result ≡ set_in (held_value value) }
 {
     match value {
-        Some(Held::Value(Value::Members(set))) => Some(set),
-        _ => None,
+        Some(value) => set_of(value),
+        None => None,
     }
 }
 
@@ -155,7 +155,10 @@ pub(crate) fn set_of(value: Held) -> Option<Ascending>
 {
     match value {
         Held::Value(Value::Members(set)) => Some(set),
-        _ => None,
+        other => {
+            drop(other);
+            None
+        }
     }
 }
 
@@ -166,7 +169,10 @@ pub(crate) fn row_of(value: Held) -> Option<Items>
 {
     match value {
         Held::Value(Value::Row(parts)) => Some(parts.into_items()),
-        _ => None,
+        other => {
+            drop(other);
+            None
+        }
     }
 }
 
@@ -174,8 +180,16 @@ pub(crate) fn row_of(value: Held) -> Option<Items>
 pub fn natural(value: Option<Held>) -> Option<u128>
     ensures { result ≡ natural_in (held_value value) }
 {
+    let number = natural_of(&value);
+    drop(value);
+    number
+}
+
+fn natural_of(value: &Option<Held>) -> Option<u128>
+    ensures { result ≡ natural_in (held_value value.now) }
+{
     match value {
-        Some(Held::Value(Value::Nat(n))) => Some(n),
+        Some(Held::Value(Value::Nat(n))) => Some(*n),
         _ => None,
     }
 }
@@ -184,8 +198,16 @@ pub fn natural(value: Option<Held>) -> Option<u128>
 pub fn truth(value: Option<Held>) -> Option<bool>
     ensures { result ≡ truth_in (held_value value) }
 {
+    let truth = truth_of(&value);
+    drop(value);
+    truth
+}
+
+fn truth_of(value: &Option<Held>) -> Option<bool>
+    ensures { result ≡ truth_in (held_value value.now) }
+{
     match value {
-        Some(Held::Value(Value::Bool(b))) => Some(b),
+        Some(Held::Value(Value::Bool(b))) => Some(*b),
         _ => None,
     }
 }

@@ -14,11 +14,12 @@ ghost use Rattle.nrca_term.specs.Term.{form_of, parts_of, count};
 ghost use Rattle.nrca_term.specs.View.{term_of};
 ghost use Rattle.nrca_serial.specs.Scope.{held_value};
 ghost use Rattle.nrca_serial.specs.Within.{Within};
-ghost use Rattle.nrca_serial.specs.Parts.{held_values, parts_value, strict_of, strict_in, numbers_in, numbers_with, table_in};
+ghost use Rattle.nrca_serial.specs.Parts.{held_values, parts_value, strict_of, strict_in, cell_in, numbers_in, numbers_with, table_in};
 
 use crate::done::Counted;
 use crate::members::{item, natural, row_of, set_of};
-use crate::runs::into_value;
+use crate::runs::{into_value, with_cell};
+use aql_made::{both, listed};
 use aql_value::{
     ArithOp, Ascending, Cells, CompareOp, Dims, Index, Items, Memory, Parts, Value, canon, merge,
 };
@@ -73,8 +74,7 @@ fn naturals_below(alloc: Global, n: u64) -> Result<Ascending, Memory>
 pub(crate) fn single(alloc: Global, v: Held) -> Result<Held, Memory>
     ensures { IfOk result (λ r. held_datum r ≡ set_of (held_datum v ∷ [])) }
 {
-    let mut items = Vec::new(alloc);
-    items.push(into_value(alloc, v)?)?;
+    let items = listed(alloc, into_value(alloc, v))?;
     Ok(Held::Value(Value::Members(canon(alloc, Items { items })?)))
 }
 
@@ -148,33 +148,28 @@ pub(crate) fn dim(alloc: Global, v: &Held, rank: u64) -> Result<Option<Held>, Me
 pub(crate) fn arith(op: ArithOp, v: Held, w: Held) -> Option<Held>
     ensures { held_value result ≡ arith_of op (held_datum v) (held_datum w) }
 {
-    let Some(m) = natural(Some(v)) else {
-        return None;
-    };
-    let Some(n) = natural(Some(w)) else {
-        return None;
-    };
-    sum_of(op.apply(m, n))
+    match natural(Some(v)).zip(natural(Some(w))) {
+        Some((m, n)) => sum_of(op.apply(m, n)),
+        None => None,
+    }
 }
 
 pub(crate) fn compare(alloc: Global, op: CompareOp, v: Held, w: Held) -> Result<Held, Memory>
     ensures { IfOk result (λ r. Some (held_datum r) ≡ compare_of op (held_datum v) (held_datum w)) }
 {
-    let v = into_value(alloc, v)?;
-    let w = into_value(alloc, w)?;
-    Ok(Held::Value(Value::Bool(op.holds(&v, &w))))
+    let both = both(into_value(alloc, v), into_value(alloc, w))?;
+    let truth = op.holds(&both.0, &both.1);
+    drop(both);
+    Ok(Held::Value(Value::Bool(truth)))
 }
 
 pub(crate) fn union(alloc: Global, v: Held, w: Held) -> Result<Option<Held>, Memory>
     ensures { IfOk result (λ r. held_value r ≡ union_datum (held_datum v) (held_datum w)) }
 {
-    let Some(v) = set_of(v) else {
-        return Ok(None);
-    };
-    let Some(w) = set_of(w) else {
-        return Ok(None);
-    };
-    Ok(Some(Held::Value(Value::Members(merge(alloc, v, w)?))))
+    match set_of(v).zip(set_of(w)) {
+        Some((v, w)) => Ok(Some(Held::Value(Value::Members(merge(alloc, v, w)?)))),
+        None => Ok(None),
+    }
 }
 
 #[tactic(auto, using(crate::proofs::Strictly::tuples))]
@@ -204,14 +199,26 @@ pub(crate) fn sub(alloc: Global, parts: Vec<Held>) -> Result<Option<Held>, Memor
 {
     let mut at = parts;
     let array = at.remove(0);
-    let Some(at) = numbers(alloc, Some(at))? else {
-        return Ok(None);
-    };
-    let found = cell_at(alloc, &array, &at)?;
-    Ok(found)
+    let cell = cell_of_parts(alloc, &array, Some(at));
+    drop(array);
+    cell
 }
 
-pub(crate) fn cell_at(alloc: Global, array: &Held, at: &Dims) -> Result<Option<Held>, Memory>
+// The cell of an array at the index that values are.
+pub(crate) fn cell_of_parts(
+    alloc: Global,
+    array: &Held,
+    at: Option<Vec<Held>>,
+) -> Result<Option<Held>, Memory>
+    ensures { IfOk result (λ r. held_value r ≡ cell_in (held_datum array.now) (numbers_in (parts_value at))) }
+{
+    match numbers(alloc, at)? {
+        Some(at) => cell_at(alloc, array, &at),
+        None => Ok(None),
+    }
+}
+
+fn cell_at(alloc: Global, array: &Held, at: &Dims) -> Result<Option<Held>, Memory>
     ensures { IfOk result (λ r. held_value r ≡ cell_of (held_datum array.now) at.now) }
 {
     let at = Index::from_slice(alloc, at.dims.as_slice())?;
@@ -272,7 +279,7 @@ fn packed(alloc: Global, cells: Vec<Held>) -> Result<Builder, Memory>
 {
     let mut packed = Builder::new(alloc);
     for cell in cells {
-        packed = packed.push(alloc, into_value(alloc, cell)?)?;
+        packed = with_cell(alloc, packed, into_value(alloc, cell))?;
     }
     Ok(packed)
 }

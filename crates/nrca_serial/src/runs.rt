@@ -1,6 +1,6 @@
 //! What a run adds at each member or cell, and what becomes of it.
 
-ghost use Rattle.std.specs.Prelude.{◌≡◌, ◌<◌, ◌++◌, Some, length, slice_get, IfOk};
+ghost use Rattle.std.specs.Prelude.{◌≡◌, ◌<◌, ◌++◌, ◌∷◌, [], Some, length, slice_get, IfOk, IsOkAnd};
 ghost use Rattle.std.specs.Option.{option_map};
 ghost use Rattle.aql_value.specs.Canon.{canon};
 ghost use Rattle.aql_value.specs.Indices.{product, indices};
@@ -10,7 +10,8 @@ ghost use Rattle.nrca_serial.specs.Scope.{held_value};
 ghost use Rattle.nrca_serial.specs.Runs.{sum_with, members_with, list_with};
 ghost use Rattle.nrca_serial.specs.Parts.{parts_value};
 
-use crate::members::{as_members, natural};
+use crate::members::{ascending, natural};
+use aql_made::both;
 use aql_value::{Ascending, Items, Memory, Value, add, canon};
 use nrca_array::{Builder, Held};
 use std::alloc::Global;
@@ -33,11 +34,9 @@ pub(crate) fn members_and(
 ) -> Result<Option<Items>, Memory>
     ensures { IfOk result (λ ms. ms ≡ members_with members (held_value value)) }
 {
-    match (members, value) {
-        (Some(members), Some(Held::Value(Value::Members(set)))) => Ok(Some(extended(
-            members, set,
-        )?)),
-        _ => Ok(None),
+    match members.zip(ascending(value)) {
+        Some((members, set)) => Ok(Some(extended(members, set)?)),
+        None => Ok(None),
     }
 }
 
@@ -59,22 +58,34 @@ pub(crate) fn cells_and(
 ) -> Result<Option<Builder>, Memory>
     ensures { IfOk result (λ cs. cs ≡ list_with cells (held_value value)) }
 {
-    match (cells, value) {
-        (Some(cells), Some(value)) => Ok(Some(cells.push(alloc, into_value(alloc, value)?)?)),
-        _ => Ok(None),
+    match cells.zip(value) {
+        Some((cells, value)) => Ok(Some(with_cell(alloc, cells, into_value(alloc, value))?)),
+        None => Ok(None),
     }
+}
+
+/// The cells, and one more.
+pub(crate) fn with_cell(
+    alloc: Global,
+    cells: Builder,
+    cell: Result<Value, Memory>,
+) -> Result<Builder, Memory>
+    ensures { IfOk result (λ cs. IsOkAnd cell (λ v. cs ≡ cells ++ datum v ∷ [])) }
+{
+    let (cells, cell) = both(Ok(cells), cell)?;
+    Ok(cells.push(alloc, cell)?)
 }
 
 /// The parts so far, and one more.
 pub fn parts_and(parts: Option<Vec<Held>>, value: Option<Held>) -> Result<Option<Vec<Held>>, Memory>
     ensures { IfOk result (λ vs. parts_value vs ≡ list_with (parts_value parts) (held_value value)) }
 {
-    match (parts, value) {
-        (Some(mut parts), Some(value)) => {
+    match parts.zip(value) {
+        Some((mut parts, value)) => {
             parts.push(value)?;
             Ok(Some(parts))
         }
-        _ => Ok(None),
+        None => Ok(None),
     }
 }
 
@@ -84,7 +95,11 @@ pub(crate) fn into_value(alloc: Global, held: Held) -> Result<Value, Memory>
 {
     match held {
         Held::Value(value) => Ok(value),
-        Held::Flat(flat) => Ok(Value::Grid(flat.to_cells(alloc)?)),
+        Held::Flat(flat) => {
+            let cells = flat.to_cells(alloc);
+            drop(flat);
+            Ok(Value::Grid(cells?))
+        }
     }
 }
 

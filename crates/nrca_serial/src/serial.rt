@@ -334,7 +334,9 @@ fn eval_sum(
         return Err(EvalFault::Spent);
     }
     let count = count as u64;
-    let run = sum_run(alloc, body, globals, env, &members, 0, count, left - count)?;
+    let run = sum_run(alloc, body, globals, env, &members, 0, count, left - count);
+    drop(members);
+    let run = run?;
     Ok(Counted {
         answer: boxed(alloc, sum_of(run.answer))?,
         turns: turns + count + run.turns,
@@ -366,7 +368,9 @@ fn eval_union(
         return Err(EvalFault::Spent);
     }
     let count = count as u64;
-    let run = union_run(alloc, body, globals, env, &members, 0, count, left - count)?;
+    let run = union_run(alloc, body, globals, env, &members, 0, count, left - count);
+    drop(members);
+    let run = run?;
     Ok(Counted {
         answer: boxed(alloc, union_of(run.answer))?,
         turns: turns + count + run.turns,
@@ -432,7 +436,9 @@ pub fn sum_run(
         } = members.get(alloc, i, sides)?;
         sides = after;
         let inner = Env::Bound(&member, &*env);
-        let done = node(alloc, body, globals, &inner, budget - turns)?;
+        let done = node(alloc, body, globals, &inner, budget - turns);
+        drop(member);
+        let done = done?;
         sum = sum_and(sum, unboxed(done.answer));
         turns += done.turns;
     }
@@ -492,7 +498,9 @@ pub fn members_run(
         } = members.get(alloc, i, sides)?;
         sides = after;
         let inner = Env::Bound(&member, &*env);
-        let done = node(alloc, body, globals, &inner, budget - turns)?;
+        let done = node(alloc, body, globals, &inner, budget - turns);
+        drop(member);
+        let done = done?;
         all = members_and(all, unboxed(done.answer))?;
         turns += done.turns;
     }
