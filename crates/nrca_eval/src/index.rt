@@ -122,7 +122,9 @@ fn index_value<R: Threads + Sync, G: Gate>(
     if count > budget {
         return Err(EvalFault::Spent);
     }
-    let pairs = index_pieces(rt, alloc, rank, &set, count, workers, gate)?;
+    let pairs = index_pieces(rt, alloc, rank, &set, count, workers, gate);
+    drop(set);
+    let pairs = pairs?;
     let made = index_pairs(alloc, rank, pairs, budget - count)?;
     Ok(Counted {
         answer: made.answer,
@@ -137,6 +139,9 @@ fn set_of(value: Held) -> Option<Ascending>
 {
     match value {
         Held::Value(Value::Members(set)) => Some(set),
-        _ => None,
+        other => {
+            drop(other);
+            None
+        }
     }
 }

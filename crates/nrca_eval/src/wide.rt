@@ -392,6 +392,7 @@ fn wide_sum<R: Threads + Sync, G: Gate>(
     };
     let count = members.len();
     if count > u128::from(left) {
+        drop(members);
         return Err(EvalFault::Spent);
     }
     let count = count as u64;
@@ -406,7 +407,9 @@ fn wide_sum<R: Threads + Sync, G: Gate>(
         left - count,
         workers,
         gate,
-    )?;
+    );
+    drop(members);
+    let run = run?;
     Ok(Counted {
         answer: boxed(alloc, sum_of(run.answer))?,
         turns: turns + count + run.turns,
@@ -441,6 +444,7 @@ fn wide_union<R: Threads + Sync, G: Gate>(
     };
     let count = members.len();
     if count > u128::from(left) {
+        drop(members);
         return Err(EvalFault::Spent);
     }
     let count = count as u64;
@@ -455,7 +459,9 @@ fn wide_union<R: Threads + Sync, G: Gate>(
         left - count,
         workers,
         gate,
-    )?;
+    );
+    drop(members);
+    let run = run?;
     Ok(Counted {
         answer: boxed(alloc, union_of(run.answer))?,
         turns: turns + count + run.turns,

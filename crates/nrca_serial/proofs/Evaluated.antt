@@ -1,6 +1,6 @@
 -- Steps of the evaluation: weights, parts and runs over plain variables.
 use Rattle.std.proofs.Common.{◌≡◌, ℕ, zero, suc, ◌+◌, ◌-◌, ◌*◌, ◌<◌, ◌≤◌, true, List, [], ◌∷◌, ◌++◌, length, map, take, get_or, Some, None, refl, sym, ◌∙◌, ap, arith}
-use Rattle.std.specs.Prelude.{slice_get}
+use Rattle.std.specs.Prelude.{slice_get, Result, Ok, Err, IsOkAnd, IsErrAnd}
 use Rattle.std.specs.List.{slice_range}
 use Rattle.std.specs.Option.{option_map}
 use Rattle.std.proofs.lemmas.Option.{slice_get-map, slice_get_read}
@@ -11,7 +11,11 @@ use Rattle.nrca_term.specs.Nodes.{tab_term}
 use Rattle.nrca_term.specs.Variants.{parts_weight-plain}
 use Rattle.nrca_term.specs.View.{term_of}
 use Rattle.nrca_term.specs.declared.term.Core.{Core}
+use Rattle.nrca_par.specs.declared.fault.EvalFault.{EvalFault}
+use Rattle.nrca_par.specs.declared.fault.EvalFault.TheVariants.{Spent}
+use Rattle.nrca_serial.specs.declared.done.Counted.{Counted}
 use Rattle.nrca_serial.specs.Parts.{strict_of, is_strict_form}
+use Rattle.nrca_serial.specs.Within.{Within}
 use Rattle.nrca_serial.specs.RunLaws.{range_whole, total-range_within}
 
 -- a term of a list is no heavier than the list
@@ -56,6 +60,15 @@ pub spent_whole : {X : Type 0} (g : X → ℕ) (xs : List X) (i : ℕ) (x : X) (
     turns ≡ total g (slice_range xs 0 i) → turns ≤ budget → budget - turns < g x → budget < total g xs
 spent_whole g xs i x budget turns high e t w s =
     omega (arith, spent_within g xs 0 i (length xs) x budget turns (omega arith) high e t w s, ap (total g) (range_whole xs (length xs) refl))
+
+-- what is said of an evaluation, at its answer and at its fault
+pub at_answer : {T X : Type 0} (view : T → X) (r : Result (Counted T) EvalFault) (budget : ℕ) (x : X) (turns : ℕ) (d : Counted T) → Within view budget x turns r → IsOkAnd r (λ e. e ≡ d) → (view d.answer ≡ x) × (d.turns ≡ turns) × (turns ≤ budget)
+at_answer view (Ok e) budget x turns d w is = (ap (λ c. view c.answer) (sym is) ∙ w.0, ap (λ c. c.turns) (sym is) ∙ w.1, w.2)
+at_answer view (Err e) budget x turns d w is = absurd is
+
+pub at_fault : {T X : Type 0} (view : T → X) (r : Result (Counted T) EvalFault) (budget : ℕ) (x : X) (turns : ℕ) (f : EvalFault) → Within view budget x turns r → IsErrAnd r (λ e. e ≡ f) → f ≡ Spent → budget < turns
+at_fault view (Ok e) budget x turns f w is s = absurd is
+at_fault view (Err e) budget x turns f w is s = w (is ∙ s)
 
 -- what a write over all of a list leaves
 pub written : {X : Type 0} (n : ℕ) (xs ys : List X) → length xs ≡ n → take n (xs ++ ys) ≡ xs

@@ -17,7 +17,7 @@ ghost use Rattle.nrca_serial.specs.Runs.{member_list, members_value, run_values,
 use crate::boxes::{
     boxed, cell_boxed, dim_boxed, keep_part, parts_kept, strict_boxed, truth_kept, unboxed,
 };
-use crate::done::Counted;
+use crate::done::{Counted, beside};
 use crate::env::{Env, Globals, lent, position, variable};
 use crate::members::{Members, Next, as_members, members_below, members_of_both};
 use crate::operations::{numbers, sum_of, table_of, union_of};
@@ -331,6 +331,7 @@ fn eval_sum(
     };
     let count = members.len();
     if count > u128::from(left) {
+        drop(members);
         return Err(EvalFault::Spent);
     }
     let count = count as u64;
@@ -365,6 +366,7 @@ fn eval_union(
     };
     let count = members.len();
     if count > u128::from(left) {
+        drop(members);
         return Err(EvalFault::Spent);
     }
     let count = count as u64;
@@ -524,14 +526,15 @@ pub fn cells_run(
     requires within { to ≤ product dims.now }
     ensures { Within itself budget (cell_values globals.now (values env.now) (term_of body.now) dims.now from to) (cell_turns globals.now (values env.now) (term_of body.now) dims.now from to) result }
 {
+    let mut at = zeros(alloc, dims.dims.len())?;
     let mut cells = Some(Builder::new(alloc));
     let mut turns = 0;
-    let mut at = zeros(alloc, dims.dims.len())?;
     for place in from..to {
         set_index(dims.dims.as_slice(), u128::from(place), at.as_mut_slice());
         let inner = Env::Indices(at.as_slice(), &*env);
-        let done = node(alloc, body, globals, &inner, budget - turns)?;
-        cells = cells_and(alloc, cells, unboxed(done.answer))?;
+        let done = node(alloc, body, globals, &inner, budget - turns);
+        let (kept, done) = beside(cells, done)?;
+        cells = cells_and(alloc, kept, unboxed(done.answer))?;
         turns += done.turns;
     }
     Ok(Counted {

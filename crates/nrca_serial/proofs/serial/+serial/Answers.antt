@@ -25,7 +25,7 @@ use Rattle.nrca_serial.specs.Runs.{member_list, members_value, members_with, lis
 use Rattle.nrca_serial.specs.Scope.{values, boxed_value}
 use Rattle.nrca_serial.specs.Within.{itself}
 use Rattle.nrca_serial.specs.WithinLaws.{err_within, same_within}
-use Rattle.nrca_serial.proofs.Evaluated.{term_at, member_weight, tab_weight, child_there, strict_form, spent_within, spent_whole, written}
+use Rattle.nrca_serial.proofs.Evaluated.{at_answer, at_fault, term_at, member_weight, tab_weight, child_there, strict_form, spent_within, spent_whole, written}
 use Rattle.nrca_serial.proofs.Lent.{sub_weight, sub_lent, sub_free}
 use Rattle.nrca_serial.proofs.serial.+serial.Goals as goal
 
@@ -354,8 +354,8 @@ members_run-loop-i-preserved t c =
       c.in_ok-member.ensures.1,
     )
 
-pub cells_run-returns-in_err-done : goal.cells_run-returns-in_err-done
-cells_run-returns-in_err-done t c =
+pub cells_run-returns-in_err-kept : goal.cells_run-returns-in_err-kept
+cells_run-returns-in_err-kept t c =
     let V = c.args.globals.now in
     let vals = values c.args.env.now in
     let b = term_of c.args.body.now in
@@ -367,8 +367,8 @@ cells_run-returns-in_err-done t c =
     let seen = c.as_slice-in-loop-place.ensures.value ∙ whole in
     let at : slice_get (indices c.args.dims.now) c.loop-place.place ≡ Some here =
     (λ k. slice_get (indices ((sym c.dims.view_is ∙ sym c.as_slice.ensures.value) k)) (sym c.from.ensures k)) ∙ c.set_index.ensures in
-    err_within itself _ _ _ _ c.in_err-done.field-0.0 c.from_residual-in_err-done.ensures.0 c.from_residual-in_err-done.ensures.1
-    (λ s. let h = c.in_err-done.ensures s in
+    err_within itself _ _ _ _ c.in_err-kept.field-0.0 c.from_residual-in_err-kept.ensures.0 c.from_residual-in_err-kept.ensures.1
+    (λ s. let h = at_fault boxed_value c.node-done.result _ _ _ _ c.node-done.ensures c.in_err-kept.ensures s in
     spent_within g (indices c.args.dims.now) c.args.from c.loop-place.place c.args.to here c.args.budget c.loop-place.turns (omega arith) (omega arith) at inv.1 inv.2 (omega (arith, h, ap g seen)))
 
 pub cells_run-loop-place-preserved : goal.cells_run-loop-place-preserved
@@ -384,8 +384,8 @@ cells_run-loop-place-preserved t c =
     let seen = c.as_slice-in-loop-place.ensures.value ∙ whole in
     let at : slice_get (indices c.args.dims.now) c.loop-place.place ≡ Some here =
     (λ k. slice_get (indices ((sym c.dims.view_is ∙ sym c.as_slice.ensures.value) k)) (sym c.from.ensures k)) ∙ c.set_index.ensures in
-    let done = c.in_ok-done.ensures in (
-      c.in_ok-cells.ensures ∙ (λ k. list_with (inv.0 k) ((c.unboxed.ensures ∙ done.0 ∙ ap f seen) k)) ∙ sym (each-range_more f g (indices c.args.dims.now) c.args.from c.loop-place.place here (omega arith) at),
+    let done = at_answer boxed_value c.node-done.result _ _ _ _ c.node-done.ensures c.in_ok-kept.ensures.1 in (
+      c.in_ok-cells.ensures ∙ (λ k. list_with ((c.in_ok-kept.ensures.0 ∙ inv.0) k) ((c.unboxed.ensures ∙ done.0 ∙ ap f seen) k)) ∙ sym (each-range_more f g (indices c.args.dims.now) c.args.from c.loop-place.place here (omega arith) at),
       omega (arith, total-range_more f g (indices c.args.dims.now) c.args.from c.loop-place.place here (omega arith) at, inv.1, done.1, ap g seen),
       omega (arith, inv.2, done.1, done.2),
       ap length whole ∙ omega (arith, c.set_index.auto.at, c.as_mut_slice.ensures.value, inv.3),
