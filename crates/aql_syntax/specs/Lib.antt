@@ -6,6 +6,7 @@ pub mod Lexis
 pub mod Matching
 pub mod Measured
 pub mod Names
+pub mod Nodes
 pub mod Scan
 pub mod Script
 pub mod Signs

@@ -5,9 +5,12 @@ ghost use Rattle.aql_syntax.specs.Tree.{Quals};
 ghost use Rattle.aql_syntax.specs.View.{tree_of, trees_of, quals_of, qual_of, axes_in, defs_in, pat_of, pats_of, decl_of, reader_of};
 
 use crate::ast::{Bind, CsvReader, Decl, Expr, Kind, Kinds, LetBind, Pattern, Qual, Reader};
-use crate::build::{
-    comprehension, let_in, literal, members, row, subscript, tabulation, tuple_pattern,
+use crate::build::tuple_pattern;
+use crate::nodes::{
+    Binary, Functional, Unary, application, bound, choice, comprehended, function, listed, on_one,
+    on_two, set, subscripted, tabulated, tuple,
 };
+use aql_made::{both, boxed};
 use aql_value::Memory;
 use std::alloc::Global;
 
@@ -45,133 +48,68 @@ impl Expr {
             Expr::Bool(b) => Ok(Expr::Bool(*b)),
             Expr::Text(s) => Ok(Expr::Text(s.copy(alloc)?)),
             Expr::Name(x) => Ok(Expr::Name(x.copy(alloc)?)),
-            Expr::Row(es) => {
-                let items = copy_exprs(alloc, &es.items)?;
-                Ok(row(items))
-            }
+            Expr::Row(es) => tuple(copy_exprs(alloc, &es.items)),
             Expr::Empty => Ok(Expr::Empty),
-            Expr::Members(es) => {
-                let items = copy_exprs(alloc, &es.items)?;
-                Ok(members(items))
-            }
+            Expr::Members(es) => set(copy_exprs(alloc, &es.items)),
             Expr::Comp { head, quals } => {
-                let head = boxed(alloc, head)?;
-                let items = copy_quals(alloc, &quals.items)?;
-                Ok(comprehension(head, items))
+                comprehended(copied(alloc, head), copy_quals(alloc, &quals.items))
             }
             Expr::Tab { body, binds } => {
-                let body = boxed(alloc, body)?;
-                let items = copy_binds(alloc, &binds.items)?;
-                Ok(tabulation(body, items))
+                tabulated(copied(alloc, body), copy_binds(alloc, &binds.items))
             }
             Expr::Literal { dims, cells } => {
-                let dims = copy_exprs(alloc, &dims.items)?;
-                let cells = copy_exprs(alloc, &cells.items)?;
-                Ok(literal(dims, cells))
+                listed(
+                    copy_exprs(alloc, &dims.items),
+                    copy_exprs(alloc, &cells.items),
+                )
             }
             Expr::Let { binds, body } => {
-                let items = copy_lets(alloc, &binds.items)?;
-                let body = boxed(alloc, body)?;
-                Ok(let_in(items, body))
+                bound(copy_lets(alloc, &binds.items), copied(alloc, body))
             }
             Expr::Sub { array, at } => {
-                let array = boxed(alloc, array)?;
-                let at = copy_exprs(alloc, &at.items)?;
-                Ok(subscript(array, at))
+                subscripted(copied(alloc, array), copy_exprs(alloc, &at.items))
             }
-            Expr::If(c, a, b) => {
-                let c = boxed(alloc, c)?;
-                let a = boxed(alloc, a)?;
-                let b = boxed(alloc, b)?;
-                Ok(Expr::If(c, a, b))
-            }
-            Expr::And(a, b) => {
-                let a = boxed(alloc, a)?;
-                let b = boxed(alloc, b)?;
-                Ok(Expr::And(a, b))
-            }
-            Expr::Or(a, b) => {
-                let a = boxed(alloc, a)?;
-                let b = boxed(alloc, b)?;
-                Ok(Expr::Or(a, b))
-            }
-            Expr::Not(a) => {
-                let a = boxed(alloc, a)?;
-                Ok(Expr::Not(a))
-            }
-            Expr::Compare(o, a, b) => {
-                let a = boxed(alloc, a)?;
-                let b = boxed(alloc, b)?;
-                Ok(Expr::Compare(*o, a, b))
-            }
-            Expr::Arith(o, a, b) => {
-                let a = boxed(alloc, a)?;
-                let b = boxed(alloc, b)?;
-                Ok(Expr::Arith(*o, a, b))
-            }
-            Expr::Union(a, b) => {
-                let a = boxed(alloc, a)?;
-                let b = boxed(alloc, b)?;
-                Ok(Expr::Union(a, b))
-            }
-            Expr::Gen(a) => {
-                let a = boxed(alloc, a)?;
-                Ok(Expr::Gen(a))
-            }
-            Expr::Get(a) => {
-                let a = boxed(alloc, a)?;
-                Ok(Expr::Get(a))
-            }
-            Expr::Len(a) => {
-                let a = boxed(alloc, a)?;
-                Ok(Expr::Len(a))
-            }
-            Expr::Dim { rank, array } => {
-                let array = boxed(alloc, array)?;
-                Ok(Expr::Dim { rank: *rank, array })
-            }
-            Expr::Index { rank, pairs } => {
-                let pairs = boxed(alloc, pairs)?;
-                Ok(Expr::Index { rank: *rank, pairs })
-            }
-            Expr::Apply { name, argument } => {
-                let name = name.copy(alloc)?;
-                let argument = boxed(alloc, argument)?;
-                Ok(Expr::Apply { name, argument })
-            }
+            Expr::If(c, a, b) => choice(copied(alloc, c), copied(alloc, a), copied(alloc, b)),
+            Expr::And(a, b) => on_two(Binary::And, copied(alloc, a), copied(alloc, b)),
+            Expr::Or(a, b) => on_two(Binary::Or, copied(alloc, a), copied(alloc, b)),
+            Expr::Not(a) => on_one(Unary::Not, copied(alloc, a)),
+            Expr::Compare(o, a, b) => on_two(
+                Binary::Compare(*o),
+                copied(alloc, a),
+                copied(alloc, b),
+            ),
+            Expr::Arith(o, a, b) => on_two(Binary::Arith(*o), copied(alloc, a), copied(alloc, b)),
+            Expr::Union(a, b) => on_two(Binary::Union, copied(alloc, a), copied(alloc, b)),
+            Expr::Gen(a) => on_one(Unary::Gen, copied(alloc, a)),
+            Expr::Get(a) => on_one(Unary::Get, copied(alloc, a)),
+            Expr::Len(a) => on_one(Unary::Len, copied(alloc, a)),
+            Expr::Dim { rank, array } => on_one(Unary::Dim(*rank), copied(alloc, array)),
+            Expr::Index { rank, pairs } => on_one(Unary::Index(*rank), copied(alloc, pairs)),
+            Expr::Apply { name, argument } => application(
+                name.copy(alloc),
+                copied(alloc, argument),
+            ),
             Expr::Fun {
                 pattern,
                 body,
                 argument,
-            } => {
-                let pattern = pattern.copy(alloc)?;
-                let body = boxed(alloc, body)?;
-                let argument = boxed(alloc, argument)?;
-                Ok(Expr::Fun {
-                    pattern,
-                    body,
-                    argument,
-                })
-            }
+            } => function(
+                Functional::Plain,
+                pattern.copy(alloc),
+                copied(alloc, body),
+                copied(alloc, argument),
+            ),
             Expr::SumMap {
                 pattern,
                 body,
                 over,
-            } => {
-                let pattern = pattern.copy(alloc)?;
-                let body = boxed(alloc, body)?;
-                let over = boxed(alloc, over)?;
-                Ok(Expr::SumMap {
-                    pattern,
-                    body,
-                    over,
-                })
-            }
-            Expr::Default(a, b) => {
-                let a = boxed(alloc, a)?;
-                let b = boxed(alloc, b)?;
-                Ok(Expr::Default(a, b))
-            }
+            } => function(
+                Functional::Sum,
+                pattern.copy(alloc),
+                copied(alloc, body),
+                copied(alloc, over),
+            ),
+            Expr::Default(a, b) => on_two(Binary::Default, copied(alloc, a), copied(alloc, b)),
         }
     }
 }
@@ -184,19 +122,16 @@ impl Qual {
     {
         match self {
             Qual::From { pattern, over } => {
-                let pattern = pattern.copy(alloc)?;
-                let over = over.copy(alloc)?;
+                let (pattern, over) = both(pattern.copy(alloc), over.copy(alloc))?;
                 Ok(Qual::From { pattern, over })
             }
             Qual::Cells { index, cell, over } => {
-                let index = index.copy(alloc)?;
-                let cell = cell.copy(alloc)?;
-                let over = over.copy(alloc)?;
+                let patterns = both(index.copy(alloc), cell.copy(alloc));
+                let ((index, cell), over) = both(patterns, over.copy(alloc))?;
                 Ok(Qual::Cells { index, cell, over })
             }
             Qual::Match { pattern, of } => {
-                let pattern = pattern.copy(alloc)?;
-                let of = of.copy(alloc)?;
+                let (pattern, of) = both(pattern.copy(alloc), of.copy(alloc))?;
                 Ok(Qual::Match { pattern, of })
             }
             Qual::Test(e) => {
@@ -290,11 +225,10 @@ fn copy_patterns(alloc: Global, ps: &[Pattern]) -> Result<Vec<Pattern>, Memory>
 }
 
 #[cycle(copy)]
-fn boxed(alloc: Global, e: &Expr) -> Result<Box<Expr>, Memory>
+fn copied(alloc: Global, e: &Expr) -> Result<Box<Expr>, Memory>
     ensures { IfOk result (λ made. tree_of made.value ≡ tree_of e.now) }
 {
-    let copied = e.copy(alloc)?;
-    Ok(Box::new(alloc, copied)?)
+    boxed(alloc, e.copy(alloc))
 }
 
 #[cycle(copy)]

@@ -9,6 +9,7 @@
 pub mod ast;
 pub mod build;
 pub mod copies;
+mod nodes;
 pub mod sign;
 pub mod sizes;
 pub mod token;
