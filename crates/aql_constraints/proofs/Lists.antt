@@ -1,15 +1,16 @@
 -- The code's lists of types, one by one.
-use Rattle.std.proofs.Common.{ℕ, zero, suc, ◌≡◌, ◌+◌, ◌<◌, ◌≤◌, List, [], ◌∷◌, ◌++◌, Option, Some, None, refl, ap, ◌∙◌, arith, length, drop, get_or, add-one}
+use Rattle.std.proofs.Common.{ℕ, zero, suc, ◌≡◌, ◌+◌, ◌<◌, ◌≤◌, List, [], ◌∷◌, ◌++◌, Option, Some, None, refl, sym, ap, ◌∙◌, arith, length, drop, get_or, add-one}
 use Rattle.std.proofs.lemmas.List.{at_drop_all}
 use Rattle.std.proofs.Math.Seq.{drop-cons}
 use Rattle.aql_types.specs.Types as types
-use Rattle.aql_types.specs.Types.{Ty, Tys, no_type, type, natural, append, tys_of, index_type}
+use Rattle.aql_types.specs.Types.{Ty, Tys, Subst, no_type, type, natural, append, apply, apply_all, tys_of, index_type}
 use Rattle.aql_types.specs.View.{type_of, types_of}
-use Rattle.aql_types.specs.ViewLaws.{types_last, append_assoc_types, append_none}
+use Rattle.aql_types.specs.ViewLaws.{types_last, types_from, append_assoc_types, append_none}
 use Rattle.aql_types.specs.declared.ty.Ty as code
 use Rattle.aql_syntax.specs.Typing.{field_type, field_types, record_type}
 use Rattle.aql_syntax.specs.declared.ast.Kind.{Kind}
 use Rattle.aql_constraints.specs.Constraints.{State, Made, after, equate, equate_each, literal_parts}
+use Rattle.aql_constraints.specs.Numbering.{variables, variables_all}
 use Rattle.aql_constraints.specs.View.{types_in}
 use Rattle.aql_constraints.specs.Rows.{numbers}
 
@@ -92,3 +93,44 @@ record_one (k ∷ []) d e = refl
 record_one (k ∷ l ∷ ks) d e = let bad : ⊥ = omega (arith, e) in absurd bad
 
 pub ruleset record_steps = (record_row, record_one)
+
+-- one type more under a substitution
+pub apply_more : (w : Subst) (made new : List code.Ty) (one d : code.Ty) (ts : List code.Ty) (i : ℕ) (all : Tys) → i < length ts → d ≡ get_or ts i d →
+    type_of one ≡ apply w (type_of d) → new ≡ made ++ one ∷ [] → append (types_of made) (apply_all w (types_of (drop i ts))) ≡ all →
+    append (types_of new) (apply_all w (types_of (drop (i + 1) ts))) ≡ all
+apply_more w made new one d ts i all h e f g total =
+    let rest : Tys = apply_all w (types_of (drop (i + 1) ts)) in
+    ap (λ (l : List code.Ty). append (types_of l) rest) g ∙ ap (λ (x : Tys). append x rest) (types_last made one)
+    ∙ append_assoc_types (types_of made) (type (type_of one) no_type) rest
+    ∙ ap (λ (y : Ty). append (types_of made) (type y rest)) (f ∙ ap (λ (d : code.Ty). apply w (type_of d)) e)
+    ∙ sym (ap (λ (l : Tys). append (types_of made) (apply_all w l)) (types_from ts i d h)) ∙ total
+
+-- one of some types more that is to become that one
+pub equate_more : (ts : List code.Ty) (i : ℕ) (d : code.Ty) (t : Ty) (n m : State) (all : Option (Made (Unit {0}))) → i < length ts → d ≡ get_or ts i d →
+    equate (type_of d) t n ≡ Some (record { result = tt; state = m }) → equate_each (types_in (drop i ts)) t n ≡ all →
+    equate_each (types_in (drop (i + 1) ts)) t m ≡ all
+unfolding after
+equate_more ts i d t n m all h e k total =
+    let rest : List Ty = types_in (drop (i + 1) ts) in
+    sym (ap (λ (o : Option (Made (Unit {0}))). after o (λ _. equate_each rest t)) k)
+    ∙ sym (ap (λ (l : List Ty). equate_each l t n) (types_in_from ts i d h ∙ ap (λ (d : code.Ty). type_of d ∷ rest) (sym e))) ∙ total
+
+pub naturals_more : (made new : List code.Ty) (k : ℕ) → types_of made ≡ numbers k → new ≡ made ++ code.Nat ∷ [] → types_of new ≡ numbers (k + 1)
+naturals_more made new k e f = ap types_of f ∙ types_of_more made ∙ ap (λ (l : Tys). append l (type natural no_type)) e ∙ numbers_more k
+
+-- one field more
+pub fields_more : (made new : List code.Ty) (one : code.Ty) (ks : List Kind) (i : ℕ) (d : Kind) (all : Tys) → i < length ks →
+    type_of one ≡ field_type (get_or ks i d) → new ≡ made ++ one ∷ [] → append (types_of made) (field_types (drop i ks)) ≡ all →
+    append (types_of new) (field_types (drop (i + 1) ks)) ≡ all
+fields_more made new one ks i d all h e f total =
+    let rest : Tys = field_types (drop (i + 1) ks) in
+    ap (λ (l : List code.Ty). append (types_of l) rest) f ∙ ap (λ (x : Tys). append x rest) (types_last made one)
+    ∙ append_assoc_types (types_of made) (type (type_of one) no_type) rest ∙ ap (λ (y : Ty). append (types_of made) (type y rest)) e
+    ∙ sym (ap (λ (l : Tys). append (types_of made) l) (fields_from ks i d h)) ∙ total
+
+-- the variables of one type more
+pub variables_more : (ts : List code.Ty) (i : ℕ) (d : code.Ty) (seen new all : List ℕ) → i < length ts → d ≡ get_or ts i d →
+    new ≡ variables (type_of d) seen → variables_all (types_of (drop i ts)) seen ≡ all → variables_all (types_of (drop (i + 1) ts)) new ≡ all
+variables_more ts i d seen new all h e k total =
+    ap (λ (l : List ℕ). variables_all (types_of (drop (i + 1) ts)) l) k
+    ∙ sym (ap (λ (x : Tys). variables_all x seen) (types_from ts i d h ∙ ap (λ (d : code.Ty). type (type_of d) (types_of (drop (i + 1) ts))) (sym e))) ∙ total

@@ -63,6 +63,10 @@ equate a b s = Some (record { result = tt; state = record { eqs = (a, b) ∷ s.e
 unfoldable pub within : Ty → Making (Unit {0})
 within t s = Some (record { result = tt; state = record { eqs = s.eqs; uses = append s.uses (type t no_type); next = s.next } })
 
+-- the state after both, where the second of the two is within the limits
+abbrev pub tied : Ty → Ty → State → State
+tied a b s = record { eqs = (a, b) ∷ s.eqs; uses = append s.uses (type b no_type); next = s.next }
+
 -- no answer where a test fails
 unfoldable pub guard : Bool → Making (Unit {0})
 guard true s = Some (record { result = tt; state = s })

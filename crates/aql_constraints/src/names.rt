@@ -10,6 +10,7 @@ ghost use Rattle.aql_constraints.specs.View.{state_of, locals_of, scheme_of, sch
 
 use crate::fault::NoTyping;
 use crate::store::{Store, equal_types, used};
+use aql_made::{both, boxed};
 use aql_types::ty::{Scheme, Ty, row};
 use aql_value::{Memory, Str};
 use std::alloc::Global;
@@ -124,8 +125,7 @@ pub fn push_local(alloc: Global, name: &Str, ty: &Ty, env: &mut Vec<Local>) -> R
     ensures names { OnOk result (locals_of env.new.items ≡ (name.now, type_of ty.now) ∷ locals_of env.old.items) }
     ensures extends { OnOk result (Extends env.old.items env.new.items) }
 {
-    let name = name.copy(alloc)?;
-    let ty = ty.copy(alloc)?;
+    let (name, ty) = both(name.copy(alloc), ty.copy(alloc))?;
     env.push(Local { name, ty })?;
     Ok(())
 }
@@ -161,8 +161,7 @@ fn applied(alloc: Global, p: &Position, given: &Ty, s: Store) -> Result<(Ty, Sto
             result: to,
         } => {
             let (first, s) = open(p.variables, s)?;
-            let a = shifted(alloc, from, first)?;
-            let b = shifted(alloc, to, first)?;
+            let (a, b) = both(shifted(alloc, from, first), shifted(alloc, to, first))?;
             let s = used(alloc, &a, s)?;
             let s = used(alloc, &b, s)?;
             let s = equal_types(alloc, given, &a, s)?;
@@ -205,17 +204,11 @@ fn shifted(alloc: Global, t: &Ty, by: u64) -> Result<Ty, Memory>
             let items = shifted_all(alloc, &ts.items, by)?;
             Ok(row(items))
         }
-        Ty::SetOf(t) => {
-            let t = shifted(alloc, t, by)?;
-            Ok(Ty::SetOf(Box::new(alloc, t)?))
-        }
-        Ty::ArrayOf { rank, cell } => {
-            let cell = shifted(alloc, cell, by)?;
-            Ok(Ty::ArrayOf {
-                rank: *rank,
-                cell: Box::new(alloc, cell)?,
-            })
-        }
+        Ty::SetOf(t) => Ok(Ty::SetOf(boxed(alloc, shifted(alloc, t, by))?)),
+        Ty::ArrayOf { rank, cell } => Ok(Ty::ArrayOf {
+            rank: *rank,
+            cell: boxed(alloc, shifted(alloc, cell, by))?,
+        }),
     }
 }
 

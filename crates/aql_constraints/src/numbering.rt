@@ -7,6 +7,7 @@ ghost use Rattle.aql_types.specs.View.{type_of, types_of, sort_of, subst_of};
 ghost use Rattle.aql_constraints.specs.Numbering as numbering;
 ghost use Rattle.aql_constraints.specs.Numbering.{is_one_of, place, variables_all, sort_variables, numbered};
 
+use aql_made::{both, boxed};
 use aql_types::subst::Subst;
 use aql_types::ty::{Scheme, Ty, row};
 use aql_value::Memory;
@@ -25,8 +26,8 @@ pub fn instance_of(alloc: Global, solution: &Subst, s: &Scheme) -> Result<Scheme
             argument: from,
             result: to,
         } => {
-            let argument = solution.apply(alloc, from)?;
-            let result = solution.apply(alloc, to)?;
+            let parts = both(solution.apply(alloc, from), solution.apply(alloc, to));
+            let (argument, result) = parts?;
             Ok(Scheme::Macro { argument, result })
         }
     }
@@ -61,8 +62,8 @@ pub fn with_places(alloc: Global, s: &Scheme, names: &[u64]) -> Result<Scheme, M
             argument: from,
             result: to,
         } => {
-            let argument = placed(alloc, from, names)?;
-            let result = placed(alloc, to, names)?;
+            let parts = both(placed(alloc, from, names), placed(alloc, to, names));
+            let (argument, result) = parts?;
             Ok(Scheme::Macro { argument, result })
         }
     }
@@ -147,17 +148,11 @@ fn placed(alloc: Global, t: &Ty, names: &[u64]) -> Result<Ty, Memory>
             let items = placed_all(alloc, &ts.items, names)?;
             Ok(row(items))
         }
-        Ty::SetOf(t) => {
-            let t = placed(alloc, t, names)?;
-            Ok(Ty::SetOf(Box::new(alloc, t)?))
-        }
-        Ty::ArrayOf { rank, cell } => {
-            let cell = placed(alloc, cell, names)?;
-            Ok(Ty::ArrayOf {
-                rank: *rank,
-                cell: Box::new(alloc, cell)?,
-            })
-        }
+        Ty::SetOf(t) => Ok(Ty::SetOf(boxed(alloc, placed(alloc, t, names))?)),
+        Ty::ArrayOf { rank, cell } => Ok(Ty::ArrayOf {
+            rank: *rank,
+            cell: boxed(alloc, placed(alloc, cell, names))?,
+        }),
     }
 }
 

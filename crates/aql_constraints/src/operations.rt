@@ -10,7 +10,8 @@ ghost use Rattle.aql_constraints.specs.Rows.{numbers};
 ghost use Rattle.aql_constraints.specs.View.{state_of, types_in, Makes};
 
 use crate::fault::NoTyping;
-use crate::store::{Store, equal_types, new_variable, tested, used};
+use crate::store::{Store, becomes, equal_types, new_variable, tested, used};
+use aql_made::listed_both;
 use aql_types::ty::{Ty, row};
 use aql_value::Memory;
 use std::alloc::Global;
@@ -103,56 +104,48 @@ pub fn generated(alloc: Global, a: &Ty, s: Store) -> Result<(Ty, Store), NoTypin
 }
 
 /// A member, of a set.
-#[tactic(auto, unfolding(crate::specs::Constraints::after))]
+#[tactic(auto, unfolding(crate::specs::Constraints::after, crate::specs::Constraints::equate, crate::specs::Constraints::within))]
 pub fn member(alloc: Global, a: &Ty, s: Store) -> Result<(Ty, Store), NoTyping>
     ensures { Makes (λ r. record { result = type_of r.0; state = state_of r.1 }) result (made_get (type_of a.now) (state_of s)) }
 {
     let (t, s) = new_variable(s)?;
     let member = t.copy(alloc)?;
-    let set = set_of(alloc, t)?;
-    let s = equal_types(alloc, a, &set, s)?;
-    let s = used(alloc, &set, s)?;
+    let s = becomes(alloc, a, set_of(alloc, t), s)?;
     Ok((member, s))
 }
 
 /// A cell, of an array and the numbers of an index.
-#[tactic(auto, unfolding(crate::specs::Constraints::after), using(crate::proofs::Lists::length_types_in))]
+#[tactic(auto, unfolding(crate::specs::Constraints::after, crate::specs::Constraints::equate, crate::specs::Constraints::within), using(crate::proofs::Lists::length_types_in))]
 pub fn subscript(alloc: Global, a: &Ty, at: &[Ty], s: Store) -> Result<(Ty, Store), NoTyping>
     ensures { Makes (λ r. record { result = type_of r.0; state = state_of r.1 }) result (made_sub (type_of a.now) (types_in at.now) (state_of s)) }
 {
     let (t, s) = new_variable(s)?;
     let cell = t.copy(alloc)?;
-    let array = array_of(alloc, at.len() as u64, t)?;
-    let s = equal_types(alloc, a, &array, s)?;
-    let s = used(alloc, &array, s)?;
+    let s = becomes(alloc, a, array_of(alloc, at.len() as u64, t), s)?;
     let s = equal_each(alloc, at, &Ty::Nat, s)?;
     Ok((cell, s))
 }
 
 /// The dimensions, of an array of that rank. A rank that is none has no type.
-#[tactic(auto, unfolding(crate::specs::Constraints::after))]
+#[tactic(auto, unfolding(crate::specs::Constraints::after, crate::specs::Constraints::equate, crate::specs::Constraints::within))]
 pub fn dimensions(alloc: Global, rank: u64, a: &Ty, s: Store) -> Result<(Ty, Store), NoTyping>
     ensures { Makes (λ r. record { result = type_of r.0; state = state_of r.1 }) result (made_dim rank (type_of a.now) (state_of s)) }
 {
     let s = tested(1 <= rank && rank <= 8, s)?;
     let (t, s) = new_variable(s)?;
-    let array = array_of(alloc, rank, t)?;
-    let s = equal_types(alloc, a, &array, s)?;
-    let s = used(alloc, &array, s)?;
+    let s = becomes(alloc, a, array_of(alloc, rank, t), s)?;
     Ok((index(alloc, rank)?, s))
 }
 
 /// An array of sets, of a set of pairs of an index of that rank and a value. A rank that is none has no type.
-#[tactic(auto, unfolding(crate::specs::Constraints::after))]
+#[tactic(auto, unfolding(crate::specs::Constraints::after, crate::specs::Constraints::equate, crate::specs::Constraints::within))]
 pub fn grouped(alloc: Global, rank: u64, a: &Ty, s: Store) -> Result<(Ty, Store), NoTyping>
     ensures { Makes (λ r. record { result = type_of r.0; state = state_of r.1 }) result (made_index rank (type_of a.now) (state_of s)) }
 {
     let s = tested(1 <= rank && rank <= 8, s)?;
     let (t, s) = new_variable(s)?;
     let value = t.copy(alloc)?;
-    let pairs = pairs_of(alloc, rank, t)?;
-    let s = equal_types(alloc, a, &pairs, s)?;
-    let s = used(alloc, &pairs, s)?;
+    let s = becomes(alloc, a, pairs_of(alloc, rank, t), s)?;
     let set = set_of(alloc, value)?;
     Ok((array_of(alloc, rank, set)?, s))
 }
@@ -249,8 +242,6 @@ fn naturals(alloc: Global, count: u64) -> Result<Vec<Ty>, Memory>
 fn pairs_of(alloc: Global, rank: u64, t: Ty) -> Result<Ty, Memory>
     ensures { IfOk result (λ made. type_of made ≡ types.set_of (pair_type rank (type_of t))) }
 {
-    let mut parts = Vec::new(alloc);
-    parts.push(index(alloc, rank)?)?;
-    parts.push(t)?;
+    let parts = listed_both(alloc, index(alloc, rank), Ok(t))?;
     set_of(alloc, row(parts))
 }

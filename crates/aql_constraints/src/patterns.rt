@@ -11,7 +11,7 @@ ghost use Rattle.aql_constraints.specs.View.{state_of, locals_of, schemes_of, Ma
 use crate::fault::NoTyping;
 use crate::names::{Local, Position, named, push_local};
 use crate::operations::{array_of, set_of};
-use crate::store::{Store, equal_types, new_variable, used};
+use crate::store::{Store, becomes, equal_types, new_variable};
 use aql_syntax::ast::Pattern;
 use aql_types::ty::{Ty, row};
 use std::alloc::Global;
@@ -76,7 +76,7 @@ fn patterns(
 }
 
 /// The names under a pattern that matches a value of that type are added to the local names.
-#[tactic(auto, unfolding(crate::specs::Constraints::after))]
+#[tactic(auto, unfolding(crate::specs::Constraints::after, crate::specs::Constraints::equate, crate::specs::Constraints::within))]
 pub fn matched(
     alloc: Global,
     p: &Pattern,
@@ -89,13 +89,12 @@ pub fn matched(
     ensures extends { OnOk result (Extends env.old.items env.new.items) }
 {
     let (of, s) = pattern(alloc, p, positions, env, s)?;
-    let s = equal_types(alloc, t, &of, s)?;
-    let s = used(alloc, &of, s)?;
+    let s = becomes(alloc, t, Ok(of), s)?;
     Ok(s)
 }
 
 /// The names under a pattern that matches the members of a set of that type are added to the local names.
-#[tactic(auto, unfolding(crate::specs::Constraints::after))]
+#[tactic(auto, unfolding(crate::specs::Constraints::after, crate::specs::Constraints::equate, crate::specs::Constraints::within))]
 pub fn matched_member(
     alloc: Global,
     p: &Pattern,
@@ -108,15 +107,13 @@ pub fn matched_member(
     ensures extends { OnOk result (Extends env.old.items env.new.items) }
 {
     let (of, s) = pattern(alloc, p, positions, env, s)?;
-    let set = set_of(alloc, of)?;
-    let s = equal_types(alloc, t, &set, s)?;
-    let s = used(alloc, &set, s)?;
+    let s = becomes(alloc, t, set_of(alloc, of), s)?;
     Ok(s)
 }
 
 /// The names under a pattern that matches the cells of an array of that rank and type are added to
 /// the local names.
-#[tactic(auto, unfolding(crate::specs::Constraints::after))]
+#[tactic(auto, unfolding(crate::specs::Constraints::after, crate::specs::Constraints::equate, crate::specs::Constraints::within))]
 pub fn matched_cell(
     alloc: Global,
     q: &Pattern,
@@ -130,9 +127,7 @@ pub fn matched_cell(
     ensures extends { OnOk result (Extends env.old.items env.new.items) }
 {
     let (of, s) = pattern(alloc, q, positions, env, s)?;
-    let array = array_of(alloc, rank, of)?;
-    let s = equal_types(alloc, t, &array, s)?;
-    let s = used(alloc, &array, s)?;
+    let s = becomes(alloc, t, array_of(alloc, rank, of), s)?;
     Ok(s)
 }
 

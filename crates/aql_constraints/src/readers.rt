@@ -10,6 +10,7 @@ ghost use Rattle.aql_syntax.specs.View.{reader_of};
 ghost use Rattle.aql_constraints.specs.Constraints.{reader_fits};
 
 use crate::operations::{array_of, index, set_of};
+use aql_made::listed_both;
 use aql_syntax::ast::{Kind, Reader};
 use aql_types::ty::{Ty, row};
 use aql_value::Memory;
@@ -60,39 +61,36 @@ pub fn argument_type(alloc: Global, r: &Reader) -> Result<Ty, Memory>
 fn signed_number(alloc: Global) -> Result<Ty, Memory>
     ensures { IfOk result (λ t. type_of t ≡ types.product (types.type types.truth (types.type natural types.no_type))) }
 {
-    let mut parts = Vec::new(alloc);
-    parts.push(Ty::Bool)?;
-    parts.push(Ty::Nat)?;
+    let parts = listed_both(alloc, Ok(Ty::Bool), Ok(Ty::Nat))?;
     Ok(row(parts))
+}
+
+// The types of a file, a variable, a start and a count.
+fn slab_parts(alloc: Global, rank: u64) -> Result<Vec<Ty>, Memory>
+    ensures { IfOk result (λ parts. types_of parts.items ≡ tys_of (types.text ∷ types.text ∷ index_type rank ∷ index_type rank ∷ [])) }
+{
+    let mut parts = Vec::new(alloc);
+    parts.push(Ty::Text)?;
+    parts.push(Ty::Text)?;
+    parts.push(index(alloc, rank)?)?;
+    parts.push(index(alloc, rank)?)?;
+    Ok(parts)
 }
 
 // File, variable, start and count.
 fn slab(alloc: Global, rank: u64) -> Result<Ty, Memory>
     ensures { IfOk result (λ t. type_of t ≡ types.product (tys_of (types.text ∷ types.text ∷ index_type rank ∷ index_type rank ∷ []))) }
 {
-    let start = index(alloc, rank)?;
-    let count = index(alloc, rank)?;
-    let mut parts = Vec::new(alloc);
-    parts.push(Ty::Text)?;
-    parts.push(Ty::Text)?;
-    parts.push(start)?;
-    parts.push(count)?;
-    Ok(row(parts))
+    Ok(row(slab_parts(alloc, rank)?))
 }
 
 // File, variable, start, count and stride.
+#[tactic(auto, using(aql_types::specs::ViewLaws::list_steps))]
 fn strided_slab(alloc: Global, rank: u64) -> Result<Ty, Memory>
     ensures { IfOk result (λ t. type_of t ≡ types.product (tys_of (types.text ∷ types.text ∷ index_type rank ∷ index_type rank ∷ index_type rank ∷ []))) }
 {
-    let start = index(alloc, rank)?;
-    let count = index(alloc, rank)?;
-    let stride = index(alloc, rank)?;
-    let mut parts = Vec::new(alloc);
-    parts.push(Ty::Text)?;
-    parts.push(Ty::Text)?;
-    parts.push(start)?;
-    parts.push(count)?;
-    parts.push(stride)?;
+    let mut parts = slab_parts(alloc, rank)?;
+    parts.push(index(alloc, rank)?)?;
     Ok(row(parts))
 }
 

@@ -1,11 +1,12 @@
 //! Equations as they are written.
 
-ghost use Rattle.std.specs.Prelude.{◌≡◌, IfOk, Some};
+ghost use Rattle.std.specs.Prelude.{◌≡◌, IfOk, IsOkAnd, Some};
 ghost use Rattle.aql_types.specs.View.{type_of, types_of};
-ghost use Rattle.aql_constraints.specs.Constraints.{fresh, equate, within, guard};
+ghost use Rattle.aql_constraints.specs.Constraints.{fresh, equate, within, tied, guard};
 ghost use Rattle.aql_constraints.specs.View.{state_of, Makes};
 
 use crate::fault::NoTyping;
+use aql_made::both;
 use aql_types::equation::Equation;
 use aql_types::ty::Ty;
 use aql_value::Memory;
@@ -41,8 +42,7 @@ pub fn equal_types(alloc: Global, a: &Ty, b: &Ty, s: Store) -> Result<Store, Mem
     ensures { IfOk result (λ x. equate (type_of a.now) (type_of b.now) (state_of s) ≡ Some (record { result = tt; state = state_of x })) }
 {
     let mut s = s;
-    let left = a.copy(alloc)?;
-    let right = b.copy(alloc)?;
+    let (left, right) = both(a.copy(alloc), b.copy(alloc))?;
     s.equations.push(Equation { left, right })?;
     Ok(s)
 }
@@ -56,6 +56,21 @@ pub fn used(alloc: Global, t: &Ty, s: Store) -> Result<Store, Memory>
     let t = t.copy(alloc)?;
     s.uses.push(t)?;
     Ok(s)
+}
+
+/// A type is to become one that was made, and that is to be within the limits.
+#[tactic(auto, unfolding(crate::specs::Constraints::equate, crate::specs::Constraints::within))]
+pub(crate) fn becomes(
+    alloc: Global,
+    a: &Ty,
+    made: Result<Ty, Memory>,
+    s: Store,
+) -> Result<Store, Memory>
+    ensures { IfOk result (λ x. IsOkAnd made (λ b. state_of x ≡ tied (type_of a.now) (type_of b) (state_of s))) }
+{
+    let b = made?;
+    let s = equal_types(alloc, a, &b, s)?;
+    used(alloc, &b, s)
 }
 
 /// No type where the test fails.

@@ -1,33 +1,38 @@
 -- What one declaration gets, from what was asked of it and solved.
-use Rattle.std.proofs.Common.{ℕ, ◌≡◌, List, Some, Err, sym, ap, ◌∙◌, subst, length}
+use Rattle.std.proofs.Common.{◌≡◌, Some, Result, Ok, Err, IfOk, sym, ap, ◌∙◌, subst, length}
+use Rattle.aql_value.specs.declared.memory.Memory.{Memory}
 use Rattle.aql_types.specs.Types.{Subst, Sort, apply_sort}
 use Rattle.aql_types.specs.Unifiers.{IsSolution, IsBest}
 use Rattle.aql_types.specs.View.{sort_of}
-use Rattle.aql_syntax.specs.Tree.{Declaration, declared}
+use Rattle.aql_types.specs.declared.ty.Scheme as code_scheme
+use Rattle.aql_syntax.specs.Tree.{Declaration}
 use Rattle.aql_constraints.specs.Constraints.{Schemes, State, Made, start, make_decl}
-use Rattle.aql_constraints.specs.Numbering.{sort_variables, numbered, number}
-use Rattle.aql_constraints.specs.Principal.{IsInferred, IsNotInferred, HasNoSolution}
-use Rattle.aql_constraints.specs.View.{scheme_of, Fails}
+use Rattle.aql_constraints.specs.Numbering.{sort_variables, number}
+use Rattle.aql_constraints.specs.Principal.{IsNotInferred, HasNoSolution}
+use Rattle.aql_constraints.specs.View.{Fails}
 use Rattle.aql_constraints.specs.declared.names.Position.{Position}
 use Rattle.aql_constraints.specs.declared.fault.NoTyping.{NoTyping}
 use Rattle.aql_constraints.specs.declared.fault.NoTyping.TheVariants as faults
-use Rattle.aql_infer.specs.Inferred.{Inferred}
+use Rattle.aql_infer.specs.Inferred.{Inferred, Placed}
 
 -- a most general solution, and its scheme with the variables numbered
-pub solved : (d : Declaration) (ss : Schemes) (o m : Sort) (n : State) (u : Subst) (vs : List ℕ) (p : Position) →
-    make_decl d ss start ≡ Some (record { result = o; state = n }) → IsBest n.eqs n.uses u → m ≡ apply_sort u o → vs ≡ sort_variables m →
-    sort_of p.scheme ≡ apply_sort (numbered vs) m → p.variables ≡ length vs → p.name ≡ declared d → IsInferred d ss (scheme_of p) × (p.name ≡ declared d)
-solved d ss o m n u vs p asked best e f g k name = (
+pub solved : (d : Declaration) (ss : Schemes) (o : Sort) (n : State) (u : Subst) (made : Result code_scheme.Scheme Memory) (r : Result Position NoTyping) →
+    make_decl d ss start ≡ Some (record { result = o; state = n }) → IsBest n.eqs n.uses u → IfOk made (λ m. sort_of m ≡ apply_sort u o) → Placed r made d →
+    Inferred r d ss
+solved d ss o n u (Ok m) (Ok p) asked best e placed = (
   record {
     made = record { result = o; state = n };
     is = asked;
     solution = u;
     best = best;
-    sort = g ∙ ap (λ (vs : List ℕ). apply_sort (numbered vs) m) f ∙ ap number e;
-    variables = k ∙ ap length f ∙ ap (λ (m : Sort). length (sort_variables m)) e;
+    sort = placed.0 ∙ ap number e;
+    variables = placed.1 ∙ ap (λ (m : Sort). length (sort_variables m)) e;
   },
-  name,
+  placed.2,
 )
+solved d ss o n u (Err m) (Ok p) asked best e placed = absurd placed
+solved d ss o n u made (Err faults.Memory) asked best e placed = tt
+solved d ss o n u made (Err faults.NoType) asked best e placed = cc
 
 -- no solution
 pub not_solved : (d : Declaration) (ss : Schemes) (m : Made Sort) → make_decl d ss start ≡ Some m →

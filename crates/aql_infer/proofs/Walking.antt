@@ -1,15 +1,15 @@
 -- The walk over the code's lists, and over the variants that hold one.
 use Rattle.std.specs.Prelude.{Box}
 use Rattle.std.specs.Global.{Global}
-use Rattle.std.proofs.Common.{ℕ, suc, ◌≡◌, ◌+◌, ◌<◌, List, [], ◌∷◌, ◌++◌, Option, Some, None, Result, refl, ap, sym, subst, ◌∙◌, length, drop, get_or, append_assoc, append-nil}
+use Rattle.std.proofs.Common.{ℕ, suc, ◌≡◌, ◌+◌, ◌<◌, List, [], ◌∷◌, ◌++◌, Option, Some, None, Result, Ok, Err, OnOk, refl, ap, sym, subst, ◌∙◌, length, drop, get_or, arith, append_assoc, append-nil, length-append}
 use Rattle.aql_value.specs.Strict.{Strict}
 use Rattle.aql_value.specs.declared.ops.ArithOp.{ArithOp}
 use Rattle.aql_value.specs.declared.ops.CompareOp.{CompareOp}
-use Rattle.aql_types.specs.Types.{Ty, truth}
+use Rattle.aql_types.specs.Types.{Ty, natural, truth}
 use Rattle.aql_types.specs.View.{type_of}
 use Rattle.aql_types.specs.declared.ty.Ty as code_ty
 use Rattle.aql_syntax.specs.Tree as tree
-use Rattle.aql_syntax.specs.Tree.{Trees, no_tree, Tree, Quals, no_qual, count_trees, count_axes, count_pats, axes, append}
+use Rattle.aql_syntax.specs.Tree.{Trees, no_tree, Tree, Quals, no_qual, Axes, Defs, count_trees, count_axes, count_pats, axes, append}
 use Rattle.aql_syntax.specs.View.{pat_of, tree_of, trees_of, qual_of, quals_of, axes_in, defs_in}
 use Rattle.aql_syntax.specs.ViewLaws.{trees_from, trees_past, quals_from, quals_past, axes_from, axes_past, defs_from, defs_past, tree_of-Row, tree_of-Members, tree_of-Comp, tree_of-Literal, tree_of-Sub, axes_of-items, defs_of-items}
 use Rattle.aql_syntax.specs.Typing.{Locals}
@@ -20,14 +20,15 @@ use Rattle.aql_syntax.specs.declared.ast.Quals as code_quals
 use Rattle.aql_syntax.specs.declared.ast.Binds as code_binds
 use Rattle.aql_syntax.specs.declared.ast.Lets as code_lets
 use Rattle.aql_syntax.specs.declared.ast.Bind.{Bind}
+use Rattle.aql_syntax.specs.declared.ast.LetBind.{LetBind}
 use Rattle.aql_syntax.specs.declared.ast.Qual as code_qual
-use Rattle.aql_constraints.specs.Constraints.{State, Made, Making, made, after, equate, Schemes, make_op, made_tuple, made_sub, made_literal, made_choice, made_truths, made_either, made_compare, made_arith, made_union, make, make_all, make_rows, matched, matched_member, matched_index, matched_cell}
-use Rattle.aql_constraints.specs.View.{types_in, Extends}
+use Rattle.aql_constraints.specs.Constraints.{State, Made, Making, made, after, equate, Schemes, make_op, made_tuple, made_sub, made_literal, made_choice, made_truth, made_truths, made_gen, made_get, made_dim, made_index, made_either, made_compare, made_arith, made_union, make, make_all, make_each, make_bounds, make_rows, make_binds, matched, matched_member, matched_index, matched_cell}
+use Rattle.aql_constraints.specs.View.{types_in, locals_of, Extends}
 use Rattle.aql_constraints.specs.View.{Makes, Fails, state_of}
 use Rattle.aql_constraints.specs.declared.fault.NoTyping.TheVariants as faults
 use Rattle.aql_constraints.specs.declared.store.Store.{Store}
 use Rattle.aql_constraints.specs.declared.fault.NoTyping.{NoTyping}
-use Rattle.aql_infer.specs.Pairs.{make_two, subscript_of, literal_of}
+use Rattle.aql_infer.specs.Pairs.{make_two, choice_of, subscript_of, literal_of, Follows}
 use Rattle.aql_constraints.specs.declared.names.Local.{Local}
 
 pub extends_itself : (a : List Local) → Extends a a
@@ -172,7 +173,17 @@ op_two o a b ss env n = go (make a ss env n)
     go None = refl
     go (Some m) = second m.result (make b ss env m.state)
 
--- The variants with a list in them, and those with two parts.
+-- an operation of one part
+op_one : (o : Strict) (a : Tree) (ss : Schemes) (env : Locals) (n : State) →
+    make (tree.op o (tree.tree a no_tree)) ss env n ≡ after (make a ss env n) (λ s. make_op o (s ∷ []))
+unfolding after
+op_one o a ss env n = go (make a ss env n)
+  where
+    go : (p : Option (Made Ty)) → after (after p (λ t n. after (make_all no_tree ss env n) (λ ts. made (t ∷ ts)))) (λ ts. make_op o ts) ≡ after p (λ s. make_op o (s ∷ []))
+    go None = refl
+    go (Some m) = refl
+
+-- The variants with a list in them, and those with one part or two.
 
 module _ (ss : Schemes) (env : Locals) (n : State) where
   pub make-Row : (es : Exprs) → make (tree_of (code.Row es)) ss env n ≡ after (make_all (trees_of es.items.items) ss env n) (λ ts. made_tuple ts)
@@ -224,6 +235,24 @@ module _ (ss : Schemes) (env : Locals) (n : State) where
       ≡ after (make_two (tree_of a.value) (tree_of b.value) ss env n) (λ p. made_union p.0 p.1)
   make-Union a b = op_two Strict.union (tree_of a.value) (tree_of b.value) ss env n ∙ two_steps (tree_of a.value) (tree_of b.value) ss env n made_union
 
+  pub make-Not : (a : Box Expr Global) → make (tree_of (code.Not a)) ss env n ≡ after (make (tree_of a.value) ss env n) (λ s. made_truth s)
+  make-Not a = refl
+
+  pub make-Gen : (a : Box Expr Global) → make (tree_of (code.Gen a)) ss env n ≡ after (make (tree_of a.value) ss env n) (λ s. made_gen s)
+  make-Gen a = op_one Strict.gen (tree_of a.value) ss env n
+
+  pub make-Get : (a : Box Expr Global) → make (tree_of (code.Get a)) ss env n ≡ after (make (tree_of a.value) ss env n) (λ s. made_get s)
+  make-Get a = op_one Strict.get (tree_of a.value) ss env n
+
+  pub make-Len : (a : Box Expr Global) → make (tree_of (code.Len a)) ss env n ≡ after (make (tree_of a.value) ss env n) (λ s. made_dim 1 s)
+  make-Len a = op_one (Strict.dim 1) (tree_of a.value) ss env n
+
+  pub make-Dim : (k : ℕ) (a : Box Expr Global) → make (tree_of (code.Dim k a)) ss env n ≡ after (make (tree_of a.value) ss env n) (λ s. made_dim k s)
+  make-Dim k a = op_one (Strict.dim k) (tree_of a.value) ss env n
+
+  pub make-Index : (k : ℕ) (a : Box Expr Global) → make (tree_of (code.Index k a)) ss env n ≡ after (make (tree_of a.value) ss env n) (λ s. made_index k s)
+  make-Index k a = op_one (Strict.index k) (tree_of a.value) ss env n
+
   pub make-Sub : (array : Box Expr Global) (at : Exprs) →
       make (tree_of (code.Sub array at)) ss env n
       ≡ after (make (tree_of array.value) ss env n) (λ a n. after (make_all (trees_of at.items.items) ss env n) (λ ts. made_sub a ts))
@@ -271,10 +300,162 @@ pub rows_fail : (e : NoTyping) (qs : List code_qual.Qual) (i : ℕ) (q : code_qu
 rows_fail faults.Memory qs i q ss env n all h e k total = tt
 rows_fail faults.NoType qs i q ss env n all h e k total = rows_none qs i q ss env n all h e k total
 
+-- One turn of each loop over a list.
+
+turn : {A B : Type 0} (o : Option (Made A)) (f : A → Making B) (a : A) (m : State) → o ≡ Some (record { result = a; state = m }) → after o f ≡ f a m
+unfolding after
+turn {A = A} o f a m e = ap (λ (o : Option (Made A)). after o f) e
+
+pub all_more : (es : List Expr) (i : ℕ) (e : Expr) (ss : Schemes) (env new : List Local) (n m : State) (parts next : List code_ty.Ty) (y : code_ty.Ty) (all : Option (Made (List Ty))) →
+    i < length es → e ≡ get_or es i e → make (tree_of e) ss (locals_of env) n ≡ Some (record { result = type_of y; state = m }) → new ≡ env → next ≡ parts ++ y ∷ [] →
+    after (make_all (trees_of (drop i es)) ss (locals_of env) n) (λ ts. made (types_in parts ++ ts)) ≡ all →
+    after (make_all (trees_of (drop (i + 1) es)) ss (locals_of new) m) (λ ts. made (types_in next ++ ts)) ≡ all
+unfolding after
+all_more es i e ss env new n m parts next y all h d k l g total =
+    ap (λ (env : List Local). after (make_all rest ss (locals_of env) m) (λ ts. made (types_in next ++ ts))) l
+    ∙ go (make_all rest ss (locals_of env) m)
+    ∙ sym (ap (λ (o : Option (Made (List Ty))). after o (λ ts. made (types_in parts ++ ts)))
+    (turn (make (tree_of e) ss (locals_of env) n) (λ t n. after (make_all rest ss (locals_of env) n) (λ ts. made (t ∷ ts))) (type_of y) m k))
+    ∙ sym (ap (λ (x : Trees). after (make_all x ss (locals_of env) n) (λ ts. made (types_in parts ++ ts)))
+    (trees_from es i e h ∙ ap (λ (e : Expr). tree.tree (tree_of e) rest) (sym d)))
+    ∙ total
+  where
+    rest : Trees
+    rest = trees_of (drop (i + 1) es)
+
+    longer : (ts : List Ty) → types_in next ++ ts ≡ types_in parts ++ type_of y ∷ ts
+    longer ts =
+        ap (λ (l : List code_ty.Ty). types_in l ++ ts) g ∙ ap (λ (l : List Ty). l ++ ts) (types_in_append parts (y ∷ []))
+        ∙ append_assoc (types_in parts) (type_of y ∷ []) ts
+
+    go : (o : Option (Made (List Ty))) → after o (λ ts. made (types_in next ++ ts)) ≡ after (after o (λ ts. made (type_of y ∷ ts))) (λ ts. made (types_in parts ++ ts))
+    go None = refl
+    go (Some q) = ap (λ (ts : List Ty). Some (record { result = ts; state = q.state })) (longer q.result)
+
+pub count_more : (ts next : List code_ty.Ty) (t : code_ty.Ty) (k : ℕ) → length ts ≡ k → next ≡ ts ++ t ∷ [] → length next ≡ k + 1
+count_more ts next t k e f = ap length f ∙ omega (arith, length-append ts (t ∷ []), e)
+
+pub each_more : (es : List Expr) (i : ℕ) (e : Expr) (ss : Schemes) (env new : List Local) (n m last : State) (y t : Ty) (all : Option (Made (Unit {0}))) →
+    i < length es → e ≡ get_or es i e → make (tree_of e) ss (locals_of env) n ≡ Some (record { result = y; state = m }) → new ≡ env →
+    equate y t m ≡ Some (record { result = tt; state = last }) → make_each (trees_of (drop i es)) ss (locals_of env) t n ≡ all →
+    make_each (trees_of (drop (i + 1) es)) ss (locals_of new) t last ≡ all
+each_more es i e ss env new n m last y t all h d k l f total =
+    let rest : Trees = trees_of (drop (i + 1) es) in
+    ap (λ (env : List Local). make_each rest ss (locals_of env) t last) l
+    ∙ sym (turn (equate y t m) (λ _. make_each rest ss (locals_of env) t) tt last f)
+    ∙ sym (turn (make (tree_of e) ss (locals_of env) n) (λ s n. after (equate s t n) (λ _. make_each rest ss (locals_of env) t)) y m k)
+    ∙ sym (ap (λ (x : Trees). make_each x ss (locals_of env) t n) (trees_from es i e h ∙ ap (λ (e : Expr). tree.tree (tree_of e) rest) (sym d))) ∙ total
+
+pub bounds_more : (bs : List Bind) (i : ℕ) (b : Bind) (ss : Schemes) (env new : List Local) (n m last : State) (y : Ty) (all : Option (Made (Unit {0}))) →
+    i < length bs → b ≡ get_or bs i b → make (tree_of b.bound) ss (locals_of env) n ≡ Some (record { result = y; state = m }) → new ≡ env →
+    equate y natural m ≡ Some (record { result = tt; state = last }) → make_bounds (axes_in (drop i bs)) ss (locals_of env) n ≡ all →
+    make_bounds (axes_in (drop (i + 1) bs)) ss (locals_of new) last ≡ all
+bounds_more bs i b ss env new n m last y all h d k l f total =
+    let rest : Axes = axes_in (drop (i + 1) bs) in
+    ap (λ (env : List Local). make_bounds rest ss (locals_of env) last) l
+    ∙ sym (turn (equate y natural m) (λ _. make_bounds rest ss (locals_of env)) tt last f)
+    ∙ sym (turn (make (tree_of b.bound) ss (locals_of env) n) (λ t n. after (equate t natural n) (λ _. make_bounds rest ss (locals_of env))) y m k)
+    ∙ sym (ap (λ (x : Axes). make_bounds x ss (locals_of env) n) (axes_from bs i b h ∙ ap (λ (b : Bind). tree.axis b.name (tree_of b.bound) rest) (sym d))) ∙ total
+
+pub binds_more : (bs : List LetBind) (i : ℕ) (b : LetBind) (ss : Schemes) (env mid new : List Local) (n m last : State) (y : Ty) (all : Option (Made Locals)) →
+    i < length bs → b ≡ get_or bs i b → make (tree_of b.expr) ss (locals_of env) n ≡ Some (record { result = y; state = m }) → mid ≡ env →
+    matched (pat_of b.pattern) ss (locals_of mid) y m ≡ Some (record { result = locals_of new; state = last }) → make_binds (defs_in (drop i bs)) ss (locals_of env) n ≡ all →
+    make_binds (defs_in (drop (i + 1) bs)) ss (locals_of new) last ≡ all
+binds_more bs i b ss env mid new n m last y all h d k l f total =
+    let rest : Defs = defs_in (drop (i + 1) bs) in
+    sym (turn (matched (pat_of b.pattern) ss (locals_of env) y m) (λ inner. make_binds rest ss inner) (locals_of new) last
+    (ap (λ (env : List Local). matched (pat_of b.pattern) ss (locals_of env) y m) (sym l) ∙ f))
+    ∙ sym (turn (make (tree_of b.expr) ss (locals_of env) n) (λ t n. after (matched (pat_of b.pattern) ss (locals_of env) t n) (λ inner. make_binds rest ss inner)) y m k)
+    ∙ sym (ap (λ (x : Defs). make_binds x ss (locals_of env) n) (defs_from bs i b h ∙ ap (λ (b : LetBind). tree.def (pat_of b.pattern) (tree_of b.expr) rest) (sym d))) ∙ total
+
 -- the same, for an answer
 pub along : (r : Result (code_ty.Ty × Store) NoTyping) (o p : Option (Made Ty)) → o ≡ p →
     Makes (λ r. record { result = type_of r.0; state = state_of r.1 }) r p → Makes (λ r. record { result = type_of r.0; state = state_of r.1 }) r o
 along r o p e h = subst (λ (o : Option (Made Ty)). Makes (λ r. record { result = type_of r.0; state = state_of r.1 }) r o) (sym e) h
+
+-- what comes of one part, or of two
+pub one_made : (ss : Schemes) (env : Locals) (n : State) (K : Box Expr Global → Expr) (f : Ty → Making Ty) →
+    ((a : Box Expr Global) → make (tree_of (K a)) ss env n ≡ after (make (tree_of a.value) ss env n) (λ s. f s)) →
+    (e : Expr) (a : Box Expr Global) (x : Expr) (part r : Result (code_ty.Ty × Store) NoTyping) → e ≡ K a → x ≡ a.value →
+    Makes (λ r. record { result = type_of r.0; state = state_of r.1 }) part (make (tree_of x) ss env n) →
+    Follows part r (λ p. Makes (λ r. record { result = type_of r.0; state = state_of r.1 }) r (f (type_of p.0) (state_of p.1))) →
+    Makes (λ r. record { result = type_of r.0; state = state_of r.1 }) r (make (tree_of e) ss env n)
+unfolding after
+one_made ss env n K f h e a x part r i j made then =
+    along r (make (tree_of e) ss env n) (after (make (tree_of x) ss env n) (λ s. f s))
+    (ap (λ (e : Expr). make (tree_of e) ss env n) i ∙ h a ∙ sym (ap (λ (x : Expr). after (make (tree_of x) ss env n) (λ s. f s)) j))
+    (go part (make (tree_of x) ss env n) made then)
+  where
+    go : (part : Result (code_ty.Ty × Store) NoTyping) (o : Option (Made Ty)) → Makes (λ r. record { result = type_of r.0; state = state_of r.1 }) part o →
+        Follows part r (λ p. Makes (λ r. record { result = type_of r.0; state = state_of r.1 }) r (f (type_of p.0) (state_of p.1))) →
+        Makes (λ r. record { result = type_of r.0; state = state_of r.1 }) r (after o (λ s. f s))
+    go (Ok p) o h k = along r (after o (λ s. f s)) (f (type_of p.0) (state_of p.1)) (ap (λ (o : Option (Made Ty)). after o (λ s. f s)) h) k
+    go (Err faults.Memory) o h k = subst (λ (r : Result (code_ty.Ty × Store) NoTyping). Makes (λ r. record { result = type_of r.0; state = state_of r.1 }) r (after o (λ s. f s))) (sym k) tt
+    go (Err faults.NoType) o h k =
+        subst (λ (r : Result (code_ty.Ty × Store) NoTyping). Makes (λ r. record { result = type_of r.0; state = state_of r.1 }) r (after o (λ s. f s))) (sym k)
+        (ap (λ (o : Option (Made Ty)). after o (λ s. f s)) h)
+
+pub two_made : (ss : Schemes) (env : Locals) (n : State) (K : Box Expr Global → Box Expr Global → Expr) (f : Ty → Ty → Making Ty) →
+    ((a b : Box Expr Global) → make (tree_of (K a b)) ss env n ≡ after (make_two (tree_of a.value) (tree_of b.value) ss env n) (λ p. f p.0 p.1)) →
+    (e : Expr) (a b : Box Expr Global) (x y : Expr) (parts : Result (code_ty.Ty × code_ty.Ty × Store) NoTyping) (r : Result (code_ty.Ty × Store) NoTyping) →
+    e ≡ K a b → x ≡ a.value → y ≡ b.value →
+    Makes (λ r. record { result = (type_of r.0, type_of r.1); state = state_of r.2 }) parts (make_two (tree_of x) (tree_of y) ss env n) →
+    Follows parts r (λ p. Makes (λ r. record { result = type_of r.0; state = state_of r.1 }) r (f (type_of p.0) (type_of p.1) (state_of p.2))) →
+    Makes (λ r. record { result = type_of r.0; state = state_of r.1 }) r (make (tree_of e) ss env n)
+unfolding after
+two_made ss env n K f h e a b x y parts r i j k made then =
+    along r (make (tree_of e) ss env n) (after (make_two (tree_of x) (tree_of y) ss env n) (λ p. f p.0 p.1))
+    (ap (λ (e : Expr). make (tree_of e) ss env n) i ∙ h a b
+    ∙ sym (ap (λ (x : Expr). after (make_two (tree_of x) (tree_of y) ss env n) (λ p. f p.0 p.1)) j
+    ∙ ap (λ (y : Expr). after (make_two (tree_of a.value) (tree_of y) ss env n) (λ p. f p.0 p.1)) k))
+    (go parts (make_two (tree_of x) (tree_of y) ss env n) made then)
+  where
+    go : (parts : Result (code_ty.Ty × code_ty.Ty × Store) NoTyping) (o : Option (Made (Ty × Ty))) →
+        Makes (λ r. record { result = (type_of r.0, type_of r.1); state = state_of r.2 }) parts o →
+        Follows parts r (λ p. Makes (λ r. record { result = type_of r.0; state = state_of r.1 }) r (f (type_of p.0) (type_of p.1) (state_of p.2))) →
+        Makes (λ r. record { result = type_of r.0; state = state_of r.1 }) r (after o (λ p. f p.0 p.1))
+    go (Ok p) o h k = along r (after o (λ p. f p.0 p.1)) (f (type_of p.0) (type_of p.1) (state_of p.2)) (ap (λ (o : Option (Made (Ty × Ty))). after o (λ p. f p.0 p.1)) h) k
+    go (Err faults.Memory) o h k =
+        subst (λ (r : Result (code_ty.Ty × Store) NoTyping). Makes (λ r. record { result = type_of r.0; state = state_of r.1 }) r (after o (λ p. f p.0 p.1))) (sym k) tt
+    go (Err faults.NoType) o h k =
+        subst (λ (r : Result (code_ty.Ty × Store) NoTyping). Makes (λ r. record { result = type_of r.0; state = state_of r.1 }) r (after o (λ p. f p.0 p.1))) (sym k)
+        (ap (λ (o : Option (Made (Ty × Ty))). after o (λ p. f p.0 p.1)) h)
+
+-- what holds where the parts were made holds where something came of them
+pub follows_kept : {X Y : Type 0} (part : Result X NoTyping) (r : Result Y NoTyping) (P : Type 0) (Q : X → Type 0) → OnOk part P → Follows part r Q → OnOk r P
+follows_kept (Ok x) (Ok y) P Q h k = h
+follows_kept (Ok x) (Err e) P Q h k = tt
+follows_kept (Err e) (Ok y) P Q h k = cc
+follows_kept (Err e) (Err f) P Q h k = tt
+
+pub members_arm : (e : Expr) (es : Exprs) (xs : List Expr) (ss : Schemes) (env : Locals) (n : State) → e ≡ code.Members es → xs ≡ es.items.items →
+    make (tree_of e) ss env n ≡ make (tree.members (trees_of xs)) ss env n
+members_arm e es xs ss env n i j =
+    ap (λ (e : Expr). make (tree_of e) ss env n) i ∙ make-Members ss env n es ∙ sym (ap (λ (xs : List Expr). make (tree.members (trees_of xs)) ss env n) j)
+
+pub tab_arm : (e : Expr) (body : Box Expr Global) (binds : code_binds.Binds) (b : Expr) (bs : List Bind) (ss : Schemes) (env : Locals) (n : State) →
+    e ≡ code.Tab body binds → b ≡ body.value → bs ≡ (code_binds.out-Binds binds).items.items →
+    make (tree_of e) ss env n ≡ make (tree.tab (axes_in bs) (tree_of b)) ss env n
+tab_arm e body binds b bs ss env n i j k =
+    ap (λ (e : Expr). make (tree_of e) ss env n) i ∙ make-Tab ss env n body binds
+    ∙ sym (ap (λ (b : Expr). make (tree.tab (axes_in bs) (tree_of b)) ss env n) j
+    ∙ ap (λ (bs : List Bind). make (tree.tab (axes_in bs) (tree_of body.value)) ss env n) k)
+
+pub let_arm : (e : Expr) (body : Box Expr Global) (binds : code_lets.Lets) (b : Expr) (bs : List LetBind) (ss : Schemes) (env : Locals) (n : State) →
+    e ≡ code.Let binds body → b ≡ body.value → bs ≡ (code_lets.out-Lets binds).items.items →
+    make (tree_of e) ss env n ≡ make (tree.bindings (defs_in bs) (tree_of b)) ss env n
+let_arm e body binds b bs ss env n i j k =
+    ap (λ (e : Expr). make (tree_of e) ss env n) i ∙ make-Let ss env n binds body
+    ∙ sym (ap (λ (b : Expr). make (tree.bindings (defs_in bs) (tree_of b)) ss env n) j
+    ∙ ap (λ (bs : List LetBind). make (tree.bindings (defs_in bs) (tree_of body.value)) ss env n) k)
+
+pub if_arm : (e : Expr) (c a b : Box Expr Global) (x y z : Expr) (ss : Schemes) (env : Locals) (n : State) →
+    e ≡ code.If c a b → x ≡ c.value → y ≡ a.value → z ≡ b.value → make (tree_of e) ss env n ≡ choice_of (tree_of x) (tree_of y) (tree_of z) ss env n
+if_arm e c a b x y z ss env n i j k l =
+    ap (λ (e : Expr). make (tree_of e) ss env n) i ∙ make-If ss env n c a b
+    ∙ sym (ap (λ (x : Expr). choice_of (tree_of x) (tree_of y) (tree_of z) ss env n) j
+    ∙ ap (λ (y : Expr). choice_of (tree_of c.value) (tree_of y) (tree_of z) ss env n) k
+    ∙ ap (λ (z : Expr). choice_of (tree_of c.value) (tree_of a.value) (tree_of z) ss env n) l)
 
 pub comp_arm : (e : Expr) (head : Box Expr Global) (quals : code_quals.Quals) (h : Expr) (qs : List code_qual.Qual) (ss : Schemes) (env : Locals) (n : State) →
     e ≡ code.Comp head quals → h ≡ head.value → qs ≡ quals.items.items →
@@ -300,14 +481,16 @@ literal_arm e dims cells ds cs ss env n i j k =
     ∙ sym (ap (λ (ds : List Expr). literal_of (length ds) (trees_of ds) (trees_of cs) ss env n) j
     ∙ ap (λ (cs : List Expr). literal_of (length dims.items.items) (trees_of dims.items.items) (trees_of cs) ss env n) k)
 
-pub ruleset tree_steps = (make-Row, make-Members, make-Tab, make-Let, make-If, make-And, make-Or, make-Default, make-Compare, make-Arith, make-Union, count_axes-list)
+pub ruleset tree_steps = (make-Row)
 
-pub ruleset all_steps = (trees_from, trees_past, types_in_append, append_assoc, append-nil)
+pub ruleset tabulation_steps = (count_axes-list)
+
+pub ruleset all_steps = (trees_from, trees_past, append-nil)
 
 pub ruleset rows_steps = (extends_itself, extends_extends, rows_from, quals_past)
 
 pub ruleset row_steps = (extends_itself, extends_extends)
 
-pub ruleset binds_steps = (extends_itself, extends_extends, defs_from, defs_past)
+pub ruleset binds_steps = (extends_itself, defs_from, defs_past)
 
 pub ruleset indices_steps = (extends_itself, extends_extends, axes_from, axes_past)

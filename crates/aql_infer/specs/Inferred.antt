@@ -1,7 +1,12 @@
 -- What inference answers for one declaration.
-use Rattle.std.specs.Prelude.{◌≡◌, Result, Ok, Err}
+use Rattle.std.specs.Prelude.{◌≡◌, length, Result, Ok, Err, IsOkAnd}
+use Rattle.aql_value.specs.declared.memory.Memory.{Memory}
+use Rattle.aql_types.specs.Types.{apply_sort}
+use Rattle.aql_types.specs.View.{sort_of}
+use Rattle.aql_types.specs.declared.ty.Scheme as code_scheme
 use Rattle.aql_syntax.specs.Tree.{Declaration, declared}
 use Rattle.aql_constraints.specs.Constraints.{Schemes}
+use Rattle.aql_constraints.specs.Numbering.{sort_variables, numbered}
 use Rattle.aql_constraints.specs.Principal.{IsInferred, IsNotInferred}
 use Rattle.aql_constraints.specs.View.{scheme_of}
 use Rattle.aql_constraints.specs.declared.names.Position.{Position}
@@ -13,3 +18,9 @@ abbrev pub Inferred : Result Position NoTyping → Declaration → Schemes → T
 Inferred (Ok p) d ss = IsInferred d ss (scheme_of p) × (p.name ≡ declared d)
 Inferred (Err faults.NoType) d ss = IsNotInferred d ss
 Inferred (Err faults.Memory) d ss = Unit {0}
+
+-- its name, with that scheme's variables numbered; or memory ran out
+abbrev pub Placed : Result Position NoTyping → Result code_scheme.Scheme Memory → Declaration → Type 0
+Placed (Ok p) scheme d = IsOkAnd scheme (λ m.
+    (sort_of p.scheme ≡ apply_sort (numbered (sort_variables (sort_of m))) (sort_of m)) × (p.variables ≡ length (sort_variables (sort_of m))) × (p.name ≡ declared d))
+Placed (Err e) scheme d = e ≡ faults.Memory

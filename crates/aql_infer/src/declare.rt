@@ -7,7 +7,7 @@ ghost use Rattle.aql_syntax.specs.Tree.{declared};
 ghost use Rattle.aql_syntax.specs.View.{tree_of, decl_of, reader_of, pat_of};
 ghost use Rattle.aql_constraints.specs.Constraints.{start, make_decl};
 ghost use Rattle.aql_constraints.specs.View.{state_of, schemes_of, Makes};
-ghost use Rattle.aql_infer.specs.Inferred.{Inferred};
+ghost use Rattle.aql_infer.specs.Inferred.{Inferred, Placed};
 
 use crate::walk::infer;
 use aql_constraints::fault::NoTyping;
@@ -16,6 +16,7 @@ use aql_constraints::numbering::{instance_of, scheme_variables, with_places};
 use aql_constraints::patterns::pattern;
 use aql_constraints::readers::{argument_type, has_rank, reader_type};
 use aql_constraints::store::{Store, equal_types, tested, used};
+use aql_made::{both, boxed};
 use aql_syntax::ast::{Decl, Expr, Pattern, Reader};
 use aql_types::fault::UnifyFault;
 use aql_types::solve::solve;
@@ -39,20 +40,24 @@ pub(crate) fn infer_declaration(
         next: _,
     } = s;
     match solve(alloc, equations, uses) {
-        Ok(solution) => {
-            let scheme = instance_of(alloc, &solution, &scheme)?;
-            let names = scheme_variables(alloc, &scheme)?;
-            let scheme = with_places(alloc, &scheme, &names)?;
-            let name = declared_name(alloc, d)?;
-            Ok(Position {
-                name,
-                scheme,
-                variables: names.len() as u64,
-            })
-        }
+        Ok(solution) => placed(alloc, d, instance_of(alloc, &solution, &scheme)),
         Err(UnifyFault::Clash) => Err(NoTyping::NoType),
         Err(UnifyFault::Memory) => Err(NoTyping::Memory),
     }
+}
+
+// What a declaration has, of its scheme before the variables are numbered.
+fn placed(alloc: Global, d: &Decl, scheme: Result<Scheme, Memory>) -> Result<Position, NoTyping>
+    ensures { Placed result scheme (decl_of d.now) }
+{
+    let scheme = boxed(alloc, scheme)?;
+    let names = scheme_variables(alloc, &scheme)?;
+    let (scheme, name) = both(with_places(alloc, &scheme, &names), declared_name(alloc, d))?;
+    Ok(Position {
+        name,
+        scheme,
+        variables: names.len() as u64,
+    })
 }
 
 fn begin(alloc: Global) -> Store

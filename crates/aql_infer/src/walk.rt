@@ -7,15 +7,16 @@ ghost use Rattle.aql_syntax.specs.Tree.{no_qual};
 ghost use Rattle.aql_syntax.specs.Typing.{with_indices};
 ghost use Rattle.aql_syntax.specs.View.{pat_of, tree_of, trees_of, quals_of, qual_of, axes_in, defs_in};
 ghost use Rattle.aql_constraints.specs.Constraints.{make, make_all, make_each, make_bounds, make_rows, make_binds};
-ghost use Rattle.aql_infer.specs.Pairs.{make_two, subscript_of, literal_of};
+ghost use Rattle.aql_infer.specs.Pairs.{make_two, choice_of, subscript_of, literal_of};
 ghost use Rattle.aql_constraints.specs.View.{state_of, locals_of, schemes_of, types_in, Makes, Extends};
 
-use aql_constraints::fault::NoTyping;
-use aql_constraints::names::{Local, Position, headed, named, push_local};
-use aql_constraints::operations::{
-    arith, array_of, choice, comparison, dimensions, either, empty_set, generated, grouped,
-    literal, member, set_of, subscript, truth, truths, tuple, union,
+use crate::steps::{
+    arith_of, chosen, comparison_of, dimensions_of, either_of, generated_of, grouped_of, headed_of,
+    member_of, truth_of, truths_of, tuple_of, union_of,
 };
+use aql_constraints::fault::NoTyping;
+use aql_constraints::names::{Local, Position, named, push_local};
+use aql_constraints::operations::{array_of, empty_set, literal, set_of, subscript};
 use aql_constraints::patterns::{index_rank, matched, matched_cell, matched_index, matched_member};
 use aql_constraints::store::{Store, equal_types, new_variable, tested};
 use aql_syntax::ast::{Bind, Expr, LetBind, Pattern, Qual};
@@ -27,7 +28,7 @@ use std::alloc::Global;
 /// it asks of the variables in it. A tree deeper than `fuel` is answered as want of memory; no tree
 /// is deeper than the greatest number.
 #[cycle(walk)]
-#[tactic(auto, unfolding(aql_constraints::specs::Constraints::after), using(crate::proofs::Walking::tree_steps))]
+#[tactic(auto, unfolding(aql_constraints::specs::Constraints::after))]
 pub(crate) fn infer(
     alloc: Global,
     e: &Expr,
@@ -64,10 +65,7 @@ fn infer_form(
         Expr::Bool(_) => Ok((Ty::Bool, s)),
         Expr::Text(_) => Ok((Ty::Text, s)),
         Expr::Name(x) => named(alloc, x, positions, env, s),
-        Expr::Row(es) => {
-            let (parts, s) = infer_all(alloc, &es.items, fuel, positions, env, s)?;
-            tuple(parts, s)
-        }
+        Expr::Row(es) => tuple_of(infer_all(alloc, &es.items, fuel, positions, env, s)),
         Expr::Empty => empty_set(alloc, s),
         Expr::Members(es) => infer_members(alloc, &es.items, fuel, positions, env, s),
         Expr::Comp { head, quals } => {
@@ -83,58 +81,32 @@ fn infer_form(
         Expr::Sub { array, at } => infer_subscript(
             alloc, array, &at.items, fuel, positions, env, s,
         ),
-        Expr::If(c, a, b) => {
-            let (t, s) = infer(alloc, c, fuel, positions, env, s)?;
-            let (y, z, s) = infer_two(alloc, a, b, fuel, positions, env, s)?;
-            choice(alloc, &t, y, &z, s)
-        }
-        Expr::And(a, b) => {
-            let (y, z, s) = infer_two(alloc, a, b, fuel, positions, env, s)?;
-            truths(alloc, &y, &z, s)
-        }
-        Expr::Or(a, b) => {
-            let (y, z, s) = infer_two(alloc, a, b, fuel, positions, env, s)?;
-            truths(alloc, &y, &z, s)
-        }
-        Expr::Not(a) => {
-            let (y, s) = infer(alloc, a, fuel, positions, env, s)?;
-            truth(alloc, &y, s)
-        }
-        Expr::Compare(_, a, b) => {
-            let (y, z, s) = infer_two(alloc, a, b, fuel, positions, env, s)?;
-            comparison(alloc, &y, &z, s)
-        }
-        Expr::Arith(_, a, b) => {
-            let (y, z, s) = infer_two(alloc, a, b, fuel, positions, env, s)?;
-            arith(alloc, &y, &z, s)
-        }
-        Expr::Union(a, b) => {
-            let (y, z, s) = infer_two(alloc, a, b, fuel, positions, env, s)?;
-            union(alloc, &y, &z, s)
-        }
-        Expr::Gen(a) => {
-            let (y, s) = infer(alloc, a, fuel, positions, env, s)?;
-            generated(alloc, &y, s)
-        }
-        Expr::Get(a) => {
-            let (y, s) = infer(alloc, a, fuel, positions, env, s)?;
-            member(alloc, &y, s)
-        }
-        Expr::Len(a) => {
-            let (y, s) = infer(alloc, a, fuel, positions, env, s)?;
-            dimensions(alloc, 1, &y, s)
-        }
-        Expr::Dim { rank, array } => {
-            let (y, s) = infer(alloc, array, fuel, positions, env, s)?;
-            dimensions(alloc, *rank, &y, s)
-        }
-        Expr::Index { rank, pairs } => {
-            let (y, s) = infer(alloc, pairs, fuel, positions, env, s)?;
-            grouped(alloc, *rank, &y, s)
-        }
+        Expr::If(c, a, b) => infer_choice(alloc, c, a, b, fuel, positions, env, s),
+        Expr::And(a, b) => truths_of(alloc, infer_two(alloc, a, b, fuel, positions, env, s)),
+        Expr::Or(a, b) => truths_of(alloc, infer_two(alloc, a, b, fuel, positions, env, s)),
+        Expr::Not(a) => truth_of(alloc, infer(alloc, a, fuel, positions, env, s)),
+        Expr::Compare(_, a, b) => comparison_of(
+            alloc,
+            infer_two(alloc, a, b, fuel, positions, env, s),
+        ),
+        Expr::Arith(_, a, b) => arith_of(alloc, infer_two(alloc, a, b, fuel, positions, env, s)),
+        Expr::Union(a, b) => union_of(alloc, infer_two(alloc, a, b, fuel, positions, env, s)),
+        Expr::Gen(a) => generated_of(alloc, infer(alloc, a, fuel, positions, env, s)),
+        Expr::Get(a) => member_of(alloc, infer(alloc, a, fuel, positions, env, s)),
+        Expr::Len(a) => dimensions_of(alloc, 1, infer(alloc, a, fuel, positions, env, s)),
+        Expr::Dim { rank, array } => dimensions_of(
+            alloc,
+            *rank,
+            infer(alloc, array, fuel, positions, env, s),
+        ),
+        Expr::Index { rank, pairs } => grouped_of(
+            alloc,
+            *rank,
+            infer(alloc, pairs, fuel, positions, env, s),
+        ),
         Expr::Apply { name, argument } => {
-            let (y, s) = infer(alloc, argument, fuel, positions, env, s)?;
-            headed(alloc, name, &y, positions, env, s)
+            let part = infer(alloc, argument, fuel, positions, env, s);
+            headed_of(alloc, name, part, positions, env)
         }
         Expr::Fun {
             pattern,
@@ -146,16 +118,13 @@ fn infer_form(
             body,
             over,
         } => infer_sum(alloc, body, over, pattern, fuel, positions, env, s),
-        Expr::Default(a, b) => {
-            let (y, z, s) = infer_two(alloc, a, b, fuel, positions, env, s)?;
-            either(alloc, y, &z, s)
-        }
+        Expr::Default(a, b) => either_of(alloc, infer_two(alloc, a, b, fuel, positions, env, s)),
     }
 }
 
 // The types of two expressions.
 #[cycle(walk)]
-#[tactic(auto, unfolding(aql_constraints::specs::Constraints::after), using(crate::proofs::Walking::tree_steps))]
+#[tactic(auto, unfolding(aql_constraints::specs::Constraints::after))]
 fn infer_two(
     alloc: Global,
     a: &Expr,
@@ -173,9 +142,29 @@ fn infer_two(
     Ok((y, z, s))
 }
 
+// The type of one of two expressions, under a test.
+#[cycle(walk)]
+#[tactic(auto, unfolding(aql_constraints::specs::Constraints::after))]
+fn infer_choice(
+    alloc: Global,
+    c: &Expr,
+    a: &Expr,
+    b: &Expr,
+    fuel: u64,
+    positions: &[Position],
+    env: &mut Vec<Local>,
+    s: Store,
+) -> Result<(Ty, Store), NoTyping>
+    ensures made { Makes (λ r. record { result = type_of r.0; state = state_of r.1 }) result (choice_of (tree_of c.now) (tree_of a.now) (tree_of b.now) (schemes_of positions.now) (locals_of env.old.items) (state_of s)) }
+    ensures kept { OnOk result (env.new.items ≡ env.old.items) }
+{
+    let (t, s) = infer(alloc, c, fuel, positions, env, s)?;
+    chosen(alloc, &t, infer_two(alloc, a, b, fuel, positions, env, s))
+}
+
 // A set of members.
 #[cycle(walk)]
-#[tactic(auto, unfolding(aql_constraints::specs::Constraints::after), using(crate::proofs::Walking::tree_steps))]
+#[tactic(auto, unfolding(aql_constraints::specs::Constraints::after))]
 fn infer_members(
     alloc: Global,
     es: &[Expr],
@@ -234,7 +223,7 @@ fn infer_subscript(
 
 // A comprehension.
 #[cycle(walk)]
-#[tactic(auto, unfolding(aql_constraints::specs::Constraints::after), using(crate::proofs::Walking::tree_steps))]
+#[tactic(auto, unfolding(aql_constraints::specs::Constraints::after))]
 fn infer_comprehension(
     alloc: Global,
     head: &Expr,
@@ -256,7 +245,7 @@ fn infer_comprehension(
 
 // A tabulation. A rank that is none has no type.
 #[cycle(walk)]
-#[tactic(auto, unfolding(aql_constraints::specs::Constraints::after), using(crate::proofs::Walking::tree_steps))]
+#[tactic(auto, unfolding(aql_constraints::specs::Constraints::after), using(crate::proofs::Walking::tabulation_steps))]
 fn infer_tabulation(
     alloc: Global,
     body: &Expr,
@@ -281,7 +270,7 @@ fn infer_tabulation(
 
 // What stands inside a let.
 #[cycle(walk)]
-#[tactic(auto, unfolding(aql_constraints::specs::Constraints::after), using(crate::proofs::Walking::tree_steps))]
+#[tactic(auto, unfolding(aql_constraints::specs::Constraints::after))]
 fn infer_let(
     alloc: Global,
     body: &Expr,
@@ -303,7 +292,7 @@ fn infer_let(
 
 // An application of a function written in place.
 #[cycle(walk)]
-#[tactic(auto, unfolding(aql_constraints::specs::Constraints::after), using(crate::proofs::Walking::tree_steps))]
+#[tactic(auto, unfolding(aql_constraints::specs::Constraints::after))]
 fn infer_function(
     alloc: Global,
     body: &Expr,
@@ -327,7 +316,7 @@ fn infer_function(
 
 // A sum over a set.
 #[cycle(walk)]
-#[tactic(auto, unfolding(aql_constraints::specs::Constraints::after), using(crate::proofs::Walking::tree_steps))]
+#[tactic(auto, unfolding(aql_constraints::specs::Constraints::after))]
 fn infer_sum(
     alloc: Global,
     body: &Expr,

@@ -14,6 +14,9 @@ decreases-infer_form l = 8 * l.fuel + 5
 abbrev pub decreases-infer_two : goal.decreases-infer_two
 decreases-infer_two l = 8 * l.fuel + 3
 
+abbrev pub decreases-infer_choice : goal.decreases-infer_choice
+decreases-infer_choice l = 8 * l.fuel + 4
+
 abbrev pub decreases-infer_members : goal.decreases-infer_members
 decreases-infer_members l = 8 * l.fuel + 3
 
