@@ -267,6 +267,7 @@ fn kept(status: Status, wanted: Status, stop: Stop) -> End
     if status == wanted {
         End { status, stop }
     } else {
+        drop(stop);
         End {
             status,
             stop: Stop::Other,

@@ -71,7 +71,10 @@ pub(crate) fn run_query<R: Threads + Sync, G: Gate>(
             turns,
         }),
         Err(EvalFault::Spent) => Err(spent(alloc, start)),
-        Err(EvalFault::Memory) => Err(StepFault::Memory),
+        Err(EvalFault::Memory) => {
+            drop(start);
+            Err(StepFault::Memory)
+        }
     }
 }
 

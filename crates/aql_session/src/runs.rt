@@ -177,7 +177,10 @@ fn run_readval<R: Threads + Sync, F: Files, G: Gate>(
                 turns: turns + cells,
                 value,
             }),
-            Err(fault) => Err(fault),
+            Err(fault) => {
+                drop(start);
+                Err(fault)
+            }
         },
         Err(fault) => Err(fault),
     }

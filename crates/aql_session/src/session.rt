@@ -7,6 +7,7 @@ ghost use Rattle.nrca_term.specs.Meaning.{outcome};
 ghost use Rattle.aql_session.specs.Bound.{outcomes, latest_of};
 ghost use Rattle.aql_session.specs.LatestNames.{GainsName, SameNames};
 
+use aql_made::both;
 use aql_value::{Memory, Str};
 use indexmap::IndexMap;
 use nrca_array::Held;
@@ -130,7 +131,7 @@ fn push_outcome(globals: &mut Globals, value: Option<Held>) -> Result<(), Memory
 fn pop_outcome(globals: &mut Globals)
     ensures { globals.new ≡ take (length globals.old - 1) globals.old }
 {
-    globals.list.pop();
+    drop(globals.list.pop());
 }
 
 // One position more, its name the last of the names.
@@ -146,15 +147,20 @@ fn push_position(
         × GainsName latest.old latest.new name (length names.old.items + 1)) }
     ensures as_before { OnErr result ((globals.new ≡ globals.old) × (names.new.items ≡ names.old.items) × SameNames latest.old latest.new) }
 {
-    let key = name.copy(alloc)?;
+    let (key, value) = both(name.copy(alloc), Ok(value))?;
     let n = names.len() as u64 + 1;
-    names.push(name)?;
+    if names.push(name).is_err() {
+        drop(value);
+        drop(key);
+        return Err(Memory);
+    }
     if push_outcome(globals, value).is_err() {
-        names.pop();
+        drop(names.pop());
+        drop(key);
         return Err(Memory);
     }
     if set_latest(latest, key, n).is_err() {
-        names.pop();
+        drop(names.pop());
         pop_outcome(globals);
         return Err(Memory);
     }
