@@ -1,5 +1,6 @@
 -- The terms of the code's expressions, by those of their parts.
-use Rattle.std.proofs.Common.{◌≡◌, ◌<◌, ◌≤◌, ℕ, suc, ◌+◌, ◌-◌, List, [], ◌∷◌, ◌++◌, length, map, take, drop, get_or, max, Option, Some, None, option_map, refl, sym, ap, ◌∙◌, arith, append_assoc, if◌then◌else◌, true, false}
+use Rattle.std.proofs.Common.{◌≡◌, ◌<◌, ◌≤◌, ℕ, suc, ◌+◌, ◌-◌, List, [], ◌∷◌, ◌++◌, length, map, take, drop, get_or, max, Option, Some, None, option_map, Result, Ok, Err, IfOk, IsOkAnd, OnOk, refl, sym, ap, ◌∙◌, arith, append_assoc, if◌then◌else◌, true, false}
+use Rattle.std.specs.Global.{Vec}
 use Rattle.aql_value.specs.Strict.{Strict}
 use Rattle.aql_syntax.specs.Tree as tree
 use Rattle.aql_syntax.specs.Tree.{Name, Pat, Pats, Trees, Axes, Quals, Declaration, declared, append, count_trees, count_pats}
@@ -7,51 +8,78 @@ use Rattle.aql_syntax.specs.Names.{names_equal, find}
 use Rattle.aql_syntax.specs.Size.{Extents, extent, extents_of, greatest, axes_greatest, levels}
 use Rattle.aql_syntax.specs.View.{tree_of, trees_of, quals_of, axes_in, defs_in, pats_of}
 use Rattle.aql_syntax.specs.ViewLaws.{trees_from, trees_past, axes_from, axes_past}
+use Rattle.aql_syntax.specs.declared.ast.Expr as code
 use Rattle.aql_syntax.specs.declared.ast.Expr.{Expr}
 use Rattle.aql_syntax.specs.declared.ast.Bind.{Bind}
 use Rattle.aql_syntax.specs.declared.ast.Qual.{Qual}
 use Rattle.aql_syntax.specs.declared.ast.LetBind.{LetBind}
 use Rattle.aql_syntax.specs.declared.ast.Pattern.{Pattern}
 use Rattle.nrca_term.specs.Term.{Term, node, none, plain, Form}
-use Rattle.nrca_term.specs.Nodes.{let_term, tab_term, sub_term, literal_term}
+use Rattle.nrca_term.specs.Nodes.{text_term, let_term, literal_term}
 use Rattle.nrca_term.specs.Variants.{literal-parts}
 use Rattle.nrca_term.specs.View.{term_of}
 use Rattle.nrca_term.specs.declared.term.Core.{Core}
 use Rattle.aql_start.specs.Start.{Scope, Knowns, bound, match_term, matching, under, under_axes, bound_axes, grown_axes, axes_term, loops_term, cell_term, array_term, start, starts, bound_terms}
 use Rattle.aql_start.specs.Scopes.{length-bound_axes}
 use Rattle.aql_desugar.specs.Names.{scope, declaration_of}
+use Rattle.aql_desugar.proofs.Making.{one_made, both_made, list_made}
 use Rattle.aql_desugar.proofs.Scoping.{scope_last, length-scope, count_pats-list, goes_on, extends_all, take_all}
 
--- a node over two parts
-pub pair_made : (T : Term → Term → Term) (a b m n t whole : Term) → a ≡ m → b ≡ n → t ≡ T a b → whole ≡ T m n → t ≡ whole
-pair_made T a b m n t whole h k l r = l ∙ ap (λ x. T x b) h ∙ ap (T m) k ∙ sym r
+-- an expression of one part
+pub one_arm : {E F : Type 0} (known : Knowns) (s : Scope) (r : Result Core E) (p : Result Core F) (T : Term → Term) (e w x a : Expr) →
+    IfOk r (λ c. IsOkAnd p (λ y. term_of c ≡ T (term_of y))) → IfOk p (λ y. term_of y ≡ start (tree_of x) known s) → x ≡ a → e ≡ w → T (start (tree_of a) known s) ≡ start (tree_of w) known s →
+    IfOk r (λ c. term_of c ≡ start (tree_of e) known s)
+one_arm known s r p T e w x a h k i j l =
+    one_made r p T (start (tree_of x) known s) (start (tree_of e) known s) h k (ap (λ x. T (start (tree_of x) known s)) i ∙ l ∙ sym (ap (λ x. start (tree_of x) known s) j))
 
--- a node over two parts, the second made under the names that the first leaves
-pub two_made : {A : Type 0} (xs ys : List (Option A)) (c w : Expr) (T : Term → Term → Term) (B : List (Option A) → Expr → Term) (a m b t whole : Term) →
-    a ≡ m → b ≡ B ys c → ys ≡ xs → c ≡ w → t ≡ T a b → whole ≡ T m (B xs w) → t ≡ whole
-two_made xs ys c w T B a m b t whole h i k j l r = l ∙ ap (λ x. T x b) h ∙ ap (T m) (i ∙ ap (λ us. B us c) k ∙ ap (B xs) j) ∙ sym r
+-- an expression of two parts
+pub two_arm : {E F : Type 0} (known : Knowns) (s : Scope) (r : Result Core E) (p : Result (Core × Core) F) (T : Term → Term → Term) (e w x y a b : Expr) →
+    IfOk r (λ c. IsOkAnd p (λ u. term_of c ≡ T (term_of u.0) (term_of u.1))) → IfOk p (λ u. term_of u.0 ≡ start (tree_of x) known s) → IfOk p (λ u. term_of u.1 ≡ start (tree_of y) known s) → x ≡ a → y ≡ b → e ≡ w →
+    T (start (tree_of a) known s) (start (tree_of b) known s) ≡ start (tree_of w) known s → IfOk r (λ c. term_of c ≡ start (tree_of e) known s)
+two_arm known s r p T e w x y a b h k i j l m n =
+    both_made r p T (start (tree_of x) known s) (start (tree_of y) known s) (start (tree_of e) known s) h k i
+    (ap (λ x. T (start (tree_of x) known s) (start (tree_of y) known s)) j ∙ ap (λ y. T (start (tree_of a) known s) (start (tree_of y) known s)) l ∙ n ∙ sym (ap (λ x. start (tree_of x) known s) m))
 
--- a node over three parts
-pub three_made : {A : Type 0} (xs ys zs : List (Option A)) (c w d v : Expr) (T : Term → Term → Term → Term) (B : List (Option A) → Expr → Term) (a m b e t whole : Term) →
-    a ≡ m → b ≡ B ys c → ys ≡ xs → c ≡ w → e ≡ B zs d → zs ≡ ys → d ≡ v → t ≡ T a b e → whole ≡ T m (B xs w) (B xs v) → t ≡ whole
-three_made xs ys zs c w d v T B a m b e t whole h i k j n o q l r =
-    l ∙ ap (λ x. T x b e) h ∙ ap (λ y. T m y e) (i ∙ ap (λ us. B us c) k ∙ ap (B xs) j) ∙ ap (T m (B xs w)) (n ∙ ap (λ us. B us d) (o ∙ k) ∙ ap (B xs) q) ∙ sym r
+-- an expression of a list of parts
+pub list_arm : {E F : Type 0} (known : Knowns) (s : Scope) (r : Result Core E) (p : Result (Vec Core) F) (T : List Term → Term) (e w : Expr) (es fs : List Expr) →
+    IfOk r (λ c. IsOkAnd p (λ v. term_of c ≡ T (map term_of v.items))) → IfOk p (λ v. map term_of v.items ≡ starts (trees_of es) known s) → es ≡ fs → e ≡ w → T (starts (trees_of fs) known s) ≡ start (tree_of w) known s →
+    IfOk r (λ c. term_of c ≡ start (tree_of e) known s)
+list_arm known s r p T e w es fs h k i j l =
+    list_made r p T (starts (trees_of es) known s) (start (tree_of e) known s) h k (ap (λ l. T (starts (trees_of l) known s)) i ∙ l ∙ sym (ap (λ x. start (tree_of x) known s) j))
 
--- a subscript
-pub sub_made : {A : Type 0} (f : A → Name) (known : Knowns) (xs ys : List (Option A)) (base : ℕ) (d v : Expr) (es fs : List Expr) (a t : Term) (us : List Term) →
-    a ≡ start (tree_of d) known (scope f xs base) → d ≡ v → ys ≡ xs → us ≡ starts (trees_of es) known (scope f ys base) → es ≡ fs → t ≡ sub_term a us →
-    t ≡ sub_term (start (tree_of v) known (scope f xs base)) (starts (trees_of fs) known (scope f xs base))
-sub_made f known xs ys base d v es fs a t us h k n i j l =
-    l ∙ ap (λ x. sub_term x us) (h ∙ ap (λ x. start (tree_of x) known (scope f xs base)) k)
-    ∙ ap (sub_term (start (tree_of v) known (scope f xs base))) (i ∙ ap (λ ws. starts (trees_of es) known (scope f ws base)) n ∙ ap (λ ts. starts (trees_of ts) known (scope f xs base)) j)
+-- what is made of a part and of one more, which is made under the names that the first leaves
+pub then_made : {A C D V Z E F G : Type 0} (xs ys : List (Option A)) (W : C → V) (U : D → Z) (T : V → Z → Term) (B : List (Option A) → Z) (r : Result Core E) (p : Result C F) (q : Result D G) (m : V) (whole : Term) →
+    IfOk r (λ c. IsOkAnd p (λ x. IsOkAnd q (λ y. term_of c ≡ T (W x) (U y)))) → IfOk p (λ x. W x ≡ m) → IfOk q (λ y. U y ≡ B ys) → OnOk p (ys ≡ xs) → T m (B xs) ≡ whole → IfOk r (λ c. term_of c ≡ whole)
+then_made xs ys W U T B (Ok c) (Ok x) (Ok y) m whole h i k j l = h ∙ ap (λ a. T a (U y)) i ∙ ap (T m) (k ∙ ap B j) ∙ l
+then_made xs ys W U T B (Ok c) (Ok x) (Err e) m whole h i k j l = absurd h
+then_made xs ys W U T B (Ok c) (Err e) q m whole h i k j l = absurd h
+then_made xs ys W U T B (Err e) p q m whole h i k j l = tt
 
--- the two lists of a literal array
-pub lists_made : {A : Type 0} (f : A → Name) (known : Knowns) (xs ys : List (Option A)) (base : ℕ) (es fs cs gs : List Expr) (t : Term) (us ws : List Term) →
-    us ≡ starts (trees_of es) known (scope f xs base) → es ≡ fs → ys ≡ xs → ws ≡ starts (trees_of cs) known (scope f ys base) → cs ≡ gs → t ≡ literal_term us ws →
-    t ≡ literal_term (starts (trees_of fs) known (scope f xs base)) (starts (trees_of gs) known (scope f xs base))
-lists_made f known xs ys base es fs cs gs t us ws h k n i j l =
-    l ∙ ap (λ ts. literal_term ts ws) (h ∙ ap (λ ts. starts (trees_of ts) known (scope f xs base)) k)
-    ∙ ap (literal_term (starts (trees_of fs) known (scope f xs base))) (i ∙ ap (λ zs. starts (trees_of cs) known (scope f zs base)) n ∙ ap (λ ts. starts (trees_of ts) known (scope f xs base)) j)
+-- the same with two further parts
+pub then_two : {A E F G : Type 0} (xs ys : List (Option A)) (T : Term → Term → Term → Term) (B C : List (Option A) → Term) (r : Result Core E) (p : Result Core F) (q : Result (Core × Core) G) (m whole : Term) →
+    IfOk r (λ c. IsOkAnd p (λ x. IsOkAnd q (λ u. term_of c ≡ T (term_of x) (term_of u.0) (term_of u.1)))) → IfOk p (λ x. term_of x ≡ m) → IfOk q (λ u. term_of u.0 ≡ B ys) → IfOk q (λ u. term_of u.1 ≡ C ys) → OnOk p (ys ≡ xs) →
+    T m (B xs) (C xs) ≡ whole → IfOk r (λ c. term_of c ≡ whole)
+then_two xs ys T B C (Ok c) (Ok x) (Ok u) m whole h i k n j l =
+    h ∙ ap (λ a. T a (term_of u.0) (term_of u.1)) i ∙ ap (λ b. T m b (term_of u.1)) (k ∙ ap B j) ∙ ap (T m (B xs)) (n ∙ ap C j) ∙ l
+then_two xs ys T B C (Ok c) (Ok x) (Err e) m whole h i k n j l = absurd h
+then_two xs ys T B C (Ok c) (Err e) q m whole h i k n j l = absurd h
+then_two xs ys T B C (Err e) p q m whole h i k n j l = tt
+
+-- the loops over the cells of an array, which are made under the names that the array leaves
+pub walk_of : {A E F G : Type 0} (xs ys : List (Option A)) (B : List (Option A) → Term → Term) (r : Result Core E) (p : Result Core F) (q : Result Core G) (m whole : Term) →
+    IfOk r (λ c. IsOkAnd p (λ x. IsOkAnd q (λ y. term_of c ≡ let_term (term_of x) (term_of y)))) → IfOk p (λ x. term_of x ≡ m) → IfOk q (λ y. (array : Term) → let_term array (term_of y) ≡ B ys array) → OnOk p (ys ≡ xs) →
+    B xs m ≡ whole → IfOk r (λ c. term_of c ≡ whole)
+walk_of xs ys B (Ok c) (Ok x) (Ok y) m whole h i k j l = h ∙ k (term_of x) ∙ ap (λ us. B us (term_of x)) j ∙ ap (B xs) i ∙ l
+walk_of xs ys B (Ok c) (Ok x) (Err e) m whole h i k j l = absurd h
+walk_of xs ys B (Ok c) (Err e) q m whole h i k j l = absurd h
+walk_of xs ys B (Err e) p q m whole h i k j l = tt
+
+-- a text
+pub text_arm : {E F : Type 0} (known : Knowns) (s : Scope) (r : Result Core E) (p : Result (List ℕ) F) (e : Expr) (x : List ℕ) →
+    IfOk r (λ c. IsOkAnd p (λ y. term_of c ≡ text_term y)) → IfOk p (λ y. y ≡ x) → e ≡ code.Text x → IfOk r (λ c. term_of c ≡ start (tree_of e) known s)
+text_arm known s (Ok c) (Ok y) e x h k i = h ∙ ap text_term k ∙ sym (ap (λ x. start (tree_of x) known s) i)
+text_arm known s (Ok c) (Err f) e x h k i = absurd h
+text_arm known s (Err f) p e x h k i = tt
 
 -- the match of the variable that a node binds, around what is made in the scope inside
 pub matched_made : {A : Type 0} (f : A → Name) (p : Pat) (known : Knowns) (xs zs ws : List (Option A)) (mark base : ℕ) (T : Scope → Term) (inner other t : Term) →
@@ -116,14 +144,6 @@ pub axis_next : {A : Type 0} (f : A → Name) (bs : List Bind) (i : ℕ) (b : Bi
 axis_next f bs i b v xs0 xs ys l h n e k base =
     ap (under_axes (axes_in (drop (i + 1) bs))) (ap (λ zs. scope f zs base) e ∙ scope_last f xs (Some v) base ∙ ap (λ y. Some y ∷ scope f xs base) n)
     ∙ sym (ap (λ a. under_axes a (scope f xs base)) (axes_next bs i b l h)) ∙ k base
-
--- a tabulation
-pub tab_made : {A : Type 0} (f : A → Name) (known : Knowns) (xs ys : List (Option A)) (base : ℕ) (ax : Axes) (bs : List Core) (e v : Expr) (b t : Term) →
-    map term_of bs ≡ bound_terms ax known (scope f xs base) → ys ≡ xs → b ≡ start (tree_of e) known (under_axes ax (scope f ys base)) → e ≡ v →
-    t ≡ tab_term (map term_of bs) b → t ≡ tab_term (bound_terms ax known (scope f xs base)) (start (tree_of v) known (under_axes ax (scope f xs base)))
-tab_made f known xs ys base ax bs e v b t h k i j l =
-    l ∙ ap (λ us. tab_term us b) h
-    ∙ ap (tab_term (bound_terms ax known (scope f xs base))) (i ∙ ap (λ us. start (tree_of e) known (under_axes ax (scope f us base))) k ∙ ap (λ x. start (tree_of x) known (under_axes ax (scope f xs base))) j)
 
 length-starts : (es : Trees) (known : Knowns) (s : Scope) → length (starts es known s) ≡ count_trees es
 length-starts tree.no_tree known s = refl

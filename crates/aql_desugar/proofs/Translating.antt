@@ -1,5 +1,5 @@
 -- What the start term of a declaration is, by the laws of start terms and what inference answers.
-use Rattle.std.proofs.Common.{◌≡◌, ◌<◌, ◌≤◌, ◌*◌, ℕ, zero, suc, ◌+◌, ◌-◌, List, [], ◌∷◌, ◌++◌, length, map, take, get_or, Option, Some, None, IsSome, Result, Ok, Err, IfOk, IfErr, refl, sym, ap, ◌∙◌, subst, reverse, arith, append-nil, append_assoc, length-append}
+use Rattle.std.proofs.Common.{◌≡◌, ◌<◌, ◌≤◌, ◌*◌, ℕ, zero, suc, ◌+◌, ◌-◌, List, [], ◌∷◌, ◌++◌, length, map, take, get_or, Option, Some, None, IsSome, Result, Ok, Err, IfErr, refl, sym, ap, ◌∙◌, subst, reverse, arith, append-nil, append_assoc, length-append}
 use Rattle.std.proofs.lemmas.Grind.{get_or_at_push}
 use Rattle.std.specs.List.{slice_get}
 use mathlib.Core.List.{reverse_aux}
@@ -190,12 +190,7 @@ fault_here ds before n x h f w =
     subst (λ k. IsFaultAt k (expanded_levels (decls_of ds) n) f) (sym (size_here-code ds before n x h))
     (subst (λ k. IsFaultAt (size (tree_of x) (extents_of (latest before))) k f) (sym (levels_here-code ds before n x h)) w)
 
--- Answers.
-
-pub ok_map : {T E : Type 0} (r : Result T E) (P Q : T → Type 0) → ((x : T) → P x → Q x) → IfOk r P → IfOk r Q
-ok_map (Ok x) P Q f h = f x h
-ok_map (Err e) P Q f h = tt
-
+-- what follows from what is known of a fault
 pub err_map : {T E : Type 0} (r : Result T E) (P Q : E → Type 0) → ((x : E) → P x → Q x) → IfErr r P → IfErr r Q
 err_map (Ok x) P Q f h = tt
 err_map (Err e) P Q f h = f e h

@@ -23,11 +23,11 @@ use std::alloc::Global;
 fn dimension(alloc: Global, rank: u64, j: u64, at: u64) -> Result<Core, Memory>
     ensures { IfOk result (λ c. term_of c ≡ start_term.dimension rank j at) }
 {
-    let all = dim(alloc, rank, Core::Var(at))?;
+    let all = dim(alloc, rank, Ok(Core::Var(at)))?;
     if rank == 1 {
         return Ok(all);
     }
-    let made = proj(alloc, j, rank, all)?;
+    let made = proj(alloc, j, rank, Ok(all))?;
     Ok(made)
 }
 
@@ -42,9 +42,7 @@ fn loops(alloc: Global, j: u64, rank: u64, inside: Core) -> Result<Core, Memory>
     }
     let bound = dimension(alloc, rank, j + 1, j);
     let (bound, body) = both(bound, loops(alloc, j + 1, rank, inside))?;
-    let (members, body) = both(generated(alloc, bound), Ok(body))?;
-    let made = big_union(alloc, members, body)?;
-    Ok(made)
+    big_union(alloc, generated(alloc, Ok(bound)), Ok(body))
 }
 
 // The cell at the index of `rank` numbers under `added` further variables.
@@ -59,8 +57,7 @@ fn cell(alloc: Global, rank: u64, added: u64) -> Result<Core, Memory>
         at.push(Core::Var(number))?;
     }
     let array = plus(added, rank)?;
-    let made = sub(alloc, Core::Var(array), at)?;
-    Ok(made)
+    sub(alloc, Ok(Core::Var(array)), Ok(at))
 }
 
 /// Puts on `n` variables without a name.
@@ -133,7 +130,7 @@ pub(crate) fn walk<'a>(
     let rank = ps.len() as u64;
     names.truncate(low);
     let (found, body) = both(cell(alloc, rank, added), Ok(body))?;
-    let bound = let_in(alloc, found, body)?;
+    let bound = let_in(alloc, Ok(found), Ok(body))?;
     let axes = wrap_axes(alloc, ps, earlier, names, 0, bound, Missing::Empty)?;
     let walked = loops(alloc, 0, rank, axes)?;
     Ok(walked)

@@ -59,9 +59,8 @@ pub(crate) fn name_term(name: &Str, earlier: &[Decl], names: &[Option<&Str>]) ->
 fn test(alloc: Global, at: u64, c: Core, inside: Core, other: Missing) -> Result<Core, Memory>
     ensures { IfOk result (λ r. term_of r ≡ if_term (equal_term at (term_of c)) (term_of inside) (missing_term other)) }
 {
-    let equal = compare(alloc, CompareOp::Equal, Core::Var(at), c);
-    let (equal, inside) = both(equal, Ok(inside))?;
-    choose(alloc, equal, inside, otherwise(other))
+    let equal = compare(alloc, CompareOp::Equal, Ok((Core::Var(at), c)));
+    choose(alloc, equal, Ok((inside, otherwise(other))))
 }
 
 /// The match of variable `at` around a term in the scope inside the match.
@@ -80,7 +79,7 @@ pub(crate) fn wrap<'a>(
     ensures kept { OnOk result (names.new.items ≡ names.old.items) }
 {
     match p {
-        Pattern::Bind(_) => let_in(alloc, Core::Var(at), inside),
+        Pattern::Bind(_) => let_in(alloc, Ok(Core::Var(at)), Ok(inside)),
         Pattern::Any => Ok(inside),
         Pattern::Nat(n) => test(alloc, at, Core::Nat(*n), inside, other),
         Pattern::Bool(b) => test(alloc, at, Core::Bool(*b), inside, other),
@@ -94,10 +93,9 @@ pub(crate) fn wrap<'a>(
         }
         Pattern::Row(ps) => {
             let count = ps.items.len() as u64;
-            let parts = wrap_parts(
+            wrap_parts(
                 alloc, &ps.items, earlier, names, at, 1, count, inside, other,
-            )?;
-            Ok(parts)
+            )
         }
     }
 }
@@ -127,9 +125,7 @@ fn wrap_parts<'a>(
             let ((deeper, next), inside) = both(numbers, Ok(inside))?;
             let inside = wrap_parts(alloc, rest, earlier, names, deeper, next, n, inside, other)?;
             let matched = close(alloc, p, earlier, names, mark, inside, other);
-            let (part, matched) = both(proj(alloc, j, n, Core::Var(at)), matched)?;
-            let bound = let_in(alloc, part, matched)?;
-            Ok(bound)
+            let_in(alloc, proj(alloc, j, n, Ok(Core::Var(at))), matched)
         }
     }
 }

@@ -16,8 +16,8 @@ use crate::arrays::{enter_axes, hide, walk};
 use crate::matches::{Missing, close, name_term, open, plus};
 use crate::names::index_of;
 use crate::nodes::{
-    arith, big_union, choose, compare, default, dim, generated, get, index, let_in, literal,
-    single, sub, sum, tab, tuple, union,
+    arith, big_union, choose, compare, conjunction, default, dim, disjunction, generated, get,
+    index, let_in, literal, single, sub, sum, tab, text, tuple, union,
 };
 use crate::positions::find;
 use crate::unions::united;
@@ -30,7 +30,8 @@ use std::alloc::Global;
 use std::slice;
 
 /// The start term of an expression after these declarations, under the names and, around them, `base` variables
-/// without a name.
+/// without a name. Where memory is wanting for a part, those after it are still tried, under whatever names it left, and
+/// the answer is `Memory` all the same.
 #[cycle(start)]
 pub(crate) fn start<'a>(
     alloc: Global,
@@ -45,106 +46,66 @@ pub(crate) fn start<'a>(
     match e {
         Expr::Nat(n) => Ok(Core::Nat(*n)),
         Expr::Bool(b) => Ok(Core::Bool(*b)),
-        Expr::Text(s) => {
-            let text = s.copy(alloc)?;
-            Ok(Core::Text(text))
-        }
+        Expr::Text(s) => text(s.copy(alloc)),
         Expr::Name(x) => Ok(name_term(x, earlier, names)),
-        Expr::Row(es) => {
-            let parts = all(alloc, &es.items, earlier, base, names)?;
-            Ok(tuple(parts))
-        }
+        Expr::Row(es) => tuple(all(alloc, &es.items, earlier, base, names)),
         Expr::Empty => Ok(Core::Empty),
-        Expr::Members(es) => {
-            let parts = all(alloc, &es.items, earlier, base, names)?;
-            united(alloc, parts)
-        }
+        Expr::Members(es) => united(alloc, all(alloc, &es.items, earlier, base, names)),
         Expr::Comp { head, quals } => {
             comprehend(alloc, &quals.items, head, earlier, base, names)
         }
         Expr::Tab { body, binds } => {
             let axes = indices_in(binds);
-            let limits = bounds(alloc, axes, earlier, base, names)?;
+            let limits = bounds(alloc, axes, earlier, base, names);
             let inner = indexed(alloc, axes, body, earlier, base, names);
-            let (limits, inner) = both(Ok(limits), inner)?;
             tab(alloc, limits, inner)
         }
         Expr::Literal { dims, cells } => {
-            let dims = all(alloc, &dims.items, earlier, base, names)?;
-            let (dims, cells) = both(Ok(dims), all(alloc, &cells.items, earlier, base, names))?;
-            Ok(literal(dims, cells))
+            let dims = all(alloc, &dims.items, earlier, base, names);
+            literal(dims, all(alloc, &cells.items, earlier, base, names))
         }
         Expr::Let { binds, body } => {
             let defs = bindings_in(binds);
             bind_all(alloc, defs, body, earlier, base, names)
         }
         Expr::Sub { array, at } => {
-            let array = start(alloc, array, earlier, base, names)?;
-            let (array, at) = both(Ok(array), all(alloc, &at.items, earlier, base, names))?;
+            let array = start(alloc, array, earlier, base, names);
+            let at = all(alloc, &at.items, earlier, base, names);
             sub(alloc, array, at)
         }
         Expr::If(c, a, b) => {
-            let c = start(alloc, c, earlier, base, names)?;
-            let (c, (a, b)) = both(Ok(c), pair(alloc, a, b, earlier, base, names))?;
-            choose(alloc, c, a, b)
+            let test = start(alloc, c, earlier, base, names);
+            choose(alloc, test, pair(alloc, a, b, earlier, base, names))
         }
-        Expr::And(a, b) => {
-            let (a, b) = pair(alloc, a, b, earlier, base, names)?;
-            choose(alloc, a, b, Core::Bool(false))
-        }
-        Expr::Or(a, b) => {
-            let (a, b) = pair(alloc, a, b, earlier, base, names)?;
-            choose(alloc, a, Core::Bool(true), b)
-        }
+        Expr::And(a, b) => conjunction(alloc, pair(alloc, a, b, earlier, base, names)),
+        Expr::Or(a, b) => disjunction(alloc, pair(alloc, a, b, earlier, base, names)),
         Expr::Not(a) => {
-            let a = start(alloc, a, earlier, base, names)?;
-            choose(alloc, a, Core::Bool(false), Core::Bool(true))
+            let test = start(alloc, a, earlier, base, names);
+            choose(alloc, test, Ok((Core::Bool(false), Core::Bool(true))))
         }
-        Expr::Compare(op, a, b) => {
-            let (a, b) = pair(alloc, a, b, earlier, base, names)?;
-            compare(alloc, *op, a, b)
-        }
-        Expr::Arith(op, a, b) => {
-            let (a, b) = pair(alloc, a, b, earlier, base, names)?;
-            arith(alloc, *op, a, b)
-        }
-        Expr::Union(a, b) => {
-            let (a, b) = pair(alloc, a, b, earlier, base, names)?;
-            union(alloc, a, b)
-        }
-        Expr::Gen(a) => {
-            let a = start(alloc, a, earlier, base, names)?;
-            generated(alloc, a)
-        }
-        Expr::Get(a) => {
-            let a = start(alloc, a, earlier, base, names)?;
-            get(alloc, a)
-        }
-        Expr::Len(a) => {
-            let a = start(alloc, a, earlier, base, names)?;
-            dim(alloc, 1, a)
-        }
-        Expr::Dim { rank, array } => {
-            let a = start(alloc, array, earlier, base, names)?;
-            dim(alloc, *rank, a)
-        }
-        Expr::Index { rank, pairs } => {
-            let a = start(alloc, pairs, earlier, base, names)?;
-            index(alloc, *rank, a)
-        }
+        Expr::Compare(op, a, b) => compare(alloc, *op, pair(alloc, a, b, earlier, base, names)),
+        Expr::Arith(op, a, b) => arith(alloc, *op, pair(alloc, a, b, earlier, base, names)),
+        Expr::Union(a, b) => union(alloc, pair(alloc, a, b, earlier, base, names)),
+        Expr::Gen(a) => generated(alloc, start(alloc, a, earlier, base, names)),
+        Expr::Get(a) => get(alloc, start(alloc, a, earlier, base, names)),
+        Expr::Len(a) => dim(alloc, 1, start(alloc, a, earlier, base, names)),
+        Expr::Dim { rank, array } => dim(alloc, *rank, start(alloc, array, earlier, base, names)),
+        Expr::Index { rank, pairs } => index(
+            alloc,
+            *rank,
+            start(alloc, pairs, earlier, base, names),
+        ),
         Expr::Apply { name, argument } => {
-            let a = start(alloc, argument, earlier, base, names)?;
-            let (a, body) = both(Ok(a), call(alloc, name, earlier, base, names))?;
-            let_in(alloc, a, body)
+            let a = start(alloc, argument, earlier, base, names);
+            let_in(alloc, a, call(alloc, name, earlier, base, names))
         }
         Expr::Fun {
             pattern,
             body,
             argument,
         } => {
-            let a = start(alloc, argument, earlier, base, names)?;
+            let a = start(alloc, argument, earlier, base, names);
             let body = within(alloc, pattern, body, earlier, base, names);
-            let (a, body) = both(Ok(a), body)?;
             let_in(alloc, a, body)
         }
         Expr::SumMap {
@@ -152,15 +113,11 @@ pub(crate) fn start<'a>(
             body,
             over,
         } => {
-            let a = start(alloc, over, earlier, base, names)?;
+            let a = start(alloc, over, earlier, base, names);
             let body = within(alloc, pattern, body, earlier, base, names);
-            let (a, body) = both(Ok(a), body)?;
             sum(alloc, a, body)
         }
-        Expr::Default(a, b) => {
-            let (a, b) = pair(alloc, a, b, earlier, base, names)?;
-            default(alloc, a, b)
-        }
+        Expr::Default(a, b) => default(alloc, pair(alloc, a, b, earlier, base, names)),
     }
 }
 
@@ -272,8 +229,7 @@ fn within<'a>(
     let mark = names.len();
     open(p, names)?;
     let term = start(alloc, body, earlier, base, names)?;
-    let made = close(alloc, p, earlier, names, mark, term, Missing::Undefined)?;
-    Ok(made)
+    close(alloc, p, earlier, names, mark, term, Missing::Undefined)
 }
 
 // What a name in head position stands for, under the variable of its argument.
@@ -291,8 +247,7 @@ fn call<'a>(
         Some(_) => Ok(Core::Bottom),
         None => {
             let depth = plus(base, names.len() as u64)?;
-            let made = expand(alloc, name, earlier, depth)?;
-            Ok(made)
+            expand(alloc, name, earlier, depth)
         }
     }
 }
@@ -339,35 +294,28 @@ fn comprehend<'a>(
     ensures kept { OnOk result (names.new.items ≡ names.old.items) }
 {
     match quals.split_first() {
-        None => {
-            let member = start(alloc, head, earlier, base, names)?;
-            single(alloc, member)
-        }
+        None => single(alloc, start(alloc, head, earlier, base, names)),
         Some((q, rest)) => match q {
             Qual::From { pattern, over } => {
-                let members = start(alloc, over, earlier, base, names)?;
+                let members = start(alloc, over, earlier, base, names);
                 let body = continued(alloc, pattern, rest, head, earlier, base, names);
-                let (members, body) = both(Ok(members), body)?;
                 big_union(alloc, members, body)
             }
             Qual::Cells { index, cell, over } => {
-                let array = start(alloc, over, earlier, base, names)?;
+                let array = start(alloc, over, earlier, base, names);
                 let ps = index_parts(index);
                 let walked = grid(alloc, ps, cell, rest, head, earlier, base, names);
-                let (array, walked) = both(Ok(array), walked)?;
                 let_in(alloc, array, walked)
             }
             Qual::Match { pattern, of } => {
-                let value = start(alloc, of, earlier, base, names)?;
+                let value = start(alloc, of, earlier, base, names);
                 let body = continued(alloc, pattern, rest, head, earlier, base, names);
-                let (value, body) = both(Ok(value), body)?;
                 let_in(alloc, value, body)
             }
             Qual::Test(e) => {
-                let test = start(alloc, e, earlier, base, names)?;
+                let test = start(alloc, e, earlier, base, names);
                 let body = comprehend(alloc, rest, head, earlier, base, names);
-                let (test, body) = both(Ok(test), body)?;
-                choose(alloc, test, body, Core::Empty)
+                choose(alloc, test, both(body, Ok(Core::Empty)))
             }
         },
     }
@@ -406,8 +354,7 @@ fn continued<'a>(
     let mark = names.len();
     open(p, names)?;
     let term = comprehend(alloc, rest, head, earlier, base, names)?;
-    let made = close(alloc, p, earlier, names, mark, term, Missing::Empty)?;
-    Ok(made)
+    close(alloc, p, earlier, names, mark, term, Missing::Empty)
 }
 
 // The loops over the array in the variable that the node around them binds, whose index parts match ps and whose cells match p.
@@ -453,9 +400,8 @@ fn bind_all<'a>(
     match binds.split_first() {
         None => { start(alloc, body, earlier, base, names) }
         Some((b, rest)) => {
-            let value = start(alloc, &b.expr, earlier, base, names)?;
+            let value = start(alloc, &b.expr, earlier, base, names);
             let matched = bind_rest(alloc, &b.pattern, rest, body, earlier, base, names);
-            let (value, matched) = both(Ok(value), matched)?;
             let_in(alloc, value, matched)
         }
     }
@@ -478,6 +424,5 @@ fn bind_rest<'a>(
     let mark = names.len();
     open(p, names)?;
     let term = bind_all(alloc, rest, body, earlier, base, names)?;
-    let made = close(alloc, p, earlier, names, mark, term, Missing::Undefined)?;
-    Ok(made)
+    close(alloc, p, earlier, names, mark, term, Missing::Undefined)
 }

@@ -1,6 +1,6 @@
 //! Sets of members, united as a balanced tree.
 
-ghost use Rattle.std.specs.Prelude.{◌≡◌, ◌-◌, ◌≤◌, length, map, take, drop, OnOk, IfOk};
+ghost use Rattle.std.specs.Prelude.{◌≡◌, ◌-◌, ◌≤◌, length, map, take, drop, OnOk, IfOk, IsOkAnd};
 ghost use Rattle.nrca_term.specs.View.{term_of};
 ghost use Rattle.aql_start.specs.Start as start_term;
 
@@ -11,13 +11,14 @@ use nrca_term::Core;
 use std::alloc::Global;
 
 /// The sets of one member each of the terms, united; the empty set where there is none.
-pub(crate) fn united(alloc: Global, items: Vec<Core>) -> Result<Core, Memory>
-    ensures { IfOk result (λ c. term_of c ≡ start_term.united (length (map term_of items.items)) (map term_of items.items)) }
+pub(crate) fn united(alloc: Global, items: Result<Vec<Core>, Memory>) -> Result<Core, Memory>
+    ensures { IfOk result (λ c. IsOkAnd items (λ v. term_of c ≡ start_term.united (length (map term_of v.items)) (map term_of v.items))) }
 {
-    let mut rest = items;
+    let mut rest = items?;
     let count = rest.len();
-    let made = unite_last(alloc, &mut rest, count)?;
-    Ok(made)
+    let made = unite_last(alloc, &mut rest, count);
+    drop(rest);
+    made
 }
 
 // Of the last terms, which are taken off.
@@ -31,16 +32,12 @@ fn unite_last(alloc: Global, items: &mut Vec<Core>, count: usize) -> Result<Core
     }
     if count == 1 {
         return match items.pop() {
-            Some(last) => {
-                let made = single(alloc, last)?;
-                Ok(made)
-            }
+            Some(last) => single(alloc, Ok(last)),
             None => Ok(Core::Empty),
         };
     }
     let half = count / 2;
     let right = unite_last(alloc, items, count - half)?;
-    let (left, right) = both(unite_last(alloc, items, half), Ok(right))?;
-    let made = union(alloc, left, right)?;
-    Ok(made)
+    let left = unite_last(alloc, items, half);
+    union(alloc, both(left, Ok(right)))
 }

@@ -7,183 +7,193 @@ use Rattle.aql_syntax.specs.View.{tree_of, trees_of, quals_of, qual_of, axes_in,
 use Rattle.aql_syntax.specs.ViewLaws.{tree_of-Row, tree_of-Members, tree_of-Comp, tree_of-Tab, tree_of-Literal, tree_of-Let, tree_of-Sub}
 use Rattle.aql_syntax.specs.Measured.{latest}
 use Rattle.nrca_term.specs.Equations.{term_of-Bool, term_of-Bottom, term_of-Empty}
-use Rattle.nrca_term.specs.Nodes.{truth_term, bottom_term, let_term, if_term, default_term, tuple_term, arith_term, compare_term, empty_term, single_term, union_term, big_union_term, sum_term, gen_term, get_term, dim_term, index_term}
+use Rattle.nrca_term.specs.Nodes.{truth_term, bottom_term, let_term, if_term, default_term, tuple_term, arith_term, compare_term, empty_term, single_term, union_term, big_union_term, sum_term, gen_term, get_term, dim_term, index_term, tab_term, sub_term, literal_term}
 use Rattle.nrca_term.specs.View.{term_of}
 use Rattle.nrca_term.specs.declared.term.Core as core
-use Rattle.aql_start.specs.Start.{index_of, macro_term, call_term, known_of, knowns_of, united, matching, array_term, start, starts, quals_term, defs_term}
+use Rattle.aql_start.specs.Start.{index_of, macro_term, call_term, known_of, knowns_of, united, matching, array_term, start, starts, bound_terms, under_axes, quals_term, defs_term}
 use Rattle.aql_desugar.specs.Names.{scope}
 use Rattle.aql_desugar.proofs.Scoping.{length-scope}
 use Rattle.aql_desugar.proofs.Finding.{known_none, known_some}
-use Rattle.aql_desugar.proofs.Making.{part_of, holds_of, made_as, stays}
-use Rattle.aql_desugar.proofs.Querying.{pair_made, two_made, three_made, sub_made, lists_made, matched_made, matched_kept, starts_next, greatest_next, starts_done, bounds_next, bounds_greatest, bounds_done, tab_made, greatest-append, literal_made, extent_some, grid_made, grid_kept, no_quals, no_defs}
+use Rattle.aql_desugar.proofs.Making.{one_made, ok_map, kept_map, kept_of, kept_then, kept_first, first_of, second_of, made_as}
+use Rattle.aql_desugar.proofs.Querying.{one_arm, two_arm, list_arm, text_arm, then_made, then_two, walk_of, matched_made, matched_kept, starts_next, greatest_next, starts_done, bounds_next, bounds_greatest, bounds_done, greatest-append, literal_made, extent_some, grid_made, grid_kept, no_quals, no_defs}
 use Rattle.aql_desugar.proofs.queries.+start.Goals as goal
 
-pub start-returns-in_ok-a-in-And-clause-made : goal.start-returns-in_ok-a-in-And-clause-made
-start-returns-in_ok-a-in-And-clause-made t c =
-    made_as c.choose-in-And.result _ _ c.choose-in-And.ensures
-    (pair_made (λ x y. if_term x y (truth_term false)) (term_of c.in_ok-a-in-And.a) (term_of c.in_ok-a-in-And.b) (start (tree_of c.in-And.a.value) (knowns_of (latest c.args.earlier.now)) (scope (λ x. x.now) c.args.names.now.items c.args.base)) (start (tree_of c.in-And.b.value) (knowns_of (latest c.args.earlier.now)) (scope (λ x. x.now) c.args.names.now.items c.args.base)) _ _
-    (c.in_ok-a-in-And.ensures.first ∙ ap (λ x. start (tree_of x) (knowns_of (latest c.args.earlier.now)) (scope (λ x. x.now) c.args.names.now.items c.args.base)) c.deref-in-And.ensures) (c.in_ok-a-in-And.ensures.second ∙ ap (λ x. start (tree_of x) (knowns_of (latest c.args.earlier.now)) (scope (λ x. x.now) c.args.names.now.items c.args.base)) c.deref-in-And-2.ensures) (ap (if_term (term_of c.in_ok-a-in-And.a) (term_of c.in_ok-a-in-And.b)) (term_of-Bool false)) (ap (λ x. start (tree_of x) (knowns_of (latest c.args.earlier.now)) (scope (λ x. x.now) c.args.names.now.items c.args.base)) c.in-And.is))
+pub start-returns-in-Not-clause-made : goal.start-returns-in-Not-clause-made
+start-returns-in-Not-clause-made t c =
+    one_arm (knowns_of (latest c.args.earlier.now)) (scope (λ x. x.now) c.args.names.now.items c.args.base) c.choose-in-Not.result c.start-test-in-Not.result (λ x. if_term x (term_of (core.Bool false)) (term_of (core.Bool true))) c.args.e.now _ _ c.in-Not.a.value c.choose-in-Not.ensures c.start-test-in-Not.ensures.made c.deref-in-Not.ensures c.in-Not.is (ap (λ u. if_term (start (tree_of c.in-Not.a.value) (knowns_of (latest c.args.earlier.now)) (scope (λ x. x.now) c.args.names.now.items c.args.base)) u (term_of (core.Bool true))) (term_of-Bool false) ∙ ap (if_term (start (tree_of c.in-Not.a.value) (knowns_of (latest c.args.earlier.now)) (scope (λ x. x.now) c.args.names.now.items c.args.base)) (truth_term false)) (term_of-Bool true))
 
-pub start-returns-in_ok-a-in-And-clause-kept : goal.start-returns-in_ok-a-in-And-clause-kept
-start-returns-in_ok-a-in-And-clause-kept t c =
-    stays c.choose-in-And.result _ (c.in_ok-a-in-And.ensures.kept)
+pub start-returns-in-Not-clause-kept : goal.start-returns-in-Not-clause-kept
+start-returns-in-Not-clause-kept t c =
+    kept_of c.choose-in-Not.result c.start-test-in-Not.result _ _ _ c.choose-in-Not.ensures c.start-test-in-Not.ensures.kept (λ k. k)
 
-pub start-returns-in_ok-a-in-Or-clause-made : goal.start-returns-in_ok-a-in-Or-clause-made
-start-returns-in_ok-a-in-Or-clause-made t c =
-    made_as c.choose-in-Or.result _ _ c.choose-in-Or.ensures
-    (pair_made (λ x y. if_term x (truth_term true) y) (term_of c.in_ok-a-in-Or.a) (term_of c.in_ok-a-in-Or.b) (start (tree_of c.in-Or.a.value) (knowns_of (latest c.args.earlier.now)) (scope (λ x. x.now) c.args.names.now.items c.args.base)) (start (tree_of c.in-Or.b.value) (knowns_of (latest c.args.earlier.now)) (scope (λ x. x.now) c.args.names.now.items c.args.base)) _ _
-    (c.in_ok-a-in-Or.ensures.first ∙ ap (λ x. start (tree_of x) (knowns_of (latest c.args.earlier.now)) (scope (λ x. x.now) c.args.names.now.items c.args.base)) c.deref-in-Or.ensures) (c.in_ok-a-in-Or.ensures.second ∙ ap (λ x. start (tree_of x) (knowns_of (latest c.args.earlier.now)) (scope (λ x. x.now) c.args.names.now.items c.args.base)) c.deref-in-Or-2.ensures) (ap (λ u. if_term (term_of c.in_ok-a-in-Or.a) u (term_of c.in_ok-a-in-Or.b)) (term_of-Bool true)) (ap (λ x. start (tree_of x) (knowns_of (latest c.args.earlier.now)) (scope (λ x. x.now) c.args.names.now.items c.args.base)) c.in-Or.is))
+pub start-returns-in-Gen-clause-made : goal.start-returns-in-Gen-clause-made
+start-returns-in-Gen-clause-made t c =
+    one_arm (knowns_of (latest c.args.earlier.now)) (scope (λ x. x.now) c.args.names.now.items c.args.base) c.generated.result c.start.result gen_term c.args.e.now _ _ c.in-Gen.a.value c.generated.ensures c.start.ensures.made c.deref-in-Gen.ensures c.in-Gen.is refl
 
-pub start-returns-in_ok-a-in-Or-clause-kept : goal.start-returns-in_ok-a-in-Or-clause-kept
-start-returns-in_ok-a-in-Or-clause-kept t c =
-    stays c.choose-in-Or.result _ (c.in_ok-a-in-Or.ensures.kept)
+pub start-returns-in-Gen-clause-kept : goal.start-returns-in-Gen-clause-kept
+start-returns-in-Gen-clause-kept t c =
+    kept_of c.generated.result c.start.result _ _ _ c.generated.ensures c.start.ensures.kept (λ k. k)
 
-pub start-returns-in_ok-a-in-Compare-clause-made : goal.start-returns-in_ok-a-in-Compare-clause-made
-start-returns-in_ok-a-in-Compare-clause-made t c =
-    made_as c.compare.result _ _ c.compare.ensures
-    (pair_made (compare_term c.in-Compare.op) (term_of c.in_ok-a-in-Compare.a) (term_of c.in_ok-a-in-Compare.b) (start (tree_of c.in-Compare.a.value) (knowns_of (latest c.args.earlier.now)) (scope (λ x. x.now) c.args.names.now.items c.args.base)) (start (tree_of c.in-Compare.b.value) (knowns_of (latest c.args.earlier.now)) (scope (λ x. x.now) c.args.names.now.items c.args.base)) _ _
-    (c.in_ok-a-in-Compare.ensures.first ∙ ap (λ x. start (tree_of x) (knowns_of (latest c.args.earlier.now)) (scope (λ x. x.now) c.args.names.now.items c.args.base)) c.deref-in-Compare.ensures) (c.in_ok-a-in-Compare.ensures.second ∙ ap (λ x. start (tree_of x) (knowns_of (latest c.args.earlier.now)) (scope (λ x. x.now) c.args.names.now.items c.args.base)) c.deref-in-Compare-2.ensures) refl (ap (λ x. start (tree_of x) (knowns_of (latest c.args.earlier.now)) (scope (λ x. x.now) c.args.names.now.items c.args.base)) c.in-Compare.is))
+pub start-returns-in-Get-clause-made : goal.start-returns-in-Get-clause-made
+start-returns-in-Get-clause-made t c =
+    one_arm (knowns_of (latest c.args.earlier.now)) (scope (λ x. x.now) c.args.names.now.items c.args.base) c.get.result c.start-in-Get.result get_term c.args.e.now _ _ c.in-Get.a.value c.get.ensures c.start-in-Get.ensures.made c.deref-in-Get.ensures c.in-Get.is refl
 
-pub start-returns-in_ok-a-in-Compare-clause-kept : goal.start-returns-in_ok-a-in-Compare-clause-kept
-start-returns-in_ok-a-in-Compare-clause-kept t c =
-    stays c.compare.result _ (c.in_ok-a-in-Compare.ensures.kept)
+pub start-returns-in-Get-clause-kept : goal.start-returns-in-Get-clause-kept
+start-returns-in-Get-clause-kept t c =
+    kept_of c.get.result c.start-in-Get.result _ _ _ c.get.ensures c.start-in-Get.ensures.kept (λ k. k)
 
-pub start-returns-in_ok-a-in-Arith-clause-made : goal.start-returns-in_ok-a-in-Arith-clause-made
-start-returns-in_ok-a-in-Arith-clause-made t c =
-    made_as c.arith.result _ _ c.arith.ensures
-    (pair_made (arith_term c.in-Arith.op) (term_of c.in_ok-a-in-Arith.a) (term_of c.in_ok-a-in-Arith.b) (start (tree_of c.in-Arith.a.value) (knowns_of (latest c.args.earlier.now)) (scope (λ x. x.now) c.args.names.now.items c.args.base)) (start (tree_of c.in-Arith.b.value) (knowns_of (latest c.args.earlier.now)) (scope (λ x. x.now) c.args.names.now.items c.args.base)) _ _
-    (c.in_ok-a-in-Arith.ensures.first ∙ ap (λ x. start (tree_of x) (knowns_of (latest c.args.earlier.now)) (scope (λ x. x.now) c.args.names.now.items c.args.base)) c.deref-in-Arith.ensures) (c.in_ok-a-in-Arith.ensures.second ∙ ap (λ x. start (tree_of x) (knowns_of (latest c.args.earlier.now)) (scope (λ x. x.now) c.args.names.now.items c.args.base)) c.deref-in-Arith-2.ensures) refl (ap (λ x. start (tree_of x) (knowns_of (latest c.args.earlier.now)) (scope (λ x. x.now) c.args.names.now.items c.args.base)) c.in-Arith.is))
+pub start-returns-in-Len-clause-made : goal.start-returns-in-Len-clause-made
+start-returns-in-Len-clause-made t c =
+    one_arm (knowns_of (latest c.args.earlier.now)) (scope (λ x. x.now) c.args.names.now.items c.args.base) c.dim.result c.start-in-Len.result (dim_term 1) c.args.e.now _ _ c.in-Len.a.value c.dim.ensures c.start-in-Len.ensures.made c.deref-in-Len.ensures c.in-Len.is refl
 
-pub start-returns-in_ok-a-in-Arith-clause-kept : goal.start-returns-in_ok-a-in-Arith-clause-kept
-start-returns-in_ok-a-in-Arith-clause-kept t c =
-    stays c.arith.result _ (c.in_ok-a-in-Arith.ensures.kept)
+pub start-returns-in-Len-clause-kept : goal.start-returns-in-Len-clause-kept
+start-returns-in-Len-clause-kept t c =
+    kept_of c.dim.result c.start-in-Len.result _ _ _ c.dim.ensures c.start-in-Len.ensures.kept (λ k. k)
 
-pub start-returns-in_ok-a-in-Union-clause-made : goal.start-returns-in_ok-a-in-Union-clause-made
-start-returns-in_ok-a-in-Union-clause-made t c =
-    made_as c.union.result _ _ c.union.ensures
-    (pair_made union_term (term_of c.in_ok-a-in-Union.a) (term_of c.in_ok-a-in-Union.b) (start (tree_of c.in-Union.a.value) (knowns_of (latest c.args.earlier.now)) (scope (λ x. x.now) c.args.names.now.items c.args.base)) (start (tree_of c.in-Union.b.value) (knowns_of (latest c.args.earlier.now)) (scope (λ x. x.now) c.args.names.now.items c.args.base)) _ _
-    (c.in_ok-a-in-Union.ensures.first ∙ ap (λ x. start (tree_of x) (knowns_of (latest c.args.earlier.now)) (scope (λ x. x.now) c.args.names.now.items c.args.base)) c.deref-in-Union.ensures) (c.in_ok-a-in-Union.ensures.second ∙ ap (λ x. start (tree_of x) (knowns_of (latest c.args.earlier.now)) (scope (λ x. x.now) c.args.names.now.items c.args.base)) c.deref-in-Union-2.ensures) refl (ap (λ x. start (tree_of x) (knowns_of (latest c.args.earlier.now)) (scope (λ x. x.now) c.args.names.now.items c.args.base)) c.in-Union.is))
+pub start-returns-in-Dim-clause-made : goal.start-returns-in-Dim-clause-made
+start-returns-in-Dim-clause-made t c =
+    one_arm (knowns_of (latest c.args.earlier.now)) (scope (λ x. x.now) c.args.names.now.items c.args.base) c.dim-in-Dim.result c.start-in-Dim.result (dim_term c.in-Dim.rank) c.args.e.now _ _ c.in-Dim.array.value c.dim-in-Dim.ensures c.start-in-Dim.ensures.made c.deref-in-Dim.ensures c.in-Dim.is refl
 
-pub start-returns-in_ok-a-in-Union-clause-kept : goal.start-returns-in_ok-a-in-Union-clause-kept
-start-returns-in_ok-a-in-Union-clause-kept t c =
-    stays c.union.result _ (c.in_ok-a-in-Union.ensures.kept)
+pub start-returns-in-Dim-clause-kept : goal.start-returns-in-Dim-clause-kept
+start-returns-in-Dim-clause-kept t c =
+    kept_of c.dim-in-Dim.result c.start-in-Dim.result _ _ _ c.dim-in-Dim.ensures c.start-in-Dim.ensures.kept (λ k. k)
 
-pub start-returns-in_ok-a-in-Default-clause-made : goal.start-returns-in_ok-a-in-Default-clause-made
-start-returns-in_ok-a-in-Default-clause-made t c =
-    made_as c.default.result _ _ c.default.ensures
-    (pair_made default_term (term_of c.in_ok-a-in-Default.a) (term_of c.in_ok-a-in-Default.b) (start (tree_of c.in-Default.a.value) (knowns_of (latest c.args.earlier.now)) (scope (λ x. x.now) c.args.names.now.items c.args.base)) (start (tree_of c.in-Default.b.value) (knowns_of (latest c.args.earlier.now)) (scope (λ x. x.now) c.args.names.now.items c.args.base)) _ _
-    (c.in_ok-a-in-Default.ensures.first ∙ ap (λ x. start (tree_of x) (knowns_of (latest c.args.earlier.now)) (scope (λ x. x.now) c.args.names.now.items c.args.base)) c.deref-in-Default.ensures) (c.in_ok-a-in-Default.ensures.second ∙ ap (λ x. start (tree_of x) (knowns_of (latest c.args.earlier.now)) (scope (λ x. x.now) c.args.names.now.items c.args.base)) c.deref-in-Default-2.ensures) refl (ap (λ x. start (tree_of x) (knowns_of (latest c.args.earlier.now)) (scope (λ x. x.now) c.args.names.now.items c.args.base)) c.in-Default.is))
+pub start-returns-in-Index-clause-made : goal.start-returns-in-Index-clause-made
+start-returns-in-Index-clause-made t c =
+    one_arm (knowns_of (latest c.args.earlier.now)) (scope (λ x. x.now) c.args.names.now.items c.args.base) c.index.result c.start-in-Index.result (index_term c.in-Index.rank) c.args.e.now _ _ c.in-Index.pairs.value c.index.ensures c.start-in-Index.ensures.made c.deref-in-Index.ensures c.in-Index.is refl
 
-pub start-returns-in_ok-a-in-Default-clause-kept : goal.start-returns-in_ok-a-in-Default-clause-kept
-start-returns-in_ok-a-in-Default-clause-kept t c =
-    stays c.default.result _ (c.in_ok-a-in-Default.ensures.kept)
+pub start-returns-in-Index-clause-kept : goal.start-returns-in-Index-clause-kept
+start-returns-in-Index-clause-kept t c =
+    kept_of c.index.result c.start-in-Index.result _ _ _ c.index.ensures c.start-in-Index.ensures.kept (λ k. k)
 
-pub start-returns-in_ok-a-in-Not-clause-made : goal.start-returns-in_ok-a-in-Not-clause-made
-start-returns-in_ok-a-in-Not-clause-made t c =
-    made_as c.choose-in-Not.result _ _ c.choose-in-Not.ensures
-    (ap (λ u. if_term (term_of c.in_ok-a-in-Not.a) u (term_of (core.Bool true))) (term_of-Bool false) ∙ ap (if_term (term_of c.in_ok-a-in-Not.a) (truth_term false)) (term_of-Bool true) ∙ ap (λ x. if_term x (truth_term false) (truth_term true)) (c.in_ok-a-in-Not.ensures.made ∙ ap (λ x. start (tree_of x) (knowns_of (latest c.args.earlier.now)) (scope (λ x. x.now) c.args.names.now.items c.args.base)) c.deref-in-Not.ensures) ∙ sym (ap (λ x. start (tree_of x) (knowns_of (latest c.args.earlier.now)) (scope (λ x. x.now) c.args.names.now.items c.args.base)) c.in-Not.is))
+pub start-returns-in-And-clause-made : goal.start-returns-in-And-clause-made
+start-returns-in-And-clause-made t c =
+    two_arm (knowns_of (latest c.args.earlier.now)) (scope (λ x. x.now) c.args.names.now.items c.args.base) c.conjunction.result c.pair-in-And.result (λ x y. if_term x y (truth_term false)) c.args.e.now _ _ _ c.in-And.a.value c.in-And.b.value c.conjunction.ensures c.pair-in-And.ensures.first c.pair-in-And.ensures.second c.deref-in-And.ensures c.deref-in-And-2.ensures c.in-And.is refl
 
-pub start-returns-in_ok-a-in-Not-clause-kept : goal.start-returns-in_ok-a-in-Not-clause-kept
-start-returns-in_ok-a-in-Not-clause-kept t c =
-    stays c.choose-in-Not.result _ (c.in_ok-a-in-Not.ensures.kept)
+pub start-returns-in-And-clause-kept : goal.start-returns-in-And-clause-kept
+start-returns-in-And-clause-kept t c =
+    kept_of c.conjunction.result c.pair-in-And.result _ _ _ c.conjunction.ensures c.pair-in-And.ensures.kept (λ k. k)
 
-pub start-returns-in_ok-a-in-Gen-clause-made : goal.start-returns-in_ok-a-in-Gen-clause-made
-start-returns-in_ok-a-in-Gen-clause-made t c =
-    made_as c.generated.result _ _ c.generated.ensures
-    (ap gen_term (c.in_ok-a-in-Gen.ensures.made ∙ ap (λ x. start (tree_of x) (knowns_of (latest c.args.earlier.now)) (scope (λ x. x.now) c.args.names.now.items c.args.base)) c.deref-in-Gen.ensures) ∙ sym (ap (λ x. start (tree_of x) (knowns_of (latest c.args.earlier.now)) (scope (λ x. x.now) c.args.names.now.items c.args.base)) c.in-Gen.is))
+pub start-returns-in-Or-clause-made : goal.start-returns-in-Or-clause-made
+start-returns-in-Or-clause-made t c =
+    two_arm (knowns_of (latest c.args.earlier.now)) (scope (λ x. x.now) c.args.names.now.items c.args.base) c.disjunction.result c.pair-in-Or.result (λ x y. if_term x (truth_term true) y) c.args.e.now _ _ _ c.in-Or.a.value c.in-Or.b.value c.disjunction.ensures c.pair-in-Or.ensures.first c.pair-in-Or.ensures.second c.deref-in-Or.ensures c.deref-in-Or-2.ensures c.in-Or.is refl
 
-pub start-returns-in_ok-a-in-Gen-clause-kept : goal.start-returns-in_ok-a-in-Gen-clause-kept
-start-returns-in_ok-a-in-Gen-clause-kept t c =
-    stays c.generated.result _ (c.in_ok-a-in-Gen.ensures.kept)
+pub start-returns-in-Or-clause-kept : goal.start-returns-in-Or-clause-kept
+start-returns-in-Or-clause-kept t c =
+    kept_of c.disjunction.result c.pair-in-Or.result _ _ _ c.disjunction.ensures c.pair-in-Or.ensures.kept (λ k. k)
 
-pub start-returns-in_ok-a-in-Get-clause-made : goal.start-returns-in_ok-a-in-Get-clause-made
-start-returns-in_ok-a-in-Get-clause-made t c =
-    made_as c.get.result _ _ c.get.ensures
-    (ap get_term (c.in_ok-a-in-Get.ensures.made ∙ ap (λ x. start (tree_of x) (knowns_of (latest c.args.earlier.now)) (scope (λ x. x.now) c.args.names.now.items c.args.base)) c.deref-in-Get.ensures) ∙ sym (ap (λ x. start (tree_of x) (knowns_of (latest c.args.earlier.now)) (scope (λ x. x.now) c.args.names.now.items c.args.base)) c.in-Get.is))
+pub start-returns-in-Compare-clause-made : goal.start-returns-in-Compare-clause-made
+start-returns-in-Compare-clause-made t c =
+    two_arm (knowns_of (latest c.args.earlier.now)) (scope (λ x. x.now) c.args.names.now.items c.args.base) c.compare.result c.pair-in-Compare.result (compare_term c.in-Compare.op) c.args.e.now _ _ _ c.in-Compare.a.value c.in-Compare.b.value c.compare.ensures c.pair-in-Compare.ensures.first c.pair-in-Compare.ensures.second c.deref-in-Compare.ensures c.deref-in-Compare-2.ensures c.in-Compare.is refl
 
-pub start-returns-in_ok-a-in-Get-clause-kept : goal.start-returns-in_ok-a-in-Get-clause-kept
-start-returns-in_ok-a-in-Get-clause-kept t c =
-    stays c.get.result _ (c.in_ok-a-in-Get.ensures.kept)
+pub start-returns-in-Compare-clause-kept : goal.start-returns-in-Compare-clause-kept
+start-returns-in-Compare-clause-kept t c =
+    kept_of c.compare.result c.pair-in-Compare.result _ _ _ c.compare.ensures c.pair-in-Compare.ensures.kept (λ k. k)
 
-pub start-returns-in_ok-a-in-Len-clause-made : goal.start-returns-in_ok-a-in-Len-clause-made
-start-returns-in_ok-a-in-Len-clause-made t c =
-    made_as c.dim.result _ _ c.dim.ensures
-    (ap (dim_term 1) (c.in_ok-a-in-Len.ensures.made ∙ ap (λ x. start (tree_of x) (knowns_of (latest c.args.earlier.now)) (scope (λ x. x.now) c.args.names.now.items c.args.base)) c.deref-in-Len.ensures) ∙ sym (ap (λ x. start (tree_of x) (knowns_of (latest c.args.earlier.now)) (scope (λ x. x.now) c.args.names.now.items c.args.base)) c.in-Len.is))
+pub start-returns-in-Arith-clause-made : goal.start-returns-in-Arith-clause-made
+start-returns-in-Arith-clause-made t c =
+    two_arm (knowns_of (latest c.args.earlier.now)) (scope (λ x. x.now) c.args.names.now.items c.args.base) c.arith.result c.pair-in-Arith.result (arith_term c.in-Arith.op) c.args.e.now _ _ _ c.in-Arith.a.value c.in-Arith.b.value c.arith.ensures c.pair-in-Arith.ensures.first c.pair-in-Arith.ensures.second c.deref-in-Arith.ensures c.deref-in-Arith-2.ensures c.in-Arith.is refl
 
-pub start-returns-in_ok-a-in-Len-clause-kept : goal.start-returns-in_ok-a-in-Len-clause-kept
-start-returns-in_ok-a-in-Len-clause-kept t c =
-    stays c.dim.result _ (c.in_ok-a-in-Len.ensures.kept)
+pub start-returns-in-Arith-clause-kept : goal.start-returns-in-Arith-clause-kept
+start-returns-in-Arith-clause-kept t c =
+    kept_of c.arith.result c.pair-in-Arith.result _ _ _ c.arith.ensures c.pair-in-Arith.ensures.kept (λ k. k)
 
-pub start-returns-in_ok-a-in-Dim-clause-made : goal.start-returns-in_ok-a-in-Dim-clause-made
-start-returns-in_ok-a-in-Dim-clause-made t c =
-    made_as c.dim-in-Dim.result _ _ c.dim-in-Dim.ensures
-    (ap (dim_term c.in-Dim.rank) (c.in_ok-a-in-Dim.ensures.made ∙ ap (λ x. start (tree_of x) (knowns_of (latest c.args.earlier.now)) (scope (λ x. x.now) c.args.names.now.items c.args.base)) c.deref-in-Dim.ensures) ∙ sym (ap (λ x. start (tree_of x) (knowns_of (latest c.args.earlier.now)) (scope (λ x. x.now) c.args.names.now.items c.args.base)) c.in-Dim.is))
+pub start-returns-in-Union-clause-made : goal.start-returns-in-Union-clause-made
+start-returns-in-Union-clause-made t c =
+    two_arm (knowns_of (latest c.args.earlier.now)) (scope (λ x. x.now) c.args.names.now.items c.args.base) c.union.result c.pair-in-Union.result union_term c.args.e.now _ _ _ c.in-Union.a.value c.in-Union.b.value c.union.ensures c.pair-in-Union.ensures.first c.pair-in-Union.ensures.second c.deref-in-Union.ensures c.deref-in-Union-2.ensures c.in-Union.is refl
 
-pub start-returns-in_ok-a-in-Dim-clause-kept : goal.start-returns-in_ok-a-in-Dim-clause-kept
-start-returns-in_ok-a-in-Dim-clause-kept t c =
-    stays c.dim-in-Dim.result _ (c.in_ok-a-in-Dim.ensures.kept)
+pub start-returns-in-Union-clause-kept : goal.start-returns-in-Union-clause-kept
+start-returns-in-Union-clause-kept t c =
+    kept_of c.union.result c.pair-in-Union.result _ _ _ c.union.ensures c.pair-in-Union.ensures.kept (λ k. k)
 
-pub start-returns-in_ok-a-in-Index-clause-made : goal.start-returns-in_ok-a-in-Index-clause-made
-start-returns-in_ok-a-in-Index-clause-made t c =
-    made_as c.index.result _ _ c.index.ensures
-    (ap (index_term c.in-Index.rank) (c.in_ok-a-in-Index.ensures.made ∙ ap (λ x. start (tree_of x) (knowns_of (latest c.args.earlier.now)) (scope (λ x. x.now) c.args.names.now.items c.args.base)) c.deref-in-Index.ensures) ∙ sym (ap (λ x. start (tree_of x) (knowns_of (latest c.args.earlier.now)) (scope (λ x. x.now) c.args.names.now.items c.args.base)) c.in-Index.is))
+pub start-returns-in-Default-clause-made : goal.start-returns-in-Default-clause-made
+start-returns-in-Default-clause-made t c =
+    two_arm (knowns_of (latest c.args.earlier.now)) (scope (λ x. x.now) c.args.names.now.items c.args.base) c.default.result c.pair-in-Default.result default_term c.args.e.now _ _ _ c.in-Default.a.value c.in-Default.b.value c.default.ensures c.pair-in-Default.ensures.first c.pair-in-Default.ensures.second c.deref-in-Default.ensures c.deref-in-Default-2.ensures c.in-Default.is refl
 
-pub start-returns-in_ok-a-in-Index-clause-kept : goal.start-returns-in_ok-a-in-Index-clause-kept
-start-returns-in_ok-a-in-Index-clause-kept t c =
-    stays c.index.result _ (c.in_ok-a-in-Index.ensures.kept)
+pub start-returns-in-Default-clause-kept : goal.start-returns-in-Default-clause-kept
+start-returns-in-Default-clause-kept t c =
+    kept_of c.default.result c.pair-in-Default.result _ _ _ c.default.ensures c.pair-in-Default.ensures.kept (λ k. k)
 
-pub start-returns-in_ok-c-in-If-2-clause-made : goal.start-returns-in_ok-c-in-If-2-clause-made
-start-returns-in_ok-c-in-If-2-clause-made t c =
-    made_as c.choose.result _ _ c.choose.ensures
-    (three_made c.args.names.now.items _ _ c.deref-in-If-2.result.now c.in-If.a.value c.deref-in-If-3.result.now c.in-If.b.value if_term (λ us x. start (tree_of x) (knowns_of (latest c.args.earlier.now)) (scope (λ x. x.now) us c.args.base)) (term_of c.in_ok-c-in-If-2.c) (start (tree_of c.in-If.c.value) (knowns_of (latest c.args.earlier.now)) (scope (λ x. x.now) c.args.names.now.items c.args.base)) (term_of c.in_ok-c-in-If-2.a) (term_of c.in_ok-c-in-If-2.b) _ _
-    (sym (ap term_of c.in_ok-c-in-If-2.ensures.0) ∙ c.in_ok-c-in-If.ensures.made ∙ ap (λ x. start (tree_of x) (knowns_of (latest c.args.earlier.now)) (scope (λ x. x.now) c.args.names.now.items c.args.base)) c.deref-in-If.ensures) (part_of _ _ _ _ c.in_ok-c-in-If-2.ensures.1 c.pair.ensures.first) c.in_ok-c-in-If.ensures.kept c.deref-in-If-2.ensures (part_of _ _ _ _ c.in_ok-c-in-If-2.ensures.1 c.pair.ensures.second) refl c.deref-in-If-3.ensures refl (ap (λ x. start (tree_of x) (knowns_of (latest c.args.earlier.now)) (scope (λ x. x.now) c.args.names.now.items c.args.base)) c.in-If.is))
+pub start-returns-in-Row-clause-made : goal.start-returns-in-Row-clause-made
+start-returns-in-Row-clause-made t c =
+    list_arm (knowns_of (latest c.args.earlier.now)) (scope (λ x. x.now) c.args.names.now.items c.args.base) c.tuple.result c.all.result tuple_term c.args.e.now _ _ c.in-Row.es.items.items c.tuple.ensures c.all.ensures.made c.deref-in-Row.ensures.value c.in-Row.is (sym (ap (λ x. start x (knowns_of (latest c.args.earlier.now)) (scope (λ x. x.now) c.args.names.now.items c.args.base)) (tree_of-Row c.in-Row.es)))
 
-pub start-returns-in_ok-c-in-If-2-clause-kept : goal.start-returns-in_ok-c-in-If-2-clause-kept
-start-returns-in_ok-c-in-If-2-clause-kept t c =
-    stays c.choose.result _ (holds_of _ _ _ c.in_ok-c-in-If-2.ensures.1 c.pair.ensures.kept ∙ c.in_ok-c-in-If.ensures.kept)
+pub start-returns-in-Row-clause-kept : goal.start-returns-in-Row-clause-kept
+start-returns-in-Row-clause-kept t c =
+    kept_of c.tuple.result c.all.result _ _ _ c.tuple.ensures c.all.ensures.kept (λ k. k)
 
-pub start-returns-in_ok-a-in-Apply-2-clause-made : goal.start-returns-in_ok-a-in-Apply-2-clause-made
-start-returns-in_ok-a-in-Apply-2-clause-made t c =
-    made_as c.let_in.result _ _ c.let_in.ensures
-    (two_made c.args.names.now.items c.deref-in-Apply-2.result.now c.in-Apply.argument.value c.in-Apply.argument.value let_term (λ us x. call_term (index_of c.in-Apply.name (scope (λ x. x.now) us c.args.base)) (find c.in-Apply.name (knowns_of (latest c.args.earlier.now))) (length (scope (λ x. x.now) us c.args.base))) (term_of c.in_ok-a-in-Apply-2.a) (start (tree_of c.in-Apply.argument.value) (knowns_of (latest c.args.earlier.now)) (scope (λ x. x.now) c.args.names.now.items c.args.base)) (term_of c.in_ok-a-in-Apply-2.body) _ _
-    (sym (ap term_of c.in_ok-a-in-Apply-2.ensures.0) ∙ c.in_ok-a-in-Apply.ensures.made ∙ ap (λ x. start (tree_of x) (knowns_of (latest c.args.earlier.now)) (scope (λ x. x.now) c.args.names.now.items c.args.base)) c.deref-in-Apply.ensures) (part_of _ _ _ _ c.in_ok-a-in-Apply-2.ensures.1 c.call.ensures) (c.deref-in-Apply-2.ensures.value ∙ c.in_ok-a-in-Apply.ensures.kept) refl refl (ap (λ x. start (tree_of x) (knowns_of (latest c.args.earlier.now)) (scope (λ x. x.now) c.args.names.now.items c.args.base)) c.in-Apply.is))
+pub start-returns-in-Members-clause-made : goal.start-returns-in-Members-clause-made
+start-returns-in-Members-clause-made t c =
+    list_arm (knowns_of (latest c.args.earlier.now)) (scope (λ x. x.now) c.args.names.now.items c.args.base) c.united.result c.all-in-Members.result (λ l. united (length l) l) c.args.e.now _ _ c.in-Members.es.items.items c.united.ensures c.all-in-Members.ensures.made c.deref-in-Members.ensures.value c.in-Members.is (sym (ap (λ x. start x (knowns_of (latest c.args.earlier.now)) (scope (λ x. x.now) c.args.names.now.items c.args.base)) (tree_of-Members c.in-Members.es)))
 
-pub start-returns-in_ok-a-in-Apply-2-clause-kept : goal.start-returns-in_ok-a-in-Apply-2-clause-kept
-start-returns-in_ok-a-in-Apply-2-clause-kept t c =
-    stays c.let_in.result _ (c.in_ok-a-in-Apply.ensures.kept)
+pub start-returns-in-Members-clause-kept : goal.start-returns-in-Members-clause-kept
+start-returns-in-Members-clause-kept t c =
+    kept_of c.united.result c.all-in-Members.result _ _ _ c.united.ensures c.all-in-Members.ensures.kept (λ k. k)
 
-pub start-returns-in_ok-a-in-Fun-2-clause-made : goal.start-returns-in_ok-a-in-Fun-2-clause-made
-start-returns-in_ok-a-in-Fun-2-clause-made t c =
-    made_as c.let_in-in-Fun.result _ _ c.let_in-in-Fun.ensures
-    (two_made c.args.names.now.items _ c.deref-in-Fun-2.result.now c.in-Fun.body.value let_term (λ us x. matching (pat_of c.in-Fun.pattern) (knowns_of (latest c.args.earlier.now)) (scope (λ x. x.now) us c.args.base) (start (tree_of x) (knowns_of (latest c.args.earlier.now))) bottom_term) (term_of c.in_ok-a-in-Fun-2.a) (start (tree_of c.in-Fun.argument.value) (knowns_of (latest c.args.earlier.now)) (scope (λ x. x.now) c.args.names.now.items c.args.base)) (term_of c.in_ok-a-in-Fun-2.body) _ _
-    (sym (ap term_of c.in_ok-a-in-Fun-2.ensures.0) ∙ c.in_ok-a-in-Fun.ensures.made ∙ ap (λ x. start (tree_of x) (knowns_of (latest c.args.earlier.now)) (scope (λ x. x.now) c.args.names.now.items c.args.base)) c.deref-in-Fun.ensures) (part_of _ _ _ _ c.in_ok-a-in-Fun-2.ensures.1 c.within-body.ensures.made) c.in_ok-a-in-Fun.ensures.kept c.deref-in-Fun-2.ensures refl (ap (λ x. start (tree_of x) (knowns_of (latest c.args.earlier.now)) (scope (λ x. x.now) c.args.names.now.items c.args.base)) c.in-Fun.is))
+pub start-returns-in-If-clause-made : goal.start-returns-in-If-clause-made
+start-returns-in-If-clause-made t c =
+    then_two c.args.names.now.items c.start-test.new.names.items if_term (λ us. (start (tree_of c.deref-in-If-2.result.now) (knowns_of (latest c.args.earlier.now)) (scope (λ x. x.now) us c.args.base))) (λ us. (start (tree_of c.deref-in-If-3.result.now) (knowns_of (latest c.args.earlier.now)) (scope (λ x. x.now) us c.args.base))) c.choose.result c.start-test.result c.pair.result (start (tree_of c.deref-in-If.result.now) (knowns_of (latest c.args.earlier.now)) (scope (λ x. x.now) c.args.names.now.items c.args.base)) _ c.choose.ensures c.start-test.ensures.made
+    c.pair.ensures.first c.pair.ensures.second c.start-test.ensures.kept
+    (ap (λ x. if_term (start (tree_of x) (knowns_of (latest c.args.earlier.now)) (scope (λ x. x.now) c.args.names.now.items c.args.base)) (start (tree_of c.deref-in-If-2.result.now) (knowns_of (latest c.args.earlier.now)) (scope (λ x. x.now) c.args.names.now.items c.args.base)) (start (tree_of c.deref-in-If-3.result.now) (knowns_of (latest c.args.earlier.now)) (scope (λ x. x.now) c.args.names.now.items c.args.base))) c.deref-in-If.ensures ∙ ap (λ x. if_term (start (tree_of c.in-If.c.value) (knowns_of (latest c.args.earlier.now)) (scope (λ x. x.now) c.args.names.now.items c.args.base)) (start (tree_of x) (knowns_of (latest c.args.earlier.now)) (scope (λ x. x.now) c.args.names.now.items c.args.base)) (start (tree_of c.deref-in-If-3.result.now) (knowns_of (latest c.args.earlier.now)) (scope (λ x. x.now) c.args.names.now.items c.args.base))) c.deref-in-If-2.ensures ∙ ap (λ x. if_term (start (tree_of c.in-If.c.value) (knowns_of (latest c.args.earlier.now)) (scope (λ x. x.now) c.args.names.now.items c.args.base)) (start (tree_of c.in-If.a.value) (knowns_of (latest c.args.earlier.now)) (scope (λ x. x.now) c.args.names.now.items c.args.base)) (start (tree_of x) (knowns_of (latest c.args.earlier.now)) (scope (λ x. x.now) c.args.names.now.items c.args.base))) c.deref-in-If-3.ensures ∙ sym (ap (λ x. start (tree_of x) (knowns_of (latest c.args.earlier.now)) (scope (λ x. x.now) c.args.names.now.items c.args.base)) c.in-If.is))
 
-pub start-returns-in_ok-a-in-Fun-2-clause-kept : goal.start-returns-in_ok-a-in-Fun-2-clause-kept
-start-returns-in_ok-a-in-Fun-2-clause-kept t c =
-    stays c.let_in-in-Fun.result _ (holds_of _ _ _ c.in_ok-a-in-Fun-2.ensures.1 c.within-body.ensures.kept ∙ c.in_ok-a-in-Fun.ensures.kept)
+pub start-returns-in-If-clause-kept : goal.start-returns-in-If-clause-kept
+start-returns-in-If-clause-kept t c =
+    kept_then c.choose.result c.start-test.result c.pair.result _ _ _ _ c.choose.ensures c.start-test.ensures.kept c.pair.ensures.kept (λ k i. i ∙ k)
 
-pub start-returns-in_ok-a-in-SumMap-2-clause-made : goal.start-returns-in_ok-a-in-SumMap-2-clause-made
-start-returns-in_ok-a-in-SumMap-2-clause-made t c =
-    made_as c.sum.result _ _ c.sum.ensures
-    (two_made c.args.names.now.items _ c.deref-in-SumMap-2.result.now c.in-SumMap.body.value sum_term (λ us x. matching (pat_of c.in-SumMap.pattern) (knowns_of (latest c.args.earlier.now)) (scope (λ x. x.now) us c.args.base) (start (tree_of x) (knowns_of (latest c.args.earlier.now))) bottom_term) (term_of c.in_ok-a-in-SumMap-2.a) (start (tree_of c.in-SumMap.over.value) (knowns_of (latest c.args.earlier.now)) (scope (λ x. x.now) c.args.names.now.items c.args.base)) (term_of c.in_ok-a-in-SumMap-2.body) _ _
-    (sym (ap term_of c.in_ok-a-in-SumMap-2.ensures.0) ∙ c.in_ok-a-in-SumMap.ensures.made ∙ ap (λ x. start (tree_of x) (knowns_of (latest c.args.earlier.now)) (scope (λ x. x.now) c.args.names.now.items c.args.base)) c.deref-in-SumMap.ensures) (part_of _ _ _ _ c.in_ok-a-in-SumMap-2.ensures.1 c.within-body-in-SumMap.ensures.made) c.in_ok-a-in-SumMap.ensures.kept c.deref-in-SumMap-2.ensures refl (ap (λ x. start (tree_of x) (knowns_of (latest c.args.earlier.now)) (scope (λ x. x.now) c.args.names.now.items c.args.base)) c.in-SumMap.is))
+pub start-returns-in-Sub-clause-made : goal.start-returns-in-Sub-clause-made
+start-returns-in-Sub-clause-made t c =
+    then_made c.args.names.now.items c.start-array.new.names.items term_of (λ v. map term_of v.items) sub_term (λ us. (starts (trees_of c.deref-in-Sub-2.result.now) (knowns_of (latest c.args.earlier.now)) (scope (λ x. x.now) us c.args.base))) c.sub.result c.start-array.result c.all-at.result (start (tree_of c.deref-in-Sub.result.now) (knowns_of (latest c.args.earlier.now)) (scope (λ x. x.now) c.args.names.now.items c.args.base)) _ c.sub.ensures c.start-array.ensures.made c.all-at.ensures.made c.start-array.ensures.kept
+    (ap (λ x. sub_term (start (tree_of x) (knowns_of (latest c.args.earlier.now)) (scope (λ x. x.now) c.args.names.now.items c.args.base)) (starts (trees_of c.deref-in-Sub-2.result.now) (knowns_of (latest c.args.earlier.now)) (scope (λ x. x.now) c.args.names.now.items c.args.base))) c.deref-in-Sub.ensures ∙ ap (λ l. sub_term (start (tree_of c.in-Sub.array.value) (knowns_of (latest c.args.earlier.now)) (scope (λ x. x.now) c.args.names.now.items c.args.base)) (starts (trees_of l) (knowns_of (latest c.args.earlier.now)) (scope (λ x. x.now) c.args.names.now.items c.args.base))) c.deref-in-Sub-2.ensures.value ∙ sym ((ap (λ x. start (tree_of x) (knowns_of (latest c.args.earlier.now)) (scope (λ x. x.now) c.args.names.now.items c.args.base)) c.in-Sub.is) ∙ ap (λ x. start x (knowns_of (latest c.args.earlier.now)) (scope (λ x. x.now) c.args.names.now.items c.args.base)) (tree_of-Sub c.in-Sub.array c.in-Sub.at)))
 
-pub start-returns-in_ok-a-in-SumMap-2-clause-kept : goal.start-returns-in_ok-a-in-SumMap-2-clause-kept
-start-returns-in_ok-a-in-SumMap-2-clause-kept t c =
-    stays c.sum.result _ (holds_of _ _ _ c.in_ok-a-in-SumMap-2.ensures.1 c.within-body-in-SumMap.ensures.kept ∙ c.in_ok-a-in-SumMap.ensures.kept)
+pub start-returns-in-Sub-clause-kept : goal.start-returns-in-Sub-clause-kept
+start-returns-in-Sub-clause-kept t c =
+    kept_then c.sub.result c.start-array.result c.all-at.result _ _ _ _ c.sub.ensures c.start-array.ensures.kept c.all-at.ensures.kept (λ k i. i ∙ k)
 
-pub start-returns-in_ok-parts-in-Row-clause-made : goal.start-returns-in_ok-parts-in-Row-clause-made
-start-returns-in_ok-parts-in-Row-clause-made t c =
-    c.tuple.ensures ∙ ap tuple_term (c.in_ok-parts-in-Row.ensures.made ∙ ap (λ l. starts (trees_of l) (knowns_of (latest c.args.earlier.now)) (scope (λ x. x.now) c.args.names.now.items c.args.base)) c.deref-in-Row.ensures.value) ∙ sym ((ap (λ x. start (tree_of x) (knowns_of (latest c.args.earlier.now)) (scope (λ x. x.now) c.args.names.now.items c.args.base)) c.in-Row.is) ∙ ap (λ x. start x (knowns_of (latest c.args.earlier.now)) (scope (λ x. x.now) c.args.names.now.items c.args.base)) (tree_of-Row c.in-Row.es))
+pub start-returns-in-Literal-clause-made : goal.start-returns-in-Literal-clause-made
+start-returns-in-Literal-clause-made t c =
+    then_made c.args.names.now.items c.all-dims.new.names.items (λ v. map term_of v.items) (λ v. map term_of v.items) literal_term (λ us. (starts (trees_of c.deref-in-Literal-2.result.now) (knowns_of (latest c.args.earlier.now)) (scope (λ x. x.now) us c.args.base))) c.literal.result c.all-dims.result c.all-in-Literal.result (starts (trees_of c.deref-in-Literal.result.now) (knowns_of (latest c.args.earlier.now)) (scope (λ x. x.now) c.args.names.now.items c.args.base)) _ c.literal.ensures c.all-dims.ensures.made c.all-in-Literal.ensures.made c.all-dims.ensures.kept
+    (ap (λ l. literal_term (starts (trees_of l) (knowns_of (latest c.args.earlier.now)) (scope (λ x. x.now) c.args.names.now.items c.args.base)) (starts (trees_of c.deref-in-Literal-2.result.now) (knowns_of (latest c.args.earlier.now)) (scope (λ x. x.now) c.args.names.now.items c.args.base))) c.deref-in-Literal.ensures.value ∙ ap (λ l. literal_term (starts (trees_of c.in-Literal.dims.items.items) (knowns_of (latest c.args.earlier.now)) (scope (λ x. x.now) c.args.names.now.items c.args.base)) (starts (trees_of l) (knowns_of (latest c.args.earlier.now)) (scope (λ x. x.now) c.args.names.now.items c.args.base))) c.deref-in-Literal-2.ensures.value ∙ literal_made (trees_of c.in-Literal.dims.items.items) (trees_of c.in-Literal.cells.items.items) (knowns_of (latest c.args.earlier.now)) (scope (λ x. x.now) c.args.names.now.items c.args.base) ∙ sym ((ap (λ x. start (tree_of x) (knowns_of (latest c.args.earlier.now)) (scope (λ x. x.now) c.args.names.now.items c.args.base)) c.in-Literal.is) ∙ ap (λ x. start x (knowns_of (latest c.args.earlier.now)) (scope (λ x. x.now) c.args.names.now.items c.args.base)) (tree_of-Literal c.in-Literal.dims c.in-Literal.cells)))
 
-pub start-returns-in_ok-parts-in-Members-clause-made : goal.start-returns-in_ok-parts-in-Members-clause-made
-start-returns-in_ok-parts-in-Members-clause-made t c =
-    made_as c.united.result _ _ c.united.ensures
-    (ap (λ l. united (length l) l) (c.in_ok-parts-in-Members.ensures.made ∙ ap (λ l. starts (trees_of l) (knowns_of (latest c.args.earlier.now)) (scope (λ x. x.now) c.args.names.now.items c.args.base)) c.deref-in-Members.ensures.value) ∙ sym ((ap (λ x. start (tree_of x) (knowns_of (latest c.args.earlier.now)) (scope (λ x. x.now) c.args.names.now.items c.args.base)) c.in-Members.is) ∙ ap (λ x. start x (knowns_of (latest c.args.earlier.now)) (scope (λ x. x.now) c.args.names.now.items c.args.base)) (tree_of-Members c.in-Members.es)))
+pub start-returns-in-Literal-clause-kept : goal.start-returns-in-Literal-clause-kept
+start-returns-in-Literal-clause-kept t c =
+    kept_then c.literal.result c.all-dims.result c.all-in-Literal.result _ _ _ _ c.literal.ensures c.all-dims.ensures.kept c.all-in-Literal.ensures.kept (λ k i. i ∙ k)
 
-pub start-returns-in_ok-parts-in-Members-clause-kept : goal.start-returns-in_ok-parts-in-Members-clause-kept
-start-returns-in_ok-parts-in-Members-clause-kept t c =
-    stays c.united.result _ (c.in_ok-parts-in-Members.ensures.kept)
+pub start-returns-in-Tab-clause-made : goal.start-returns-in-Tab-clause-made
+start-returns-in-Tab-clause-made t c =
+    then_made c.args.names.now.items c.bounds-limits.new.names.items (λ v. map term_of v.items) term_of tab_term (λ us. (start (tree_of c.deref-in-Tab.result.now) (knowns_of (latest c.args.earlier.now)) (under_axes (axes_in c.indices_in-axes.result.now) (scope (λ x. x.now) us c.args.base)))) c.tab.result c.bounds-limits.result c.indexed-inner.result (bound_terms (axes_in c.indices_in-axes.result.now) (knowns_of (latest c.args.earlier.now)) (scope (λ x. x.now) c.args.names.now.items c.args.base)) _ c.tab.ensures
+    c.bounds-limits.ensures.made c.indexed-inner.ensures.made c.bounds-limits.ensures.kept
+    (ap (λ x. tab_term (bound_terms (axes_in c.indices_in-axes.result.now) (knowns_of (latest c.args.earlier.now)) (scope (λ x. x.now) c.args.names.now.items c.args.base)) (start (tree_of x) (knowns_of (latest c.args.earlier.now)) (under_axes (axes_in c.indices_in-axes.result.now) (scope (λ x. x.now) c.args.names.now.items c.args.base)))) c.deref-in-Tab.ensures ∙ sym (ap (λ x. start x (knowns_of (latest c.args.earlier.now)) (scope (λ x. x.now) c.args.names.now.items c.args.base)) (ap tree_of c.in-Tab.is ∙ tree_of-Tab c.in-Tab.body c.in-Tab.binds ∙ ap (λ a. tree.tab a (tree_of c.in-Tab.body.value)) (sym c.indices_in-axes.ensures))))
+
+pub start-returns-in-Tab-clause-kept : goal.start-returns-in-Tab-clause-kept
+start-returns-in-Tab-clause-kept t c =
+    kept_then c.tab.result c.bounds-limits.result c.indexed-inner.result _ _ _ _ c.tab.ensures c.bounds-limits.ensures.kept c.indexed-inner.ensures.kept (λ k i. i ∙ k)
+
+pub start-returns-in-Apply-clause-made : goal.start-returns-in-Apply-clause-made
+start-returns-in-Apply-clause-made t c =
+    then_made c.args.names.now.items c.deref-in-Apply-2.result.now term_of term_of let_term (λ us. (call_term (index_of c.in-Apply.name (scope (λ x. x.now) us c.args.base)) (find c.in-Apply.name (knowns_of (latest c.args.earlier.now))) (length (scope (λ x. x.now) us c.args.base)))) c.let_in.result c.start-a.result c.call.result (start (tree_of c.deref-in-Apply.result.now) (knowns_of (latest c.args.earlier.now)) (scope (λ x. x.now) c.args.names.now.items c.args.base)) _ c.let_in.ensures c.start-a.ensures.made c.call.ensures
+    (kept_map c.start-a.result _ _ (λ k. c.deref-in-Apply-2.ensures.value ∙ k) c.start-a.ensures.kept) (ap (λ x. let_term (start (tree_of x) (knowns_of (latest c.args.earlier.now)) (scope (λ x. x.now) c.args.names.now.items c.args.base)) (call_term (index_of c.in-Apply.name (scope (λ x. x.now) c.args.names.now.items c.args.base)) (find c.in-Apply.name (knowns_of (latest c.args.earlier.now))) (length (scope (λ x. x.now) c.args.names.now.items c.args.base)))) c.deref-in-Apply.ensures ∙ sym (ap (λ x. start (tree_of x) (knowns_of (latest c.args.earlier.now)) (scope (λ x. x.now) c.args.names.now.items c.args.base)) c.in-Apply.is))
+
+pub start-returns-in-Apply-clause-kept : goal.start-returns-in-Apply-clause-kept
+start-returns-in-Apply-clause-kept t c =
+    kept_of c.let_in.result c.start-a.result _ _ _ c.let_in.ensures c.start-a.ensures.kept (λ k. k)
+
+pub start-returns-in-Fun-clause-made : goal.start-returns-in-Fun-clause-made
+start-returns-in-Fun-clause-made t c =
+    then_made c.args.names.now.items c.start-a-in-Fun.new.names.items term_of term_of let_term (λ us. (matching (pat_of c.in-Fun.pattern) (knowns_of (latest c.args.earlier.now)) (scope (λ x. x.now) us c.args.base) (start (tree_of c.deref-in-Fun-2.result.now) (knowns_of (latest c.args.earlier.now))) bottom_term)) c.let_in-in-Fun.result c.start-a-in-Fun.result c.within-body.result (start (tree_of c.deref-in-Fun.result.now) (knowns_of (latest c.args.earlier.now)) (scope (λ x. x.now) c.args.names.now.items c.args.base)) _ c.let_in-in-Fun.ensures c.start-a-in-Fun.ensures.made c.within-body.ensures.made c.start-a-in-Fun.ensures.kept
+    (ap (λ x. let_term (start (tree_of x) (knowns_of (latest c.args.earlier.now)) (scope (λ x. x.now) c.args.names.now.items c.args.base)) (matching (pat_of c.in-Fun.pattern) (knowns_of (latest c.args.earlier.now)) (scope (λ x. x.now) c.args.names.now.items c.args.base) (start (tree_of c.deref-in-Fun-2.result.now) (knowns_of (latest c.args.earlier.now))) bottom_term)) c.deref-in-Fun.ensures ∙ ap (λ x. let_term (start (tree_of c.in-Fun.argument.value) (knowns_of (latest c.args.earlier.now)) (scope (λ x. x.now) c.args.names.now.items c.args.base)) (matching (pat_of c.in-Fun.pattern) (knowns_of (latest c.args.earlier.now)) (scope (λ x. x.now) c.args.names.now.items c.args.base) (start (tree_of x) (knowns_of (latest c.args.earlier.now))) bottom_term)) c.deref-in-Fun-2.ensures ∙ sym (ap (λ x. start (tree_of x) (knowns_of (latest c.args.earlier.now)) (scope (λ x. x.now) c.args.names.now.items c.args.base)) c.in-Fun.is))
+
+pub start-returns-in-Fun-clause-kept : goal.start-returns-in-Fun-clause-kept
+start-returns-in-Fun-clause-kept t c =
+    kept_then c.let_in-in-Fun.result c.start-a-in-Fun.result c.within-body.result _ _ _ _ c.let_in-in-Fun.ensures c.start-a-in-Fun.ensures.kept c.within-body.ensures.kept (λ k i. i ∙ k)
+
+pub start-returns-in-SumMap-clause-made : goal.start-returns-in-SumMap-clause-made
+start-returns-in-SumMap-clause-made t c =
+    then_made c.args.names.now.items c.start-a-in-SumMap.new.names.items term_of term_of sum_term (λ us. (matching (pat_of c.in-SumMap.pattern) (knowns_of (latest c.args.earlier.now)) (scope (λ x. x.now) us c.args.base) (start (tree_of c.deref-in-SumMap-2.result.now) (knowns_of (latest c.args.earlier.now))) bottom_term)) c.sum.result c.start-a-in-SumMap.result c.within-body-in-SumMap.result (start (tree_of c.deref-in-SumMap.result.now) (knowns_of (latest c.args.earlier.now)) (scope (λ x. x.now) c.args.names.now.items c.args.base)) _ c.sum.ensures c.start-a-in-SumMap.ensures.made c.within-body-in-SumMap.ensures.made c.start-a-in-SumMap.ensures.kept
+    (ap (λ x. sum_term (start (tree_of x) (knowns_of (latest c.args.earlier.now)) (scope (λ x. x.now) c.args.names.now.items c.args.base)) (matching (pat_of c.in-SumMap.pattern) (knowns_of (latest c.args.earlier.now)) (scope (λ x. x.now) c.args.names.now.items c.args.base) (start (tree_of c.deref-in-SumMap-2.result.now) (knowns_of (latest c.args.earlier.now))) bottom_term)) c.deref-in-SumMap.ensures ∙ ap (λ x. sum_term (start (tree_of c.in-SumMap.over.value) (knowns_of (latest c.args.earlier.now)) (scope (λ x. x.now) c.args.names.now.items c.args.base)) (matching (pat_of c.in-SumMap.pattern) (knowns_of (latest c.args.earlier.now)) (scope (λ x. x.now) c.args.names.now.items c.args.base) (start (tree_of x) (knowns_of (latest c.args.earlier.now))) bottom_term)) c.deref-in-SumMap-2.ensures ∙ sym (ap (λ x. start (tree_of x) (knowns_of (latest c.args.earlier.now)) (scope (λ x. x.now) c.args.names.now.items c.args.base)) c.in-SumMap.is))
+
+pub start-returns-in-SumMap-clause-kept : goal.start-returns-in-SumMap-clause-kept
+start-returns-in-SumMap-clause-kept t c =
+    kept_then c.sum.result c.start-a-in-SumMap.result c.within-body-in-SumMap.result _ _ _ _ c.sum.ensures c.start-a-in-SumMap.ensures.kept c.within-body-in-SumMap.ensures.kept (λ k i. i ∙ k)
 
 pub start-returns-in-Comp-clause-made : goal.start-returns-in-Comp-clause-made
 start-returns-in-Comp-clause-made t c =
@@ -194,15 +204,6 @@ pub start-returns-in-Comp-clause-kept : goal.start-returns-in-Comp-clause-kept
 start-returns-in-Comp-clause-kept t c =
     c.comprehend.ensures.kept
 
-pub start-returns-in_ok-limits-in-Tab-2-clause-made : goal.start-returns-in_ok-limits-in-Tab-2-clause-made
-start-returns-in_ok-limits-in-Tab-2-clause-made t c =
-    made_as c.tab.result _ _ c.tab.ensures
-    (tab_made (λ x. x.now) (knowns_of (latest c.args.earlier.now)) c.args.names.now.items c.bounds.new.names.items c.args.base (axes_in c.indices_in-axes.result.now) c.in_ok-limits-in-Tab-2.limits.items c.deref-in-Tab.result.now c.in-Tab.body.value (term_of c.in_ok-limits-in-Tab-2.inner) _ (ap (λ l. map term_of l.items) (sym c.in_ok-limits-in-Tab-2.ensures.0) ∙ c.in_ok-limits-in-Tab.ensures.made) c.in_ok-limits-in-Tab.ensures.kept (part_of _ _ _ _ c.in_ok-limits-in-Tab-2.ensures.1 c.indexed-inner.ensures.made) c.deref-in-Tab.ensures refl ∙ sym (ap (λ x. start x (knowns_of (latest c.args.earlier.now)) (scope (λ x. x.now) c.args.names.now.items c.args.base)) (ap tree_of c.in-Tab.is ∙ tree_of-Tab c.in-Tab.body c.in-Tab.binds ∙ ap (λ a. tree.tab a (tree_of c.in-Tab.body.value)) (sym c.indices_in-axes.ensures))))
-
-pub start-returns-in_ok-limits-in-Tab-2-clause-kept : goal.start-returns-in_ok-limits-in-Tab-2-clause-kept
-start-returns-in_ok-limits-in-Tab-2-clause-kept t c =
-    stays c.tab.result _ (holds_of _ _ _ c.in_ok-limits-in-Tab-2.ensures.1 c.indexed-inner.ensures.kept ∙ c.in_ok-limits-in-Tab.ensures.kept)
-
 pub start-returns-in-Let-clause-made : goal.start-returns-in-Let-clause-made
 start-returns-in-Let-clause-made t c =
     made_as c.bind_all.result _ _ c.bind_all.ensures.made
@@ -212,42 +213,84 @@ pub start-returns-in-Let-clause-kept : goal.start-returns-in-Let-clause-kept
 start-returns-in-Let-clause-kept t c =
     c.bind_all.ensures.kept
 
-pub start-returns-in_ok-array-in-Sub-2-clause-made : goal.start-returns-in_ok-array-in-Sub-2-clause-made
-start-returns-in_ok-array-in-Sub-2-clause-made t c =
-    made_as c.sub.result _ _ c.sub.ensures
-    (sub_made (λ x. x.now) (knowns_of (latest c.args.earlier.now)) c.args.names.now.items _ c.args.base c.deref-in-Sub.result.now c.in-Sub.array.value c.deref-in-Sub-2.result.now c.in-Sub.at.items.items (term_of c.in_ok-array-in-Sub-2.array) _ (map term_of c.in_ok-array-in-Sub-2.at.items) (sym (ap term_of c.in_ok-array-in-Sub-2.ensures.0) ∙ c.in_ok-array-in-Sub.ensures.made) c.deref-in-Sub.ensures c.in_ok-array-in-Sub.ensures.kept (part_of _ _ _ _ c.in_ok-array-in-Sub-2.ensures.1 c.all-in-Sub.ensures.made) c.deref-in-Sub-2.ensures.value refl ∙ sym ((ap (λ x. start (tree_of x) (knowns_of (latest c.args.earlier.now)) (scope (λ x. x.now) c.args.names.now.items c.args.base)) c.in-Sub.is) ∙ ap (λ x. start x (knowns_of (latest c.args.earlier.now)) (scope (λ x. x.now) c.args.names.now.items c.args.base)) (tree_of-Sub c.in-Sub.array c.in-Sub.at)))
+pub comprehend-returns-in-None-clause-made : goal.comprehend-returns-in-None-clause-made
+comprehend-returns-in-None-clause-made t c =
+    one_made c.single.result c.start.result single_term (start (tree_of c.args.head.now) (knowns_of (latest c.args.earlier.now)) (scope (λ x. x.now) c.args.names.now.items c.args.base)) _ c.single.ensures c.start.ensures.made (sym (ap (λ q. quals_term q (start (tree_of c.args.head.now) (knowns_of (latest c.args.earlier.now))) (knowns_of (latest c.args.earlier.now)) (scope (λ x. x.now) c.args.names.now.items c.args.base)) (no_quals c.args.quals.now c.in-None.ensures.cases)))
 
-pub start-returns-in_ok-array-in-Sub-2-clause-kept : goal.start-returns-in_ok-array-in-Sub-2-clause-kept
-start-returns-in_ok-array-in-Sub-2-clause-kept t c =
-    stays c.sub.result _ (holds_of _ _ _ c.in_ok-array-in-Sub-2.ensures.1 c.all-in-Sub.ensures.kept ∙ c.in_ok-array-in-Sub.ensures.kept)
+pub comprehend-returns-in-None-clause-kept : goal.comprehend-returns-in-None-clause-kept
+comprehend-returns-in-None-clause-kept t c =
+    kept_of c.single.result c.start.result _ _ _ c.single.ensures c.start.ensures.kept (λ k. k)
 
-pub start-returns-in_ok-dims-in-Literal-2-clause-made : goal.start-returns-in_ok-dims-in-Literal-2-clause-made
-start-returns-in_ok-dims-in-Literal-2-clause-made t c =
-    lists_made (λ x. x.now) (knowns_of (latest c.args.earlier.now)) c.args.names.now.items _ c.args.base c.deref-in-Literal.result.now c.in-Literal.dims.items.items c.deref-in-Literal-2.result.now c.in-Literal.cells.items.items (term_of c.literal.result) (map term_of c.in_ok-dims-in-Literal-2.dims.items) (map term_of c.in_ok-dims-in-Literal-2.cells.items) (ap (λ l. map term_of l.items) (sym c.in_ok-dims-in-Literal-2.ensures.0) ∙ c.in_ok-dims-in-Literal.ensures.made) c.deref-in-Literal.ensures.value c.in_ok-dims-in-Literal.ensures.kept (part_of _ _ _ _ c.in_ok-dims-in-Literal-2.ensures.1 c.all-in-Literal-2.ensures.made) c.deref-in-Literal-2.ensures.value c.literal.ensures
-    ∙ literal_made (trees_of c.in-Literal.dims.items.items) (trees_of c.in-Literal.cells.items.items) (knowns_of (latest c.args.earlier.now)) (scope (λ x. x.now) c.args.names.now.items c.args.base) ∙ sym ((ap (λ x. start (tree_of x) (knowns_of (latest c.args.earlier.now)) (scope (λ x. x.now) c.args.names.now.items c.args.base)) c.in-Literal.is) ∙ ap (λ x. start x (knowns_of (latest c.args.earlier.now)) (scope (λ x. x.now) c.args.names.now.items c.args.base)) (tree_of-Literal c.in-Literal.dims c.in-Literal.cells))
+pub comprehend-returns-in-From-clause-made : goal.comprehend-returns-in-From-clause-made
+comprehend-returns-in-From-clause-made t c =
+    then_made c.args.names.now.items c.start-members.new.names.items term_of term_of big_union_term (λ us. (matching (pat_of c.in-From.pattern) (knowns_of (latest c.args.earlier.now)) (scope (λ x. x.now) us c.args.base) (quals_term (quals_of c.in-Some.rest.now) (start (tree_of c.args.head.now) (knowns_of (latest c.args.earlier.now))) (knowns_of (latest c.args.earlier.now))) empty_term)) c.big_union.result c.start-members.result c.continued-body.result (start (tree_of c.in-From.over) (knowns_of (latest c.args.earlier.now)) (scope (λ x. x.now) c.args.names.now.items c.args.base)) _ c.big_union.ensures c.start-members.ensures.made c.continued-body.ensures.made c.start-members.ensures.kept (sym (ap (λ q. quals_term q (start (tree_of c.args.head.now) (knowns_of (latest c.args.earlier.now))) (knowns_of (latest c.args.earlier.now)) (scope (λ x. x.now) c.args.names.now.items c.args.base)) (ap quals_of c.in-Some.ensures.cases.0 ∙ ap (λ q. qual_of q (quals_of c.in-Some.rest.now)) c.in-From.is)))
+
+pub comprehend-returns-in-From-clause-kept : goal.comprehend-returns-in-From-clause-kept
+comprehend-returns-in-From-clause-kept t c =
+    kept_then c.big_union.result c.start-members.result c.continued-body.result _ _ _ _ c.big_union.ensures c.start-members.ensures.kept c.continued-body.ensures.kept (λ k i. i ∙ k)
+
+pub comprehend-returns-in-Match-clause-made : goal.comprehend-returns-in-Match-clause-made
+comprehend-returns-in-Match-clause-made t c =
+    then_made c.args.names.now.items c.start-value.new.names.items term_of term_of let_term (λ us. (matching (pat_of c.in-Match.pattern) (knowns_of (latest c.args.earlier.now)) (scope (λ x. x.now) us c.args.base) (quals_term (quals_of c.in-Some.rest.now) (start (tree_of c.args.head.now) (knowns_of (latest c.args.earlier.now))) (knowns_of (latest c.args.earlier.now))) empty_term)) c.let_in-in-Match.result c.start-value.result c.continued-body-in-Match.result (start (tree_of c.in-Match.of) (knowns_of (latest c.args.earlier.now)) (scope (λ x. x.now) c.args.names.now.items c.args.base)) _ c.let_in-in-Match.ensures c.start-value.ensures.made c.continued-body-in-Match.ensures.made c.start-value.ensures.kept (sym (ap (λ q. quals_term q (start (tree_of c.args.head.now) (knowns_of (latest c.args.earlier.now))) (knowns_of (latest c.args.earlier.now)) (scope (λ x. x.now) c.args.names.now.items c.args.base)) (ap quals_of c.in-Some.ensures.cases.0 ∙ ap (λ q. qual_of q (quals_of c.in-Some.rest.now)) c.in-Match.is)))
+
+pub comprehend-returns-in-Match-clause-kept : goal.comprehend-returns-in-Match-clause-kept
+comprehend-returns-in-Match-clause-kept t c =
+    kept_then c.let_in-in-Match.result c.start-value.result c.continued-body-in-Match.result _ _ _ _ c.let_in-in-Match.ensures c.start-value.ensures.kept c.continued-body-in-Match.ensures.kept (λ k i. i ∙ k)
+
+pub comprehend-returns-in-Cells-clause-made : goal.comprehend-returns-in-Cells-clause-made
+comprehend-returns-in-Cells-clause-made t c =
+    walk_of c.args.names.now.items c.start-array.new.names.items (λ us a. (array_term (pats_of c.index_parts-ps.result.now) (knowns_of (latest c.args.earlier.now)) (scope (λ x. x.now) us c.args.base) a (λ inner. matching (pat_of c.in-Cells.cell) (knowns_of (latest c.args.earlier.now)) inner (quals_term (quals_of c.in-Some.rest.now) (start (tree_of c.args.head.now) (knowns_of (latest c.args.earlier.now))) (knowns_of (latest c.args.earlier.now))) empty_term) empty_term)) c.let_in.result c.start-array.result c.grid-walked.result (start (tree_of c.in-Cells.over) (knowns_of (latest c.args.earlier.now)) (scope (λ x. x.now) c.args.names.now.items c.args.base)) _ c.let_in.ensures c.start-array.ensures.made c.grid-walked.ensures.made c.start-array.ensures.kept
+    (ap (λ q. (array_term q (knowns_of (latest c.args.earlier.now)) (scope (λ x. x.now) c.args.names.now.items c.args.base) (start (tree_of c.in-Cells.over) (knowns_of (latest c.args.earlier.now)) (scope (λ x. x.now) c.args.names.now.items c.args.base)) (λ inner. matching (pat_of c.in-Cells.cell) (knowns_of (latest c.args.earlier.now)) inner (quals_term (quals_of c.in-Some.rest.now) (start (tree_of c.args.head.now) (knowns_of (latest c.args.earlier.now))) (knowns_of (latest c.args.earlier.now))) empty_term) empty_term)) c.index_parts-ps.ensures ∙ (sym (ap (λ q. quals_term q (start (tree_of c.args.head.now) (knowns_of (latest c.args.earlier.now))) (knowns_of (latest c.args.earlier.now)) (scope (λ x. x.now) c.args.names.now.items c.args.base)) (ap quals_of c.in-Some.ensures.cases.0 ∙ ap (λ q. qual_of q (quals_of c.in-Some.rest.now)) c.in-Cells.is))))
+
+pub comprehend-returns-in-Cells-clause-kept : goal.comprehend-returns-in-Cells-clause-kept
+comprehend-returns-in-Cells-clause-kept t c =
+    kept_then c.let_in.result c.start-array.result c.grid-walked.result _ _ _ _ c.let_in.ensures c.start-array.ensures.kept c.grid-walked.ensures.kept (λ k i. i ∙ k)
+
+pub comprehend-returns-in-Test-clause-made : goal.comprehend-returns-in-Test-clause-made
+comprehend-returns-in-Test-clause-made t c =
+    then_two c.args.names.now.items c.start-test.new.names.items if_term (λ us. (quals_term (quals_of c.in-Some.rest.now) (start (tree_of c.args.head.now) (knowns_of (latest c.args.earlier.now))) (knowns_of (latest c.args.earlier.now)) (scope (λ x. x.now) us c.args.base))) (λ _. term_of core.Empty) c.choose.result c.start-test.result c.both.result (start (tree_of c.in-Test.e) (knowns_of (latest c.args.earlier.now)) (scope (λ x. x.now) c.args.names.now.items c.args.base)) _ c.choose.ensures c.start-test.ensures.made
+    (first_of c.both.result c.comprehend-body.result _ _ _ c.both.ensures c.comprehend-body.ensures.made) (second_of c.both.result c.comprehend-body.result core.Empty _ c.both.ensures) c.start-test.ensures.kept
+    (ap (if_term (start (tree_of c.in-Test.e) (knowns_of (latest c.args.earlier.now)) (scope (λ x. x.now) c.args.names.now.items c.args.base)) (quals_term (quals_of c.in-Some.rest.now) (start (tree_of c.args.head.now) (knowns_of (latest c.args.earlier.now))) (knowns_of (latest c.args.earlier.now)) (scope (λ x. x.now) c.args.names.now.items c.args.base))) term_of-Empty ∙ (sym (ap (λ q. quals_term q (start (tree_of c.args.head.now) (knowns_of (latest c.args.earlier.now))) (knowns_of (latest c.args.earlier.now)) (scope (λ x. x.now) c.args.names.now.items c.args.base)) (ap quals_of c.in-Some.ensures.cases.0 ∙ ap (λ q. qual_of q (quals_of c.in-Some.rest.now)) c.in-Test.is))))
+
+pub comprehend-returns-in-Test-clause-kept : goal.comprehend-returns-in-Test-clause-kept
+comprehend-returns-in-Test-clause-kept t c =
+    kept_then c.choose.result c.start-test.result c.both.result _ _ _ _ c.choose.ensures c.start-test.ensures.kept (kept_first c.both.result c.comprehend-body.result _ _ _ c.both.ensures c.comprehend-body.ensures.kept) (λ k i. i ∙ k)
+
+pub bind_all-returns-in-Some-clause-made : goal.bind_all-returns-in-Some-clause-made
+bind_all-returns-in-Some-clause-made t c =
+    then_made c.args.names.now.items c.start-value.new.names.items term_of term_of let_term (λ us. (matching (pat_of c.in-Some.b.now.pattern) (knowns_of (latest c.args.earlier.now)) (scope (λ x. x.now) us c.args.base) (defs_term (defs_in c.in-Some.rest.now) (start (tree_of c.args.body.now) (knowns_of (latest c.args.earlier.now))) (knowns_of (latest c.args.earlier.now))) bottom_term)) c.let_in.result c.start-value.result c.bind_rest-matched.result (start (tree_of c.in-Some.b.now.expr) (knowns_of (latest c.args.earlier.now)) (scope (λ x. x.now) c.args.names.now.items c.args.base)) _ c.let_in.ensures c.start-value.ensures.made c.bind_rest-matched.ensures.made c.start-value.ensures.kept
+    (sym (ap (λ d. defs_term d (start (tree_of c.args.body.now) (knowns_of (latest c.args.earlier.now))) (knowns_of (latest c.args.earlier.now)) (scope (λ x. x.now) c.args.names.now.items c.args.base)) (ap defs_in c.in-Some.ensures.cases.0)))
+
+pub bind_all-returns-in-Some-clause-kept : goal.bind_all-returns-in-Some-clause-kept
+bind_all-returns-in-Some-clause-kept t c =
+    kept_then c.let_in.result c.start-value.result c.bind_rest-matched.result _ _ _ _ c.let_in.ensures c.start-value.ensures.kept c.bind_rest-matched.ensures.kept (λ k i. i ∙ k)
+
+pub start-returns-in-Text-clause-made : goal.start-returns-in-Text-clause-made
+start-returns-in-Text-clause-made t c =
+    text_arm (knowns_of (latest c.args.earlier.now)) (scope (λ x. x.now) c.args.names.now.items c.args.base) c.text.result c.copy.result c.args.e.now c.in-Text.s c.text.ensures c.copy.ensures c.in-Text.is
 
 pub start-all-requires : goal.start-all-requires
 start-all-requires t c =
     (omega (arith, (ap (λ x. levels (tree_of x) (extents_of (latest c.args.earlier.now))) c.in-Row.is ∙ ap (λ x. levels x (extents_of (latest c.args.earlier.now))) (tree_of-Row c.in-Row.es)), ap (λ l. greatest (trees_of l) (extents_of (latest c.args.earlier.now))) c.deref-in-Row.ensures.value, c.decreases), tt)
 
-pub start-start-requires-in-SumMap : goal.start-start-requires-in-SumMap
-start-start-requires-in-SumMap t c =
+pub start-start-a-requires-in-SumMap : goal.start-start-a-requires-in-SumMap
+start-start-a-requires-in-SumMap t c =
     (omega (arith, ap (λ x. levels (tree_of x) (extents_of (latest c.args.earlier.now))) c.in-SumMap.is, ap (λ x. levels (tree_of x) (extents_of (latest c.args.earlier.now))) c.deref-in-SumMap.ensures, c.decreases), tt)
 
-pub start-start-requires-in-Fun : goal.start-start-requires-in-Fun
-start-start-requires-in-Fun t c =
+pub start-start-a-requires-in-Fun : goal.start-start-a-requires-in-Fun
+start-start-a-requires-in-Fun t c =
     (omega (arith, ap (λ x. levels (tree_of x) (extents_of (latest c.args.earlier.now))) c.in-Fun.is, ap (λ x. levels (tree_of x) (extents_of (latest c.args.earlier.now))) c.deref-in-Fun.ensures, c.decreases), tt)
 
-pub start-start-requires-in-Apply : goal.start-start-requires-in-Apply
-start-start-requires-in-Apply t c =
+pub start-start-a-requires : goal.start-start-a-requires
+start-start-a-requires t c =
     (omega (arith, ap (λ x. levels (tree_of x) (extents_of (latest c.args.earlier.now))) c.in-Apply.is, ap (λ x. levels (tree_of x) (extents_of (latest c.args.earlier.now))) c.deref-in-Apply.ensures, c.decreases), tt)
 
 pub start-pair-requires : goal.start-pair-requires
 start-pair-requires t c =
     (omega (arith, ap (λ x. levels (tree_of x) (extents_of (latest c.args.earlier.now))) c.in-If.is, ap (λ x. levels (tree_of x) (extents_of (latest c.args.earlier.now))) c.deref-in-If-2.ensures, ap (λ x. levels (tree_of x) (extents_of (latest c.args.earlier.now))) c.deref-in-If-3.ensures, c.decreases), tt)
 
-pub start-start-requires-in-If : goal.start-start-requires-in-If
-start-start-requires-in-If t c =
+pub start-start-test-requires : goal.start-start-test-requires
+start-start-test-requires t c =
     (omega (arith, ap (λ x. levels (tree_of x) (extents_of (latest c.args.earlier.now))) c.in-If.is, ap (λ x. levels (tree_of x) (extents_of (latest c.args.earlier.now))) c.deref-in-If.ensures, c.decreases), tt)
 
 pub start-pair-requires-in-Default : goal.start-pair-requires-in-Default
@@ -290,40 +333,40 @@ pub start-start-requires-in-Get : goal.start-start-requires-in-Get
 start-start-requires-in-Get t c =
     (omega (arith, ap (λ x. levels (tree_of x) (extents_of (latest c.args.earlier.now))) c.in-Get.is, ap (λ x. levels (tree_of x) (extents_of (latest c.args.earlier.now))) c.deref-in-Get.ensures, c.decreases), tt)
 
-pub start-start-requires-in-Gen : goal.start-start-requires-in-Gen
-start-start-requires-in-Gen t c =
+pub start-start-requires : goal.start-start-requires
+start-start-requires t c =
     (omega (arith, ap (λ x. levels (tree_of x) (extents_of (latest c.args.earlier.now))) c.in-Gen.is, ap (λ x. levels (tree_of x) (extents_of (latest c.args.earlier.now))) c.deref-in-Gen.ensures, c.decreases), tt)
 
-pub start-start-requires-in-Not : goal.start-start-requires-in-Not
-start-start-requires-in-Not t c =
+pub start-start-test-requires-in-Not : goal.start-start-test-requires-in-Not
+start-start-test-requires-in-Not t c =
     (omega (arith, ap (λ x. levels (tree_of x) (extents_of (latest c.args.earlier.now))) c.in-Not.is, ap (λ x. levels (tree_of x) (extents_of (latest c.args.earlier.now))) c.deref-in-Not.ensures, c.decreases), tt)
 
 pub start-all-requires-in-Members : goal.start-all-requires-in-Members
 start-all-requires-in-Members t c =
     (omega (arith, (ap (λ x. levels (tree_of x) (extents_of (latest c.args.earlier.now))) c.in-Members.is ∙ ap (λ x. levels x (extents_of (latest c.args.earlier.now))) (tree_of-Members c.in-Members.es)), ap (λ l. greatest (trees_of l) (extents_of (latest c.args.earlier.now))) c.deref-in-Members.ensures.value, c.decreases), tt)
 
-pub start-all-requires-in-Literal : goal.start-all-requires-in-Literal
-start-all-requires-in-Literal t c =
+pub start-all-dims-requires : goal.start-all-dims-requires
+start-all-dims-requires t c =
     (omega (arith, (ap (λ x. levels (tree_of x) (extents_of (latest c.args.earlier.now))) c.in-Literal.is ∙ ap (λ x. levels x (extents_of (latest c.args.earlier.now))) (tree_of-Literal c.in-Literal.dims c.in-Literal.cells)), greatest-append (trees_of c.in-Literal.dims.items.items) (trees_of c.in-Literal.cells.items.items) (extents_of (latest c.args.earlier.now)), ap (λ l. greatest (trees_of l) (extents_of (latest c.args.earlier.now))) c.deref-in-Literal.ensures.value, c.decreases), tt)
 
-pub start-all-requires-in-Literal-2 : goal.start-all-requires-in-Literal-2
-start-all-requires-in-Literal-2 t c =
+pub start-all-requires-in-Literal : goal.start-all-requires-in-Literal
+start-all-requires-in-Literal t c =
     (omega (arith, (ap (λ x. levels (tree_of x) (extents_of (latest c.args.earlier.now))) c.in-Literal.is ∙ ap (λ x. levels x (extents_of (latest c.args.earlier.now))) (tree_of-Literal c.in-Literal.dims c.in-Literal.cells)), greatest-append (trees_of c.in-Literal.dims.items.items) (trees_of c.in-Literal.cells.items.items) (extents_of (latest c.args.earlier.now)), ap (λ l. greatest (trees_of l) (extents_of (latest c.args.earlier.now))) c.deref-in-Literal-2.ensures.value, c.decreases), tt)
 
-pub start-all-requires-in-Sub : goal.start-all-requires-in-Sub
-start-all-requires-in-Sub t c =
+pub start-all-at-requires : goal.start-all-at-requires
+start-all-at-requires t c =
     (omega (arith, (ap (λ x. levels (tree_of x) (extents_of (latest c.args.earlier.now))) c.in-Sub.is ∙ ap (λ x. levels x (extents_of (latest c.args.earlier.now))) (tree_of-Sub c.in-Sub.array c.in-Sub.at)), ap (λ l. greatest (trees_of l) (extents_of (latest c.args.earlier.now))) c.deref-in-Sub-2.ensures.value, c.decreases), tt)
 
-pub start-start-requires : goal.start-start-requires
-start-start-requires t c =
+pub start-start-array-requires : goal.start-start-array-requires
+start-start-array-requires t c =
     (omega (arith, (ap (λ x. levels (tree_of x) (extents_of (latest c.args.earlier.now))) c.in-Sub.is ∙ ap (λ x. levels x (extents_of (latest c.args.earlier.now))) (tree_of-Sub c.in-Sub.array c.in-Sub.at)), ap (λ x. levels (tree_of x) (extents_of (latest c.args.earlier.now))) c.deref-in-Sub.ensures, c.decreases), tt)
 
 pub start-comprehend-requires : goal.start-comprehend-requires
 start-comprehend-requires t c =
     (omega (arith, (ap (λ x. levels (tree_of x) (extents_of (latest c.args.earlier.now))) c.in-Comp.is ∙ ap (λ x. levels x (extents_of (latest c.args.earlier.now))) (tree_of-Comp c.in-Comp.head c.in-Comp.quals)), ap (λ l. quals_greatest (quals_of l) (extents_of (latest c.args.earlier.now))) c.deref-in-Comp.ensures.value, ap (λ l. count_quals (quals_of l)) c.deref-in-Comp.ensures.value, ap (λ x. levels (tree_of x) (extents_of (latest c.args.earlier.now))) c.deref-in-Comp-2.ensures, c.decreases), tt)
 
-pub start-bounds-requires : goal.start-bounds-requires
-start-bounds-requires t c =
+pub start-bounds-limits-requires : goal.start-bounds-limits-requires
+start-bounds-limits-requires t c =
     (omega (arith, ap (λ x. levels x (extents_of (latest c.args.earlier.now))) (ap tree_of c.in-Tab.is ∙ tree_of-Tab c.in-Tab.body c.in-Tab.binds ∙ ap (λ a. tree.tab a (tree_of c.in-Tab.body.value)) (sym c.indices_in-axes.ensures)), c.decreases), tt)
 
 pub start-indexed-inner-requires : goal.start-indexed-inner-requires
@@ -390,28 +433,28 @@ bounds-returns-clause-made t c =
 
 pub within-returns-clause-made : goal.within-returns-clause-made
 within-returns-clause-made t c =
-    matched_made (λ x. x.now) (pat_of c.args.p.now) (knowns_of (latest c.args.earlier.now)) c.args.names.now.items c.open.new.names.items c.start.new.names.items c.len-mark.result c.args.base (start (tree_of c.args.body.now) (knowns_of (latest c.args.earlier.now))) (term_of c.in_ok-term.term) bottom_term (term_of c.in_ok-made.made) c.in_ok-open.ensures.inside c.in_ok-open.ensures.around (c.len-mark.ensures ∙ c.args.names.now.ok.0) c.in_ok-term.ensures.made c.in_ok-term.ensures.kept c.in_ok-made.ensures.made
+    ok_map c.close.result _ _ (λ made h. matched_made (λ x. x.now) (pat_of c.args.p.now) (knowns_of (latest c.args.earlier.now)) c.args.names.now.items c.open.new.names.items c.start.new.names.items c.len-mark.result c.args.base (start (tree_of c.args.body.now) (knowns_of (latest c.args.earlier.now))) (term_of c.in_ok-term.term) bottom_term (term_of made) c.in_ok-open.ensures.inside c.in_ok-open.ensures.around (c.len-mark.ensures ∙ c.args.names.now.ok.0) c.in_ok-term.ensures.made c.in_ok-term.ensures.kept h) c.close.ensures.made
 
 pub within-returns-clause-kept : goal.within-returns-clause-kept
 within-returns-clause-kept t c =
-    matched_kept c.args.names.now.items c.open.new.names.items c.start.new.names.items c.close.new.names.items c.len-mark.result c.in_ok-open.ensures.around (c.len-mark.ensures ∙ c.args.names.now.ok.0) c.in_ok-term.ensures.kept c.in_ok-made.ensures.kept
+    kept_map c.close.result _ _ (matched_kept c.args.names.now.items c.open.new.names.items c.start.new.names.items c.close.new.names.items c.len-mark.result c.in_ok-open.ensures.around (c.len-mark.ensures ∙ c.args.names.now.ok.0) c.in_ok-term.ensures.kept) c.close.ensures.kept
 
 pub continued-returns-clause-made : goal.continued-returns-clause-made
 continued-returns-clause-made t c =
-    matched_made (λ x. x.now) (pat_of c.args.p.now) (knowns_of (latest c.args.earlier.now)) c.args.names.now.items c.open.new.names.items c.comprehend.new.names.items c.len-mark.result c.args.base (quals_term (quals_of c.args.rest.now) (start (tree_of c.args.head.now) (knowns_of (latest c.args.earlier.now))) (knowns_of (latest c.args.earlier.now))) (term_of c.in_ok-term.term) empty_term (term_of c.in_ok-made.made) c.in_ok-open.ensures.inside c.in_ok-open.ensures.around (c.len-mark.ensures ∙ c.args.names.now.ok.0) c.in_ok-term.ensures.made c.in_ok-term.ensures.kept c.in_ok-made.ensures.made
+    ok_map c.close.result _ _ (λ made h. matched_made (λ x. x.now) (pat_of c.args.p.now) (knowns_of (latest c.args.earlier.now)) c.args.names.now.items c.open.new.names.items c.comprehend.new.names.items c.len-mark.result c.args.base (quals_term (quals_of c.args.rest.now) (start (tree_of c.args.head.now) (knowns_of (latest c.args.earlier.now))) (knowns_of (latest c.args.earlier.now))) (term_of c.in_ok-term.term) empty_term (term_of made) c.in_ok-open.ensures.inside c.in_ok-open.ensures.around (c.len-mark.ensures ∙ c.args.names.now.ok.0) c.in_ok-term.ensures.made c.in_ok-term.ensures.kept h) c.close.ensures.made
 
 pub continued-returns-clause-kept : goal.continued-returns-clause-kept
 continued-returns-clause-kept t c =
-    matched_kept c.args.names.now.items c.open.new.names.items c.comprehend.new.names.items c.close.new.names.items c.len-mark.result c.in_ok-open.ensures.around (c.len-mark.ensures ∙ c.args.names.now.ok.0) c.in_ok-term.ensures.kept c.in_ok-made.ensures.kept
+    kept_map c.close.result _ _ (matched_kept c.args.names.now.items c.open.new.names.items c.comprehend.new.names.items c.close.new.names.items c.len-mark.result c.in_ok-open.ensures.around (c.len-mark.ensures ∙ c.args.names.now.ok.0) c.in_ok-term.ensures.kept) c.close.ensures.kept
 
 pub call-returns-in-Some : goal.call-returns-in-Some
 call-returns-in-Some t c =
     term_of-Bottom ∙ ap (λ o. call_term o (find c.args.name.now (knowns_of (latest c.args.earlier.now))) (length (scope (λ x. x.now) c.args.names.now c.args.base))) (c.in-Some.ensures c.args.base)
 
-pub call-returns-in_ok-made-in-None : goal.call-returns-in_ok-made-in-None
-call-returns-in_ok-made-in-None t c =
-    c.in_ok-made-in-None.ensures ∙ ap (macro_term (find c.args.name.now (knowns_of (latest c.args.earlier.now)))) (let z : c.in_ok-depth-in-None.depth ≡ length (scope (λ x. x.now) c.args.names.now c.args.base) = omega (arith, c.in_ok-depth-in-None.ensures, length-scope (λ x. x.now) c.args.names.now c.args.base) in z)
-    ∙ ap (λ o. call_term o (find c.args.name.now (knowns_of (latest c.args.earlier.now))) (length (scope (λ x. x.now) c.args.names.now c.args.base))) (c.in-None.ensures c.args.base)
+pub call-returns-in_ok-depth-in-None : goal.call-returns-in_ok-depth-in-None
+call-returns-in_ok-depth-in-None t c =
+    ok_map c.expand.result _ _ (λ made h. h ∙ ap (macro_term (find c.args.name.now (knowns_of (latest c.args.earlier.now)))) (let z : c.in_ok-depth-in-None.depth ≡ length (scope (λ x. x.now) c.args.names.now c.args.base) = omega (arith, c.in_ok-depth-in-None.ensures, length-scope (λ x. x.now) c.args.names.now c.args.base) in z)
+    ∙ ap (λ o. call_term o (find c.args.name.now (knowns_of (latest c.args.earlier.now))) (length (scope (λ x. x.now) c.args.names.now c.args.base))) (c.in-None.ensures c.args.base)) c.expand.ensures
 
 pub expand-returns-in-None : goal.expand-returns-in-None
 expand-returns-in-None t c =
@@ -437,81 +480,32 @@ pub expand-within-requires : goal.expand-within-requires
 expand-within-requires t c =
     (omega (arith, ap (λ o. (extent_of o).levels) (extent_some c.args.name.now (latest c.args.earlier.now) (decl_of c.in-Some.d.now) (latest c.in-Some.before.now) c.in-Some.ensures.found ∙ ap (λ e. Some (extent (decl_of e) (extents_of (latest c.in-Some.before.now)))) c.in-Macro.is), c.decreases), tt)
 
-pub comprehend-returns-in_ok-member-in-None-clause-made : goal.comprehend-returns-in_ok-member-in-None-clause-made
-comprehend-returns-in_ok-member-in-None-clause-made t c =
-    made_as c.single.result _ _ c.single.ensures
-    (ap single_term c.in_ok-member-in-None.ensures.made ∙ sym (ap (λ q. quals_term q (start (tree_of c.args.head.now) (knowns_of (latest c.args.earlier.now))) (knowns_of (latest c.args.earlier.now)) (scope (λ x. x.now) c.args.names.now.items c.args.base)) (no_quals c.args.quals.now c.in-None.ensures.cases)))
-
-pub comprehend-returns-in_ok-member-in-None-clause-kept : goal.comprehend-returns-in_ok-member-in-None-clause-kept
-comprehend-returns-in_ok-member-in-None-clause-kept t c =
-    stays c.single.result _ (c.in_ok-member-in-None.ensures.kept)
-
-pub comprehend-returns-in_ok-members-in-From-2-clause-made : goal.comprehend-returns-in_ok-members-in-From-2-clause-made
-comprehend-returns-in_ok-members-in-From-2-clause-made t c =
-    made_as c.big_union.result _ _ c.big_union.ensures
-    (two_made c.args.names.now.items _ c.args.head.now c.args.head.now big_union_term (λ us x. matching (pat_of c.in-From.pattern) (knowns_of (latest c.args.earlier.now)) (scope (λ x. x.now) us c.args.base) (quals_term (quals_of c.in-Some.rest.now) (start (tree_of c.args.head.now) (knowns_of (latest c.args.earlier.now))) (knowns_of (latest c.args.earlier.now))) empty_term) (term_of c.in_ok-members-in-From-2.members) (start (tree_of c.in-From.over) (knowns_of (latest c.args.earlier.now)) (scope (λ x. x.now) c.args.names.now.items c.args.base)) (term_of c.in_ok-members-in-From-2.body) _ _
-    (sym (ap term_of c.in_ok-members-in-From-2.ensures.0) ∙ c.in_ok-members-in-From.ensures.made) (part_of _ _ _ _ c.in_ok-members-in-From-2.ensures.1 c.continued-body.ensures.made) c.in_ok-members-in-From.ensures.kept refl refl (ap (λ q. quals_term q (start (tree_of c.args.head.now) (knowns_of (latest c.args.earlier.now))) (knowns_of (latest c.args.earlier.now)) (scope (λ x. x.now) c.args.names.now.items c.args.base)) (ap quals_of c.in-Some.ensures.cases.0 ∙ ap (λ q. qual_of q (quals_of c.in-Some.rest.now)) c.in-From.is)))
-
-pub comprehend-returns-in_ok-members-in-From-2-clause-kept : goal.comprehend-returns-in_ok-members-in-From-2-clause-kept
-comprehend-returns-in_ok-members-in-From-2-clause-kept t c =
-    stays c.big_union.result _ (holds_of _ _ _ c.in_ok-members-in-From-2.ensures.1 c.continued-body.ensures.kept ∙ c.in_ok-members-in-From.ensures.kept)
-
-pub comprehend-returns-in_ok-value-in-Match-2-clause-made : goal.comprehend-returns-in_ok-value-in-Match-2-clause-made
-comprehend-returns-in_ok-value-in-Match-2-clause-made t c =
-    made_as c.let_in-in-Match.result _ _ c.let_in-in-Match.ensures
-    (two_made c.args.names.now.items _ c.args.head.now c.args.head.now let_term (λ us x. matching (pat_of c.in-Match.pattern) (knowns_of (latest c.args.earlier.now)) (scope (λ x. x.now) us c.args.base) (quals_term (quals_of c.in-Some.rest.now) (start (tree_of c.args.head.now) (knowns_of (latest c.args.earlier.now))) (knowns_of (latest c.args.earlier.now))) empty_term) (term_of c.in_ok-value-in-Match-2.value) (start (tree_of c.in-Match.of) (knowns_of (latest c.args.earlier.now)) (scope (λ x. x.now) c.args.names.now.items c.args.base)) (term_of c.in_ok-value-in-Match-2.body) _ _
-    (sym (ap term_of c.in_ok-value-in-Match-2.ensures.0) ∙ c.in_ok-value-in-Match.ensures.made) (part_of _ _ _ _ c.in_ok-value-in-Match-2.ensures.1 c.continued-body-in-Match.ensures.made) c.in_ok-value-in-Match.ensures.kept refl refl (ap (λ q. quals_term q (start (tree_of c.args.head.now) (knowns_of (latest c.args.earlier.now))) (knowns_of (latest c.args.earlier.now)) (scope (λ x. x.now) c.args.names.now.items c.args.base)) (ap quals_of c.in-Some.ensures.cases.0 ∙ ap (λ q. qual_of q (quals_of c.in-Some.rest.now)) c.in-Match.is)))
-
-pub comprehend-returns-in_ok-value-in-Match-2-clause-kept : goal.comprehend-returns-in_ok-value-in-Match-2-clause-kept
-comprehend-returns-in_ok-value-in-Match-2-clause-kept t c =
-    stays c.let_in-in-Match.result _ (holds_of _ _ _ c.in_ok-value-in-Match-2.ensures.1 c.continued-body-in-Match.ensures.kept ∙ c.in_ok-value-in-Match.ensures.kept)
-
-pub comprehend-returns-in_ok-test-in-Test-2-clause-made : goal.comprehend-returns-in_ok-test-in-Test-2-clause-made
-comprehend-returns-in_ok-test-in-Test-2-clause-made t c =
-    made_as c.choose.result _ _ c.choose.ensures
-    (two_made c.args.names.now.items _ c.args.head.now c.args.head.now (λ x y. if_term x y empty_term) (λ us x. quals_term (quals_of c.in-Some.rest.now) (start (tree_of c.args.head.now) (knowns_of (latest c.args.earlier.now))) (knowns_of (latest c.args.earlier.now)) (scope (λ x. x.now) us c.args.base)) (term_of c.in_ok-test-in-Test-2.test) (start (tree_of c.in-Test.e) (knowns_of (latest c.args.earlier.now)) (scope (λ x. x.now) c.args.names.now.items c.args.base)) (term_of c.in_ok-test-in-Test-2.body) _ _
-    (sym (ap term_of c.in_ok-test-in-Test-2.ensures.0) ∙ c.in_ok-test-in-Test.ensures.made) (part_of _ _ _ _ c.in_ok-test-in-Test-2.ensures.1 c.comprehend-body.ensures.made) c.in_ok-test-in-Test.ensures.kept refl (ap (if_term (term_of c.in_ok-test-in-Test-2.test) (term_of c.in_ok-test-in-Test-2.body)) term_of-Empty) (ap (λ q. quals_term q (start (tree_of c.args.head.now) (knowns_of (latest c.args.earlier.now))) (knowns_of (latest c.args.earlier.now)) (scope (λ x. x.now) c.args.names.now.items c.args.base)) (ap quals_of c.in-Some.ensures.cases.0 ∙ ap (λ q. qual_of q (quals_of c.in-Some.rest.now)) c.in-Test.is)))
-
-pub comprehend-returns-in_ok-test-in-Test-2-clause-kept : goal.comprehend-returns-in_ok-test-in-Test-2-clause-kept
-comprehend-returns-in_ok-test-in-Test-2-clause-kept t c =
-    stays c.choose.result _ (holds_of _ _ _ c.in_ok-test-in-Test-2.ensures.1 c.comprehend-body.ensures.kept ∙ c.in_ok-test-in-Test.ensures.kept)
-
-pub comprehend-returns-in_ok-array-in-Cells-2-clause-made : goal.comprehend-returns-in_ok-array-in-Cells-2-clause-made
-comprehend-returns-in_ok-array-in-Cells-2-clause-made t c =
-    made_as c.let_in.result _ _ c.let_in.ensures
-    (part_of _ _ _ _ c.in_ok-array-in-Cells-2.ensures.1 c.grid-walked.ensures.made (term_of c.in_ok-array-in-Cells-2.array) ∙ ap (λ us. array_term (pats_of c.index_parts-ps.result.now) (knowns_of (latest c.args.earlier.now)) (scope (λ x. x.now) us c.args.base) (term_of c.in_ok-array-in-Cells-2.array) (λ inner. matching (pat_of c.in-Cells.cell) (knowns_of (latest c.args.earlier.now)) inner (quals_term (quals_of c.in-Some.rest.now) (start (tree_of c.args.head.now) (knowns_of (latest c.args.earlier.now))) (knowns_of (latest c.args.earlier.now))) empty_term) empty_term) c.in_ok-array-in-Cells.ensures.kept
-    ∙ ap (λ u. array_term (pats_of c.index_parts-ps.result.now) (knowns_of (latest c.args.earlier.now)) (scope (λ x. x.now) c.args.names.now.items c.args.base) u (λ inner. matching (pat_of c.in-Cells.cell) (knowns_of (latest c.args.earlier.now)) inner (quals_term (quals_of c.in-Some.rest.now) (start (tree_of c.args.head.now) (knowns_of (latest c.args.earlier.now))) (knowns_of (latest c.args.earlier.now))) empty_term) empty_term) (sym (ap term_of c.in_ok-array-in-Cells-2.ensures.0) ∙ c.in_ok-array-in-Cells.ensures.made) ∙ ap (λ q. array_term q (knowns_of (latest c.args.earlier.now)) (scope (λ x. x.now) c.args.names.now.items c.args.base) (start (tree_of c.in-Cells.over) (knowns_of (latest c.args.earlier.now)) (scope (λ x. x.now) c.args.names.now.items c.args.base)) (λ inner. matching (pat_of c.in-Cells.cell) (knowns_of (latest c.args.earlier.now)) inner (quals_term (quals_of c.in-Some.rest.now) (start (tree_of c.args.head.now) (knowns_of (latest c.args.earlier.now))) (knowns_of (latest c.args.earlier.now))) empty_term) empty_term) c.index_parts-ps.ensures ∙ sym (ap (λ q. quals_term q (start (tree_of c.args.head.now) (knowns_of (latest c.args.earlier.now))) (knowns_of (latest c.args.earlier.now)) (scope (λ x. x.now) c.args.names.now.items c.args.base)) (ap quals_of c.in-Some.ensures.cases.0 ∙ ap (λ q. qual_of q (quals_of c.in-Some.rest.now)) c.in-Cells.is)))
-
-pub comprehend-returns-in_ok-array-in-Cells-2-clause-kept : goal.comprehend-returns-in_ok-array-in-Cells-2-clause-kept
-comprehend-returns-in_ok-array-in-Cells-2-clause-kept t c =
-    stays c.let_in.result _ (holds_of _ _ _ c.in_ok-array-in-Cells-2.ensures.1 c.grid-walked.ensures.kept ∙ c.in_ok-array-in-Cells.ensures.kept)
-
-pub comprehend-start-requires-in-From : goal.comprehend-start-requires-in-From
-comprehend-start-requires-in-From t c =
+pub comprehend-start-members-requires : goal.comprehend-start-members-requires
+comprehend-start-members-requires t c =
     (omega (arith, ap (λ q. quals_greatest q (extents_of (latest c.args.earlier.now))) (ap quals_of c.in-Some.ensures.cases.0 ∙ ap (λ q. qual_of q (quals_of c.in-Some.rest.now)) c.in-From.is), ap count_quals (ap quals_of c.in-Some.ensures.cases.0 ∙ ap (λ q. qual_of q (quals_of c.in-Some.rest.now)) c.in-From.is), c.decreases), tt)
 
 pub comprehend-continued-body-requires : goal.comprehend-continued-body-requires
 comprehend-continued-body-requires t c =
     (omega (arith, ap (λ q. quals_greatest q (extents_of (latest c.args.earlier.now))) (ap quals_of c.in-Some.ensures.cases.0 ∙ ap (λ q. qual_of q (quals_of c.in-Some.rest.now)) c.in-From.is), ap count_quals (ap quals_of c.in-Some.ensures.cases.0 ∙ ap (λ q. qual_of q (quals_of c.in-Some.rest.now)) c.in-From.is), c.decreases), tt)
 
-pub comprehend-start-requires-in-Cells : goal.comprehend-start-requires-in-Cells
-comprehend-start-requires-in-Cells t c =
+pub comprehend-start-array-requires : goal.comprehend-start-array-requires
+comprehend-start-array-requires t c =
     (omega (arith, ap (λ q. quals_greatest q (extents_of (latest c.args.earlier.now))) (ap quals_of c.in-Some.ensures.cases.0 ∙ ap (λ q. qual_of q (quals_of c.in-Some.rest.now)) c.in-Cells.is), ap count_quals (ap quals_of c.in-Some.ensures.cases.0 ∙ ap (λ q. qual_of q (quals_of c.in-Some.rest.now)) c.in-Cells.is), c.decreases), tt)
 
 pub comprehend-grid-walked-requires : goal.comprehend-grid-walked-requires
 comprehend-grid-walked-requires t c =
     (omega (arith, ap (λ q. quals_greatest q (extents_of (latest c.args.earlier.now))) (ap quals_of c.in-Some.ensures.cases.0 ∙ ap (λ q. qual_of q (quals_of c.in-Some.rest.now)) c.in-Cells.is), ap count_quals (ap quals_of c.in-Some.ensures.cases.0 ∙ ap (λ q. qual_of q (quals_of c.in-Some.rest.now)) c.in-Cells.is), c.decreases), tt)
 
-pub comprehend-start-requires-in-Match : goal.comprehend-start-requires-in-Match
-comprehend-start-requires-in-Match t c =
+pub comprehend-start-value-requires : goal.comprehend-start-value-requires
+comprehend-start-value-requires t c =
     (omega (arith, ap (λ q. quals_greatest q (extents_of (latest c.args.earlier.now))) (ap quals_of c.in-Some.ensures.cases.0 ∙ ap (λ q. qual_of q (quals_of c.in-Some.rest.now)) c.in-Match.is), ap count_quals (ap quals_of c.in-Some.ensures.cases.0 ∙ ap (λ q. qual_of q (quals_of c.in-Some.rest.now)) c.in-Match.is), c.decreases), tt)
 
 pub comprehend-continued-body-requires-in-Match : goal.comprehend-continued-body-requires-in-Match
 comprehend-continued-body-requires-in-Match t c =
     (omega (arith, ap (λ q. quals_greatest q (extents_of (latest c.args.earlier.now))) (ap quals_of c.in-Some.ensures.cases.0 ∙ ap (λ q. qual_of q (quals_of c.in-Some.rest.now)) c.in-Match.is), ap count_quals (ap quals_of c.in-Some.ensures.cases.0 ∙ ap (λ q. qual_of q (quals_of c.in-Some.rest.now)) c.in-Match.is), c.decreases), tt)
 
-pub comprehend-start-requires-in-Test : goal.comprehend-start-requires-in-Test
-comprehend-start-requires-in-Test t c =
+pub comprehend-start-test-requires : goal.comprehend-start-test-requires
+comprehend-start-test-requires t c =
     (omega (arith, ap (λ q. quals_greatest q (extents_of (latest c.args.earlier.now))) (ap quals_of c.in-Some.ensures.cases.0 ∙ ap (λ q. qual_of q (quals_of c.in-Some.rest.now)) c.in-Test.is), ap count_quals (ap quals_of c.in-Some.ensures.cases.0 ∙ ap (λ q. qual_of q (quals_of c.in-Some.rest.now)) c.in-Test.is), c.decreases), tt)
 
 pub comprehend-comprehend-body-requires : goal.comprehend-comprehend-body-requires
@@ -536,19 +530,8 @@ pub bind_all-returns-in-None-clause-kept : goal.bind_all-returns-in-None-clause-
 bind_all-returns-in-None-clause-kept t c =
     c.start.ensures.kept
 
-pub bind_all-returns-in_ok-value-in-Some-2-clause-made : goal.bind_all-returns-in_ok-value-in-Some-2-clause-made
-bind_all-returns-in_ok-value-in-Some-2-clause-made t c =
-    made_as c.let_in.result _ _ c.let_in.ensures
-    (two_made c.args.names.now.items c.start-in-Some.new.names.items c.args.body.now c.args.body.now let_term (λ us x. matching (pat_of c.in-Some.b.now.pattern) (knowns_of (latest c.args.earlier.now)) (scope (λ x. x.now) us c.args.base) (defs_term (defs_in c.in-Some.rest.now) (start (tree_of c.args.body.now) (knowns_of (latest c.args.earlier.now))) (knowns_of (latest c.args.earlier.now))) bottom_term) (term_of c.in_ok-value-in-Some-2.value) (start (tree_of c.in-Some.b.now.expr) (knowns_of (latest c.args.earlier.now)) (scope (λ x. x.now) c.args.names.now.items c.args.base)) (term_of c.in_ok-value-in-Some-2.matched) _ _
-    (sym (ap term_of c.in_ok-value-in-Some-2.ensures.0) ∙ c.in_ok-value-in-Some.ensures.made) (part_of _ _ _ _ c.in_ok-value-in-Some-2.ensures.1 c.bind_rest-matched.ensures.made)
-    c.in_ok-value-in-Some.ensures.kept refl refl (ap (λ d. defs_term d (start (tree_of c.args.body.now) (knowns_of (latest c.args.earlier.now))) (knowns_of (latest c.args.earlier.now)) (scope (λ x. x.now) c.args.names.now.items c.args.base)) (ap defs_in c.in-Some.ensures.cases.0)))
-
-pub bind_all-returns-in_ok-value-in-Some-2-clause-kept : goal.bind_all-returns-in_ok-value-in-Some-2-clause-kept
-bind_all-returns-in_ok-value-in-Some-2-clause-kept t c =
-    stays c.let_in.result _ (holds_of _ _ _ c.in_ok-value-in-Some-2.ensures.1 c.bind_rest-matched.ensures.kept ∙ c.in_ok-value-in-Some.ensures.kept)
-
-pub bind_all-start-requires-in-Some : goal.bind_all-start-requires-in-Some
-bind_all-start-requires-in-Some t c =
+pub bind_all-start-value-requires : goal.bind_all-start-value-requires
+bind_all-start-value-requires t c =
     (omega (arith, ap (λ d. defs_greatest d (extents_of (latest c.args.earlier.now))) (ap defs_in c.in-Some.ensures.cases.0), ap count_defs (ap defs_in c.in-Some.ensures.cases.0), c.decreases), tt)
 
 pub bind_all-bind_rest-matched-requires : goal.bind_all-bind_rest-matched-requires
@@ -557,8 +540,8 @@ bind_all-bind_rest-matched-requires t c =
 
 pub bind_rest-returns-clause-made : goal.bind_rest-returns-clause-made
 bind_rest-returns-clause-made t c =
-    matched_made (λ x. x.now) (pat_of c.args.p.now) (knowns_of (latest c.args.earlier.now)) c.args.names.now.items c.open.new.names.items c.bind_all.new.names.items c.len-mark.result c.args.base (defs_term (defs_in c.args.rest.now) (start (tree_of c.args.body.now) (knowns_of (latest c.args.earlier.now))) (knowns_of (latest c.args.earlier.now))) (term_of c.in_ok-term.term) bottom_term (term_of c.in_ok-made.made) c.in_ok-open.ensures.inside c.in_ok-open.ensures.around (c.len-mark.ensures ∙ c.args.names.now.ok.0) c.in_ok-term.ensures.made c.in_ok-term.ensures.kept c.in_ok-made.ensures.made
+    ok_map c.close.result _ _ (λ made h. matched_made (λ x. x.now) (pat_of c.args.p.now) (knowns_of (latest c.args.earlier.now)) c.args.names.now.items c.open.new.names.items c.bind_all.new.names.items c.len-mark.result c.args.base (defs_term (defs_in c.args.rest.now) (start (tree_of c.args.body.now) (knowns_of (latest c.args.earlier.now))) (knowns_of (latest c.args.earlier.now))) (term_of c.in_ok-term.term) bottom_term (term_of made) c.in_ok-open.ensures.inside c.in_ok-open.ensures.around (c.len-mark.ensures ∙ c.args.names.now.ok.0) c.in_ok-term.ensures.made c.in_ok-term.ensures.kept h) c.close.ensures.made
 
 pub bind_rest-returns-clause-kept : goal.bind_rest-returns-clause-kept
 bind_rest-returns-clause-kept t c =
-    matched_kept c.args.names.now.items c.open.new.names.items c.bind_all.new.names.items c.close.new.names.items c.len-mark.result c.in_ok-open.ensures.around (c.len-mark.ensures ∙ c.args.names.now.ok.0) c.in_ok-term.ensures.kept c.in_ok-made.ensures.kept
+    kept_map c.close.result _ _ (matched_kept c.args.names.now.items c.open.new.names.items c.bind_all.new.names.items c.close.new.names.items c.len-mark.result c.in_ok-open.ensures.around (c.len-mark.ensures ∙ c.args.names.now.ok.0) c.in_ok-term.ensures.kept) c.close.ensures.kept

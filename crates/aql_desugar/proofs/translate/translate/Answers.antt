@@ -1,7 +1,8 @@
 use Rattle.std.proofs.Common.{◌-◌, take, refl, ap, arith}
 use Rattle.aql_constraints.specs.Typed.{sorts_of}
 use Rattle.nrca_term.specs.View.{term_of}
-use Rattle.aql_desugar.proofs.Translating.{Chosen, chosen, chosen_some, translated_here, within_here, fault_here, ok_map, err_map}
+use Rattle.aql_desugar.proofs.Making.{ok_map}
+use Rattle.aql_desugar.proofs.Translating.{Chosen, chosen, chosen_some, translated_here, within_here, fault_here, err_map}
 use Rattle.aql_desugar.proofs.translate.translate.Goals as goal
 
 -- the declaration that is translated, and those before it
