@@ -1,4 +1,4 @@
-//! Parts of expressions that hold none, and trees with one expression or more in them.
+//! Parts of expressions that hold none, and the application of a macro.
 
 ghost use Rattle.std.specs.Prelude.{◌≡◌, IfOk, Some};
 ghost use Rattle.aql_syntax.specs.Tree as tree;
