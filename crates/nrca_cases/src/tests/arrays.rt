@@ -126,16 +126,23 @@ fn natural_at(alloc: Global, flat: &Flat, at: &[u128]) -> Result<Option<u128>, M
 
 fn kind_of_copy(alloc: Global, held: &Held) -> Result<u8, Memory> {
     let copied = held.copy(alloc)?;
-    Ok(copied.to_value(alloc)?.kind())
+    let value = copied.to_value(alloc);
+    drop(copied);
+    Ok(value?.kind())
 }
 
 #[test]
 fn cells_stay(rt: HostRuntime) -> Result<(), Fail> {
     let alloc = rt.alloc();
     let flat = mixed(alloc)?;
-    assert_eq!(rt; window_length(alloc, &flat)?, 2);
-    assert_eq!(rt; natural_at(alloc, &flat, &[0, 2])?, Some(7));
-    assert_eq!(rt; kind_of_copy(alloc, &Held::Flat(flat))?, 5);
+    let length = window_length(alloc, &flat);
+    let cell = natural_at(alloc, &flat, &[0, 2]);
+    let held = Held::Flat(flat);
+    let kind = kind_of_copy(alloc, &held);
+    drop(held);
+    assert_eq!(rt; length?, 2);
+    assert_eq!(rt; cell?, Some(7));
+    assert_eq!(rt; kind?, 5);
     Ok(())
 }
 
