@@ -1,5 +1,4 @@
-use Rattle.std.proofs.Common.{◌≡◌, arith, ap, refl, sym, ◌∙◌}
-use Rattle.nrca_term.specs.Term.{Term}
+use Rattle.std.proofs.Common.{◌≡◌, arith, ap, refl, ◌∙◌}
 use Rattle.nrca_term.specs.Nodes.{variable, sum_term, gen_term}
 use Rattle.nrca_term.specs.Subst.{top_var, subst_term}
 use Rattle.nrca_term.specs.View.{term_of}
