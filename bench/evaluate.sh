@@ -7,7 +7,7 @@ set -eu
 top=$(cd "$(dirname "$0")/.." && pwd)
 work=$(mktemp -d)
 trap 'rm -rf "$work"' EXIT
-crates="aql_outside aql_value aql_made aql_types nrca_term nrca_array nrca_par nrca_serial nrca_eval"
+crates="aql_outside aql_value aql_made aql_types nrca_term nrca_array nrca_par nrca_runs nrca_serial nrca_eval"
 mkdir -p "$work/crates/measure/src" "$work/crates/measure/specs" "$work/crates/measure/proofs"
 for crate in $crates; do
     for part in src specs proofs; do

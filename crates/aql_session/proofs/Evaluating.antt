@@ -4,7 +4,7 @@ use Rattle.aql_syntax.specs.Size.{before}
 use Rattle.aql_syntax.specs.Tree.{Declaration}
 use Rattle.aql_syntax.specs.View.{decls_of}
 use Rattle.aql_syntax.specs.declared.ast.Decl.{Decl}
-use Rattle.nrca_serial.specs.Scope.{held_value}
+use Rattle.nrca_runs.specs.Scope.{held_value}
 use Rattle.nrca_term.specs.Meaning.{Outcomes, cden}
 use Rattle.nrca_term.specs.Term.{Term}
 use Rattle.nrca_term.specs.Turns.{settle}

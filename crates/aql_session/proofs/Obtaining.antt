@@ -15,7 +15,7 @@ use Rattle.aql_syntax.specs.Typing.{reader_type, argument_type}
 use Rattle.cdf_slab.specs.Numbers.{IsCell}
 use Rattle.cdf_slab.specs.Slab.{IsShaped}
 use Rattle.nrca_array.specs.Held.{table_datum}
-use Rattle.nrca_serial.specs.Scope.{held_value}
+use Rattle.nrca_runs.specs.Scope.{held_value}
 use Rattle.aql_session.specs.Asked.{Asked, asked_of, cells}
 use Rattle.aql_session.specs.Reading.{read_fault}
 use Rattle.aql_session.specs.Runs.{HasRank, IsReadBy, IsReadCause, IsReadOf, IsRequestOf, IsArgumentCause, cell_type, request_asked}

@@ -21,7 +21,7 @@ use Rattle.aql_syntax.specs.Tree.{Name, Tree, Reader, Declaration, val, mac, rea
 use Rattle.aql_syntax.specs.Typing.{Has, DeclHas, IsPrincipal, scope_of, reader_type, argument_type}
 use Rattle.aql_syntax.specs.View.{decl_of, decls_of}
 use Rattle.aql_syntax.specs.declared.ast.Decl.{Decl}
-use Rattle.nrca_serial.specs.Scope.{held_value}
+use Rattle.nrca_runs.specs.Scope.{held_value}
 use Rattle.nrca_term.specs.Equations.{term_of-Bottom}
 use Rattle.nrca_term.specs.Meaning.{Outcomes}
 use Rattle.nrca_term.specs.declared.term.Core.TheVariants as core

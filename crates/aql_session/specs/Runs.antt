@@ -17,7 +17,7 @@ use Rattle.aql_syntax.specs.Tree.{Name, Tree, Reader, Declaration, val, mac, rea
 use Rattle.aql_syntax.specs.Typing.{reader_type}
 use Rattle.aql_constraints.specs.Typed.{ArePrincipal}
 use Rattle.nrca_array.specs.Held.{table_datum}
-use Rattle.nrca_serial.specs.Scope.{held_value}
+use Rattle.nrca_runs.specs.Scope.{held_value}
 use Rattle.nrca_term.specs.Meaning.{Outcomes}
 use Rattle.nrca_term.specs.Term.{Term}
 use Rattle.nrca_term.specs.View.{term_of}

@@ -9,7 +9,7 @@ ghost use Rattle.aql_value.specs.Meaning.{datum};
 ghost use Rattle.aql_value.specs.Operations.{as_natural, as_text, as_tuple, index_numbers};
 ghost use Rattle.aql_value.specs.Partial.{each};
 ghost use Rattle.nrca_array.specs.Held.{held_datum};
-ghost use Rattle.nrca_serial.specs.Scope.{held_value};
+ghost use Rattle.nrca_runs.specs.Scope.{held_value};
 ghost use Rattle.aql_session.specs.Asked.{asked, asked_of, unstrided, with_strides, cells};
 ghost use Rattle.aql_session.specs.Step.{IsOfArrays};
 ghost use Rattle.aql_session.specs.Runs.{request_asked, asked_in, numbers_with, single_index, handed_on, HasRank, IsRequestOf, IsReadBy, IsArgumentCause, IsOpened, IsSlabOf, IsFileCause, IsReadOf, IsReadCause};

@@ -7,7 +7,7 @@ ghost use Rattle.aql_syntax.specs.Sound.{OutcomesHave};
 ghost use Rattle.aql_syntax.specs.Tree.{declared, it};
 ghost use Rattle.aql_syntax.specs.View.{decl_of, decls_of};
 ghost use Rattle.aql_types.specs.View.{sort_of};
-ghost use Rattle.nrca_serial.specs.Scope.{held_value};
+ghost use Rattle.nrca_runs.specs.Scope.{held_value};
 ghost use Rattle.nrca_term.specs.View.{term_of};
 ghost use Rattle.aql_session.specs.Bound.{AreBound, earlier_of, outcomes};
 ghost use Rattle.aql_session.specs.Step.{AreWithinLimits, ReadsNoRecords, IsAnswer, IsAnswerable, Binds, IsCause, ReadsNoFile};

@@ -13,8 +13,9 @@ use Rattle.nrca_term.specs.Term.{Term, Parts, none, part, Form, count, child_of,
 use Rattle.nrca_term.specs.Variants.{parts_weight-plain}
 use Rattle.nrca_term.specs.View.{term_of}
 use Rattle.nrca_term.specs.declared.term.Core.{Core}
-use Rattle.nrca_serial.specs.Parts.{strict_of, is_strict_form}
-use Rattle.nrca_serial.specs.RunLaws.{range_whole, total-range_within}
+use Rattle.nrca_runs.specs.Parts.{strict_of}
+use Rattle.nrca_runs.specs.RunLaws.{range_whole, total-range_within}
+use Rattle.nrca_serial.specs.Parts.{is_strict_form}
 
 -- a part that is there
 pub child_there : (ps : Parts) (i : ℕ) → i < count ps → None ≡ child_of ps i → ⊥

@@ -17,13 +17,13 @@ ghost use Rattle.std.specs.Prelude.{[], ◌≤◌};
 ghost use Rattle.nrca_term.specs.Meaning.{cden};
 ghost use Rattle.nrca_term.specs.Turns.{settle};
 ghost use Rattle.nrca_term.specs.View.{term_of};
-ghost use Rattle.nrca_serial.specs.Within.{AnswersWithin};
+ghost use Rattle.nrca_runs.specs.Within.{AnswersWithin};
 
 use crate::wide::wide;
 use aql_outside::Gate;
 use nrca_par::EvalFault;
-use nrca_serial::{Env, unboxed};
-pub use nrca_serial::{Done, Globals};
+use nrca_runs::{Env, unboxed};
+pub use nrca_runs::{Done, Globals};
 use nrca_term::Core;
 use std::alloc::Global;
 use std::thread::Threads;

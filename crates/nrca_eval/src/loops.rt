@@ -6,19 +6,19 @@ ghost use Rattle.std.specs.Option.{option_map};
 ghost use Rattle.aql_value.specs.Canon.{canon};
 ghost use Rattle.aql_value.specs.Indices.{product};
 ghost use Rattle.nrca_term.specs.View.{term_of};
-ghost use Rattle.nrca_serial.specs.Indexing.{pairs_of, pairs_run};
-ghost use Rattle.nrca_serial.specs.Runs.{member_list, run_values, run_turns, cell_values, cell_turns, sum_value, union_value};
-ghost use Rattle.nrca_serial.specs.Scope.{values};
-ghost use Rattle.nrca_serial.specs.Within.{Within, itself};
+ghost use Rattle.nrca_runs.specs.Indexing.{pairs_of, pairs_run};
+ghost use Rattle.nrca_runs.specs.Runs.{member_list, sum_value, union_value};
+ghost use Rattle.nrca_runs.specs.Scope.{values};
+ghost use Rattle.nrca_runs.specs.Within.{Within, itself};
+ghost use Rattle.nrca_serial.specs.Runs.{run_values, run_turns, cell_values, cell_turns};
 
 use crate::joins::{joined_cells, joined_pairs, joined_sets, joined_sums};
 use aql_outside::Gate;
 use aql_value::{Ascending, Dims, Items, Memory};
 use nrca_array::Builder;
 use nrca_par::{EvalFault, canon_wide, map_pieces};
-use nrca_serial::{
-    Counted, Env, Globals, Indexed, Members, cells_run, index_run, members_run, sum_run,
-};
+use nrca_runs::{Counted, Env, Globals, Indexed, Members, index_run};
+use nrca_serial::{cells_run, members_run, sum_run};
 use nrca_term::Core;
 use std::alloc::Global;
 use std::thread::Threads;

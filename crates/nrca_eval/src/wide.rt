@@ -7,10 +7,11 @@ ghost use Rattle.nrca_term.specs.Nodes.{let_term, if_term, default_term, big_uni
 ghost use Rattle.nrca_term.specs.Term.{form_of, parts_of};
 ghost use Rattle.nrca_term.specs.Turns.{settle};
 ghost use Rattle.nrca_term.specs.View.{term_of, terms_of};
-ghost use Rattle.nrca_serial.specs.Parts.{children, is_strict_form, parts_value};
-ghost use Rattle.nrca_serial.specs.Runs.{members_value};
-ghost use Rattle.nrca_serial.specs.Scope.{values, boxed_value, set_in};
-ghost use Rattle.nrca_serial.specs.Within.{Within};
+ghost use Rattle.nrca_runs.specs.Parts.{parts_value};
+ghost use Rattle.nrca_runs.specs.Runs.{members_value};
+ghost use Rattle.nrca_runs.specs.Scope.{values, boxed_value, set_in};
+ghost use Rattle.nrca_runs.specs.Within.{Within};
+ghost use Rattle.nrca_serial.specs.Parts.{children, is_strict_form};
 
 use crate::index::strict_kept;
 use crate::loops::{cells_pieces, sum_pieces, union_pieces};
@@ -18,10 +19,11 @@ use aql_outside::Gate;
 use aql_value::saturating_product;
 use nrca_array::Held;
 use nrca_par::EvalFault;
-use nrca_serial::{
-    Counted, Env, Globals, Members, as_members, boxed, eval, keep_part, members_below,
-    members_of_both, numbers, parts_kept, sum_of, table_of, truth_kept, unboxed, union_of,
+use nrca_runs::{
+    Counted, Env, Globals, Members, as_members, boxed, keep_part, members_below, members_of_both,
+    numbers, parts_kept, sum_of, table_of, truth_kept, unboxed, union_of,
 };
+use nrca_serial::eval;
 use nrca_term::{Core, Terms};
 use std::alloc::Global;
 use std::thread::Threads;

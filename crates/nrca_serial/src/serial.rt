@@ -9,22 +9,22 @@ ghost use Rattle.nrca_term.specs.Nodes.{let_term, if_term, default_term, big_uni
 ghost use Rattle.nrca_term.specs.Term.{form_of, parts_of};
 ghost use Rattle.nrca_term.specs.Turns.{settle};
 ghost use Rattle.nrca_term.specs.View.{term_of, terms_of};
-ghost use Rattle.nrca_serial.specs.Parts.{cell_in, children, is_strict_form, numbers_in, parts_value};
-ghost use Rattle.nrca_serial.specs.Scope.{values, held_value, boxed_value, set_in};
-ghost use Rattle.nrca_serial.specs.Within.{Within, itself};
-ghost use Rattle.nrca_serial.specs.Runs.{member_list, members_value, run_values, run_turns, cell_values, cell_turns, sum_value, union_value, all_members};
+ghost use Rattle.nrca_runs.specs.Parts.{cell_in, numbers_in, parts_value};
+ghost use Rattle.nrca_runs.specs.Scope.{values, held_value, boxed_value, set_in};
+ghost use Rattle.nrca_runs.specs.Within.{Within, itself};
+ghost use Rattle.nrca_runs.specs.Runs.{member_list, members_value, sum_value, union_value, all_members};
+ghost use Rattle.nrca_serial.specs.Parts.{children, is_strict_form};
+ghost use Rattle.nrca_serial.specs.Runs.{run_values, run_turns, cell_values, cell_turns};
 
-use crate::boxes::{
-    boxed, cell_boxed, dim_boxed, keep_part, parts_kept, strict_boxed, truth_kept, unboxed,
-};
-use crate::done::{Counted, beside};
-use crate::env::{Env, Globals, lent, position, variable};
-use crate::members::{Members, Next, as_members, members_below, members_of_both};
-use crate::operations::{numbers, sum_of, table_of, union_of};
-use crate::runs::{canon_of, cells_and, members_and, set_index, sum_and, zeros};
 use aql_value::{Ascending, Dims, Items, saturating_product};
 use nrca_array::{Builder, Held};
 use nrca_par::EvalFault;
+use nrca_runs::{
+    Counted, Env, Globals, Members, Next, as_members, beside, boxed, canon_of, cell_boxed,
+    cells_and, dim_boxed, keep_part, lent, members_and, members_below, members_of_both, numbers,
+    parts_kept, position, set_index, strict_boxed, sum_and, sum_of, table_of, truth_kept, unboxed,
+    union_of, variable, zeros,
+};
 use nrca_term::{Core, Terms};
 use std::alloc::Global;
 

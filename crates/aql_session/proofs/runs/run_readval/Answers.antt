@@ -3,7 +3,7 @@ use Rattle.std.specs.Prelude.{slice_get, ◌-◌}
 use Rattle.aql_constraints.specs.Typed.{sorts_of}
 use Rattle.aql_syntax.specs.Tree.{read}
 use Rattle.aql_syntax.specs.View.{decls_of, reader_of}
-use Rattle.nrca_serial.specs.Scope.{held_value}
+use Rattle.nrca_runs.specs.Scope.{held_value}
 use Rattle.aql_session.specs.Bound.{earlier_of}
 use Rattle.aql_session.specs.Runs.{IsRun}
 use Rattle.aql_session.specs.Step.{IsCause, ReadsNoFile}

@@ -3,11 +3,12 @@ use Rattle.aql_value.specs.Datum.{Datum}
 use Rattle.nrca_term.specs.Meaning.{cden}
 use Rattle.nrca_term.specs.Turns.{settle}
 use Rattle.nrca_term.specs.View.{term_of}
-use Rattle.nrca_serial.specs.RunLaws.{each-range_split, union_value-join}
-use Rattle.nrca_serial.specs.Runs.{member_list, run_values, union_value, sets_join}
-use Rattle.nrca_serial.specs.Scope.{values}
-use Rattle.nrca_serial.specs.Within.{itself}
-use Rattle.nrca_serial.specs.WithinLaws.{err_within}
+use Rattle.nrca_runs.specs.RunLaws.{each-range_split, union_value-join}
+use Rattle.nrca_runs.specs.Runs.{member_list, union_value, sets_join}
+use Rattle.nrca_runs.specs.Scope.{values}
+use Rattle.nrca_runs.specs.Within.{itself}
+use Rattle.nrca_runs.specs.WithinLaws.{err_within}
+use Rattle.nrca_serial.specs.Runs.{run_values}
 use Rattle.nrca_eval.proofs.Pieces.{total_wider, whole_within}
 use Rattle.nrca_eval.proofs.loops.union_pieces.Goals as goal
 

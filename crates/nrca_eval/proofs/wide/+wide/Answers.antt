@@ -16,12 +16,14 @@ use Rattle.nrca_term.specs.Turns.{settle}
 use Rattle.nrca_term.specs.Variants.{settle-tab}
 use Rattle.nrca_term.specs.View.{term_of, terms_of}
 use Rattle.nrca_term.specs.WellFormed.{well_formed-Core}
+use Rattle.nrca_runs.specs.Parts.{numbers_in, parts_value, strict_of, strict_in, table_in}
+use Rattle.nrca_runs.specs.RunLaws.{range_whole, each-range_more, total-range_more}
+use Rattle.nrca_runs.specs.Runs.{member_list, members_value, list_with, sum_value, union_value}
+use Rattle.nrca_runs.specs.Scope.{values, boxed_value}
+use Rattle.nrca_runs.specs.WithinLaws.{err_within, same_within}
 use Rattle.nrca_serial.specs.FormLaws.{count-children, child_of-children, strict_whole, strict_taken, sum_whole, sum_taken, union_whole, union_taken, tab_none, tab_whole, tab_idle, tab_taken}
-use Rattle.nrca_serial.specs.Parts.{children, numbers_in, parts_value, strict_of, strict_in, table_in}
-use Rattle.nrca_serial.specs.RunLaws.{range_whole, each-range_more, total-range_more}
-use Rattle.nrca_serial.specs.Runs.{member_list, members_value, list_with, run_values, run_turns, cell_values, cell_turns, sum_value, union_value}
-use Rattle.nrca_serial.specs.Scope.{values, boxed_value}
-use Rattle.nrca_serial.specs.WithinLaws.{err_within, same_within}
+use Rattle.nrca_serial.specs.Parts.{children}
+use Rattle.nrca_serial.specs.Runs.{run_values, run_turns, cell_values, cell_turns}
 use Rattle.nrca_eval.proofs.Steps.{term_at, member_weight, tab_weight, child_there, strict_form, spent_whole}
 use Rattle.nrca_eval.proofs.wide.+wide.Goals as goal
 

@@ -5,8 +5,9 @@ use Rattle.nrca_term.specs.Meaning.{cden}
 use Rattle.nrca_term.specs.Term.{weight_of, list_weight, parts_of}
 use Rattle.nrca_term.specs.Turns.{settle}
 use Rattle.nrca_term.specs.View.{term_of, terms_of}
-use Rattle.nrca_serial.specs.Parts.{children, parts_value}
-use Rattle.nrca_serial.specs.Scope.{values}
+use Rattle.nrca_runs.specs.Parts.{parts_value}
+use Rattle.nrca_runs.specs.Scope.{values}
+use Rattle.nrca_serial.specs.Parts.{children}
 use Rattle.nrca_eval.proofs.wide.+wide.Given as goal
 
 abbrev pub decreases-wide : goal.decreases-wide

@@ -18,13 +18,15 @@ use Rattle.nrca_term.specs.Turns.{settle}
 use Rattle.nrca_term.specs.Variants.{settle-tab}
 use Rattle.nrca_term.specs.View.{term_of, terms_of}
 use Rattle.nrca_term.specs.WellFormed.{well_formed-Core}
+use Rattle.nrca_runs.specs.Parts.{numbers_in, parts_value, strict_of, strict_in, table_in}
+use Rattle.nrca_runs.specs.RunLaws.{range_whole, each-range_more, total-range_more, sum_value-with, all_members-with}
+use Rattle.nrca_runs.specs.Runs.{member_list, members_value, members_with, list_with, all_members, sum_value, sum_with, union_value}
+use Rattle.nrca_runs.specs.Scope.{values, boxed_value}
+use Rattle.nrca_runs.specs.Within.{itself}
+use Rattle.nrca_runs.specs.WithinLaws.{err_within, same_within}
 use Rattle.nrca_serial.specs.FormLaws.{count-children, child_of-children, strict_whole, strict_taken, sum_whole, sum_taken, union_whole, union_taken, tab_none, tab_whole, tab_idle, tab_taken}
-use Rattle.nrca_serial.specs.Parts.{children, numbers_in, parts_value, strict_of, strict_in, table_in}
-use Rattle.nrca_serial.specs.RunLaws.{range_whole, each-range_more, total-range_more, sum_value-with, all_members-with}
-use Rattle.nrca_serial.specs.Runs.{member_list, members_value, members_with, list_with, run_values, run_turns, cell_values, cell_turns, all_members, sum_value, sum_with, union_value}
-use Rattle.nrca_serial.specs.Scope.{values, boxed_value}
-use Rattle.nrca_serial.specs.Within.{itself}
-use Rattle.nrca_serial.specs.WithinLaws.{err_within, same_within}
+use Rattle.nrca_serial.specs.Parts.{children}
+use Rattle.nrca_serial.specs.Runs.{run_values, run_turns, cell_values, cell_turns}
 use Rattle.nrca_serial.proofs.Evaluated.{at_answer, at_fault, term_at, member_weight, tab_weight, child_there, strict_form, spent_within, spent_whole, written}
 use Rattle.nrca_serial.proofs.Lent.{sub_weight, sub_lent, sub_free}
 use Rattle.nrca_serial.proofs.serial.+serial.Goals as goal

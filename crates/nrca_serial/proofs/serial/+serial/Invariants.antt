@@ -5,10 +5,12 @@ use Rattle.nrca_term.specs.Term.{weight_of, list_weight, parts_of}
 use Rattle.nrca_term.specs.Turns.{settle}
 use Rattle.nrca_term.specs.View.{term_of, terms_of}
 use Rattle.std.specs.List.{slice_range}
-use Rattle.nrca_serial.specs.Parts.{children, parts_value}
-use Rattle.nrca_serial.specs.Scope.{values}
-use Rattle.nrca_serial.specs.Runs.{member_list, run_values, run_turns, cell_values, cell_turns, sum_value, all_members}
-use Rattle.nrca_serial.specs.Walks.{IsAt}
+use Rattle.nrca_runs.specs.Parts.{parts_value}
+use Rattle.nrca_runs.specs.Scope.{values}
+use Rattle.nrca_runs.specs.Runs.{member_list, sum_value, all_members}
+use Rattle.nrca_runs.specs.Walks.{IsAt}
+use Rattle.nrca_serial.specs.Parts.{children}
+use Rattle.nrca_serial.specs.Runs.{run_values, run_turns, cell_values, cell_turns}
 use Rattle.nrca_serial.proofs.serial.+serial.Given as goal
 
 abbrev pub decreases-node : goal.decreases-node

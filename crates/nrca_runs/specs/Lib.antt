@@ -1,0 +1,9 @@
+pub mod Scope
+pub mod Within
+pub mod WithinLaws
+pub mod Runs
+pub mod RunLaws
+pub mod Walks
+pub mod Parts
+pub mod Indexing
+pub mod IndexLaws

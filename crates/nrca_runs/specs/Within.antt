@@ -1,0 +1,20 @@
+-- What is said of an answer: its value and its turns, exactly, and that it is Spent exactly where the turns pass the budget.
+use Rattle.std.specs.Prelude.{◌≡◌, ℕ, ◌<◌, ◌≤◌, Option, Result, MatchResult}
+use Rattle.aql_value.specs.Datum.{Datum}
+use Rattle.nrca_par.specs.declared.fault.EvalFault.{EvalFault}
+use Rattle.nrca_par.specs.declared.fault.EvalFault.TheVariants.{Spent}
+use Rattle.nrca_runs.specs.declared.done.Counted.{Counted}
+use Rattle.nrca_runs.specs.declared.done.Done.{Done}
+use Rattle.nrca_runs.specs.Scope.{held_value}
+
+-- an answer, seen by a view, is this and took these turns, which the budget holds; Spent comes only where the turns pass it
+abbrev pub Within : {T X : Type 0} → (T → X) → ℕ → X → ℕ → Result (Counted T) EvalFault → Type 0
+Within view budget x turns r = MatchResult r (λ d. (view d.answer ≡ x) × (d.turns ≡ turns) × (turns ≤ budget)) (λ e. e ≡ Spent → budget < turns)
+
+-- the view of an answer that is seen as it is
+abbrev pub itself : {A : Type 0} → A → A
+itself x = x
+
+-- the same of the answer of an evaluation
+abbrev pub AnswersWithin : ℕ → Option Datum → ℕ → Result Done EvalFault → Type 0
+AnswersWithin budget value turns r = MatchResult r (λ d. (held_value d.value ≡ value) × (d.turns ≡ turns) × (turns ≤ budget)) (λ e. e ≡ Spent → budget < turns)
