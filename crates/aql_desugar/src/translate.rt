@@ -13,8 +13,8 @@ ghost use Rattle.aql_start.specs.Start.{knowns_of};
 ghost use Rattle.aql_desugar.specs.Translation.{query_of, IsTranslated, IsWithinLimits, IsFaultOf, AreWithin, IsFaultAt};
 
 use crate::fault::Fault;
-use crate::queries::start;
 use aql_constraints::typed::Typed;
+use aql_queries::queries::start;
 use aql_syntax::ast::{Decl, Decls, Expr};
 use aql_syntax::sizes::measure;
 use nrca_term::Core;

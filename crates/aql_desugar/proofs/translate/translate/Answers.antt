@@ -1,7 +1,7 @@
 use Rattle.std.proofs.Common.{◌-◌, take, refl, ap, arith}
 use Rattle.aql_constraints.specs.Typed.{sorts_of}
 use Rattle.nrca_term.specs.View.{term_of}
-use Rattle.aql_desugar.proofs.Making.{ok_map}
+use Rattle.aql_matches.specs.Parts.{ok_map}
 use Rattle.aql_desugar.proofs.Translating.{Chosen, chosen, chosen_some, translated_here, within_here, fault_here, err_map}
 use Rattle.aql_desugar.proofs.translate.translate.Goals as goal
 

@@ -1,0 +1,4 @@
+pub mod Knowns
+pub mod Names
+pub mod Parts
+pub mod Scopes

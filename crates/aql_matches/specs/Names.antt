@@ -1,0 +1,38 @@
+-- The scope that the code's names make, and the position that a name stands for.
+use Rattle.std.specs.Prelude.{ℕ, ◌+◌, Bool, false, List, [], ◌∷◌, Option, Some, None, option_map, if◌then◌else◌}
+use Rattle.aql_syntax.specs.Tree.{Name, Declaration, declared}
+use Rattle.aql_syntax.specs.Names.{names_equal}
+use Rattle.nrca_term.specs.Term.{Term}
+use Rattle.nrca_term.specs.Nodes.{bottom_term, empty_term}
+use Rattle.aql_start.specs.Start.{Scope, hidden}
+use Rattle.aql_matches.specs.declared.matches.Missing.{Missing}
+use Rattle.aql_matches.specs.declared.matches.Missing.TheVariants as missing
+
+-- variables put on others one by one
+abbrev pub put_on : {A : Type 0} → (A → Name) → List (Option A) → Scope → Scope
+put_on f [] s = s
+put_on f (x ∷ xs) s = put_on f xs (option_map f x ∷ s)
+
+-- the variables of a list, the innermost last, around which are some without a name
+abbrev pub scope : {A : Type 0} → (A → Name) → List (Option A) → (base : ℕ) → Scope
+scope f xs base = put_on f xs (hidden base)
+
+-- whether a variable has the name
+abbrev pub has_name : Name → Option Name → Bool
+has_name x None = false
+has_name x (Some y) = names_equal x y
+
+-- a number further out
+abbrev pub further_by : ℕ → Option ℕ → Option ℕ
+further_by n None = None
+further_by n (Some i) = Some (n + i)
+
+-- the latest declaration of that name, with those before it
+abbrev pub declaration_of : Name → List Declaration → Option (Declaration × List Declaration)
+declaration_of x [] = None
+declaration_of x (d ∷ ds) = if names_equal x (declared d) then Some (d, ds) else declaration_of x ds
+
+-- what stands where a pattern does not match
+abbrev pub missing_term : Missing → Term
+missing_term missing.Undefined = bottom_term
+missing_term missing.Empty = empty_term

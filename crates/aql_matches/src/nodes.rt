@@ -1,0 +1,254 @@
+//! Single nodes over their parts.
+//!
+//! Each call takes its parts as they were made, where memory may have been wanting for one, so that no early end of its
+//! caller stands between two of them.
+
+ghost use Rattle.std.specs.Prelude.{◌≡◌, IfOk, IsOkAnd, map, true, false};
+ghost use Rattle.nrca_term.specs.Nodes.{text_term, let_term, truth_term, if_term, default_term, tuple_term, proj_term, arith_term, compare_term, empty_term, single_term, union_term, big_union_term, sum_term, gen_term, get_term, tab_term, sub_term, dim_term, index_term, literal_term};
+ghost use Rattle.nrca_term.specs.View.{term_of};
+
+use aql_made::{both, both_boxed, boxed};
+use aql_value::{ArithOp, CompareOp, Memory, Str};
+use nrca_term::{Core, Terms};
+use std::alloc::Global;
+
+#[tactic(auto, using(nrca_term::specs::Equations::list_variants))]
+fn tuple_of(items: Vec<Core>) -> Core
+    ensures { term_of result ≡ tuple_term (map term_of items.items) }
+{
+    Core::Tuple(Terms(items))
+}
+
+#[tactic(auto, using(nrca_term::specs::Equations::list_variants))]
+fn tab_of(bounds: Vec<Core>, body: Box<Core>) -> Core
+    ensures { term_of result ≡ tab_term (map term_of bounds.items) (term_of body.value) }
+{
+    Core::Tab {
+        bounds: Terms(bounds),
+        body,
+    }
+}
+
+#[tactic(auto, using(nrca_term::specs::Equations::list_variants))]
+fn sub_of(array: Box<Core>, at: Vec<Core>) -> Core
+    ensures { term_of result ≡ sub_term (term_of array.value) (map term_of at.items) }
+{
+    Core::Sub {
+        array,
+        at: Terms(at),
+    }
+}
+
+#[tactic(auto, using(nrca_term::specs::Equations::list_variants))]
+fn literal_of(dims: Vec<Core>, cells: Vec<Core>) -> Core
+    ensures { term_of result ≡ literal_term (map term_of dims.items) (map term_of cells.items) }
+{
+    Core::Literal {
+        dims: Terms(dims),
+        cells: Terms(cells),
+    }
+}
+
+// The parts, each in a box of its own.
+fn pair_boxed(
+    alloc: Global,
+    parts: Result<(Core, Core), Memory>,
+) -> Result<(Box<Core>, Box<Core>), Memory>
+    ensures { IfOk result (λ x. IsOkAnd parts (λ p. p.0 ≡ x.0.value × p.1 ≡ x.1.value)) }
+{
+    let (a, b) = parts?;
+    both_boxed(alloc, Ok(a), Ok(b))
+}
+
+pub fn text(s: Result<Str, Memory>) -> Result<Core, Memory>
+    ensures { IfOk result (λ c. IsOkAnd s (λ x. term_of c ≡ text_term x)) }
+{
+    let s = s?;
+    Ok(Core::Text(s))
+}
+
+pub fn let_in(
+    alloc: Global,
+    a: Result<Core, Memory>,
+    b: Result<Core, Memory>,
+) -> Result<Core, Memory>
+    ensures { IfOk result (λ c. IsOkAnd a (λ x. IsOkAnd b (λ y. term_of c ≡ let_term (term_of x) (term_of y)))) }
+{
+    let (a, b) = both_boxed(alloc, a, b)?;
+    Ok(Core::Let(a, b))
+}
+
+pub fn choose(
+    alloc: Global,
+    test: Result<Core, Memory>,
+    parts: Result<(Core, Core), Memory>,
+) -> Result<Core, Memory>
+    ensures { IfOk result (λ c. IsOkAnd test (λ t. IsOkAnd parts (λ p. term_of c ≡ if_term (term_of t) (term_of p.0) (term_of p.1)))) }
+{
+    let (test, (a, b)) = both(boxed(alloc, test), pair_boxed(alloc, parts))?;
+    Ok(Core::If(test, a, b))
+}
+
+/// The body where the test holds, and else the empty set.
+pub fn tested(
+    alloc: Global,
+    test: Result<Core, Memory>,
+    body: Result<Core, Memory>,
+) -> Result<Core, Memory>
+    ensures { IfOk result (λ c. IsOkAnd test (λ t. IsOkAnd body (λ b. term_of c ≡ if_term (term_of t) (term_of b) empty_term))) }
+{
+    choose(alloc, test, both(body, Ok(Core::Empty)))
+}
+
+pub fn conjunction(alloc: Global, parts: Result<(Core, Core), Memory>) -> Result<Core, Memory>
+    ensures { IfOk result (λ c. IsOkAnd parts (λ p. term_of c ≡ if_term (term_of p.0) (term_of p.1) (truth_term false))) }
+{
+    let (a, b) = parts?;
+    choose(alloc, Ok(a), Ok((b, Core::Bool(false))))
+}
+
+pub fn disjunction(alloc: Global, parts: Result<(Core, Core), Memory>) -> Result<Core, Memory>
+    ensures { IfOk result (λ c. IsOkAnd parts (λ p. term_of c ≡ if_term (term_of p.0) (truth_term true) (term_of p.1))) }
+{
+    let (a, b) = parts?;
+    choose(alloc, Ok(a), Ok((Core::Bool(true), b)))
+}
+
+pub fn default(alloc: Global, parts: Result<(Core, Core), Memory>) -> Result<Core, Memory>
+    ensures { IfOk result (λ c. IsOkAnd parts (λ p. term_of c ≡ default_term (term_of p.0) (term_of p.1))) }
+{
+    let (a, b) = pair_boxed(alloc, parts)?;
+    Ok(Core::Default(a, b))
+}
+
+pub fn tuple(items: Result<Vec<Core>, Memory>) -> Result<Core, Memory>
+    ensures { IfOk result (λ c. IsOkAnd items (λ v. term_of c ≡ tuple_term (map term_of v.items))) }
+{
+    let items = items?;
+    Ok(tuple_of(items))
+}
+
+pub(crate) fn proj(alloc: Global, at: u64, of: u64, a: Result<Core, Memory>) -> Result<Core, Memory>
+    ensures { IfOk result (λ c. IsOkAnd a (λ x. term_of c ≡ proj_term at of (term_of x))) }
+{
+    let part = boxed(alloc, a)?;
+    Ok(Core::Proj { at, of, part })
+}
+
+pub fn arith(
+    alloc: Global,
+    op: ArithOp,
+    parts: Result<(Core, Core), Memory>,
+) -> Result<Core, Memory>
+    ensures { IfOk result (λ c. IsOkAnd parts (λ p. term_of c ≡ arith_term op (term_of p.0) (term_of p.1))) }
+{
+    let (a, b) = pair_boxed(alloc, parts)?;
+    Ok(Core::Arith(op, a, b))
+}
+
+pub fn compare(
+    alloc: Global,
+    op: CompareOp,
+    parts: Result<(Core, Core), Memory>,
+) -> Result<Core, Memory>
+    ensures { IfOk result (λ c. IsOkAnd parts (λ p. term_of c ≡ compare_term op (term_of p.0) (term_of p.1))) }
+{
+    let (a, b) = pair_boxed(alloc, parts)?;
+    Ok(Core::Compare(op, a, b))
+}
+
+pub fn single(alloc: Global, a: Result<Core, Memory>) -> Result<Core, Memory>
+    ensures { IfOk result (λ c. IsOkAnd a (λ x. term_of c ≡ single_term (term_of x))) }
+{
+    let a = boxed(alloc, a)?;
+    Ok(Core::Single(a))
+}
+
+pub fn union(alloc: Global, parts: Result<(Core, Core), Memory>) -> Result<Core, Memory>
+    ensures { IfOk result (λ c. IsOkAnd parts (λ p. term_of c ≡ union_term (term_of p.0) (term_of p.1))) }
+{
+    let (a, b) = pair_boxed(alloc, parts)?;
+    Ok(Core::Union(a, b))
+}
+
+pub fn big_union(
+    alloc: Global,
+    over: Result<Core, Memory>,
+    body: Result<Core, Memory>,
+) -> Result<Core, Memory>
+    ensures { IfOk result (λ c. IsOkAnd over (λ x. IsOkAnd body (λ y. term_of c ≡ big_union_term (term_of x) (term_of y)))) }
+{
+    let (over, body) = both_boxed(alloc, over, body)?;
+    Ok(Core::BigUnion { over, body })
+}
+
+pub fn sum(
+    alloc: Global,
+    over: Result<Core, Memory>,
+    body: Result<Core, Memory>,
+) -> Result<Core, Memory>
+    ensures { IfOk result (λ c. IsOkAnd over (λ x. IsOkAnd body (λ y. term_of c ≡ sum_term (term_of x) (term_of y)))) }
+{
+    let (over, body) = both_boxed(alloc, over, body)?;
+    Ok(Core::Sum { over, body })
+}
+
+pub fn generated(alloc: Global, a: Result<Core, Memory>) -> Result<Core, Memory>
+    ensures { IfOk result (λ c. IsOkAnd a (λ x. term_of c ≡ gen_term (term_of x))) }
+{
+    let a = boxed(alloc, a)?;
+    Ok(Core::Gen(a))
+}
+
+pub fn get(alloc: Global, a: Result<Core, Memory>) -> Result<Core, Memory>
+    ensures { IfOk result (λ c. IsOkAnd a (λ x. term_of c ≡ get_term (term_of x))) }
+{
+    let a = boxed(alloc, a)?;
+    Ok(Core::Get(a))
+}
+
+pub fn tab(
+    alloc: Global,
+    bounds: Result<Vec<Core>, Memory>,
+    body: Result<Core, Memory>,
+) -> Result<Core, Memory>
+    ensures { IfOk result (λ c. IsOkAnd bounds (λ v. IsOkAnd body (λ x. term_of c ≡ tab_term (map term_of v.items) (term_of x)))) }
+{
+    let (bounds, body) = both(bounds, boxed(alloc, body))?;
+    Ok(tab_of(bounds, body))
+}
+
+pub fn sub(
+    alloc: Global,
+    array: Result<Core, Memory>,
+    at: Result<Vec<Core>, Memory>,
+) -> Result<Core, Memory>
+    ensures { IfOk result (λ c. IsOkAnd array (λ x. IsOkAnd at (λ v. term_of c ≡ sub_term (term_of x) (map term_of v.items)))) }
+{
+    let (array, at) = both(boxed(alloc, array), at)?;
+    Ok(sub_of(array, at))
+}
+
+pub fn dim(alloc: Global, rank: u64, a: Result<Core, Memory>) -> Result<Core, Memory>
+    ensures { IfOk result (λ c. IsOkAnd a (λ x. term_of c ≡ dim_term rank (term_of x))) }
+{
+    let array = boxed(alloc, a)?;
+    Ok(Core::Dim { rank, array })
+}
+
+pub fn index(alloc: Global, rank: u64, a: Result<Core, Memory>) -> Result<Core, Memory>
+    ensures { IfOk result (λ c. IsOkAnd a (λ x. term_of c ≡ index_term rank (term_of x))) }
+{
+    let pairs = boxed(alloc, a)?;
+    Ok(Core::Index { rank, pairs })
+}
+
+pub fn literal(
+    dims: Result<Vec<Core>, Memory>,
+    cells: Result<Vec<Core>, Memory>,
+) -> Result<Core, Memory>
+    ensures { IfOk result (λ c. IsOkAnd dims (λ v. IsOkAnd cells (λ w. term_of c ≡ literal_term (map term_of v.items) (map term_of w.items)))) }
+{
+    let (dims, cells) = both(dims, cells)?;
+    Ok(literal_of(dims, cells))
+}

@@ -1,0 +1,81 @@
+//! The positions that names stand for.
+
+ghost use Rattle.std.specs.Prelude.{◌≡◌, ◌<◌, length, option_map, IfSome};
+ghost use Rattle.aql_syntax.specs.Names.{names_equal, find};
+ghost use Rattle.aql_syntax.specs.Tree.{declared};
+ghost use Rattle.aql_syntax.specs.View.{decl_of};
+ghost use Rattle.aql_syntax.specs.Measured.{latest};
+ghost use Rattle.nrca_term.specs.View.{term_of};
+ghost use Rattle.aql_start.specs.Start as start_term;
+ghost use Rattle.aql_start.specs.Start.{knowns_of};
+ghost use Rattle.aql_matches.specs.Names.{declaration_of};
+
+use crate::names::same_bytes;
+use aql_syntax::ast::Decl;
+use aql_value::Str;
+use nrca_term::Core;
+
+/// The latest declaration of that name, with those before it.
+#[tactic(auto, using(crate::proofs::Finding::finding))]
+pub fn find<'a>(name: &Str, earlier: &'a [Decl]) -> Option<(&'a Decl, &'a [Decl])>
+    ensures found { option_map (λ r. (decl_of r.0.now, latest r.1.now)) result ≡ declaration_of name.now (latest earlier.now) }
+    ensures shorter { IfSome result (λ r. length r.1.now < length earlier.now) }
+{
+    let mut rest = earlier;
+    while let Some((last, before)) = rest.split_last() {
+        if declares(last, name) {
+            return Some((last, before));
+        }
+        rest = before;
+    }
+    None
+}
+
+// Whether the declaration binds that name.
+fn declares(d: &Decl, name: &Str) -> bool
+    ensures { result ≡ names_equal name.now (declared (decl_of d.now)) }
+{
+    match d {
+        Decl::Val { name: x, expr: _ } => same_bytes(&name.bytes, &x.bytes),
+        Decl::Macro {
+            name: x,
+            pattern: _,
+            body: _,
+        } => same_bytes(&name.bytes, &x.bytes),
+        Decl::Read {
+            name: x,
+            reader: _,
+            expr: _,
+        } => same_bytes(&name.bytes, &x.bytes),
+        Decl::Bare { expr: _ } => same_bytes(&name.bytes, b"it"),
+    }
+}
+
+/// The position that a name stands for; undefined where it is a macro, or nothing declares the name.
+pub(crate) fn position_term(name: &Str, earlier: &[Decl]) -> Core
+    ensures { term_of result ≡ start_term.position_term (find name.now (knowns_of (latest earlier.now))) }
+{
+    match find(name, earlier) {
+        None => Core::Bottom,
+        Some((d, before)) => value_term(d, before.len() as u64 + 1),
+    }
+}
+
+fn value_term(d: &Decl, n: u64) -> Core
+    ensures { (known : start_term.Knowns) → term_of result ≡ start_term.position_term (Some (start_term.known_of (decl_of d.now) known n)) }
+{
+    match d {
+        Decl::Val { name: _, expr: _ } => Core::Global(n),
+        Decl::Macro {
+            name: _,
+            pattern: _,
+            body: _,
+        } => Core::Bottom,
+        Decl::Read {
+            name: _,
+            reader: _,
+            expr: _,
+        } => Core::Global(n),
+        Decl::Bare { expr: _ } => Core::Global(n),
+    }
+}
