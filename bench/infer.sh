@@ -8,13 +8,13 @@ top=$(cd "$(dirname "$0")/.." && pwd)
 work=$(mktemp -d)
 trap 'rm -rf "$work"' EXIT
 mkdir -p "$work/crates/measure/src" "$work/crates/measure/specs" "$work/crates/measure/proofs"
-for crate in aql_value aql_made aql_types aql_syntax aql_lex aql_grammar aql_parse aql_constraints aql_infer; do
+for crate in aql_value aql_made aql_types aql_syntax aql_lex aql_grammar aql_phrases aql_expressions aql_parse aql_constraints aql_equations aql_infer; do
     for part in src specs proofs; do
         mkdir -p "$work/crates/$crate/$part"
         cp -r "$top/crates/$crate/$part/." "$work/crates/$crate/$part"
     done
 done
-grep -E '^(aql_value|aql_made|aql_types|aql_syntax|aql_lex|aql_grammar|aql_parse|aql_constraints|aql_infer):' "$top/crates.txt" > "$work/crates.txt"
+grep -E '^(aql_value|aql_made|aql_types|aql_syntax|aql_lex|aql_grammar|aql_phrases|aql_expressions|aql_parse|aql_constraints|aql_equations|aql_infer):' "$top/crates.txt" > "$work/crates.txt"
 echo 'measure: aql_lex aql_parse aql_infer aql_syntax anyhow' >> "$work/crates.txt"
 : > "$work/crates/measure/specs/Lib.antt"
 : > "$work/crates/measure/proofs/Lib.antt"

@@ -1,3 +1,2 @@
 pub mod Inferring
 pub mod Progress
-pub mod Walking

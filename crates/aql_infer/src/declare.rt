@@ -9,13 +9,13 @@ ghost use Rattle.aql_constraints.specs.Constraints.{start, make_decl};
 ghost use Rattle.aql_constraints.specs.View.{state_of, schemes_of, Makes};
 ghost use Rattle.aql_infer.specs.Inferred.{Inferred, Placed};
 
-use crate::walk::infer;
 use aql_constraints::fault::NoTyping;
 use aql_constraints::names::Position;
 use aql_constraints::numbering::{instance_of, scheme_variables, with_places};
 use aql_constraints::patterns::pattern;
 use aql_constraints::readers::{argument_type, has_rank, reader_type};
 use aql_constraints::store::{Store, equal_types, tested, used};
+use aql_equations::infer;
 use aql_made::{both, boxed};
 use aql_syntax::ast::{Decl, Expr, Pattern, Reader};
 use aql_types::fault::UnifyFault;

@@ -1,6 +1,1 @@
-mod Strings
-pub mod Steps
-pub mod Loops
-pub mod Branches
-mod Fields
 mod Said

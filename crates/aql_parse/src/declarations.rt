@@ -4,15 +4,15 @@ ghost use Rattle.std.specs.Prelude.{◌≡◌};
 ghost use Rattle.aql_syntax.specs.View.{tree_of, reader_of, decl_of};
 ghost use Rattle.aql_grammar.specs.Scripts.{bare_at};
 ghost use Rattle.aql_grammar.specs.Parsing.{decl_at, val_at, macro_at, readval_at, ended_at, reader_at};
-ghost use Rattle.aql_parse.specs.Words.{lexemes, Gives};
+ghost use Rattle.aql_phrases.specs.Words.{lexemes, Gives};
 
-use crate::expressions::parse_then;
-use crate::fault::Refusal;
-use crate::parts::binder;
-use crate::patterns::pattern_then;
-use crate::readers::reader_named;
-use crate::words::{Word, expect, next};
+use aql_expressions::parse_then;
 use aql_lex::scan::text_at;
+use aql_phrases::fault::Refusal;
+use aql_phrases::parts::binder;
+use aql_phrases::patterns::pattern_then;
+use aql_phrases::readers::reader_named;
+use aql_phrases::words::{Word, expect, next};
 use aql_syntax::ast::{Decl, Expr, Reader};
 use aql_syntax::sign::Sign;
 use std::alloc::Global;
@@ -104,7 +104,7 @@ fn bare_declaration<'a>(
 }
 
 // An expression and a semicolon.
-#[tactic(auto, unfolding(aql_grammar::specs::Parsing::ended_at, crate::specs::Parts::expr_then))]
+#[tactic(auto, unfolding(aql_grammar::specs::Parsing::ended_at, aql_expressions::specs::Parts::expr_then))]
 fn ended<'a>(
     alloc: Global,
     source: &[u8],

@@ -3,15 +3,16 @@
 ghost use Rattle.std.specs.Prelude.{◌≡◌, IfOk, List};
 ghost use Rattle.aql_syntax.specs.Lexis.{Lexeme, AreTokens, kind_of};
 ghost use Rattle.aql_lex.specs.Texts.{Says, EachSays, text_of};
-ghost use Rattle.aql_parse.specs.Words.{lexeme_of, lexemes};
+ghost use Rattle.aql_phrases.specs.Words.{lexeme_of, lexemes};
 ghost use Rattle.aql_parse.specs.Parsed.{Parsed, IsMark};
 
 use crate::declarations::declaration;
-use crate::fault::{ParseFault, Refusal};
-use crate::words::{Word, number_in};
+use crate::fault::ParseFault;
 use aql_lex::laws::spans_and_texts;
 use aql_lex::scan::text_at;
 use aql_lex::signs::sign_of;
+use aql_phrases::fault::Refusal;
+use aql_phrases::words::{Word, number_in};
 use aql_syntax::ast::Decls;
 use aql_syntax::token::{Token, TokenKind};
 use aql_value::Memory;

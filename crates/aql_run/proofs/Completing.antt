@@ -38,8 +38,8 @@ use Rattle.aql_answers.specs.Sample.{sample_text}
 use Rattle.aql_run.specs.Complete.{work_of, AreOutcomes, HaveTypings, IsWithin, IsAsked, IsSound, Completes}
 use Rattle.aql_run.specs.Outcome.{Told, IsScript, HasRun, Stops, Refuses, Writes, Serves, RunsWords, IsSpent}
 use Rattle.aql_run.specs.declared.report.Stop.{Stop}
-use Rattle.aql_run.specs.declared.status.Status.{Status}
-use Rattle.aql_run.specs.declared.status.Status.TheVariants as status
+use Rattle.aql_status.specs.declared.status.Status.{Status}
+use Rattle.aql_status.specs.declared.status.Status.TheVariants as status
 
 -- ---- the script
 

@@ -28,16 +28,17 @@ use Rattle.aql_answers.specs.Sample.{sample_text}
 use Rattle.aql_answers.specs.Steps.{own, sorts, IsPrepared, AllAnswered, CutsLines, EndsEarly}
 use Rattle.aql_answers.specs.declared.steps.Halt.{Halt}
 use Rattle.aql_answers.specs.declared.steps.Halt.TheVariants as halts
+use Rattle.aql_status.specs.Codes.{code_of, status_is}
 use Rattle.aql_run.specs.Complete.{IsSound, Completes}
 use Rattle.aql_run.specs.Reading.{ReadsWhole, ReadFails}
 use Rattle.aql_run.specs.declared.reading.ReadFault.TheVariants as reading
-use Rattle.aql_run.specs.Outcome.{Told, code_of, told_of, IsPrefix, IsWhole, IsScript, HasRun, CutsLast, Stops, stop_of, IsSpent, Writes, WritesAll, Serves, IsEarly, RunsWords, DoesNothing, Passes}
+use Rattle.aql_run.specs.Outcome.{Told, told_of, IsPrefix, IsWhole, IsScript, HasRun, CutsLast, Stops, stop_of, IsSpent, Writes, WritesAll, Serves, IsEarly, RunsWords, DoesNothing, Passes}
 use Rattle.aql_run.specs.Ending.{Answering, Answers, Asks, AsksSample, EndsWith, IsReady, Readies, Refused, Reported, Responds, Running, Samples, Serving, Stopped, refusal_line, stop_status, stop_line}
 use Rattle.aql_run.specs.declared.report.End.{End}
 use Rattle.aql_run.specs.declared.report.Stop.{Stop}
 use Rattle.aql_run.specs.declared.report.Stop.TheVariants as stops
-use Rattle.aql_run.specs.declared.status.Status.{Status}
-use Rattle.aql_run.specs.declared.status.Status.TheVariants as status
+use Rattle.aql_status.specs.declared.status.Status.{Status}
+use Rattle.aql_status.specs.declared.status.Status.TheVariants as status
 
 -- ---- the script of positions that were prepared
 
@@ -556,45 +557,6 @@ pub reports : (words : List (List ℕ)) (input_before input_now before now : ℕ
     Reported words input_before input_now before now content answers e.stop n left left' holds holds'
 unfolding Running Reported
 reports words input_before input_now before now content answers e n left left' holds holds' is h = (e.status, is, h)
-
--- the status with a number
-abbrev status_at : ℕ → Status
-status_at zero = status.Done
-status_at (suc zero) = status.Memory
-status_at (suc (suc zero)) = status.Usage
-status_at (suc (suc (suc zero))) = status.Text
-status_at (suc (suc (suc (suc zero)))) = status.Syntax
-status_at (suc (suc (suc (suc (suc zero))))) = status.Type
-status_at (suc (suc (suc (suc (suc (suc zero)))))) = status.Deep
-status_at (suc (suc (suc (suc (suc (suc (suc zero))))))) = status.Large
-status_at (suc (suc (suc (suc (suc (suc (suc (suc zero)))))))) = status.Long
-status_at (suc (suc (suc (suc (suc (suc (suc (suc (suc zero))))))))) = status.File
-status_at (suc (suc (suc (suc (suc (suc (suc (suc (suc (suc zero)))))))))) = status.Input
-status_at (suc (suc (suc (suc (suc (suc (suc (suc (suc (suc (suc zero))))))))))) = status.Output
-status_at (suc (suc (suc (suc (suc (suc (suc (suc (suc (suc (suc (suc zero)))))))))))) = status.Spent
-status_at (suc (suc (suc (suc (suc (suc (suc (suc (suc (suc (suc (suc (suc zero))))))))))))) = status.Files
-status_at (suc (suc (suc (suc (suc (suc (suc (suc (suc (suc (suc (suc (suc (suc n)))))))))))))) = status.Unbuilt
-
-back : (s : Status) → status_at (code_of s) ≡ s
-back status.Done = refl
-back status.Memory = refl
-back status.Usage = refl
-back status.Text = refl
-back status.Syntax = refl
-back status.Type = refl
-back status.Deep = refl
-back status.Large = refl
-back status.Long = refl
-back status.File = refl
-back status.Input = refl
-back status.Output = refl
-back status.Spent = refl
-back status.Files = refl
-back status.Unbuilt = refl
-
--- statuses with one number are one
-pub status_is : (s t : Status) (n : ℕ) → n ≡ code_of s → n ≡ code_of t → s ≡ t
-status_is s t n e f = sym (back s) ∙ (ap status_at (sym e ∙ f) ∙ back t)
 
 pub reported_sample : (words : List (List ℕ)) (n : ℕ) → (options_of words).sample ≡ Some n → AsksSample words n
 unfolding AsksSample

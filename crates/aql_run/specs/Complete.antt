@@ -22,8 +22,8 @@ use Rattle.aql_words.specs.Words.{HasReading, options_of}
 use Rattle.aql_answers.specs.Sample.{sample_text}
 use Rattle.aql_run.specs.Outcome.{Told, RunsWords}
 use Rattle.aql_run.specs.declared.report.Stop.{Stop}
-use Rattle.aql_run.specs.declared.status.Status.{Status}
-use Rattle.aql_run.specs.declared.status.Status.TheVariants as status
+use Rattle.aql_status.specs.declared.status.Status.{Status}
+use Rattle.aql_status.specs.declared.status.Status.TheVariants as status
 
 -- the turns of a declaration's query as written, of a readval those of its argument; a macro has none
 abbrev pub work_of : Declaration → Earlier → ℕ

@@ -17,12 +17,13 @@ use Rattle.aql_answers.specs.Lines.{at_byte, in_declaration, of_file}
 use Rattle.aql_answers.specs.Sample.{sample_text}
 use Rattle.aql_answers.specs.Steps.{own, IsPrepared, AllAnswered, EndsEarly}
 use Rattle.aql_answers.specs.declared.steps.Halt.{Halt}
-use Rattle.aql_run.specs.Outcome.{IsPrefix, IsScript, Passes, RunsWords, Serves, code_of, stop_of, told_of}
+use Rattle.aql_status.specs.Codes.{code_of}
+use Rattle.aql_run.specs.Outcome.{IsPrefix, IsScript, Passes, RunsWords, Serves, stop_of, told_of}
 use Rattle.aql_run.specs.declared.report.End.{End}
 use Rattle.aql_run.specs.declared.report.Stop.{Stop}
 use Rattle.aql_run.specs.declared.report.Stop.TheVariants as stops
-use Rattle.aql_run.specs.declared.status.Status.{Status}
-use Rattle.aql_run.specs.declared.status.Status.TheVariants as status
+use Rattle.aql_status.specs.declared.status.Status.{Status}
+use Rattle.aql_status.specs.declared.status.Status.TheVariants as status
 
 -- What the calls below say, each under a word that no proof opens by itself: a script's positions hold the whole prelude, and the
 -- words those of the command.

@@ -21,28 +21,10 @@ use Rattle.aql_answers.specs.Answered.{AreAnswered, IsStopped}
 use Rattle.aql_answers.specs.Entry.{entries}
 use Rattle.aql_answers.specs.Lines.{at_byte, in_declaration, of_file}
 use Rattle.aql_answers.specs.Sample.{sample_text}
-use Rattle.aql_run.specs.declared.status.Status.{Status}
-use Rattle.aql_run.specs.declared.status.Status.TheVariants as status
+use Rattle.aql_status.specs.declared.status.Status.{Status}
+use Rattle.aql_status.specs.declared.status.Status.TheVariants as status
 use Rattle.aql_run.specs.declared.report.Stop.{Stop}
 use Rattle.aql_run.specs.declared.report.Stop.TheVariants as stops
-
--- the number of a status
-abbrev pub code_of : Status → ℕ
-code_of status.Done = 0
-code_of status.Memory = 1
-code_of status.Usage = 2
-code_of status.Text = 3
-code_of status.Syntax = 4
-code_of status.Type = 5
-code_of status.Deep = 6
-code_of status.Large = 7
-code_of status.Long = 8
-code_of status.File = 9
-code_of status.Input = 10
-code_of status.Output = 11
-code_of status.Spent = 12
-code_of status.Files = 13
-code_of status.Unbuilt = 14
 
 -- What is known of a run besides the words: the counts of faults of the source and of the files before and after it, what the
 -- source tells that it still has, and what the files hold.

@@ -4,7 +4,8 @@
 //! The contract that the program uses is that of `run`: which bytes are written for the bytes read, whatever the number
 //! of workers, and the cause of each status.
 //!
-//! Read `specs/Outcome` and `specs/Complete` beside `run`; then `serving`, `closed`, `reading`, `report`, `status`, `laws`.
+//! Read `specs/Outcome` and `specs/Complete` beside `run`; then `serving`, `closed`, `reading`, `report`, `laws`. The
+//! statuses are those of `aql_status`.
 #![tactic(auto)]
 
 ghost use Rattle.std.specs.Prelude.{◌≡◌, ◌≤◌, ◌⊎◌, ℕ, Some, map};
@@ -13,15 +14,15 @@ ghost use Rattle.aql_outside.specs.Causes.{Rose};
 ghost use Rattle.aql_words.specs.Words.{options_of};
 ghost use Rattle.aql_run.specs.Complete.{IsSound};
 ghost use Rattle.aql_run.specs.Ending.{AsksSample, Reported};
-ghost use Rattle.aql_run.specs.Outcome.{IsEarly, Passes, RunsWords, code_of, told_of};
-ghost use Rattle.aql_run.specs.declared.status.Status.{Status};
+ghost use Rattle.aql_run.specs.Outcome.{IsEarly, Passes, RunsWords, told_of};
+ghost use Rattle.aql_status.specs.Codes.{code_of};
+ghost use Rattle.aql_status.specs.declared.status.Status.{Status};
 
 mod closed;
 mod laws;
 mod reading;
 mod report;
 mod serving;
-mod status;
 
 pub use aql_answers::sample_script;
 use aql_outside::{Files, Gate, Sink, Source};

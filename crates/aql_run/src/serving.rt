@@ -10,11 +10,11 @@ ghost use Rattle.aql_run.specs.Ending.{Answers, AsksSample, EndsWith, IsReady, R
 use crate::closed::{answer_each, read_options, ready};
 use crate::reading::{ReadFault, read_script};
 use crate::report::{End, Stop};
-use crate::status::Status;
 use aql_answers::{Halt, byte_line, declaration_line, file_line, sample_script, write_all};
 use aql_outside::{Files, Gate, Sink, Source};
 use aql_script::{Prepared, ScriptFault};
 use aql_session::{Answer, Options, StepFault};
+use aql_status::Status;
 use aql_value::Memory;
 use aql_words::WordFault;
 use std::alloc::Global;

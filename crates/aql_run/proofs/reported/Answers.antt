@@ -2,9 +2,10 @@ use Rattle.std.proofs.Common.{subst, sym}
 use Rattle.std.specs.Prelude.{map}
 use Rattle.std.specs.String.{string_bytes}
 use Rattle.aql_run.specs.Outcome.{IsEarly}
-use Rattle.aql_run.specs.declared.status.Status.{Status}
-use Rattle.aql_run.specs.declared.status.Status.TheVariants as status
-use Rattle.aql_run.proofs.Endings.{reports, status_is}
+use Rattle.aql_status.specs.declared.status.Status.{Status}
+use Rattle.aql_status.specs.declared.status.Status.TheVariants as status
+use Rattle.aql_status.specs.Codes.{status_is}
+use Rattle.aql_run.proofs.Endings.{reports}
 use Rattle.aql_run.proofs.reported.Goals as goal
 
 pub returns-clause-serves : goal.returns-clause-serves

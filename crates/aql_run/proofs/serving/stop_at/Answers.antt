@@ -5,7 +5,7 @@ use Rattle.aql_session.specs.declared.answer.StepFault.{StepFault}
 use Rattle.aql_run.specs.Outcome.{stop_of}
 use Rattle.aql_run.specs.Ending.{Stopped, stop_status, stop_line}
 use Rattle.aql_run.specs.declared.report.Stop.TheVariants as stops
-use Rattle.aql_run.specs.declared.status.Status.TheVariants as status
+use Rattle.aql_status.specs.declared.status.Status.TheVariants as status
 use Rattle.aql_run.proofs.Endings.{stopped_as, stopped_memory}
 use Rattle.aql_run.proofs.serving.stop_at.Goals as goal
 

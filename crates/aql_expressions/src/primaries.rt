@@ -1,0 +1,262 @@
+//! Expressions with their subscripts: what stands in parentheses, braces, brackets and `let`, and what is one word.
+//!
+//! As in `expressions`, each function is one of the functions on lists of `aql_grammar` or a part of one.
+
+ghost use Rattle.std.specs.Prelude.{◌≡◌};
+ghost use Rattle.aql_syntax.specs.View.{tree_of, trees_of};
+ghost use Rattle.aql_grammar.specs.Parsing.{parse_at, postfix_at, primary_at, paren_at, let_at, braces_at, brace_rest, bracket_rest};
+ghost use Rattle.aql_phrases.specs.Words.{lexemes, Gives};
+ghost use Rattle.aql_expressions.specs.Parts.{subs_at, double_at, cells_at, table_at, comp_at};
+
+use crate::expressions::parse_then;
+use crate::lists::{definitions, indices, list, list_or_none, qualifiers};
+use aql_phrases::fault::Refusal;
+use aql_phrases::forms::{enclosed, few, only};
+use aql_phrases::parts::{closed_twice, leaf};
+use aql_phrases::words::{Word, behind, expect};
+use aql_syntax::ast::Expr;
+use aql_syntax::build::{comprehension, let_in, literal, members, subscript, tabulation};
+use aql_syntax::sign::Sign;
+use std::alloc::Global;
+
+/// An expression and its subscripts.
+#[cycle(expr)]
+#[tactic(auto, using(crate::proofs::Loops::loop_subscripts), unfolding(aql_grammar::specs::Parsing::postfix_at, crate::specs::Parts::sub_at))]
+pub fn postfix<'a>(
+    alloc: Global,
+    source: &[u8],
+    words: &'a [Word],
+    depth: u64,
+) -> Result<(Expr, &'a [Word]), Refusal>
+    ensures { Gives (λ x. (tree_of x.0, lexemes source.now x.1.now)) result (postfix_at (parse_at depth) depth (lexemes source.now words.now)) }
+{
+    let (first, rest) = primary(alloc, source, words, depth)?;
+    let mut left = first;
+    let mut rest = rest;
+    for _turn in 0..depth {
+        match behind(source, rest, Sign::OpenBracket) {
+            Some(inner) => {
+                let array = Box::new(alloc, left)?;
+                let (at, behind) = subscripts(alloc, source, inner, depth)?;
+                left = subscript(array, at);
+                rest = behind;
+            }
+            None => return Ok((left, rest)),
+        }
+    }
+    Ok((left, rest))
+}
+
+// Behind an opening bracket: subscripts and the closing one.
+#[cycle(expr)]
+#[tactic(auto, unfolding(crate::specs::Parts::subs_at))]
+fn subscripts<'a>(
+    alloc: Global,
+    source: &[u8],
+    words: &'a [Word],
+    depth: u64,
+) -> Result<(Vec<Expr>, &'a [Word]), Refusal>
+    ensures { Gives (λ x. (trees_of x.0.items, lexemes source.now x.1.now)) result (subs_at (parse_at depth) depth (lexemes source.now words.now)) }
+{
+    let (at, rest) = list(alloc, source, words, depth)?;
+    let at = few(at)?;
+    let rest = expect(source, rest, Sign::CloseBracket)?;
+    Ok((at, rest))
+}
+
+// What stands before subscripts.
+#[cycle(expr)]
+#[tactic(auto, using(crate::proofs::Branches::primary_parts))]
+fn primary<'a>(
+    alloc: Global,
+    source: &[u8],
+    words: &'a [Word],
+    depth: u64,
+) -> Result<(Expr, &'a [Word]), Refusal>
+    ensures { Gives (λ x. (tree_of x.0, lexemes source.now x.1.now)) result (primary_at (parse_at depth) depth (lexemes source.now words.now)) }
+{
+    if let Some(rest) = behind(source, words, Sign::Open) {
+        return grouped(alloc, source, rest, depth);
+    }
+    if let Some(rest) = behind(source, words, Sign::OpenBrace) {
+        return braces(alloc, source, rest, depth);
+    }
+    if let Some(rest) = behind(source, words, Sign::OpenBracket) {
+        return brackets(alloc, source, rest, depth);
+    }
+    if let Some(rest) = behind(source, words, Sign::Let) {
+        return bound(alloc, source, rest, depth);
+    }
+    leaf(alloc, source, words)
+}
+
+// Behind an opening parenthesis.
+#[cycle(expr)]
+#[tactic(auto, unfolding(aql_grammar::specs::Parsing::paren_at))]
+fn grouped<'a>(
+    alloc: Global,
+    source: &[u8],
+    words: &'a [Word],
+    depth: u64,
+) -> Result<(Expr, &'a [Word]), Refusal>
+    ensures { Gives (λ x. (tree_of x.0, lexemes source.now x.1.now)) result (paren_at (parse_at depth) depth (lexemes source.now words.now)) }
+{
+    let (items, rest) = list(alloc, source, words, depth)?;
+    let rest = expect(source, rest, Sign::Close)?;
+    Ok((enclosed(items), rest))
+}
+
+// Behind the word `let`.
+#[cycle(expr)]
+#[tactic(auto, using(crate::proofs::Branches::let_parts))]
+fn bound<'a>(
+    alloc: Global,
+    source: &[u8],
+    words: &'a [Word],
+    depth: u64,
+) -> Result<(Expr, &'a [Word]), Refusal>
+    ensures { Gives (λ x. (tree_of x.0, lexemes source.now x.1.now)) result (let_at (parse_at depth) depth (lexemes source.now words.now)) }
+{
+    let (items, rest) = definitions(alloc, source, words, depth)?;
+    let rest = expect(source, rest, Sign::In)?;
+    let (body, rest) = parse_then(alloc, source, rest, Sign::End, depth)?;
+    Ok((let_in(items, body), rest))
+}
+
+// Behind an opening brace.
+#[cycle(expr)]
+#[tactic(auto, using(crate::proofs::Branches::braces_parts))]
+fn braces<'a>(
+    alloc: Global,
+    source: &[u8],
+    words: &'a [Word],
+    depth: u64,
+) -> Result<(Expr, &'a [Word]), Refusal>
+    ensures { Gives (λ x. (tree_of x.0, lexemes source.now x.1.now)) result (braces_at (parse_at depth) depth (lexemes source.now words.now)) }
+{
+    match behind(source, words, Sign::CloseBrace) {
+        Some(rest) => Ok((Expr::Empty, rest)),
+        None => {
+            let (items, rest) = list(alloc, source, words, depth)?;
+            in_braces(alloc, source, items, rest, depth)
+        }
+    }
+}
+
+// Behind the first expressions in braces.
+#[cycle(expr)]
+#[tactic(auto, using(crate::proofs::Branches::brace_parts))]
+fn in_braces<'a>(
+    alloc: Global,
+    source: &[u8],
+    items: Vec<Expr>,
+    words: &'a [Word],
+    depth: u64,
+) -> Result<(Expr, &'a [Word]), Refusal>
+    ensures { Gives (λ x. (tree_of x.0, lexemes source.now x.1.now)) result (brace_rest (parse_at depth) depth (trees_of items.items) (lexemes source.now words.now)) }
+{
+    if let Some(rest) = behind(source, words, Sign::CloseBrace) {
+        return Ok((members(items), rest));
+    }
+    match behind(source, words, Sign::Bar) {
+        Some(rest) => match only(items) {
+            Some(head) => comprehended(alloc, source, Box::new(alloc, head)?, rest, depth),
+            None => Err(Refusal::Syntax),
+        },
+        None => Err(Refusal::Syntax),
+    }
+}
+
+// Behind the head of a comprehension and its bar.
+#[cycle(expr)]
+#[tactic(auto, unfolding(crate::specs::Parts::comp_at))]
+fn comprehended<'a>(
+    alloc: Global,
+    source: &[u8],
+    head: Box<Expr>,
+    words: &'a [Word],
+    depth: u64,
+) -> Result<(Expr, &'a [Word]), Refusal>
+    ensures { Gives (λ x. (tree_of x.0, lexemes source.now x.1.now)) result (comp_at (parse_at depth) depth (tree_of head.value) (lexemes source.now words.now)) }
+{
+    let (quals, rest) = qualifiers(alloc, source, words, depth)?;
+    let rest = expect(source, rest, Sign::CloseBrace)?;
+    Ok((comprehension(head, quals), rest))
+}
+
+// Behind an opening bracket: another, and what stands in double brackets.
+#[cycle(expr)]
+#[tactic(auto, unfolding(crate::specs::Parts::double_at, aql_grammar::specs::Parsing::brackets_at))]
+fn brackets<'a>(
+    alloc: Global,
+    source: &[u8],
+    words: &'a [Word],
+    depth: u64,
+) -> Result<(Expr, &'a [Word]), Refusal>
+    ensures { Gives (λ x. (tree_of x.0, lexemes source.now x.1.now)) result (double_at (parse_at depth) depth (lexemes source.now words.now)) }
+{
+    let rest = expect(source, words, Sign::OpenBracket)?;
+    let (items, rest) = list(alloc, source, rest, depth)?;
+    in_brackets(alloc, source, items, rest, depth)
+}
+
+// Behind the first expressions in double brackets.
+#[cycle(expr)]
+#[tactic(auto, using(crate::proofs::Branches::bracket_parts))]
+fn in_brackets<'a>(
+    alloc: Global,
+    source: &[u8],
+    items: Vec<Expr>,
+    words: &'a [Word],
+    depth: u64,
+) -> Result<(Expr, &'a [Word]), Refusal>
+    ensures { Gives (λ x. (tree_of x.0, lexemes source.now x.1.now)) result (bracket_rest (parse_at depth) depth (trees_of items.items) (lexemes source.now words.now)) }
+{
+    if let Some(rest) = behind(source, words, Sign::Semicolon) {
+        return cells(alloc, source, few(items)?, rest, depth);
+    }
+    match behind(source, words, Sign::Bar) {
+        Some(rest) => match only(items) {
+            Some(body) => tabulated(alloc, source, Box::new(alloc, body)?, rest, depth),
+            None => Err(Refusal::Syntax),
+        },
+        None => Err(Refusal::Syntax),
+    }
+}
+
+// Behind the dimensions of a literal and their semicolon.
+#[cycle(expr)]
+#[tactic(auto, unfolding(crate::specs::Parts::cells_at))]
+fn cells<'a>(
+    alloc: Global,
+    source: &[u8],
+    dims: Vec<Expr>,
+    words: &'a [Word],
+    depth: u64,
+) -> Result<(Expr, &'a [Word]), Refusal>
+    ensures { Gives (λ x. (tree_of x.0, lexemes source.now x.1.now)) result (cells_at (parse_at depth) depth (trees_of dims.items) (lexemes source.now words.now)) }
+{
+    let (cells, rest) = list_or_none(alloc, source, words, depth)?;
+    let rest = closed_twice(source, rest)?;
+    Ok((literal(dims, cells), rest))
+}
+
+// Behind the body of a tabulation and its bar.
+#[cycle(expr)]
+#[tactic(auto, using(crate::proofs::Loops::table_steps), unfolding(crate::specs::Parts::table_at))]
+fn tabulated<'a>(
+    alloc: Global,
+    source: &[u8],
+    body: Box<Expr>,
+    words: &'a [Word],
+    depth: u64,
+) -> Result<(Expr, &'a [Word]), Refusal>
+    ensures { Gives (λ x. (tree_of x.0, lexemes source.now x.1.now)) result (table_at (parse_at depth) depth (tree_of body.value) (lexemes source.now words.now)) }
+{
+    let (binds, rest) = indices(alloc, source, words, depth)?;
+    if binds.len() > 8 {
+        return Err(Refusal::Syntax);
+    }
+    let rest = closed_twice(source, rest)?;
+    Ok((tabulation(body, binds), rest))
+}

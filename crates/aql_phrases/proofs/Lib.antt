@@ -1,0 +1,4 @@
+mod Strings
+pub mod Steps
+pub mod Loops
+mod Fields
