@@ -27,6 +27,15 @@ fn five_writes(sink: &mut impl Sink) -> [usize; 5] {
     counts
 }
 
+// What five reads answer, and how many failed.
+fn reads_of(source: Result<MemSource, Memory>) -> Result<([usize; 5], u64), Memory> {
+    let mut source = source?;
+    let counts = five_reads(&mut source);
+    let faults = source.faults();
+    drop(source);
+    Ok((counts, faults))
+}
+
 fn list(alloc: Global, all: &[u64]) -> Result<Vec<u64>, Memory> {
     Ok(all.to_vec(alloc)?)
 }
@@ -56,19 +65,25 @@ fn sources(rt: HostRuntime) -> Result<(), Memory> {
         (&[3], &[0, 5], [3, 4, 3, 0, 9], 1),
     ];
     for (pieces, fails, counts, faults) in cases {
-        let mut source = cut_source(rt.alloc(), pieces, fails)?;
-        assert_eq!(rt; five_reads(&mut source), counts);
-        assert_eq!(rt; source.faults(), faults);
+        let (read, failed) = reads_of(cut_source(rt.alloc(), pieces, fails))?;
+        assert_eq!(rt; read, counts);
+        assert_eq!(rt; failed, faults);
     }
     Ok(())
 }
 
+fn sure_reads(alloc: Global) -> Result<[usize; 5], Memory> {
+    let mut sure = SureSource::new(digits(alloc)?);
+    let counts = five_reads(&mut sure);
+    drop(sure);
+    Ok(counts)
+}
+
 #[test]
 fn uncut_sources(rt: HostRuntime) -> Result<(), Memory> {
-    let mut plain = plain_source(rt.alloc(), &[1])?;
-    assert_eq!(rt; five_reads(&mut plain), [9, 4, 4, 2, 0]);
-    let mut sure = SureSource::new(digits(rt.alloc())?);
-    assert_eq!(rt; five_reads(&mut sure), [4, 4, 2, 0, 0]);
+    let (read, _) = reads_of(plain_source(rt.alloc(), &[1]))?;
+    assert_eq!(rt; read, [9, 4, 4, 2, 0]);
+    assert_eq!(rt; sure_reads(rt.alloc())?, [4, 4, 2, 0, 0]);
     Ok(())
 }
 
@@ -87,34 +102,55 @@ fn plain_sink(alloc: Global, size: usize, fails: &[u64]) -> Result<MemSink, Memo
     Ok(MemSink::new(room, fails))
 }
 
+// What five writes answer, how many failed, and whether this was written.
+fn writes_of(
+    sink: Result<MemSink, Memory>,
+    written: &[u8],
+) -> Result<([usize; 5], u64, bool), Memory> {
+    let mut sink = sink?;
+    let counts = five_writes(&mut sink);
+    let faults = sink.faults();
+    let is_written = sink.written() == written;
+    drop(sink);
+    Ok((counts, faults, is_written))
+}
+
 #[test]
 fn sinks(rt: HostRuntime) -> Result<(), Memory> {
-    let cases: [(usize, &[u64], &[u64], [usize; 5], &[u8]); 4] = [
-        (20, &[], &[], [3, 3, 3, 3, 3], b"abcabcabcabcabc"),
-        (7, &[], &[2], [3, 9, 3, 1, 9], b"abcabca"),
-        (20, &[1, 0, 2], &[], [1, 1, 2, 3, 3], b"aaababcabc"),
-        (0, &[], &[], [9, 9, 9, 9, 9], b""),
+    let cases: [(usize, &[u64], &[u64], [usize; 5], &[u8], u64); 4] = [
+        (20, &[], &[], [3, 3, 3, 3, 3], b"abcabcabcabcabc", 0),
+        (7, &[], &[2], [3, 9, 3, 1, 9], b"abcabca", 2),
+        (20, &[1, 0, 2], &[], [1, 1, 2, 3, 3], b"aaababcabc", 0),
+        (0, &[], &[], [9, 9, 9, 9, 9], b"", 5),
     ];
-    for (size, pieces, fails, counts, written) in cases {
-        let mut sink = cut_sink(rt.alloc(), size, pieces, fails)?;
-        assert_eq!(rt; five_writes(&mut sink), counts);
-        assert_eq!(rt; sink.written(), written);
-        let faults = counts.iter().filter(|n| **n == 9).count() as u64;
-        assert_eq!(rt; sink.faults(), faults);
+    for (size, pieces, fails, counts, written, faults) in cases {
+        let sink = cut_sink(rt.alloc(), size, pieces, fails);
+        let (taken, failed, is_written) = writes_of(sink, written)?;
+        assert_eq!(rt; taken, counts);
+        assert_eq!(rt; failed, faults);
+        assert!(rt; is_written);
     }
     Ok(())
 }
 
+fn sure_writes() -> [usize; 5] {
+    let mut sure = SureSink::new();
+    five_writes(&mut sure)
+}
+
 #[test]
 fn uncut_sinks(rt: HostRuntime) -> Result<(), Memory> {
-    let mut plain = plain_sink(rt.alloc(), 4, &[1])?;
-    assert_eq!(rt; five_writes(&mut plain), [9, 3, 1, 9, 9]);
-    assert_eq!(rt; five_writes(&mut SureSink::new()), [3, 3, 3, 3, 3]);
+    let plain = plain_sink(rt.alloc(), 4, &[1]);
+    let (taken, _, _) = writes_of(plain, b"abca")?;
+    assert_eq!(rt; taken, [9, 3, 1, 9, 9]);
+    assert_eq!(rt; sure_writes(), [3, 3, 3, 3, 3]);
     Ok(())
 }
 
+type Answers = [Result<Option<u64>, Failed>; 4];
+
 // What is answered of a file of ten bytes and of one that isn't there.
-fn asked(files: &mut impl Files) -> [Result<Option<u64>, Failed>; 4] {
+fn asked(files: &mut impl Files) -> Answers {
     let mut piece = [0u8; 4];
     let first = files.size("ten");
     let second = files.size("none");
@@ -134,9 +170,18 @@ fn told_files(alloc: Global, fails: &[u64]) -> Result<MemFiles, Memory> {
     Ok(MemFiles::new(content, fails))
 }
 
+// What is answered of told files, and how many calls failed.
+fn answers_of(files: Result<MemFiles, Memory>) -> Result<(Answers, u64), Memory> {
+    let mut files = files?;
+    let answers = asked(&mut files);
+    let faults = files.faults();
+    drop(files);
+    Ok((answers, faults))
+}
+
 #[test]
 fn files(rt: HostRuntime) -> Result<(), Memory> {
-    let cases: [(&[u64], [Result<Option<u64>, Failed>; 4]); 2] = [
+    let cases: [(&[u64], Answers); 2] = [
         (&[], [Ok(Some(10)), Ok(None), Ok(Some(2)), Ok(Some(0))]),
         (
             &[2, 3],
@@ -144,18 +189,24 @@ fn files(rt: HostRuntime) -> Result<(), Memory> {
         ),
     ];
     for (fails, answers) in cases {
-        let mut told = told_files(rt.alloc(), fails)?;
-        assert_eq!(rt; asked(&mut told), answers);
-        assert_eq!(rt; told.faults(), fails.len() as u64);
+        let (found, failed) = answers_of(told_files(rt.alloc(), fails))?;
+        assert_eq!(rt; found, answers);
+        assert_eq!(rt; failed, fails.len() as u64);
     }
     Ok(())
 }
 
+fn sure_answers(alloc: Global) -> Answers {
+    let mut sure = SureFiles::new(BTreeMap::new(alloc));
+    let answers = asked(&mut sure);
+    drop(sure);
+    answers
+}
+
 #[test]
 fn no_files(rt: HostRuntime) {
-    let mut sure = SureFiles::new(BTreeMap::new(rt.alloc()));
     let answers = [Ok(None), Ok(None), Ok(Some(0)), Ok(Some(0))];
-    assert_eq!(rt; asked(&mut sure), answers);
+    assert_eq!(rt; sure_answers(rt.alloc()), answers);
 }
 
 #[test]

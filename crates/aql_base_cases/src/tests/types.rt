@@ -3,7 +3,6 @@
 use aql_made::{both, boxed, listed_both};
 use aql_types::fault::UnifyFault;
 use aql_types::solve::unify;
-use aql_types::subst::Subst;
 use aql_types::ty::{Ty, row};
 use aql_value::Memory;
 use std::alloc::Global;
@@ -54,7 +53,16 @@ fn doubled(alloc: Global, n: u64) -> Made {
 
 fn clashes(alloc: Global, a: Made, b: Made) -> Result<bool, Memory> {
     let (a, b) = both(a, b)?;
-    Ok(matches!(unify(alloc, &a, &b), Err(UnifyFault::Clash)))
+    let found = unify(alloc, &a, &b);
+    drop(a);
+    drop(b);
+    match found {
+        Err(UnifyFault::Clash) => Ok(true),
+        other => {
+            drop(other);
+            Ok(false)
+        }
+    }
 }
 
 #[test]
@@ -72,27 +80,36 @@ fn clash_where_no_unifier_is(rt: HostRuntime) -> Result<(), Memory> {
     Ok(())
 }
 
+fn deep_clashes(alloc: Global, depth: u64) -> Result<bool, Memory> {
+    clashes(alloc, nested(alloc, depth), Ok(Ty::Var(1)))
+}
+
+fn wide_clashes(alloc: Global, n: u64) -> Result<bool, Memory> {
+    clashes(alloc, variables(alloc, n), doubled(alloc, n))
+}
+
 #[test]
 fn clash_past_a_limit(rt: HostRuntime) -> Result<(), Memory> {
     let alloc = rt.alloc();
     for (depth, expected) in [(399, false), (400, true)] {
-        assert_eq!(rt;
-            clashes(alloc, nested(alloc, depth), Ok(Ty::Var(1)))?,
-            expected
-        );
+        assert_eq!(rt; deep_clashes(alloc, depth)?, expected);
     }
     for (n, expected) in [(11, false), (12, true), (300, true)] {
-        assert_eq!(rt;
-            clashes(alloc, variables(alloc, n), doubled(alloc, n))?,
-            expected
-        );
+        assert_eq!(rt; wide_clashes(alloc, n)?, expected);
     }
     Ok(())
 }
 
-fn unified(alloc: Global, a: Made, b: Made) -> Result<Subst, Fail> {
+// What the most general unifier puts in the place of a variable.
+fn instance(alloc: Global, a: Made, b: Made, variable: u64) -> Result<Ty, Fail> {
     let (a, b) = both(a, b)?;
-    Ok(unify(alloc, &a, &b)?)
+    let found = unify(alloc, &a, &b);
+    drop(a);
+    drop(b);
+    let unifier = found?;
+    let made = unifier.apply(alloc, &Ty::Var(variable));
+    drop(unifier);
+    Ok(made?)
 }
 
 #[test]
@@ -100,26 +117,40 @@ fn instances(rt: HostRuntime) -> Result<(), Fail> {
     let alloc = rt.alloc();
     let left = pair(alloc, Ok(Ty::Var(0)), set_of(alloc, Ok(Ty::Var(0))));
     let right = pair(alloc, array(alloc, 1, Ok(Ty::Text)), Ok(Ty::Var(7)));
-    let made = unified(alloc, left, right)?.apply(alloc, &Ty::Var(7))?;
-    assert_eq!(rt; made.levels(), 3);
-    assert_eq!(rt; made.nodes(), 3);
-    assert!(rt; matches!(made, Ty::SetOf(_)));
+    let made = instance(alloc, left, right, 7)?;
+    let (levels, nodes) = (made.levels(), made.nodes());
+    let is_set = matches!(made, Ty::SetOf(_));
+    drop(made);
+    assert_eq!(rt; levels, 3);
+    assert_eq!(rt; nodes, 3);
+    assert!(rt; is_set);
     Ok(())
 }
 
 #[test]
 fn counts(rt: HostRuntime) -> Result<(), Memory> {
     let deep = nested(rt.alloc(), 512)?;
-    assert_eq!(rt; deep.levels(), 513);
-    assert_eq!(rt; deep.nodes(), 513);
-    assert!(rt; !deep.fits());
+    let (levels, nodes, fits) = (deep.levels(), deep.nodes(), deep.fits());
+    drop(deep);
+    assert_eq!(rt; levels, 513);
+    assert_eq!(rt; nodes, 513);
+    assert!(rt; !fits);
     Ok(())
+}
+
+fn copied(alloc: Global, t: Made) -> Made {
+    let t = t?;
+    let made = t.copy(alloc);
+    drop(t);
+    made
 }
 
 #[test]
 fn counts_of_a_copy(rt: HostRuntime) -> Result<(), Memory> {
-    let wide = doubled(rt.alloc(), 10)?;
-    assert_eq!(rt; wide.levels(), 3);
-    assert_eq!(rt; wide.copy(rt.alloc())?.nodes(), 31);
+    let wide = copied(rt.alloc(), doubled(rt.alloc(), 10))?;
+    let (levels, nodes) = (wide.levels(), wide.nodes());
+    drop(wide);
+    assert_eq!(rt; levels, 3);
+    assert_eq!(rt; nodes, 31);
     Ok(())
 }

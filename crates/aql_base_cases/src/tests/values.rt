@@ -129,8 +129,12 @@ fn assert_members(
     expected: Result<Items, Memory>,
 ) -> Result<(), Memory> {
     let (set, expected) = both(set, expected)?;
-    assert!(rt; are_equal(set.items(), &expected));
-    assert!(rt; are_equal(&set.into_items(), &expected));
+    let lends_members = are_equal(set.items(), &expected);
+    let members = set.into_items();
+    let gives_members = are_equal(&members, &expected);
+    drop(members);
+    drop(expected);
+    assert!(rt; lends_members && gives_members);
     Ok(())
 }
 
@@ -254,7 +258,9 @@ fn values_ascend_by_kind_and_content(rt: HostRuntime) -> Result<(), Memory> {
 fn assert_copies(rt: &impl Abort, alloc: Global, all: &[Value]) -> Result<(), Memory> {
     for x in all {
         let copied = x.copy(alloc)?;
-        assert!(rt; compare(x, &copied) == Ordering::Equal);
+        let order = compare(x, &copied);
+        drop(copied);
+        assert!(rt; order == Ordering::Equal);
     }
     Ok(())
 }
@@ -265,13 +271,23 @@ fn values_equal_their_copies(rt: HostRuntime) -> Result<(), Memory> {
     assert_copies(&rt, rt.alloc(), &all)
 }
 
+fn is_array(alloc: Global, lengths: &[u128], cells: &[u128]) -> Result<bool, Memory>
+    requires some { 1 ≤ length lengths.now }
+    requires few { length lengths.now ≤ 8 }
+{
+    let made = array(alloc, lengths, cells)?;
+    let found = made.is_some();
+    drop(made);
+    Ok(found)
+}
+
 #[test]
 fn arrays_have_a_cell_for_each_index(rt: HostRuntime) -> Result<(), Memory> {
     let alloc = rt.alloc();
-    assert!(rt; array(alloc, &[2, 3], &[1, 2])?.is_none());
-    assert!(rt; array(alloc, &[0, 3], &[])?.is_some());
-    assert!(rt; array(alloc, &[HALF, 4, 0], &[])?.is_some());
-    assert!(rt; array(alloc, &[HALF, 2], &[])?.is_none());
+    assert!(rt; !is_array(alloc, &[2, 3], &[1, 2])?);
+    assert!(rt; is_array(alloc, &[0, 3], &[])?);
+    assert!(rt; is_array(alloc, &[HALF, 4, 0], &[])?);
+    assert!(rt; !is_array(alloc, &[HALF, 2], &[])?);
     Ok(())
 }
 
@@ -282,10 +298,12 @@ fn two_by_three(alloc: Global) -> Result<Cells, Memory> {
 // The number in a cell of it, or nothing where it has no such cell.
 fn number_at(alloc: Global, table: &Cells, at: &[u128]) -> Result<Option<u128>, Memory> {
     let at: Index = Index::from_slice(alloc, at)?;
-    match table.cell(&at) {
-        Some(Value::Nat(n)) => Ok(Some(*n)),
-        _ => Ok(None),
-    }
+    let found = match table.cell(&at) {
+        Some(Value::Nat(n)) => Some(*n),
+        _ => None,
+    };
+    drop(at);
+    Ok(found)
 }
 
 #[test]
@@ -316,11 +334,16 @@ fn parts_of_an_array(rt: HostRuntime) -> Result<(), Memory> {
     let alloc = rt.alloc();
     let expected = numbers(alloc, &[10, 11, 12, 13, 14, 15]);
     let (table, expected) = both(two_by_three(alloc), expected)?;
-    assert!(rt; table.dims().dims.as_slice() == [2, 3].as_slice());
-    assert!(rt; are_equal(table.items(), &expected));
+    let lends_lengths = table.dims().dims.as_slice() == [2, 3].as_slice();
+    let lends_cells = are_equal(table.items(), &expected);
     let (lengths, cells) = table.into_parts();
-    assert!(rt; lengths.dims.as_slice() == [2, 3].as_slice());
-    assert!(rt; are_equal(&cells, &expected));
+    let gives_lengths = lengths.dims.as_slice() == [2, 3].as_slice();
+    let gives_cells = are_equal(&cells, &expected);
+    drop(lengths);
+    drop(cells);
+    drop(expected);
+    assert!(rt; lends_lengths && lends_cells);
+    assert!(rt; gives_lengths && gives_cells);
     Ok(())
 }
 
@@ -328,13 +351,24 @@ fn pair(alloc: Global) -> Result<Parts, Memory> {
     tuple(alloc, &[1, 2])?.ok_or(Memory)
 }
 
+fn is_tuple(alloc: Global, all: &[u128]) -> Result<bool, Memory> {
+    let made = tuple(alloc, all)?;
+    let found = made.is_some();
+    drop(made);
+    Ok(found)
+}
+
 #[test]
 fn tuples_have_two_parts_or_more(rt: HostRuntime) -> Result<(), Memory> {
     let alloc = rt.alloc();
-    assert!(rt; tuple(alloc, &[])?.is_none());
-    assert!(rt; tuple(alloc, &[1])?.is_none());
+    assert!(rt; !is_tuple(alloc, &[])?);
+    assert!(rt; !is_tuple(alloc, &[1])?);
     let (pair, expected) = both(pair(alloc), numbers(alloc, &[1, 2]))?;
-    assert!(rt; are_equal(pair.items(), &expected));
-    assert!(rt; are_equal(&pair.into_items(), &expected));
+    let lends_parts = are_equal(pair.items(), &expected);
+    let parts = pair.into_items();
+    let gives_parts = are_equal(&parts, &expected);
+    drop(parts);
+    drop(expected);
+    assert!(rt; lends_parts && gives_parts);
     Ok(())
 }

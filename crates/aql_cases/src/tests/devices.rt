@@ -1,14 +1,34 @@
 // Devices that give and take few bytes, or fail; and pieces that run beside each other.
 use crate::tests::netcdf::folder;
-use crate::tests::running::{Devices, SURE, run_over, run_script};
+use crate::tests::running::{Devices, Ran, SURE, assert_ran, run_over, run_script};
+use aql_made::both;
 use aql_outside::{FreeGate, Gate};
+use aql_value::Memory;
+use std::alloc::Global;
+use std::process::Abort;
 use std::sync::atomic::{AtomicBool, Ordering};
 use std::test::Fail;
+use std::thread::Threads;
 
 const SCRIPT: &[u8] = b"1; readval \\V using NETCDF2 at (\"s.nc\",\"v\",(0,0),(2,3));";
 
 const OUTPUT: &[u8] =
     b"typ it : nat\nval it = 1\ntyp V : [[nat]]_2\nval V = [[2,3; 1, 2, 3, 4, 5, 6]]\n";
+
+// Fails where two runs did not both end well with one output.
+fn assert_alike<R: Abort>(
+    rt: &R,
+    ran: Result<Ran, Memory>,
+    other: Result<Ran, Memory>,
+) -> Result<(), Fail> {
+    let (ran, other) = both(ran, other)?;
+    assert_eq!(rt; ran.status, 0);
+    assert_eq!(rt; other.status, 0);
+    assert_eq!(rt; ran.output.as_slice(), other.output.as_slice());
+    drop(ran);
+    drop(other);
+    Ok(())
+}
 
 // The same answer, however few bytes a call gives or takes.
 #[test]
@@ -20,9 +40,8 @@ fn few_bytes_at_a_time(rt: HostRuntime) -> Result<(), Fail> {
         "{(i,j) | [(\\i,\\j):6] <- [[2,3; 4, 6, 5, 6, 0, 6]]};",
     ];
     for script in scripts {
-        let whole = run_script(&rt, alloc, &[], script.as_bytes())?;
         for size in [1, 2, 7] {
-            let pieces = vec![in alloc; size; 200]?;
+            let pieces = [size; 200];
             let mut devices = SURE;
             devices.pieces = &pieces;
             let ran = run_over(
@@ -30,78 +49,97 @@ fn few_bytes_at_a_time(rt: HostRuntime) -> Result<(), Fail> {
                 alloc,
                 &[],
                 script.as_bytes(),
-                folder(alloc)?,
+                folder(alloc),
                 &devices,
                 &FreeGate,
-            )?;
-            assert_eq!(rt; ran.status, 0);
-            assert_eq!(rt; ran.output.as_slice(), whole.output.as_slice());
+            );
+            let whole = run_script(&rt, alloc, &[], script.as_bytes());
+            assert_alike(&rt, ran, whole)?;
         }
     }
     Ok(())
 }
 
+// Whether a call on the files failed in a run in which the call of this number is to fail.
+fn file_fails<R: Threads + Sync + Abort>(rt: &R, alloc: Global, k: u64) -> Result<bool, Fail> {
+    let fails = [k];
+    let mut devices = SURE;
+    devices.files_fail = &fails;
+    let ran = run_over(rt, alloc, &[], SCRIPT, folder(alloc), &devices, &FreeGate)?;
+    if ran.files_failed {
+        let output = b"typ it : nat\nval it = 1\nfault files\n";
+        assert_ran(rt, Ok(ran), 13, output)?;
+        Ok(true)
+    } else {
+        assert_ran(rt, Ok(ran), 0, OUTPUT)?;
+        Ok(false)
+    }
+}
+
 // Each call on the files fails in turn, until a run meets no failure.
 #[test]
 fn failing_files(rt: HostRuntime) -> Result<(), Fail> {
-    let alloc = rt.alloc();
     let mut failed: u64 = 0;
     for k in 1..30 {
-        let fails = vec![in alloc; k]?;
-        let mut devices = SURE;
-        devices.files_fail = &fails;
-        let ran = run_over(&rt, alloc, &[], SCRIPT, folder(alloc)?, &devices, &FreeGate)?;
-        if ran.files_failed {
+        if file_fails(&rt, rt.alloc(), k)? {
             failed = failed.saturating_add(1);
-            assert_eq!(rt; ran.status, 13);
-            assert_eq!(rt;
-                ran.output.as_slice(),
-                b"typ it : nat\nval it = 1\nfault files\n".as_slice()
-            );
-        } else {
-            assert_eq!(rt; ran.status, 0);
-            assert_eq!(rt; ran.output.as_slice(), OUTPUT);
         }
     }
     assert!(rt; 1 < failed && failed < 29);
     Ok(())
 }
 
+const PIECES: [u64; 60] = [20; 60];
+
+// Whether a run is answered in which the read of this number is to fail.
+fn source_serves<R: Threads + Sync + Abort>(rt: &R, alloc: Global, k: u64) -> Result<bool, Fail> {
+    let fails = [k];
+    let devices = Devices {
+        pieces: &PIECES,
+        source_fails: &fails,
+        sink_fails: &[],
+        files_fail: &[],
+    };
+    let ran = run_over(rt, alloc, &[], SCRIPT, folder(alloc), &devices, &FreeGate)?;
+    if ran.status == 0 {
+        assert_ran(rt, Ok(ran), 0, OUTPUT)?;
+        Ok(true)
+    } else {
+        assert_ran(rt, Ok(ran), 10, b"fault input\n")?;
+        Ok(false)
+    }
+}
+
+// Whether a run is answered in which the write of this number is to fail. What it wrote is a front of the output.
+fn sink_serves<R: Threads + Sync + Abort>(rt: &R, alloc: Global, k: u64) -> Result<bool, Fail> {
+    let fails = [k];
+    let devices = Devices {
+        pieces: &PIECES,
+        source_fails: &[],
+        sink_fails: &fails,
+        files_fail: &[],
+    };
+    let ran = run_over(rt, alloc, &[], SCRIPT, folder(alloc), &devices, &FreeGate)?;
+    if ran.status == 0 {
+        assert_ran(rt, Ok(ran), 0, OUTPUT)?;
+        return Ok(true);
+    }
+    assert_eq!(rt; ran.status, 11);
+    assert!(rt; OUTPUT.starts_with(&ran.output));
+    drop(ran);
+    Ok(false)
+}
+
 // Each read of the source fails in turn, and then each write to the sink.
 #[test]
 fn failing_streams(rt: HostRuntime) -> Result<(), Fail> {
-    let alloc = rt.alloc();
-    let pieces = vec![in alloc; 20; 60]?;
     let mut done: u64 = 0;
     for k in 1..12 {
-        let fails = vec![in alloc; k]?;
-        let source = Devices {
-            pieces: &pieces,
-            source_fails: &fails,
-            sink_fails: &[],
-            files_fail: &[],
-        };
-        let ran = run_over(&rt, alloc, &[], SCRIPT, folder(alloc)?, &source, &FreeGate)?;
-        if ran.status == 0 {
+        if source_serves(&rt, rt.alloc(), k)? {
             done = done.saturating_add(1);
-            assert_eq!(rt; ran.output.as_slice(), OUTPUT);
-        } else {
-            assert_eq!(rt; ran.status, 10);
-            assert_eq!(rt; ran.output.as_slice(), b"fault input\n".as_slice());
         }
-        let sink = Devices {
-            pieces: &pieces,
-            source_fails: &[],
-            sink_fails: &fails,
-            files_fail: &[],
-        };
-        let ran = run_over(&rt, alloc, &[], SCRIPT, folder(alloc)?, &sink, &FreeGate)?;
-        if ran.status == 0 {
+        if sink_serves(&rt, rt.alloc(), k)? {
             done = done.saturating_add(1);
-            assert_eq!(rt; ran.output.as_slice(), OUTPUT);
-        } else {
-            assert_eq!(rt; ran.status, 11);
-            assert!(rt; OUTPUT.starts_with(&ran.output));
         }
     }
     assert!(rt; 1 < done && done < 21);
@@ -167,12 +205,11 @@ fn two_pieces_meet(rt: HostRuntime) -> Result<(), Fail> {
             alloc,
             &["--workers", "2"],
             script.as_bytes(),
-            folder(alloc)?,
+            folder(alloc),
             &SURE,
             &gate,
-        )?;
-        assert_eq!(rt; ran.status, 0);
-        assert_eq!(rt; ran.output.as_slice(), output.as_bytes());
+        );
+        assert_ran(&rt, ran, 0, output.as_bytes())?;
         assert!(rt; gate.first_saw.load(Ordering::SeqCst), "{script}");
         assert!(rt; gate.second_saw.load(Ordering::SeqCst), "{script}");
     }

@@ -1,7 +1,8 @@
 // The scripts of the folder of examples, with their files and what they print.
-use crate::tests::netcdf::bytes_of;
-use crate::tests::running::{Folder, SURE, run_over};
+use crate::tests::netcdf::{bytes_of, with_file};
+use crate::tests::running::{Folder, SURE, assert_ran, run_over};
 use aql_outside::FreeGate;
+use aql_value::Memory;
 use std::alloc::Global;
 use std::collections::BTreeMap;
 use std::test::Fail;
@@ -54,14 +55,10 @@ const EXAMPLES: [Example<'static>; 6] = [
     ),
 ];
 
-fn folder(alloc: Global) -> Result<Folder, Fail> {
-    let mut folder = BTreeMap::new(alloc);
-    folder.insert(String::from_str(alloc, "sst.nc")?, bytes_of(alloc, &SST)?)?;
-    folder.insert(
-        String::from_str(alloc, "anomaly.nc")?,
-        bytes_of(alloc, &ANOMALY)?,
-    )?;
-    Ok(folder)
+fn folder(alloc: Global) -> Result<Folder, Memory> {
+    let none = Ok(BTreeMap::new(alloc));
+    let one = with_file(alloc, none, "sst.nc", bytes_of(alloc, &SST));
+    with_file(alloc, one, "anomaly.nc", bytes_of(alloc, &ANOMALY))
 }
 
 #[test]
@@ -73,12 +70,11 @@ fn examples_print_what_stands_beside_them(rt: HostRuntime) -> Result<(), Fail> {
             alloc,
             &[],
             example.0.as_bytes(),
-            folder(alloc)?,
+            folder(alloc),
             &SURE,
             &FreeGate,
-        )?;
-        assert_eq!(rt; ran.status, 0);
-        assert_eq!(rt; ran.output.as_slice(), example.1.as_bytes());
+        );
+        assert_ran(&rt, ran, 0, example.1.as_bytes())?;
     }
     Ok(())
 }

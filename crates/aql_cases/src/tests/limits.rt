@@ -1,14 +1,23 @@
 // Scripts at the limits: bytes, depth, sizes, types.
-use crate::tests::running::run_script;
+use crate::tests::running::{assert_ran, run_script};
+use aql_value::Memory;
 use std::alloc::Global;
+use std::process::Abort;
 use std::test::Fail;
+use std::thread::Threads;
 
-fn push(text: &mut Vec<u8>, part: &str) -> Result<(), Fail> {
+fn push(text: &mut Vec<u8>, part: &str) -> Result<(), Memory> {
     text.extend_from_slice(part.as_bytes())?;
     Ok(())
 }
 
-fn repeated(alloc: Global, part: &str, times: usize) -> Result<Vec<u8>, Fail> {
+fn push_made(text: &mut Vec<u8>, part: String) -> Result<(), Memory> {
+    let pushed = push(text, part.as_str());
+    drop(part);
+    pushed
+}
+
+fn repeated(alloc: Global, part: &str, times: usize) -> Result<Vec<u8>, Memory> {
     let mut text = Vec::new(alloc);
     for _ in 0..times {
         push(&mut text, part)?;
@@ -17,7 +26,7 @@ fn repeated(alloc: Global, part: &str, times: usize) -> Result<Vec<u8>, Fail> {
 }
 
 // A number in so many brackets.
-fn nested(alloc: Global, depth: usize) -> Result<Vec<u8>, Fail> {
+fn nested(alloc: Global, depth: usize) -> Result<Vec<u8>, Memory> {
     let mut text = repeated(alloc, "(", depth)?;
     push(&mut text, "1")?;
     for _ in 0..depth {
@@ -28,7 +37,7 @@ fn nested(alloc: Global, depth: usize) -> Result<Vec<u8>, Fail> {
 }
 
 // A comprehension with so many tests.
-fn tested(alloc: Global, tests: usize) -> Result<Vec<u8>, Fail> {
+fn tested(alloc: Global, tests: usize) -> Result<Vec<u8>, Memory> {
     let mut text = repeated(alloc, "{1 | true", 1)?;
     for _ in 1..tests {
         push(&mut text, ", true")?;
@@ -45,76 +54,93 @@ fn chain(
     before: &str,
     between: &str,
     behind: &str,
-) -> Result<Vec<u8>, Fail> {
+) -> Result<Vec<u8>, Memory> {
     let mut text = repeated(alloc, first, 1)?;
     for k in 1..most {
         let j = k - 1;
-        push(
+        push_made(
             &mut text,
-            &format!(in alloc; "macro \\m{k} = fn \\x => m{j}!{before}m{j}!{between}{behind};")?,
+            format!(in alloc; "macro \\m{k} = fn \\x => m{j}!{before}m{j}!{between}{behind};")?,
         )?;
     }
     Ok(text)
 }
 
+// Fails where the run of a script did not end with this status, or did not write this.
+fn assert_script<R: Threads + Sync + Abort>(
+    rt: &R,
+    alloc: Global,
+    script: Result<Vec<u8>, Memory>,
+    status: u8,
+    output: &str,
+) -> Result<(), Fail> {
+    let script = script?;
+    let ran = run_script(rt, alloc, &[], &script);
+    drop(script);
+    assert_ran(rt, ran, status, output.as_bytes())
+}
+
 #[test]
 fn scripts_at_the_limits(rt: HostRuntime) -> Result<(), Fail> {
     let alloc = rt.alloc();
+    assert_script(&rt, alloc, repeated(alloc, " ", 1_048_576), 0, "")?;
+    assert_script(
+        &rt,
+        alloc,
+        repeated(alloc, " ", 1_048_577),
+        8,
+        "fault long\n",
+    )?;
+    let one = "typ it : nat\nval it = 1\n";
+    assert_script(&rt, alloc, nested(alloc, 400), 0, one)?;
+    assert_script(
+        &rt,
+        alloc,
+        nested(alloc, 401),
+        6,
+        "fault deep at byte 400\n",
+    )?;
     let one = "typ it : {nat}\nval it = {1}\n";
-    let rows = [
-        (repeated(alloc, " ", 1_048_576)?, 0, ""),
-        (repeated(alloc, " ", 1_048_577)?, 8, "fault long\n"),
-        (nested(alloc, 400)?, 0, "typ it : nat\nval it = 1\n"),
-        (nested(alloc, 401)?, 6, "fault deep at byte 400\n"),
-        (tested(alloc, 249)?, 0, one),
-        (tested(alloc, 250)?, 7, "fault large in declaration 1\n"),
-        (
-            chain(alloc, "macro \\m0 = fn \\x => x+x;", 12, "x+", "x", "")?,
-            7,
-            "fault large in declaration 12\n",
-        ),
-        (
-            chain(alloc, "macro \\m0 = fn \\x => {x};", 10, "(", "x", ")")?,
-            5,
-            "fault type in declaration 10\n",
-        ),
-        (repeated(alloc, "(* a", 1)?, 3, "fault text at byte 0\n"),
-        (repeated(alloc, "1;(*)", 1)?, 3, "fault text at byte 2\n"),
-    ];
-    for (script, status, output) in &rows {
-        let ran = run_script(&rt, alloc, &[], script)?;
-        assert_eq!(rt; ran.status, *status);
-        assert_eq!(rt; ran.output.as_slice(), output.as_bytes());
+    assert_script(&rt, alloc, tested(alloc, 249), 0, one)?;
+    let large = "fault large in declaration 1\n";
+    assert_script(&rt, alloc, tested(alloc, 250), 7, large)?;
+    let sums = chain(alloc, "macro \\m0 = fn \\x => x+x;", 12, "x+", "x", "");
+    assert_script(&rt, alloc, sums, 7, "fault large in declaration 12\n")?;
+    let sets = chain(alloc, "macro \\m0 = fn \\x => {x};", 10, "(", "x", ")");
+    assert_script(&rt, alloc, sets, 5, "fault type in declaration 10\n")?;
+    let open = repeated(alloc, "(* a", 1);
+    assert_script(&rt, alloc, open, 3, "fault text at byte 0\n")?;
+    let closed = repeated(alloc, "1;(*)", 1);
+    assert_script(&rt, alloc, closed, 3, "fault text at byte 2\n")
+}
+
+// The beginning of a let of the next name, which is the name before and 195 ones.
+fn push_let(alloc: Global, text: &mut Vec<u8>, k: u64) -> Result<(), Memory> {
+    let next = k.wrapping_add(1);
+    push_made(text, format!(in alloc; "let val \\x{next} = (x{k}")?)?;
+    for _ in 0..195 {
+        push(text, "+1")?;
     }
-    Ok(())
+    push(text, ") in ")
+}
+
+fn lets(alloc: Global) -> Result<Vec<u8>, Memory> {
+    let mut text = repeated(alloc, "val \\x0 = 0; ", 1)?;
+    for k in 0..50 {
+        push_let(alloc, &mut text, k)?;
+    }
+    push(&mut text, "x50")?;
+    for _ in 0..50 {
+        push(&mut text, " end")?;
+    }
+    push(&mut text, ";")?;
+    Ok(text)
 }
 
 // Fifty lets, one in the other, each of a sum of the name before and 195 ones.
 #[test]
 fn nested_lets_run_on_the_ordinary_stack(rt: HostRuntime) -> Result<(), Fail> {
     let alloc = rt.alloc();
-    let mut script = repeated(alloc, "val \\x0 = 0; ", 1)?;
-    for k in 0..50 {
-        let next = k + 1;
-        push(
-            &mut script,
-            &format!(in alloc; "let val \\x{next} = (x{k}")?,
-        )?;
-        for _ in 0..195 {
-            push(&mut script, "+1")?;
-        }
-        push(&mut script, ") in ")?;
-    }
-    push(&mut script, "x50")?;
-    for _ in 0..50 {
-        push(&mut script, " end")?;
-    }
-    push(&mut script, ";")?;
-    let ran = run_script(&rt, alloc, &[], &script)?;
-    assert_eq!(rt; ran.status, 0);
-    assert_eq!(rt;
-        ran.output.as_slice(),
-        b"typ x0 : nat\nval x0 = 0\ntyp it : nat\nval it = 9750\n".as_slice()
-    );
-    Ok(())
+    let output = "typ x0 : nat\nval x0 = 0\ntyp it : nat\nval it = 9750\n";
+    assert_script(&rt, alloc, lets(alloc), 0, output)
 }

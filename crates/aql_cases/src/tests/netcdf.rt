@@ -1,9 +1,13 @@
 // Reading files: values, faults, cut files and changed headers.
-use crate::tests::running::{Folder, SURE, run_over};
+use crate::tests::running::{Folder, Ran, SURE, assert_ran, run_over};
+use aql_made::both;
 use aql_outside::FreeGate;
+use aql_value::Memory;
 use std::alloc::Global;
 use std::collections::BTreeMap;
+use std::process::Abort;
 use std::test::Fail;
+use std::thread::Threads;
 
 // One variable `v` of shorts over the record dimension `x` and `y` of length 3, with two records.
 const ONE_RECORD_VARIABLE: [u32; 27] = [
@@ -34,7 +38,8 @@ const VERSION_5: [u32; 38] = [
     1, 0, 0, 0, 0, 0, 0xb, 0, 0x18, 0, 0x80, 0, 1, 0xffffffff, 0xffffffff, 0, 7,
 ];
 
-pub(crate) fn bytes_of(alloc: Global, words: &[u32]) -> Result<Vec<u8>, Fail> {
+/// The bytes of these words.
+pub(crate) fn bytes_of(alloc: Global, words: &[u32]) -> Result<Vec<u8>, Memory> {
     let mut bytes = Vec::new(alloc);
     for word in words {
         bytes.extend_from_slice(&word.to_be_bytes())?;
@@ -42,43 +47,45 @@ pub(crate) fn bytes_of(alloc: Global, words: &[u32]) -> Result<Vec<u8>, Fail> {
     Ok(bytes)
 }
 
-fn put(alloc: Global, folder: &mut Folder, name: &str, bytes: Vec<u8>) -> Result<(), Fail> {
-    folder.insert(String::from_str(alloc, name)?, bytes)?;
-    Ok(())
+fn text(alloc: Global, content: &str) -> Result<String, Memory> {
+    Ok(String::from_str(alloc, content)?)
+}
+
+fn plain(alloc: Global, content: &[u8]) -> Result<Vec<u8>, Memory> {
+    Ok(content.to_vec(alloc)?)
+}
+
+/// The folder with one file more.
+pub(crate) fn with_file(
+    alloc: Global,
+    folder: Result<Folder, Memory>,
+    name: &str,
+    bytes: Result<Vec<u8>, Memory>,
+) -> Result<Folder, Memory> {
+    let (mut folder, (name, bytes)) = both(folder, both(text(alloc, name), bytes))?;
+    folder.insert(name, bytes)?;
+    Ok(folder)
 }
 
 // A folder with one file.
-fn folder_of(alloc: Global, bytes: Vec<u8>) -> Result<Folder, Fail> {
-    let mut folder = BTreeMap::new(alloc);
-    put(alloc, &mut folder, "s.nc", bytes)?;
-    Ok(folder)
+fn folder_of(alloc: Global, bytes: Result<Vec<u8>, Memory>) -> Result<Folder, Memory> {
+    with_file(alloc, Ok(BTreeMap::new(alloc)), "s.nc", bytes)
 }
 
-// The files that the tables read.
-pub(crate) fn folder(alloc: Global) -> Result<Folder, Fail> {
-    let mut folder = folder_of(alloc, bytes_of(alloc, &ONE_RECORD_VARIABLE)?)?;
-    put(
-        alloc,
-        &mut folder,
-        "p.nc",
-        bytes_of(alloc, &TWO_RECORD_VARIABLES)?,
-    )?;
-    put(alloc, &mut folder, "t.nc", bytes_of(alloc, &TEMPERATURES)?)?;
-    put(alloc, &mut folder, "v.nc", bytes_of(alloc, &VERSION_5)?)?;
-    put(alloc, &mut folder, "three", b"CDF\x03".to_vec(alloc)?)?;
-    put(alloc, &mut folder, "short", b"CDF\x01".to_vec(alloc)?)?;
+/// The files that the tables read.
+pub(crate) fn folder(alloc: Global) -> Result<Folder, Memory> {
     let mut streaming = ONE_RECORD_VARIABLE;
     streaming[1] = 0xffff_ffff;
-    put(
-        alloc,
-        &mut folder,
-        "streaming",
-        bytes_of(alloc, &streaming)?,
-    )?;
     let mut signed = VERSION_5;
     signed[27] = 0xa;
-    put(alloc, &mut folder, "signed", bytes_of(alloc, &signed)?)?;
-    Ok(folder)
+    let all = folder_of(alloc, bytes_of(alloc, &ONE_RECORD_VARIABLE));
+    let all = with_file(alloc, all, "p.nc", bytes_of(alloc, &TWO_RECORD_VARIABLES));
+    let all = with_file(alloc, all, "t.nc", bytes_of(alloc, &TEMPERATURES));
+    let all = with_file(alloc, all, "v.nc", bytes_of(alloc, &VERSION_5));
+    let all = with_file(alloc, all, "three", plain(alloc, b"CDF\x03"));
+    let all = with_file(alloc, all, "short", plain(alloc, b"CDF\x01"));
+    let all = with_file(alloc, all, "streaming", bytes_of(alloc, &streaming));
+    with_file(alloc, all, "signed", bytes_of(alloc, &signed))
 }
 
 // A script and what is written; the status is 9 where the last line is a fault.
@@ -170,35 +177,88 @@ fn hyperslabs_are_read(rt: HostRuntime) -> Result<(), Fail> {
             alloc,
             &[],
             row.0.as_bytes(),
-            folder(alloc)?,
+            folder(alloc),
             &SURE,
             &FreeGate,
-        )?;
-        assert_eq!(rt; ran.status, 0);
-        assert_eq!(rt; ran.output.as_slice(), row.1.as_bytes());
+        );
+        assert_ran(&rt, ran, 0, row.1.as_bytes())?;
     }
     Ok(())
+}
+
+// A run of a readval.
+fn read<R: Threads + Sync>(
+    rt: &R,
+    alloc: Global,
+    reader: &str,
+    argument: &str,
+) -> Result<Ran, Memory> {
+    let script = format!(in alloc; "readval \\V using {reader} at {argument};")?;
+    let ran = run_over(
+        rt,
+        alloc,
+        &[],
+        script.as_bytes(),
+        folder(alloc),
+        &SURE,
+        &FreeGate,
+    );
+    drop(script);
+    ran
+}
+
+// Fails where a run did not end with a fault of the file in the first declaration, of this kind.
+fn assert_refused<R: Abort>(
+    rt: &R,
+    alloc: Global,
+    ran: Result<Ran, Memory>,
+    kind: &str,
+) -> Result<(), Fail> {
+    let ran = ran?;
+    assert_eq!(rt; ran.status, 9);
+    assert!(rt; ran.output.starts_with(FAULT));
+    assert!(rt; ends_with_line(alloc, &ran.output, kind)?, "{kind}");
+    drop(ran);
+    Ok(())
+}
+
+// Whether a text ends with the kind of a fault, behind a colon.
+fn ends_with_line(alloc: Global, output: &[u8], kind: &str) -> Result<bool, Fail> {
+    let line = format!(in alloc; ": {kind}\n")?;
+    let found = output.ends_with(line.as_bytes());
+    drop(line);
+    Ok(found)
 }
 
 #[test]
 fn files_are_refused(rt: HostRuntime) -> Result<(), Fail> {
     let alloc = rt.alloc();
     for row in &FAULTS {
-        let script = format!(in alloc; "readval \\V using {} at {};", row.0, row.1)?;
-        let ran = run_over(
-            &rt,
-            alloc,
-            &[],
-            script.as_bytes(),
-            folder(alloc)?,
-            &SURE,
-            &FreeGate,
-        )?;
-        let line = format!(in alloc; "fault file in declaration 1: {}\n", row.2)?;
-        assert_eq!(rt; ran.status, 9);
-        assert_eq!(rt; ran.output.as_slice(), line.as_bytes());
+        assert_refused(&rt, alloc, read(&rt, alloc, row.0, row.1), row.2)?;
     }
     Ok(())
+}
+
+// A run of a readval that may take five turns, over files of which the first call fails.
+fn read_within_five<R: Threads + Sync>(rt: &R, alloc: Global, script: &str) -> Result<Ran, Memory> {
+    let mut devices = SURE;
+    devices.files_fail = &[1];
+    run_over(
+        rt,
+        alloc,
+        &["--budget", "5"],
+        script.as_bytes(),
+        folder(alloc),
+        &devices,
+        &FreeGate,
+    )
+}
+
+// Fails where a run made a failing call on the files, or did not end past the budget.
+fn assert_counted<R: Abort>(rt: &R, ran: Result<Ran, Memory>) -> Result<(), Fail> {
+    let ran = ran?;
+    assert!(rt; !ran.files_failed);
+    assert_ran(rt, Ok(ran), 12, b"fault budget in declaration 1\n")
 }
 
 // The cells are counted before any call is made on the files.
@@ -206,31 +266,43 @@ fn files_are_refused(rt: HostRuntime) -> Result<(), Fail> {
 fn cells_are_counted_first(rt: HostRuntime) -> Result<(), Fail> {
     let alloc = rt.alloc();
     let rows = [
-        "(\"s.nc\",\"v\",(0,0),(2,3))",
-        "(\"none.nc\",\"v\",(0,0),(2,3))",
-        "(\"s.nc\",\"v\",(0,0),(340282366920938463463374607431768211455,2))",
+        "readval \\V using NETCDF2 at (\"s.nc\",\"v\",(0,0),(2,3));",
+        "readval \\V using NETCDF2 at (\"none.nc\",\"v\",(0,0),(2,3));",
+        "readval \\V using NETCDF2 at (\"s.nc\",\"v\",(0,0),(340282366920938463463374607431768211455,2));",
     ];
-    for argument in rows {
-        let script = format!(in alloc; "readval \\V using NETCDF2 at {argument};")?;
-        let mut devices = SURE;
-        devices.files_fail = &[1];
-        let ran = run_over(
-            &rt,
-            alloc,
-            &["--budget", "5"],
-            script.as_bytes(),
-            folder(alloc)?,
-            &devices,
-            &FreeGate,
-        )?;
-        assert_eq!(rt; ran.status, 12);
-        assert_eq!(rt;
-            ran.output.as_slice(),
-            b"fault budget in declaration 1\n".as_slice()
-        );
-        assert!(rt; !ran.files_failed);
+    for script in rows {
+        assert_counted(&rt, read_within_five(&rt, alloc, script))?;
     }
     Ok(())
+}
+
+fn cut(bytes: Result<Vec<u8>, Memory>, length: usize) -> Result<Vec<u8>, Memory> {
+    let mut bytes = bytes?;
+    bytes.truncate(length);
+    Ok(bytes)
+}
+
+// A run of `READ` over a folder with one file, of these bytes.
+fn read_in<R: Threads + Sync>(
+    rt: &R,
+    alloc: Global,
+    bytes: Result<Vec<u8>, Memory>,
+) -> Result<Ran, Memory> {
+    let folder = folder_of(alloc, bytes);
+    run_over(rt, alloc, &[], READ, folder, &SURE, &FreeGate)
+}
+
+fn assert_refused_at<R: Abort>(
+    rt: &R,
+    alloc: Global,
+    ran: Result<Ran, Memory>,
+    kind: &str,
+    at: usize,
+) -> Result<(), Fail> {
+    let kind = format!(in alloc; "{kind} at {at}")?;
+    let refused = assert_refused(rt, alloc, ran, kind.as_str());
+    drop(kind);
+    refused
 }
 
 // A file of 108 bytes, cut to each length.
@@ -238,29 +310,15 @@ fn cells_are_counted_first(rt: HostRuntime) -> Result<(), Fail> {
 fn cut_files_are_refused(rt: HostRuntime) -> Result<(), Fail> {
     let alloc = rt.alloc();
     for length in 0..108 {
-        let mut bytes = bytes_of(alloc, &ONE_RECORD_VARIABLE)?;
-        bytes.truncate(length);
-        let ran = run_over(
-            &rt,
-            alloc,
-            &[],
-            READ,
-            folder_of(alloc, bytes)?,
-            &SURE,
-            &FreeGate,
-        )?;
-        let kind = match length {
-            0..=3 => format!(in alloc; "not classic")?,
-            4..=95 => format!(in alloc; "malformed at {}", length / 4 * 4)?,
-            _ => format!(in alloc; "cut at {}", length / 2 * 2)?,
-        };
-        assert_eq!(rt; ran.status, 9);
-        assert!(rt; ran.output.starts_with(FAULT));
-        assert!(rt;
-            ran.output
-                .ends_with(format!(in alloc; ": {kind}\n")?.as_bytes()),
-            "{length}"
-        );
+        let bytes = cut(bytes_of(alloc, &ONE_RECORD_VARIABLE), length);
+        let ran = read_in(&rt, alloc, bytes);
+        if length < 4 {
+            assert_refused(&rt, alloc, ran, "not classic")?;
+        } else if length < 96 {
+            assert_refused_at(&rt, alloc, ran, "malformed", length / 4 * 4)?;
+        } else {
+            assert_refused_at(&rt, alloc, ran, "cut", length / 2 * 2)?;
+        }
     }
     Ok(())
 }
@@ -287,6 +345,13 @@ const CHANGED: [Changed<'static>; 14] = [
     Changed(92, 0xfffffff0, None, "cut at 4294967280"),
 ];
 
+fn assert_read<R: Abort>(rt: &R, ran: Result<Ran, Memory>) -> Result<(), Fail> {
+    let ran = ran?;
+    assert_eq!(rt; ran.status, 0);
+    drop(ran);
+    Ok(())
+}
+
 #[test]
 fn changed_headers_are_refused(rt: HostRuntime) -> Result<(), Fail> {
     let alloc = rt.alloc();
@@ -296,27 +361,11 @@ fn changed_headers_are_refused(rt: HostRuntime) -> Result<(), Fail> {
         if let Some((offset, word)) = row.2 {
             words[offset / 4] = word;
         }
-        let bytes = bytes_of(alloc, &words)?;
-        let ran = run_over(
-            &rt,
-            alloc,
-            &[],
-            READ,
-            folder_of(alloc, bytes)?,
-            &SURE,
-            &FreeGate,
-        )?;
+        let ran = read_in(&rt, alloc, bytes_of(alloc, &words));
         if row.3.is_empty() {
-            assert_eq!(rt; ran.status, 0);
+            assert_read(&rt, ran)?;
         } else {
-            assert_eq!(rt; ran.status, 9);
-            assert!(rt; ran.output.starts_with(FAULT));
-            assert!(rt;
-                ran.output
-                    .ends_with(format!(in alloc; ": {}\n", row.3)?.as_bytes()),
-                "{}",
-                row.3
-            );
+            assert_refused(&rt, alloc, ran, row.3)?;
         }
     }
     Ok(())

@@ -1,5 +1,7 @@
 // Queries with their values and turns, for one worker and for several; and the plan, which is the start term.
-use crate::tests::running::run_script;
+use crate::tests::running::{Ran, assert_ran, run_script};
+use aql_value::Memory;
+use std::process::Abort;
 use std::test::Fail;
 
 // A query, and the lines behind its type: the value, and last the turns.
@@ -114,6 +116,20 @@ const QUERIES: [Query<'static>; 25] = [
     ),
 ];
 
+// Fails where a run did not end well with the turns of the query, or did not write its value.
+fn assert_answered<R: Abort>(
+    rt: &R,
+    ran: Result<Ran, Memory>,
+    query: &Query<'_>,
+) -> Result<(), Fail> {
+    let ran = ran?;
+    assert_eq!(rt; ran.status, 0);
+    assert!(rt; ran.output.ends_with(query.2.as_bytes()), "{}", query.0);
+    assert!(rt; holds(&ran.output, query.1.as_bytes()), "{}", query.0);
+    drop(ran);
+    Ok(())
+}
+
 #[test]
 fn queries_have_their_values_and_turns(rt: HostRuntime) -> Result<(), Fail> {
     for query in &QUERIES {
@@ -123,10 +139,8 @@ fn queries_have_their_values_and_turns(rt: HostRuntime) -> Result<(), Fail> {
                 rt.alloc(),
                 &["--plan", "--workers", workers],
                 query.0.as_bytes(),
-            )?;
-            assert_eq!(rt; ran.status, 0);
-            assert!(rt; ran.output.ends_with(query.2.as_bytes()), "{}", query.0);
-            assert!(rt; holds(&ran.output, query.1.as_bytes()), "{}", query.0);
+            );
+            assert_answered(&rt, ran, query)?;
         }
     }
     Ok(())
@@ -159,9 +173,8 @@ fn a_plan_is_the_start_term(rt: HostRuntime) -> Result<(), Fail> {
         ),
     ];
     for (script, output) in rows {
-        let ran = run_script(&rt, rt.alloc(), &["--plan"], script.as_bytes())?;
-        assert_eq!(rt; ran.status, 0);
-        assert_eq!(rt; ran.output.as_slice(), output.as_bytes());
+        let ran = run_script(&rt, rt.alloc(), &["--plan"], script.as_bytes());
+        assert_ran(&rt, ran, 0, output.as_bytes())?;
     }
     Ok(())
 }

@@ -1,8 +1,11 @@
 // A run of the program over devices in memory.
+use aql_made::both;
 use aql_outside::{FreeGate, Gate, MemFiles, MemSink, MemSource};
 use aql_run::run;
-use std::alloc::{AllocError, Global};
+use aql_value::Memory;
+use std::alloc::Global;
 use std::collections::BTreeMap;
+use std::process::Abort;
 use std::test::Fail;
 use std::thread::Threads;
 
@@ -34,28 +37,69 @@ pub(crate) struct Ran {
 /// The files of a run, by their names.
 pub(crate) type Folder = BTreeMap<String, Vec<u8>>;
 
+fn bytes(alloc: Global, all: &[u8]) -> Result<Vec<u8>, Memory> {
+    Ok(all.to_vec(alloc)?)
+}
+
+fn list(alloc: Global, all: &[u64]) -> Result<Vec<u64>, Memory> {
+    Ok(all.to_vec(alloc)?)
+}
+
+fn room(alloc: Global) -> Result<Vec<u8>, Memory> {
+    Ok(vec![in alloc; 0; 4096]?)
+}
+
+fn source_of(alloc: Global, script: &[u8], devices: &Devices<'_>) -> Result<MemSource, Memory> {
+    let lists = both(
+        list(alloc, devices.pieces),
+        list(alloc, devices.source_fails),
+    );
+    let (content, (pieces, fails)) = both(bytes(alloc, script), lists)?;
+    Ok(MemSource::cut(content, pieces, fails))
+}
+
+fn sink_of(alloc: Global, devices: &Devices<'_>) -> Result<MemSink, Memory> {
+    let lists = both(list(alloc, devices.pieces), list(alloc, devices.sink_fails));
+    let (room, (pieces, fails)) = both(room(alloc), lists)?;
+    Ok(MemSink::cut(room, pieces, fails))
+}
+
+fn files_of(
+    alloc: Global,
+    folder: Result<Folder, Memory>,
+    devices: &Devices<'_>,
+) -> Result<MemFiles, Memory> {
+    let (folder, fails) = both(folder, list(alloc, devices.files_fail))?;
+    Ok(MemFiles::new(folder, fails))
+}
+
+fn put_word(alloc: Global, all: &mut Vec<String>, word: &str) -> Result<(), Memory> {
+    all.push(String::from_str(alloc, word)?)?;
+    Ok(())
+}
+
+fn all_words(alloc: Global, words: &[&str]) -> Result<Vec<String>, Memory> {
+    let mut all = Vec::new(alloc);
+    put_word(alloc, &mut all, "aql")?;
+    for word in words {
+        put_word(alloc, &mut all, word)?;
+    }
+    Ok(all)
+}
+
 /// Runs a script with these words behind the program's name, over these files.
 pub(crate) fn run_over<R: Threads + Sync, G: Gate>(
     rt: &R,
     alloc: Global,
     words: &[&str],
     script: &[u8],
-    folder: Folder,
+    folder: Result<Folder, Memory>,
     devices: &Devices<'_>,
     gate: &G,
-) -> Result<Ran, Fail> {
-    let mut input = MemSource::cut(
-        script.to_vec(alloc)?,
-        devices.pieces.to_vec(alloc)?,
-        devices.source_fails.to_vec(alloc)?,
-    );
-    let mut output = MemSink::cut(
-        vec![in alloc; 0; 4096]?,
-        devices.pieces.to_vec(alloc)?,
-        devices.sink_fails.to_vec(alloc)?,
-    );
-    let mut files = MemFiles::new(folder, devices.files_fail.to_vec(alloc)?);
-    let all = all_words(alloc, words)?;
+) -> Result<Ran, Memory> {
+    let streams = both(source_of(alloc, script, devices), sink_of(alloc, devices));
+    let outside = both(streams, files_of(alloc, folder, devices));
+    let (((mut input, mut output), mut files), all) = both(outside, all_words(alloc, words))?;
     let report = run(
         rt,
         alloc,
@@ -65,20 +109,19 @@ pub(crate) fn run_over<R: Threads + Sync, G: Gate>(
         &mut files,
         gate,
     );
+    let status = report.status;
+    drop(report);
+    drop(all);
+    drop(input);
+    let written = output.written().to_vec(alloc);
+    drop(output);
+    let files_failed = files.faults() > 0;
+    drop(files);
     Ok(Ran {
-        status: report.status,
-        output: output.written().to_vec(alloc)?,
-        files_failed: files.faults() > 0,
+        status,
+        output: written?,
+        files_failed,
     })
-}
-
-fn all_words(alloc: Global, words: &[&str]) -> Result<Vec<String>, AllocError> {
-    let mut all = Vec::new(alloc);
-    all.push(String::from_str(alloc, "aql")?)?;
-    for word in words {
-        all.push(String::from_str(alloc, word)?)?;
-    }
-    Ok(all)
 }
 
 /// Runs a script without files over devices that never fail.
@@ -87,14 +130,21 @@ pub(crate) fn run_script<R: Threads + Sync>(
     alloc: Global,
     words: &[&str],
     script: &[u8],
-) -> Result<Ran, Fail> {
-    run_over(
-        rt,
-        alloc,
-        words,
-        script,
-        BTreeMap::new(alloc),
-        &SURE,
-        &FreeGate,
-    )
+) -> Result<Ran, Memory> {
+    let folder = Ok(BTreeMap::new(alloc));
+    run_over(rt, alloc, words, script, folder, &SURE, &FreeGate)
+}
+
+/// Fails where a run did not end with this status, or did not write this.
+pub(crate) fn assert_ran<R: Abort>(
+    rt: &R,
+    ran: Result<Ran, Memory>,
+    status: u8,
+    output: &[u8],
+) -> Result<(), Fail> {
+    let ran = ran?;
+    assert_eq!(rt; ran.status, status);
+    assert_eq!(rt; ran.output.as_slice(), output);
+    drop(ran);
+    Ok(())
 }

@@ -1,5 +1,5 @@
 // Scripts without files, and what they print.
-use crate::tests::running::run_script;
+use crate::tests::running::{assert_ran, run_script};
 use std::test::Fail;
 
 // A script, the status of its run, and what is written.
@@ -133,9 +133,8 @@ const NAMES: [Row<'static>; 9] = [
 #[test]
 fn numbers(rt: HostRuntime) -> Result<(), Fail> {
     for row in &NUMBERS {
-        let ran = run_script(&rt, rt.alloc(), &[], row.0.as_bytes())?;
-        assert_eq!(rt; ran.status, row.1);
-        assert_eq!(rt; ran.output.as_slice(), row.2.as_bytes());
+        let ran = run_script(&rt, rt.alloc(), &[], row.0.as_bytes());
+        assert_ran(&rt, ran, row.1, row.2.as_bytes())?;
     }
     Ok(())
 }
@@ -143,9 +142,8 @@ fn numbers(rt: HostRuntime) -> Result<(), Fail> {
 #[test]
 fn sets_and_arrays(rt: HostRuntime) -> Result<(), Fail> {
     for row in &SETS_AND_ARRAYS {
-        let ran = run_script(&rt, rt.alloc(), &[], row.0.as_bytes())?;
-        assert_eq!(rt; ran.status, row.1);
-        assert_eq!(rt; ran.output.as_slice(), row.2.as_bytes());
+        let ran = run_script(&rt, rt.alloc(), &[], row.0.as_bytes());
+        assert_ran(&rt, ran, row.1, row.2.as_bytes())?;
     }
     Ok(())
 }
@@ -153,9 +151,8 @@ fn sets_and_arrays(rt: HostRuntime) -> Result<(), Fail> {
 #[test]
 fn names(rt: HostRuntime) -> Result<(), Fail> {
     for row in &NAMES {
-        let ran = run_script(&rt, rt.alloc(), &[], row.0.as_bytes())?;
-        assert_eq!(rt; ran.status, row.1);
-        assert_eq!(rt; ran.output.as_slice(), row.2.as_bytes());
+        let ran = run_script(&rt, rt.alloc(), &[], row.0.as_bytes());
+        assert_ran(&rt, ran, row.1, row.2.as_bytes())?;
     }
     Ok(())
 }

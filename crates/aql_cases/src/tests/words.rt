@@ -1,5 +1,5 @@
 // The words of the command line.
-use crate::tests::running::run_script;
+use crate::tests::running::{assert_ran, run_script};
 use std::test::Fail;
 
 // The words behind the program's name, a script, the status, and what is written.
@@ -48,9 +48,8 @@ const ROWS: [Row<'static>; 11] = [
 #[test]
 fn words_are_obeyed(rt: HostRuntime) -> Result<(), Fail> {
     for row in &ROWS {
-        let ran = run_script(&rt, rt.alloc(), row.0, row.1.as_bytes())?;
-        assert_eq!(rt; ran.status, row.2);
-        assert_eq!(rt; ran.output.as_slice(), row.3.as_bytes());
+        let ran = run_script(&rt, rt.alloc(), row.0, row.1.as_bytes());
+        assert_ran(&rt, ran, row.2, row.3.as_bytes())?;
     }
     Ok(())
 }
@@ -64,14 +63,9 @@ fn the_budget_is_the_most_turns(rt: HostRuntime) -> Result<(), Fail> {
             rt.alloc(),
             &["--budget", "10000000", "--workers", workers],
             SUM.as_bytes(),
-        )?;
-        assert_eq!(rt; ran.status, 0);
-        assert_eq!(rt;
-            ran.output.as_slice(),
-            b"typ it : nat\nval it = 12499997500000\n".as_slice()
         );
+        assert_ran(&rt, ran, 0, b"typ it : nat\nval it = 12499997500000\n")?;
     }
-    let ran = run_script(&rt, rt.alloc(), &["--budget", "9999999"], SUM.as_bytes())?;
-    assert_eq!(rt; ran.status, 12);
-    Ok(())
+    let ran = run_script(&rt, rt.alloc(), &["--budget", "9999999"], SUM.as_bytes());
+    assert_ran(&rt, ran, 12, b"fault budget in declaration 1\n")
 }

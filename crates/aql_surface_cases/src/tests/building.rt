@@ -52,6 +52,11 @@ pub fn definition(alloc: Global, number: u8, body: Made) -> Result<Decl, Memory>
     })
 }
 
+fn put(items: &mut Vec<Decl>, decl: Result<Decl, Memory>) -> Result<(), Memory> {
+    items.push(decl?)?;
+    Ok(())
+}
+
 /// macro \m0 = fn \x => x+x; and then macro \mK = fn \x => mJ!x+mJ!x; with J one less than K, up to the last.
 pub fn doublings(alloc: Global, last: u8) -> Result<Vec<Decl>, Memory> {
     let first = sum(alloc, local(alloc), local(alloc));
@@ -59,7 +64,8 @@ pub fn doublings(alloc: Global, last: u8) -> Result<Vec<Decl>, Memory> {
     for k in 0..last {
         let left = applied(alloc, k, local(alloc));
         let right = applied(alloc, k, local(alloc));
-        items.push(definition(alloc, k.wrapping_add(1), sum(alloc, left, right))?)?;
+        let next = definition(alloc, k.wrapping_add(1), sum(alloc, left, right));
+        put(&mut items, next)?;
     }
     Ok(items)
 }

@@ -33,105 +33,118 @@ fn assert_seen(
     source: &[u8],
     expected: &str,
 ) -> Result<(), AllocError> {
-    assert_eq!(rt; seen(alloc, source)?.as_str(), expected);
+    let found = seen(alloc, source)?;
+    assert_eq!(rt; found.as_str(), expected);
+    drop(found);
     Ok(())
 }
+
+// A script a line, and behind ` ~ ` how many declarations it has.
+const PRODUCTIONS: &str = r#" ~ 0
+val \x = 1; macro \f = fn \a => a; readval \y using NETCDF3 at x; x; ~ 4
+readval \y using NETCDFZ8 at x; readval \y using NETCDFS1 at x; ~ 2
+readval \y using CSVNS at x; readval \y using CSVHNNNNNNNN at x; ~ 2
+if a then b else c default d; ~ 1
+a or b and not not c; ~ 1
+a union b + c * d / e % f - g; ~ 1
+f!g!x; gen!1; get!len!dim_1!dim_8!index_1!index_8!x; ~ 3
+(fn \x => x)!1; summap(fn (\x,_) => x)!(s); ~ 2
+a[i][j]; A[B[i]]; a[1,2,3,4,5,6,7,8]; ~ 3
+(1); (1,"a",true,false); {}; {1}; {1,2}; ~ 5
+{x | \x <- s}; {1 | [(\i,\j):6] <- a, x == 3, b}; ~ 2
+[[i | \i<2, \j<3]]; [[0; ]]; [[2,1; 1, 2]]; ~ 3
+let val \x = 1 val (_,"a",2,true,x) = y in x end; ~ 1
+340282366920938463463374607431768211455+1; ~ 1
+{x | [a:b] <- e}; ~ 1
+{x | [[1; 2]] = y}; ~ 1
+{x | (a,b) <- e}; ~ 1
+{x | (a,b) = e}; ~ 1
+{x | f!x}; ~ 1
+f!(g!x); ~ 1
+1 < 2 and 3 = 4 or not 5 <> 6; ~ 1
+a - b - c default d default if e then f else g; ~ 1
+{((1)) | (((\x))) <- s, ((x)), ((x)) == y}; ~ 1"#;
 
 #[test]
 fn productions_are_read(rt: HostRuntime) -> Result<(), AllocError> {
-    let rows: [(&[u8], &str); 24] = [
-        (b"", "0"),
-        (
-            b"val \\x = 1; macro \\f = fn \\a => a; readval \\y using NETCDF3 at x; x;",
-            "4",
-        ),
-        (
-            b"readval \\y using NETCDFZ8 at x; readval \\y using NETCDFS1 at x;",
-            "2",
-        ),
-        (
-            b"readval \\y using CSVNS at x; readval \\y using CSVHNNNNNNNN at x;",
-            "2",
-        ),
-        (b"if a then b else c default d;", "1"),
-        (b"a or b and not not c;", "1"),
-        (b"a union b + c * d / e % f - g;", "1"),
-        (b"f!g!x; gen!1; get!len!dim_1!dim_8!index_1!index_8!x;", "3"),
-        (b"(fn \\x => x)!1; summap(fn (\\x,_) => x)!(s);", "2"),
-        (b"a[i][j]; A[B[i]]; a[1,2,3,4,5,6,7,8];", "3"),
-        (b"(1); (1,\"a\",true,false); {}; {1}; {1,2};", "5"),
-        (b"{x | \\x <- s}; {1 | [(\\i,\\j):6] <- a, x == 3, b};", "2"),
-        (b"[[i | \\i<2, \\j<3]]; [[0; ]]; [[2,1; 1, 2]];", "3"),
-        (b"let val \\x = 1 val (_,\"a\",2,true,x) = y in x end;", "1"),
-        (b"340282366920938463463374607431768211455+1;", "1"),
-        (b"{x | [a:b] <- e};", "1"),
-        (b"{x | [[1; 2]] = y};", "1"),
-        (b"{x | (a,b) <- e};", "1"),
-        (b"{x | (a,b) = e};", "1"),
-        (b"{x | f!x};", "1"),
-        (b"f!(g!x);", "1"),
-        (b"1 < 2 and 3 = 4 or not 5 <> 6;", "1"),
-        (b"a - b - c default d default if e then f else g;", "1"),
-        (b"{((1)) | (((\\x))) <- s, ((x)), ((x)) == y};", "1"),
-    ];
-    for (source, expected) in rows {
-        assert_seen(&rt, rt.alloc(), source, expected)?;
+    let mut rows: u64 = 0;
+    for line in PRODUCTIONS.split('\n') {
+        if let Some((source, expected)) = line.split_once(" ~ ") {
+            assert_seen(&rt, rt.alloc(), source.as_bytes(), expected)?;
+            rows = rows.saturating_add(1);
+        }
     }
+    assert_eq!(rt; rows, 24);
     Ok(())
 }
 
+// A script a line, and behind ` ~ ` its fault.
+const FAULTS: &str = r#"1; 2 ~ syntax 2
+; ~ syntax 1
+1 < 2 < 3; ~ syntax 1
+1 + not a; ~ syntax 1
+a = not b; ~ syntax 1
+1 + if a then b else c; ~ syntax 1
+if a then b; ~ syntax 1
+a[]; ~ syntax 1
+a[1,2,3,4,5,6,7,8,9]; ~ syntax 1
+[[1 | ]]; ~ syntax 1
+[[1 | \i<1,\i<1,\i<1,\i<1,\i<1,\i<1,\i<1,\i<1,\i<1]]; ~ syntax 1
+[[1,1,1,1,1,1,1,1,1; 1]]; ~ syntax 1
+[[1]]; ~ syntax 1
+[[1,2 | \i<2]]; ~ syntax 1
+{1,2 | x <- s}; ~ syntax 1
+{1 | }; ~ syntax 1
+{1 | \x}; ~ syntax 1
+{1 | [1:2] == s}; ~ syntax 1
+(); ~ syntax 1
+let in 1 end; ~ syntax 1
+let val x 1 in 1 end; ~ syntax 1
+(fn \x => x); ~ syntax 1
+1!x; ~ syntax 1
+gen x; ~ syntax 1
+val x = 1; ~ syntax 1
+1; macro \f = \x => x; ~ syntax 2
+readval \y using NETCDF9 at x; ~ syntax 1
+readval \y using CSV at x; ~ syntax 1
+1; 2; readval \y using CSVNNNNNNNNN at x; ~ syntax 3
+{x | f!x <- s}; ~ syntax 1
+{x | [[1; 2]] <- y}; ~ syntax 1
+{x | (a,1+b) == y}; ~ syntax 1
+{1,}; ~ syntax 1
+(1,); ~ syntax 1
+let val \x = 1 in x; ~ syntax 1
+macro \f = fn 1+x => x; ~ syntax 1
+f!; ~ syntax 1
+1 2; ~ syntax 1
+1; a default; 2; ~ syntax 2
+1; 2;; 3; ~ syntax 3
+340282366920938463463374607431768211456; ~ text 0"#;
+
 #[test]
 fn faults_are_named(rt: HostRuntime) -> Result<(), AllocError> {
-    let rows: [(&[u8], &str); 41] = [
-        (b"1; 2", "syntax 2"),
-        (b";", "syntax 1"),
-        (b"1 < 2 < 3;", "syntax 1"),
-        (b"1 + not a;", "syntax 1"),
-        (b"a = not b;", "syntax 1"),
-        (b"1 + if a then b else c;", "syntax 1"),
-        (b"if a then b;", "syntax 1"),
-        (b"a[];", "syntax 1"),
-        (b"a[1,2,3,4,5,6,7,8,9];", "syntax 1"),
-        (b"[[1 | ]];", "syntax 1"),
-        (
-            b"[[1 | \\i<1,\\i<1,\\i<1,\\i<1,\\i<1,\\i<1,\\i<1,\\i<1,\\i<1]];",
-            "syntax 1",
-        ),
-        (b"[[1,1,1,1,1,1,1,1,1; 1]];", "syntax 1"),
-        (b"[[1]];", "syntax 1"),
-        (b"[[1,2 | \\i<2]];", "syntax 1"),
-        (b"{1,2 | x <- s};", "syntax 1"),
-        (b"{1 | };", "syntax 1"),
-        (b"{1 | \\x};", "syntax 1"),
-        (b"{1 | [1:2] == s};", "syntax 1"),
-        (b"();", "syntax 1"),
-        (b"let in 1 end;", "syntax 1"),
-        (b"let val x 1 in 1 end;", "syntax 1"),
-        (b"(fn \\x => x);", "syntax 1"),
-        (b"1!x;", "syntax 1"),
-        (b"gen x;", "syntax 1"),
-        (b"val x = 1;", "syntax 1"),
-        (b"1; macro \\f = \\x => x;", "syntax 2"),
-        (b"readval \\y using NETCDF9 at x;", "syntax 1"),
-        (b"readval \\y using CSV at x;", "syntax 1"),
-        (b"1; 2; readval \\y using CSVNNNNNNNNN at x;", "syntax 3"),
-        (b"{x | f!x <- s};", "syntax 1"),
-        (b"{x | [[1; 2]] <- y};", "syntax 1"),
-        (b"{x | (a,1+b) == y};", "syntax 1"),
-        (b"{1,};", "syntax 1"),
-        (b"(1,);", "syntax 1"),
-        (b"let val \\x = 1 in x;", "syntax 1"),
-        (b"macro \\f = fn 1+x => x;", "syntax 1"),
-        (b"f!;", "syntax 1"),
-        (b"1 2;", "syntax 1"),
-        (b"1; a default; 2;", "syntax 2"),
-        (b"1; 2;; 3;", "syntax 3"),
-        (b"340282366920938463463374607431768211456;", "text 0"),
-    ];
-    for (source, expected) in rows {
-        assert_seen(&rt, rt.alloc(), source, expected)?;
+    let mut rows: u64 = 0;
+    for line in FAULTS.split('\n') {
+        if let Some((source, expected)) = line.split_once(" ~ ") {
+            assert_seen(&rt, rt.alloc(), source.as_bytes(), expected)?;
+            rows = rows.saturating_add(1);
+        }
     }
+    assert_eq!(rt; rows, 41);
     Ok(())
+}
+
+// The same of a script that was made.
+fn assert_seen_of(
+    rt: &impl Abort,
+    alloc: Global,
+    source: Result<Vec<u8>, AllocError>,
+    expected: &str,
+) -> Result<(), AllocError> {
+    let source = source?;
+    let found = assert_seen(rt, alloc, &source, expected);
+    drop(source);
+    found
 }
 
 // A `1` in that many brackets.
@@ -157,45 +170,40 @@ fn brackets_nest_to_the_scans_limit(rt: HostRuntime) -> Result<(), AllocError> {
         (400, b"a[", b"]", "1"),
     ];
     for (times, open, close, expected) in rows {
-        let source = nested(rt.alloc(), times, open, close)?;
-        assert_seen(&rt, rt.alloc(), &source, expected)?;
+        let source = nested(rt.alloc(), times, open, close);
+        assert_seen_of(&rt, rt.alloc(), source, expected)?;
     }
     Ok(())
 }
 
+const PRELUDE: &str = r"macro \fst = fn (\x,_) => x;
+macro \snd = fn (_,\y) => y;
+macro \isempty = fn \s => s = {};
+macro \member = fn (\x,\s) => not ({1 | x <- s} = {});
+macro \count = fn \s => summap(fn _ => 1)!(s);
+macro \total = fn \s => summap(fn \x => x)!(s);
+macro \inter = fn (\s,\t) => {x | \x <- s, x <- t};
+macro \minus = fn (\s,\t) => {x | \x <- s, not (member!(x,t))};
+macro \subset = fn (\s,\t) => minus!(s,t) = {};
+macro \product = fn (\s,\t) => {(x,y) | \x <- s, \y <- t};
+macro \flatten = fn \s => {x | \t <- s, \x <- t};
+macro \least = fn \s => get!({x | \x <- s, {1 | \y <- s, y < x} = {}});
+macro \greatest = fn \s => get!({x | \x <- s, {1 | \y <- s, y > x} = {}});
+macro \min2 = fn (\a,\b) => if a < b then a else b;
+macro \max2 = fn (\a,\b) => if a < b then b else a;
+macro \range = fn (\a,\b) => {a+i | \i <- gen!(b-a)};
+macro \domain = fn \a => gen!(len!a);
+macro \cells = fn \a => {x | [_:\x] <- a};
+macro \graph = fn \a => {(i,x) | [\i:\x] <- a};
+macro \reverse = fn \a => [[a[len!a-i-1] | \i<len!a]];
+macro \subseq = fn (\a,\s,\n) => [[a[s+i] | \i<n]];
+macro \append = fn (\a,\b) => [[if i < len!a then a[i] else b[i-len!a] | \i<len!a+len!b]];
+macro \transpose = fn \a => [[a[j,i] | \i<snd!(dim_2!a), \j<fst!(dim_2!a)]];
+macro \zip = fn (\a,\b) => [[(a[i],b[i]) | \i<min2!(len!a,len!b)]];";
+
 #[test]
 fn the_prelude_is_read(rt: HostRuntime) -> Result<(), AllocError> {
-    let parts: [&[u8]; 24] = [
-        b"macro \\fst = fn (\\x,_) => x;",
-        b"macro \\snd = fn (_,\\y) => y;",
-        b"macro \\isempty = fn \\s => s = {};",
-        b"macro \\member = fn (\\x,\\s) => not ({1 | x <- s} = {});",
-        b"macro \\count = fn \\s => summap(fn _ => 1)!(s);",
-        b"macro \\total = fn \\s => summap(fn \\x => x)!(s);",
-        b"macro \\inter = fn (\\s,\\t) => {x | \\x <- s, x <- t};",
-        b"macro \\minus = fn (\\s,\\t) => {x | \\x <- s, not (member!(x,t))};",
-        b"macro \\subset = fn (\\s,\\t) => minus!(s,t) = {};",
-        b"macro \\product = fn (\\s,\\t) => {(x,y) | \\x <- s, \\y <- t};",
-        b"macro \\flatten = fn \\s => {x | \\t <- s, \\x <- t};",
-        b"macro \\least = fn \\s => get!({x | \\x <- s, {1 | \\y <- s, y < x} = {}});",
-        b"macro \\greatest = fn \\s => get!({x | \\x <- s, {1 | \\y <- s, y > x} = {}});",
-        b"macro \\min2 = fn (\\a,\\b) => if a < b then a else b;",
-        b"macro \\max2 = fn (\\a,\\b) => if a < b then b else a;",
-        b"macro \\range = fn (\\a,\\b) => {a+i | \\i <- gen!(b-a)};",
-        b"macro \\domain = fn \\a => gen!(len!a);",
-        b"macro \\cells = fn \\a => {x | [_:\\x] <- a};",
-        b"macro \\graph = fn \\a => {(i,x) | [\\i:\\x] <- a};",
-        b"macro \\reverse = fn \\a => [[a[len!a-i-1] | \\i<len!a]];",
-        b"macro \\subseq = fn (\\a,\\s,\\n) => [[a[s+i] | \\i<n]];",
-        b"macro \\append = fn (\\a,\\b) => [[if i < len!a then a[i] else b[i-len!a] | \\i<len!a+len!b]];",
-        b"macro \\transpose = fn \\a => [[a[j,i] | \\i<snd!(dim_2!a), \\j<fst!(dim_2!a)]];",
-        b"macro \\zip = fn (\\a,\\b) => [[(a[i],b[i]) | \\i<min2!(len!a,len!b)]];",
-    ];
-    let mut source = Vec::new(rt.alloc());
-    for part in parts {
-        source.extend_from_slice(part)?;
-    }
-    assert_seen(&rt, rt.alloc(), &source, "24")
+    assert_seen(&rt, rt.alloc(), PRELUDE.as_bytes(), "24")
 }
 
 // An expression of names in prefix form: a word for each operation, then its parts. Other forms are `?`.
@@ -323,56 +331,52 @@ fn assert_same(
     Ok(())
 }
 
+// An expression a line, and behind ` ~ ` the same in parentheses.
+const LEVELS: &str = r#"a default b or c; ~ a default (b or c);
+a or b default c; ~ (a or b) default c;
+a or b and c; ~ a or (b and c);
+a and b or c; ~ (a and b) or c;
+a and not b; ~ a and (not b);
+not a and b; ~ (not a) and b;
+not a = b; ~ not (a = b);
+not not a <> b; ~ not (not (a <> b));
+a < b union c; ~ a < (b union c);
+a union b >= c; ~ (a union b) >= c;
+a union b + c; ~ a union (b + c);
+a + b union c; ~ (a + b) union c;
+a + b * c; ~ a + (b * c);
+a * b + c; ~ (a * b) + c;
+a * f!b; ~ a * (f!b);
+f!a * b; ~ (f!a) * b;
+gen!a - b; ~ (gen!a) - b;
+f!a[b]; ~ f!(a[b]);
+gen!f!a; ~ gen!(f!a);
+a[b][c]; ~ (a[b])[c];
+a[b[c]]; ~ a[(b[c])];
+# to the left
+a - b - c; ~ (a - b) - c;
+a - b + c; ~ (a - b) + c;
+a / b * c; ~ (a / b) * c;
+a % b / c; ~ (a % b) / c;
+a union b union c; ~ (a union b) union c;
+a and b and c; ~ (a and b) and c;
+a or b or c; ~ (a or b) or c;
+# to the right
+a default b default c; ~ a default (b default c);
+if a then b else c default d; ~ if a then b else (c default d);
+if a then b else c or d; ~ if a then b else (c or d);
+if a then if b then c else d else e; ~ if a then (if b then c else d) else e;
+a default if b then c else d; ~ a default (if b then c else d);"#;
+
 #[test]
 fn levels_bind_as_parentheses_say(rt: HostRuntime) -> Result<(), AllocError> {
-    let rows: [(&[u8], &[u8]); 33] = [
-        (b"a default b or c;", b"a default (b or c);"),
-        (b"a or b default c;", b"(a or b) default c;"),
-        (b"a or b and c;", b"a or (b and c);"),
-        (b"a and b or c;", b"(a and b) or c;"),
-        (b"a and not b;", b"a and (not b);"),
-        (b"not a and b;", b"(not a) and b;"),
-        (b"not a = b;", b"not (a = b);"),
-        (b"not not a <> b;", b"not (not (a <> b));"),
-        (b"a < b union c;", b"a < (b union c);"),
-        (b"a union b >= c;", b"(a union b) >= c;"),
-        (b"a union b + c;", b"a union (b + c);"),
-        (b"a + b union c;", b"(a + b) union c;"),
-        (b"a + b * c;", b"a + (b * c);"),
-        (b"a * b + c;", b"(a * b) + c;"),
-        (b"a * f!b;", b"a * (f!b);"),
-        (b"f!a * b;", b"(f!a) * b;"),
-        (b"gen!a - b;", b"(gen!a) - b;"),
-        (b"f!a[b];", b"f!(a[b]);"),
-        (b"gen!f!a;", b"gen!(f!a);"),
-        (b"a[b][c];", b"(a[b])[c];"),
-        (b"a[b[c]];", b"a[(b[c])];"),
-        // to the left
-        (b"a - b - c;", b"(a - b) - c;"),
-        (b"a - b + c;", b"(a - b) + c;"),
-        (b"a / b * c;", b"(a / b) * c;"),
-        (b"a % b / c;", b"(a % b) / c;"),
-        (b"a union b union c;", b"(a union b) union c;"),
-        (b"a and b and c;", b"(a and b) and c;"),
-        (b"a or b or c;", b"(a or b) or c;"),
-        // to the right
-        (b"a default b default c;", b"a default (b default c);"),
-        (
-            b"if a then b else c default d;",
-            b"if a then b else (c default d);",
-        ),
-        (b"if a then b else c or d;", b"if a then b else (c or d);"),
-        (
-            b"if a then if b then c else d else e;",
-            b"if a then (if b then c else d) else e;",
-        ),
-        (
-            b"a default if b then c else d;",
-            b"a default (if b then c else d);",
-        ),
-    ];
-    for (plain, parted) in rows {
-        assert_same(&rt, rt.alloc(), plain, parted)?;
+    let mut rows: u64 = 0;
+    for line in LEVELS.split('\n') {
+        if let Some((source, expected)) = line.split_once(" ~ ") {
+            assert_same(&rt, rt.alloc(), source.as_bytes(), expected.as_bytes())?;
+            rows = rows.saturating_add(1);
+        }
     }
+    assert_eq!(rt; rows, 33);
     Ok(())
 }

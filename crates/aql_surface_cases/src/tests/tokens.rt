@@ -51,7 +51,9 @@ fn assert_seen(
     script: &[u8],
     expected: &str,
 ) -> Result<(), AllocError> {
-    assert_eq!(rt; seen(alloc, script)?.as_str(), expected);
+    let found = seen(alloc, script)?;
+    assert_eq!(rt; found.as_str(), expected);
+    drop(found);
     Ok(())
 }
 
@@ -99,7 +101,40 @@ fn repeated(alloc: Global, times: u64, part: &[u8]) -> Result<Vec<u8>, AllocErro
 }
 
 fn begins_with(alloc: Global, script: &[u8], kind: &str) -> Result<bool, AllocError> {
-    Ok(seen(alloc, script)?.starts_with(kind))
+    let found = seen(alloc, script)?;
+    let begins = found.starts_with(kind);
+    drop(found);
+    Ok(begins)
+}
+
+// The same of a script that was made.
+fn made_begins_with(
+    alloc: Global,
+    script: Result<Vec<u8>, AllocError>,
+    kind: &str,
+) -> Result<bool, AllocError> {
+    let script = script?;
+    let begins = begins_with(alloc, &script, kind);
+    drop(script);
+    begins
+}
+
+fn assert_seen_of(
+    rt: &impl Abort,
+    alloc: Global,
+    script: Result<Vec<u8>, AllocError>,
+    expected: &str,
+) -> Result<(), AllocError> {
+    let script = script?;
+    let found = assert_seen(rt, alloc, &script, expected);
+    drop(script);
+    found
+}
+
+fn with_quote(script: Result<Vec<u8>, AllocError>) -> Result<Vec<u8>, AllocError> {
+    let mut script = script?;
+    script.push(b'"')?;
+    Ok(script)
 }
 
 #[test]
@@ -111,8 +146,8 @@ fn deep_scripts_are_refused(rt: HostRuntime) -> Result<(), AllocError> {
         (401, b"(+", "deep 400"),
     ];
     for (times, part, expected) in rows {
-        let script = repeated(rt.alloc(), times, part)?;
-        assert_seen(&rt, rt.alloc(), &script, expected)?;
+        let script = repeated(rt.alloc(), times, part);
+        assert_seen_of(&rt, rt.alloc(), script, expected)?;
     }
     Ok(())
 }
@@ -121,8 +156,8 @@ fn deep_scripts_are_refused(rt: HostRuntime) -> Result<(), AllocError> {
 fn scripts_at_the_limit_are_not_deep(rt: HostRuntime) -> Result<(), AllocError> {
     let rows: [(u64, &[u8]); 2] = [(400, b"("), (401, b"let,end")];
     for (times, part) in rows {
-        let script = repeated(rt.alloc(), times, part)?;
-        assert!(rt; !begins_with(rt.alloc(), &script, "deep")?);
+        let script = repeated(rt.alloc(), times, part);
+        assert!(rt; !made_begins_with(rt.alloc(), script, "deep")?);
     }
     Ok(())
 }
@@ -139,9 +174,8 @@ fn deep_scripts_may_have_a_fault_of_text(rt: HostRuntime) -> Result<(), AllocErr
         (401, b"(+"),
     ];
     for (times, part) in rows {
-        let mut script = repeated(rt.alloc(), times, part)?;
-        script.extend_from_slice(b"\"")?;
-        assert!(rt; begins_with(rt.alloc(), &script, "text")?);
+        let script = with_quote(repeated(rt.alloc(), times, part));
+        assert!(rt; made_begins_with(rt.alloc(), script, "text")?);
     }
     Ok(())
 }

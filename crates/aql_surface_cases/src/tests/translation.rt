@@ -70,11 +70,17 @@ fn translated(alloc: Global, earlier: Vec<Decl>, e: Expr) -> Result<u128, Fault>
     let mut items = earlier;
     items.push(Decl::Bare { expr: e })?;
     let n = items.len() as u64;
+    let decls = Decls { items };
     let typed = Typed {
         items: Vec::new(alloc),
     };
-    let made = translate(alloc, &Decls { items }, &typed, n)?;
-    Ok(weight(&made))
+    let made = translate(alloc, &decls, &typed, n);
+    drop(decls);
+    drop(typed);
+    let made = made?;
+    let weight = weight(&made);
+    drop(made);
+    Ok(weight)
 }
 
 // The weight of the term, or the size and the levels.

@@ -16,7 +16,10 @@ fn alone(alloc: Global, e: Made) -> Result<Decls, Memory> {
 }
 
 fn copied(alloc: Global, e: Made) -> Made {
-    e?.copy(alloc)
+    let e = e?;
+    let made = e.copy(alloc);
+    drop(e);
+    made
 }
 
 #[test]
@@ -38,8 +41,13 @@ fn assert_measures(
     expected: (u64, u64),
 ) -> Result<(), Memory> {
     let decls = alone?;
-    assert!(rt; decls.items.len() == 1);
-    assert_eq!(rt; (size(&decls, 1), levels(&decls, 1)), expected);
+    let measures = if decls.items.len() == 1 {
+        Some((size(&decls, 1), levels(&decls, 1)))
+    } else {
+        None
+    };
+    drop(decls);
+    assert_eq!(rt; measures, Some(expected));
     Ok(())
 }
 
@@ -51,20 +59,27 @@ fn comprehensions_and_sets(rt: HostRuntime) -> Result<(), Memory> {
     assert_measures(&rt, alone(alloc, three_members(alloc)), (4, 4))
 }
 
+fn copied_declaration(alloc: Global, decl: Result<Decl, Memory>) -> Result<Decl, Memory> {
+    let decl = decl?;
+    let made = decl.copy(alloc);
+    drop(decl);
+    made
+}
+
 #[test]
 fn copies_are_made(rt: HostRuntime) -> Result<(), Memory> {
     let alloc = rt.alloc();
     assert_measures(&rt, alone(alloc, copied(alloc, matched(alloc))), (10, 14))?;
-    let decl = definition(alloc, 0, three_members(alloc))?.copy(alloc)?;
-    assert!(rt;
-        matches!(
-            decl,
-            Decl::Macro {
-                name: _,
-                pattern: Pattern::Bind(_),
-                body: Expr::Members(_)
-            }
-        )
+    let decl = copied_declaration(alloc, definition(alloc, 0, three_members(alloc)))?;
+    let is_macro = matches!(
+        decl,
+        Decl::Macro {
+            name: _,
+            pattern: Pattern::Bind(_),
+            body: Expr::Members(_)
+        }
     );
+    drop(decl);
+    assert!(rt; is_macro);
     Ok(())
 }

@@ -205,9 +205,15 @@ fn assert_types_of_the_prelude(
 #[test]
 fn the_texts_of_the_prelude(rt: HostRuntime) -> Result<(), Memory> {
     let trees = prelude(rt.alloc())?;
-    assert_eq!(rt; trees.items.len(), 24);
-    for ((source, _), tree) in PRELUDE.iter().zip(&trees.items) {
-        assert_read_as(&rt, rt.alloc(), source, tree)?;
+    let found = assert_trees(&rt, rt.alloc(), &trees.items);
+    drop(trees);
+    found
+}
+
+fn assert_trees(rt: &impl Abort, alloc: Global, trees: &[Decl]) -> Result<(), Memory> {
+    assert_eq!(rt; trees.len(), 24);
+    for ((source, _), tree) in PRELUDE.iter().zip(trees) {
+        assert_read_as(rt, alloc, source, tree)?;
     }
     Ok(())
 }
@@ -228,103 +234,64 @@ fn read_text(alloc: Global, source: &[u8]) -> Result<Vec<u8>, Memory> {
     }
 }
 
+// What a row of a table says: `none` is an empty text.
+fn said(text: &str) -> &str {
+    if text == "none" { "" } else { text }
+}
+
+// A script a line, and behind ` ~ ` the types of its declarations.
+const TYPES: &str = r#" ~ none
+340282366920938463463374607431768211455+1; ~ nat
+index_1!({(0,5),(2,7),(0,6)}); index_1!({}); ~ [[{nat}]]_1 / [[{'a}]]_1
+index_2!({((0,1),true)}); ~ [[{bool}]]_2
+macro \f = fn \a => {a+b | \b <- gen!2}; {x | \b <- gen!3, \x <- f!b}; ~ nat -> {nat} / {nat}
+{}; ~ {'a}
+{gen!2, {0}, {}}; {"b","a","b"}; ~ {{nat}} / {string}
+readval \T using NETCDFZ3 at ("t.nc","temp",(1,0,0),(2,2,3)); {h | [(\h,_,_):(true,_)] <- T}; ~ [[bool * nat]]_3 / {nat}
+readval \V using NETCDF2 at ("s.nc","v",(0,0),(2,3)); readval \U using NETCDFS1 at ("v.nc","u",0,2,2); ~ [[nat]]_2 / [[nat]]_1
+{(i,j) | [(\i,\j):6] <- [[2,3; 4, 6, 5, 6, 0, 6]]}; ~ {nat * nat}
+[[(i,i) | \i<10]][3]; ~ nat * nat
+[[10/i default 0 | \i<3]]; ~ [[nat]]_1
+macro \f = fn (\x,\s) => {(x,y) | \y <- s}; ~ 'a * {'b} -> {'a * 'b}
+macro \d = fn \a => dim_3!a; ~ [['a]]_3 -> nat * nat * nat
+macro \e = fn (\x,\y,\z) => x = z; ~ 'a * 'b * 'a -> bool
+macro \n = fn (\x,(\y,\z)) => ((z,y),x); ~ 'a * ('b * 'c) -> ('c * 'b) * 'a
+# a macro at two types, and one of its own results
+macro \f = fn \x => {x}; (f!1, f!true, f!(f!"a")); ~ 'a -> {'a} / {nat} * {bool} * {{string}}
+# the type of a global is general
+val \s = {}; (s union {1}, s union {true}); ~ {'a} / {nat} * {bool}
+# a pattern hides a global, and a later part of it an earlier one
+val \x = true; let val \x = 1 in x end; (fn \x => {x})!"a"; ~ bool / nat / {string}
+macro \g = fn (\x,\x) => x; ~ 'a * 'b -> 'b
+{x | \x <- {1}, \x <- {true}}; ~ {bool}
+# a later part of a pattern sees the names of an earlier one
+macro \g = fn (\x,x) => x; ~ 'a * 'a -> 'a
+val \x = 1; macro \g = fn (x,\y) => y; ~ nat / nat * 'a -> 'a
+macro \k = fn \a => {1 | [\i:i] <- a}; ~ [[nat]]_1 -> {nat}
+# a tabulation hides a global, but not in its bounds
+val \i = true; [[i | \i<2]]; ~ bool / [[nat]]_1
+val \i = 2; [[i | \i<3, \j<i]]; ~ nat / [[nat]]_2
+# a macro hides a value, a local name hides a macro, and a body sees what stood before it
+val \x = 1; macro \x = fn \y => y; x!true; let val \x = 2 in x end; ~ nat / 'a -> 'a / bool / nat
+val \x = 1; macro \f = fn \y => (x,y); val \x = true; f!"a"; ~ nat / 'a -> nat * 'a / bool / nat * string
+1; it; it; ~ nat / nat / nat
+let val \x = 1 val (\y,_) = (x,true) in {y} end; ~ {nat}"#;
+
 #[test]
 fn types_of_scripts(rt: HostRuntime) -> Result<(), Memory> {
-    let rows: [(&str, &str); 30] = [
-        ("", ""),
-        ("340282366920938463463374607431768211455+1;", "nat"),
-        (
-            "index_1!({(0,5),(2,7),(0,6)}); index_1!({});",
-            "[[{nat}]]_1 / [[{'a}]]_1",
-        ),
-        ("index_2!({((0,1),true)});", "[[{bool}]]_2"),
-        (
-            "macro \\f = fn \\a => {a+b | \\b <- gen!2}; {x | \\b <- gen!3, \\x <- f!b};",
-            "nat -> {nat} / {nat}",
-        ),
-        ("{};", "{'a}"),
-        (
-            "{gen!2, {0}, {}}; {\"b\",\"a\",\"b\"};",
-            "{{nat}} / {string}",
-        ),
-        (
-            "readval \\T using NETCDFZ3 at (\"t.nc\",\"temp\",(1,0,0),(2,2,3)); {h | [(\\h,_,_):(true,_)] <- T};",
-            "[[bool * nat]]_3 / {nat}",
-        ),
-        (
-            "readval \\V using NETCDF2 at (\"s.nc\",\"v\",(0,0),(2,3)); readval \\U using NETCDFS1 at (\"v.nc\",\"u\",0,2,2);",
-            "[[nat]]_2 / [[nat]]_1",
-        ),
-        (
-            "{(i,j) | [(\\i,\\j):6] <- [[2,3; 4, 6, 5, 6, 0, 6]]};",
-            "{nat * nat}",
-        ),
-        ("[[(i,i) | \\i<10]][3];", "nat * nat"),
-        ("[[10/i default 0 | \\i<3]];", "[[nat]]_1"),
-        (
-            "macro \\f = fn (\\x,\\s) => {(x,y) | \\y <- s};",
-            "'a * {'b} -> {'a * 'b}",
-        ),
-        (
-            "macro \\d = fn \\a => dim_3!a;",
-            "[['a]]_3 -> nat * nat * nat",
-        ),
-        (
-            "macro \\e = fn (\\x,\\y,\\z) => x = z;",
-            "'a * 'b * 'a -> bool",
-        ),
-        (
-            "macro \\n = fn (\\x,(\\y,\\z)) => ((z,y),x);",
-            "'a * ('b * 'c) -> ('c * 'b) * 'a",
-        ),
-        // a macro at two types, and one of its own results
-        (
-            "macro \\f = fn \\x => {x}; (f!1, f!true, f!(f!\"a\"));",
-            "'a -> {'a} / {nat} * {bool} * {{string}}",
-        ),
-        // the type of a global is general
-        (
-            "val \\s = {}; (s union {1}, s union {true});",
-            "{'a} / {nat} * {bool}",
-        ),
-        // a pattern hides a global, and a later part of it an earlier one
-        (
-            "val \\x = true; let val \\x = 1 in x end; (fn \\x => {x})!\"a\";",
-            "bool / nat / {string}",
-        ),
-        ("macro \\g = fn (\\x,\\x) => x;", "'a * 'b -> 'b"),
-        ("{x | \\x <- {1}, \\x <- {true}};", "{bool}"),
-        // a later part of a pattern sees the names of an earlier one
-        ("macro \\g = fn (\\x,x) => x;", "'a * 'a -> 'a"),
-        (
-            "val \\x = 1; macro \\g = fn (x,\\y) => y;",
-            "nat / nat * 'a -> 'a",
-        ),
-        (
-            "macro \\k = fn \\a => {1 | [\\i:i] <- a};",
-            "[[nat]]_1 -> {nat}",
-        ),
-        // a tabulation hides a global, but not in its bounds
-        ("val \\i = true; [[i | \\i<2]];", "bool / [[nat]]_1"),
-        ("val \\i = 2; [[i | \\i<3, \\j<i]];", "nat / [[nat]]_2"),
-        // a macro hides a value, a local name hides a macro, and a body sees what stood before it
-        (
-            "val \\x = 1; macro \\x = fn \\y => y; x!true; let val \\x = 2 in x end;",
-            "nat / 'a -> 'a / bool / nat",
-        ),
-        (
-            "val \\x = 1; macro \\f = fn \\y => (x,y); val \\x = true; f!\"a\";",
-            "nat / 'a -> nat * 'a / bool / nat * string",
-        ),
-        ("1; it; it;", "nat / nat / nat"),
-        (
-            "let val \\x = 1 val (\\y,_) = (x,true) in {y} end;",
-            "{nat}",
-        ),
-    ];
-    for (source, expected) in rows {
-        assert_text(&rt, types(rt.alloc(), source.as_bytes()), expected, source)?;
+    let mut rows: u64 = 0;
+    for line in TYPES.split('\n') {
+        if let Some((source, expected)) = line.split_once(" ~ ") {
+            assert_text(
+                &rt,
+                types(rt.alloc(), source.as_bytes()),
+                said(expected),
+                source,
+            )?;
+            rows = rows.saturating_add(1);
+        }
     }
+    assert_eq!(rt; rows, 30);
     Ok(())
 }
 
@@ -349,68 +316,68 @@ fn types_of_records(rt: HostRuntime) -> Result<(), Memory> {
     Ok(())
 }
 
+// A script a line, and behind ` ~ ` its first fault.
+const FAULTS: &str = r#" ~ none
+(* a ~ text 0
+(*) ~ text 0
+(**) ~ none
+1; 2 ~ syntax 2
+340282366920938463463374607431768211456; ~ text 0
+val \x = 1; 1 = true; ~ type 2
+{1, true}; ~ type 1
+1 default true; ~ type 1
+[[1, true; 1]]; ~ type 1
+dim_2!([[1; 1]]); ~ type 1
+index_2!({(1,2)}); ~ type 1
+{1 | (\x,\y) <- {(1,2,3)}}; ~ type 1
+x; ~ type 1
+fst; ~ type 1
+it!1; ~ type 1
+val \x = 1; x!2; ~ type 2
+{f!1 | \f <- {1}}; ~ type 1
+{fst!(1,2) | \fst <- {1}}; ~ type 1
+macro \f = fn \x => f!x; ~ type 1
+let val \z = 1 in 2 end; macro \f = fn \x => z; ~ type 2
+# a local name has one type
+let val \s = {} in (s union {1}, s union {true}) end; ~ type 1
+# the bounds of a tabulation see none of its indices
+val \i = true; [[1 | \i<3, \j<i]]; ~ type 2
+readval \V using NETCDF1 at ("a","b",0,true); ~ type 1
+readval \V using NETCDF2 at ("a","b",0,1); ~ type 1
+readval \R using CSVN at "a"; ~ unbuilt 1
+1; readval \R using CSVHNS at "a"; readval \R using CSVS at "a"; ~ unbuilt 2
+readval \R using CSVN at 1; ~ type 1
+# of several faults the first in the order text, deep, syntax, type, large, unbuilt
+1; 2 $ ~ text 5
+1 = true; 2 ~ syntax 2
+readval \R using CSVN at "a"; 1 = true; ~ type 2
+1 = true; readval \R using CSVN at "a"; 2 = true; ~ type 1
+readval \R using CSVNNNNNNNNN at "a"; 1 = true; ~ syntax 1"#;
+
 #[test]
 fn first_faults(rt: HostRuntime) -> Result<(), Memory> {
-    let rows: [(&str, &str); 33] = [
-        ("", ""),
-        ("(* a", "text 0"),
-        ("(*)", "text 0"),
-        ("(**)", ""),
-        ("1; 2", "syntax 2"),
-        ("340282366920938463463374607431768211456;", "text 0"),
-        ("val \\x = 1; 1 = true;", "type 2"),
-        ("{1, true};", "type 1"),
-        ("1 default true;", "type 1"),
-        ("[[1, true; 1]];", "type 1"),
-        ("dim_2!([[1; 1]]);", "type 1"),
-        ("index_2!({(1,2)});", "type 1"),
-        ("{1 | (\\x,\\y) <- {(1,2,3)}};", "type 1"),
-        ("x;", "type 1"),
-        ("fst;", "type 1"),
-        ("it!1;", "type 1"),
-        ("val \\x = 1; x!2;", "type 2"),
-        ("{f!1 | \\f <- {1}};", "type 1"),
-        ("{fst!(1,2) | \\fst <- {1}};", "type 1"),
-        ("macro \\f = fn \\x => f!x;", "type 1"),
-        (
-            "let val \\z = 1 in 2 end; macro \\f = fn \\x => z;",
-            "type 2",
-        ),
-        // a local name has one type
-        (
-            "let val \\s = {} in (s union {1}, s union {true}) end;",
-            "type 1",
-        ),
-        // the bounds of a tabulation see none of its indices
-        ("val \\i = true; [[1 | \\i<3, \\j<i]];", "type 2"),
-        (
-            "readval \\V using NETCDF1 at (\"a\",\"b\",0,true);",
-            "type 1",
-        ),
-        ("readval \\V using NETCDF2 at (\"a\",\"b\",0,1);", "type 1"),
-        ("readval \\R using CSVN at \"a\";", "unbuilt 1"),
-        (
-            "1; readval \\R using CSVHNS at \"a\"; readval \\R using CSVS at \"a\";",
-            "unbuilt 2",
-        ),
-        ("readval \\R using CSVN at 1;", "type 1"),
-        // of several faults the first in the order text, deep, syntax, type, large, unbuilt
-        ("1; 2 $", "text 5"),
-        ("1 = true; 2", "syntax 2"),
-        ("readval \\R using CSVN at \"a\"; 1 = true;", "type 2"),
-        (
-            "1 = true; readval \\R using CSVN at \"a\"; 2 = true;",
-            "type 1",
-        ),
-        (
-            "readval \\R using CSVNNNNNNNNN at \"a\"; 1 = true;",
-            "syntax 1",
-        ),
-    ];
-    for (source, expected) in rows {
-        assert_fault(&rt, rt.alloc(), source, expected)?;
+    let mut rows: u64 = 0;
+    for line in FAULTS.split('\n') {
+        if let Some((source, expected)) = line.split_once(" ~ ") {
+            assert_fault(&rt, rt.alloc(), source, said(expected))?;
+            rows = rows.saturating_add(1);
+        }
     }
+    assert_eq!(rt; rows, 33);
     Ok(())
+}
+
+// The same of a script that was made.
+fn assert_fault_of(
+    rt: &impl Abort,
+    alloc: Global,
+    source: Result<String, AllocError>,
+    expected: &str,
+) -> Result<(), AllocError> {
+    let source = source?;
+    let found = assert_fault(rt, alloc, source.as_str(), expected);
+    drop(source);
+    found
 }
 
 // A text with a part of it repeated that many times.
@@ -452,8 +419,8 @@ fn faults_where_a_part_is_repeated(rt: HostRuntime) -> Result<(), Memory> {
         (tens, "{(v,v,v,v,v,v,v,v,v)}", 1, ";", "type 3"),
     ];
     for (before, part, times, after, expected) in rows {
-        let source = repeated(rt.alloc(), before, part, times, after)?;
-        assert_fault(&rt, rt.alloc(), &source, expected)?;
+        let source = repeated(rt.alloc(), before, part, times, after);
+        assert_fault_of(&rt, rt.alloc(), source, expected)?;
     }
     Ok(())
 }
@@ -507,8 +474,8 @@ fn faults_of_chained_macros(rt: HostRuntime) -> Result<(), Memory> {
         (single, nested, 8, "f8!(f7!(f4!1));", "type 10"),
     ];
     for (first, body, count, last, expected) in rows {
-        let source = chained(rt.alloc(), first, body, count, last)?;
-        assert_fault(&rt, rt.alloc(), &source, expected)?;
+        let source = chained(rt.alloc(), first, body, count, last);
+        assert_fault_of(&rt, rt.alloc(), source, expected)?;
     }
     Ok(())
 }

@@ -66,7 +66,9 @@ fn is_packed(
     bytes: &[u8],
 ) -> Result<bool, Memory> {
     let flat = row(alloc, length, cells)?;
-    Ok(packs(&flat, Some((width, bytes))))
+    let found = packs(&flat, Some((width, bytes)));
+    drop(flat);
+    Ok(found)
 }
 
 fn is_unpacked(
@@ -75,7 +77,9 @@ fn is_unpacked(
     cells: Result<Builder, Memory>,
 ) -> Result<bool, Memory> {
     let flat = row(alloc, length, cells)?;
-    Ok(packs(&flat, None))
+    let found = packs(&flat, None);
+    drop(flat);
+    Ok(found)
 }
 
 #[test]
@@ -114,13 +118,18 @@ fn window_length(alloc: Global, flat: &Flat) -> Result<usize, Memory> {
 
 fn cell(alloc: Global, flat: &Flat, at: &[u128]) -> Result<Option<Value>, Memory> {
     let at = Index::from_slice(alloc, at)?;
-    flat.cell(alloc, &at)
+    let found = flat.cell(alloc, &at);
+    drop(at);
+    found
 }
 
 fn natural_at(alloc: Global, flat: &Flat, at: &[u128]) -> Result<Option<u128>, Memory> {
     match cell(alloc, flat, at)? {
         Some(Value::Nat(n)) => Ok(Some(n)),
-        _ => Ok(None),
+        other => {
+            drop(other);
+            Ok(None)
+        }
     }
 }
 
@@ -176,7 +185,10 @@ fn one_at_a_time(
 
 fn cell_alike(alloc: Global, many: &Flat, each: &Flat, i: u128) -> Result<bool, Memory> {
     let (many, each) = both(cell(alloc, many, &[i]), cell(alloc, each, &[i]))?;
-    Ok(many == each)
+    let alike = many == each;
+    drop(many);
+    drop(each);
+    Ok(alike)
 }
 
 fn rows_alike(alloc: Global, length: u128, many: &Flat, each: &Flat) -> Result<bool, Memory> {
@@ -194,10 +206,11 @@ fn alike(
     many: Result<Builder, Memory>,
     each: Result<Builder, Memory>,
 ) -> Result<bool, Memory> {
-    match (row(alloc, length, many), row(alloc, length, each)) {
-        (Ok(many), Ok(each)) => rows_alike(alloc, length, &many, &each),
-        _ => Err(Memory),
-    }
+    let (many, each) = both(row(alloc, length, many), row(alloc, length, each))?;
+    let alike = rows_alike(alloc, length, &many, &each);
+    drop(many);
+    drop(each);
+    alike
 }
 
 const PIECES: [&[u64]; 6] = [

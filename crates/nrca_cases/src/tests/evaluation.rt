@@ -75,7 +75,9 @@ fn evaluated<R: Threads + Sync, G: Gate>(
     requires workers { (1 ≤ workers) × (workers ≤ 64) }
 {
     let done = evaluate(rt, alloc, &case.term, &case.globals, budget, workers, gate)?;
-    outcome(alloc, &done.value, &case.value, done.turns)
+    let found = outcome(alloc, &done.value, &case.value, done.turns);
+    drop(done);
+    found
 }
 
 fn found<R: Threads + Sync, G: Gate>(
@@ -90,7 +92,9 @@ fn found<R: Threads + Sync, G: Gate>(
     requires workers { (1 ≤ workers) × (workers ≤ 64) }
 {
     let case = case_of(alloc, row.0, row.1)?;
-    evaluated(rt, alloc, &case, budget, workers, gate)
+    let found = evaluated(rt, alloc, &case, budget, workers, gate);
+    drop(case);
+    found
 }
 
 fn meets<R: Threads + Sync + Abort>(rt: &R, alloc: Global, rows: &[Row]) -> Result<(), Fail> {

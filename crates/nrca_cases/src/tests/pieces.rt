@@ -40,6 +40,8 @@ fn are(items: &Items, numbers: &[u128]) -> bool {
 fn a_set_holds_each_member_once(rt: HostRuntime) -> Result<(), Fail> {
     let alloc = rt.alloc();
     let set = canon_wide(&rt, alloc, numbers(alloc, &[3, 1, 3])?)?.into_items();
-    assert!(rt; are(&set, &[1, 3]));
+    let found = are(&set, &[1, 3]);
+    drop(set);
+    assert!(rt; found);
     Ok(())
 }

@@ -14,13 +14,19 @@ fn evaluated(alloc: Global, term: &Core, value: &Option<Value>, budget: u64) -> 
     let globals = Globals {
         list: Vec::new(alloc),
     };
-    let done = eval(alloc, term, &globals, &Env::Empty, budget)?;
-    outcome(alloc, &done.answer, value, u128::from(done.turns))
+    let done = eval(alloc, term, &globals, &Env::Empty, budget);
+    drop(globals);
+    let done = done?;
+    let found = outcome(alloc, &done.answer, value, u128::from(done.turns));
+    drop(done);
+    found
 }
 
 fn found(alloc: Global, row: &Row, budget: u64) -> Outcome {
     let parts = both(term(alloc, row.0), value(alloc, row.1))?;
-    evaluated(alloc, &parts.0, &parts.1, budget)
+    let found = evaluated(alloc, &parts.0, &parts.1, budget);
+    drop(parts);
+    found
 }
 
 const ROWS: [Row; 8] = [

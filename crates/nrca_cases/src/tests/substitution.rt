@@ -2,7 +2,7 @@ ghost use Rattle.std.specs.Prelude.{◌≡◌, IfOk};
 ghost use Rattle.nrca_term.specs.Nodes.{gen_term, sum_term};
 ghost use Rattle.nrca_term.specs.View.{term_of};
 
-use aql_made::{both_boxed, boxed};
+use aql_made::{both, both_boxed, boxed};
 use aql_value::Memory;
 use nrca_subst::{same, same_shifted, shift, subst, uses};
 use nrca_term::Core;
@@ -42,29 +42,37 @@ fn moved(alloc: Global) -> Result<Core, Memory> {
     sum(alloc, Core::Var(5), Core::Var(0))
 }
 
-fn is_same(made: &Result<Core, Memory>, wanted: &Result<Core, Memory>) -> bool {
-    match (made, wanted) {
-        (Ok(made), Ok(wanted)) => same(made, wanted),
-        _ => false,
-    }
+fn is_same(made: Result<Core, Memory>, wanted: Result<Core, Memory>) -> Result<bool, Memory> {
+    let (made, wanted) = both(made, wanted)?;
+    let found = same(&made, &wanted);
+    drop(made);
+    drop(wanted);
+    Ok(found)
 }
 
-fn is_same_shifted(made: &Result<Core, Memory>, by: u64, wanted: &Result<Core, Memory>) -> bool {
-    match (made, wanted) {
-        (Ok(made), Ok(wanted)) => same_shifted(made, by, wanted),
-        _ => false,
-    }
+fn is_same_shifted(
+    made: Result<Core, Memory>,
+    by: u64,
+    wanted: Result<Core, Memory>,
+) -> Result<bool, Memory> {
+    let (made, wanted) = both(made, wanted)?;
+    let found = same_shifted(&made, by, &wanted);
+    drop(made);
+    drop(wanted);
+    Ok(found)
 }
 
 fn uses_in(term: Result<Core, Memory>, at: u64) -> Result<u64, Memory> {
     let term = term?;
-    Ok(uses(&term, at))
+    let found = uses(&term, at);
+    drop(term);
+    Ok(found)
 }
 
 #[test]
 fn the_term_put_in_is_shifted(rt: HostRuntime) -> Result<(), Fail> {
     let alloc = rt.alloc();
-    assert!(rt; is_same(&substituted(alloc), &put_in(alloc)));
+    assert!(rt; is_same(substituted(alloc), put_in(alloc))?);
     assert_eq!(rt; uses_in(put_in(alloc), 0)?, 2);
     Ok(())
 }
@@ -72,6 +80,6 @@ fn the_term_put_in_is_shifted(rt: HostRuntime) -> Result<(), Fail> {
 #[test]
 fn bound_variables_are_not_shifted(rt: HostRuntime) -> Result<(), Fail> {
     let alloc = rt.alloc();
-    assert!(rt; is_same_shifted(&shifted(alloc), 0, &moved(alloc)));
+    assert!(rt; is_same_shifted(shifted(alloc), 0, moved(alloc))?);
     Ok(())
 }

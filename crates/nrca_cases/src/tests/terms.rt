@@ -9,25 +9,58 @@ fn crosses_threads<T: Send + Sync>(_term: &T) {}
 // The part at the end of these steps: none where there is no such part, and else its variable, if it is one.
 fn variable_at(alloc: Global, term: &Core, steps: &[u64]) -> Result<Option<Option<u64>>, Memory> {
     let path = Path(Vec::from_slice(alloc, steps)?);
-    Ok(match place(term, &path) {
+    let found = place(term, &path);
+    drop(path);
+    Ok(match found {
         Some(part) => Some(part.variable()),
         None => None,
     })
+}
+
+fn weight_of(alloc: Global, words: &str) -> Result<u128, Memory> {
+    let term = words::term(alloc, words)?;
+    crosses_threads(&term);
+    let found = weight(&term);
+    drop(term);
+    Ok(found)
+}
+
+fn copy_of(alloc: Global, words: &str) -> Result<Core, Memory> {
+    let term = words::term(alloc, words)?;
+    let copied = term.copy(alloc);
+    drop(term);
+    copied
+}
+
+fn weight_of_copy(alloc: Global, words: &str) -> Result<u128, Memory> {
+    let copied = copy_of(alloc, words)?;
+    let found = weight(&copied);
+    drop(copied);
+    Ok(found)
+}
+
+fn variable_in_copy(
+    alloc: Global,
+    words: &str,
+    steps: &[u64],
+) -> Result<Option<Option<u64>>, Memory> {
+    let copied = copy_of(alloc, words)?;
+    let found = variable_at(alloc, &copied, steps);
+    drop(copied);
+    found
 }
 
 // [[ (i, "a") | i < 2, j < 3 ]] at 0 and 1
 #[test]
 fn weights_places_and_copies(rt: HostRuntime) -> Result<(), Fail> {
     let alloc = rt.alloc();
-    let term = words::term(alloc, "2 3 v1 'a tup2 tab2 0 1 sub2")?;
-    crosses_threads(&term);
+    let words = "2 3 v1 'a tup2 tab2 0 1 sub2";
     // a tabulation of rank 2 weighs 18; two bounds, a tuple of two, the subscript and two indices
-    assert_eq!(rt; weight(&term), 26);
-    let copied = term.copy(alloc)?;
-    assert_eq!(rt; weight(&copied), 26);
+    assert_eq!(rt; weight_of(alloc, words)?, 26);
+    assert_eq!(rt; weight_of_copy(alloc, words)?, 26);
     // part 0 of the subscript, its body (part 2), and part 0 of that
-    assert_eq!(rt; variable_at(alloc, &copied, &[0, 2, 0])?, Some(Some(1)));
-    assert_eq!(rt; variable_at(alloc, &copied, &[0, 3])?, None);
+    assert_eq!(rt; variable_in_copy(alloc, words, &[0, 2, 0])?, Some(Some(1)));
+    assert_eq!(rt; variable_in_copy(alloc, words, &[0, 3])?, None);
     Ok(())
 }
 
@@ -35,7 +68,7 @@ fn weights_places_and_copies(rt: HostRuntime) -> Result<(), Fail> {
 fn the_dimensions_of_a_rank_weigh_more(rt: HostRuntime) -> Result<(), Fail> {
     let alloc = rt.alloc();
     for (words, weighed) in [("v0 dim8", 19), ("1 v0 dim8 +", 21)] {
-        assert_eq!(rt; weight(&words::term(alloc, words)?), weighed);
+        assert_eq!(rt; weight_of(alloc, words)?, weighed);
     }
     Ok(())
 }
