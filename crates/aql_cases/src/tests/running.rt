@@ -37,7 +37,8 @@ pub(crate) struct Ran {
 /// The files of a run, by their names.
 pub(crate) type Folder = BTreeMap<String, Vec<u8>>;
 
-fn bytes(alloc: Global, all: &[u8]) -> Result<Vec<u8>, Memory> {
+/// A list of these bytes.
+pub(crate) fn bytes(alloc: Global, all: &[u8]) -> Result<Vec<u8>, Memory> {
     Ok(all.to_vec(alloc)?)
 }
 
