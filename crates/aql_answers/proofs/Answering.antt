@@ -31,8 +31,9 @@ use Rattle.aql_session.specs.Step.{AreWithinLimits, ReadsNoRecords, IsAnswer, Is
 use Rattle.aql_session.specs.declared.answer.StepFault.{StepFault}
 use Rattle.aql_session.specs.declared.answer.Answer.{Answer}
 use Rattle.aql_answers.specs.Answered.{IsAnswered, AreAnswered, IsStopped}
-use Rattle.aql_answers.specs.Entry.{entry}
-use Rattle.aql_answers.specs.Writing.{WritesFront}
+use Rattle.aql_answers.specs.AnsweredLaws.{inside}
+use Rattle.aql_lines.specs.Entry.{entry}
+use Rattle.aql_lines.specs.Writing.{WritesFront}
 use Rattle.aql_answers.specs.declared.steps.Halt.{Halt}
 use Rattle.aql_answers.specs.declared.steps.Halt.TheVariants as halts
 use Rattle.aql_answers.specs.Steps.{own, sorts, IsPrepared, Progress, Goes, CutsEntry, Halts, IsNoFault}
@@ -64,12 +65,6 @@ behind xs x y i le e = at (i - length xs) (sym (slice_get-append_right xs (x ∷
     at : (k : ℕ) → slice_get (x ∷ []) k ≡ Some y → i - length xs ≡ k → (i ≡ length xs) × (x ≡ y)
     at zero f h = (omega (arith, le, h), some_is x y f)
     at (suc k) f h = absurd cc
-
--- an element is there only below the length
-inside : {X : Type 0} (xs : List X) (i : ℕ) (x : X) → slice_get xs i ≡ Some x → i < length xs
-inside [] i x e = absurd cc
-inside (y ∷ xs) zero x e = omega arith
-inside (y ∷ xs) (suc i) x e = omega (arith, inside xs i x e)
 
 -- the answers with one more
 pub answered_more : (ds : List Declaration) (sorts : List Sort) (budget : ℕ) (holds : Option Content) (answers : List Answer) (V : Outcomes) (d : Declaration) (a : Answer) (o : Option Datum) →

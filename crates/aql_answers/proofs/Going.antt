@@ -19,7 +19,7 @@ use Rattle.aql_session.specs.declared.answer.StepFault.{StepFault}
 use Rattle.aql_session.specs.declared.answer.StepFault.TheVariants as faults
 use Rattle.aql_words.specs.declared.words.Options.{Options}
 use Rattle.aql_answers.specs.Answered.{AreAnswered, IsStopped}
-use Rattle.aql_answers.specs.Entry.{entry, entries}
+use Rattle.aql_lines.specs.Entry.{entry, entries}
 use Rattle.aql_answers.specs.Steps.{own, sorts, IsPrepared, Declared, Goes, CutsEntry, Halts, Going, AllAnswered, CutsLines, EndsEarly}
 use Rattle.aql_answers.specs.declared.steps.Halt.{Halt}
 use Rattle.aql_answers.specs.declared.steps.Halt.TheVariants as halts

@@ -1,4 +1,3 @@
-mod Streams
 mod Answering
 mod Prelude
 mod Going

@@ -1,48 +1,27 @@
 -- The positions of the prelude.
-use Rattle.std.proofs.Common.{ℕ, zero, suc, ◌≡◌, ◌+◌, ◌-◌, ◌<◌, ◌≤◌, List, [], ◌∷◌, ◌++◌, refl, sym, ap, ◌∙◌, subst, length, take, map, arith, Bool, true, false}
+use Rattle.std.proofs.Common.{ℕ, zero, suc, ◌≡◌, ◌+◌, ◌-◌, ◌<◌, ◌≤◌, List, [], ◌∷◌, ◌++◌, refl, sym, ap, ◌∙◌, subst, length, take, map, arith, true}
 use Rattle.std.proofs.lemmas.List.{map-append, length-replicate}
 use Rattle.std.specs.List.{slice_get}
 use Rattle.std.specs.Prelude.{Option, Some, None, replicate}
 use Rattle.aql_outside.specs.Contents.{Content}
 use Rattle.aql_value.specs.Datum.{Datum}
-use Rattle.aql_value.specs.Lists.{slice_get-append_left}
 use Rattle.aql_syntax.specs.Script.{Earlier}
 use Rattle.aql_syntax.specs.Sound.{OutcomesHave}
 use Rattle.aql_syntax.specs.Tree.{Declaration, val, mac, read, bare, declared}
 use Rattle.aql_syntax.specs.View.{decls_of}
-use Rattle.aql_prelude.specs.Prelude.{prelude_decls}
-use Rattle.aql_script.specs.PositionLaws.{positions_are, length_positions}
+use Rattle.aql_script.specs.PositionLaws.{length_positions}
 use Rattle.aql_script.specs.Script.{positions}
 use Rattle.aql_script.specs.declared.preparing.Prepared.{Prepared}
 use Rattle.aql_session.specs.Bound.{Bound, names, outcomes, AreBound, earlier_of}
 use Rattle.aql_session.specs.Step.{IsOutcome, Binds, ReadsNoRecords}
 use Rattle.aql_answers.specs.Answered.{AreAnswered}
+use Rattle.aql_answers.specs.AnsweredLaws.{is_macro, macro_at}
 use Rattle.aql_answers.specs.Steps.{own, sorts, IsPrepared, Declared, Progress}
 use Rattle.aql_answers.proofs.Answering.{map_take_next, onto_next, onto_none, next_is, decls_length}
 
-abbrev is_macro : Declaration → Bool
-is_macro (val x e) = false
-is_macro (mac f p body) = true
-is_macro (read x r e) = false
-is_macro (bare e) = false
-
-abbrev EachMacro : List Declaration → Type 0
-EachMacro [] = Unit {0}
-EachMacro (d ∷ ds) = (is_macro d ≡ true) × EachMacro ds
-
-macro_at : (ds : List Declaration) (k : ℕ) (d : Declaration) → EachMacro ds → slice_get ds k ≡ Some d → is_macro d ≡ true
-macro_at [] k d h e = absurd cc
-macro_at (x ∷ ds) zero d h e = let same : x ≡ d = cc in subst (λ z. is_macro z ≡ true) same h.0
-macro_at (x ∷ ds) (suc k) d h e = macro_at ds k d h.1 e
-
-each_macro : EachMacro prelude_decls
-each_macro = (refl, (refl, (refl, (refl, (refl, (refl, (refl, (refl, (refl, (refl, (refl, (refl, (refl, (refl, (refl, (refl, (refl, (refl, (refl, (refl, (refl, (refl, (refl, (refl, tt))))))))))))))))))))))))
-
 -- each of the first 24 positions is a macro
 prelude_macro : (p : Prepared) (k : ℕ) (d : Declaration) → IsPrepared p → k < 24 → slice_get (decls_of p.decls.items.items) k ≡ Some d → is_macro d ≡ true
-prelude_macro p k d h lt e =
-    macro_at prelude_decls k d each_macro
-    (sym (slice_get-append_left prelude_decls (own p) k lt) ∙ (ap (λ (l : List Declaration). slice_get l k) (sym (positions_are (own p)) ∙ sym h.all) ∙ e))
+prelude_macro p k d h lt e = macro_at (own p) k d lt (ap (λ (l : List Declaration). slice_get l k) (sym h.all) ∙ e)
 
 -- a macro has no value
 no_outcome : (d : Declaration) (earlier : Earlier) (holds : Option Content) (o : Option Datum) → is_macro d ≡ true → IsOutcome d earlier holds o → o ≡ None

@@ -1,6 +1,3 @@
-pub mod Sample
-pub mod Entry
-pub mod Lines
-pub mod Writing
 pub mod Answered
 pub mod Steps
+pub mod AnsweredLaws

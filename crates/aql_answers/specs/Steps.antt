@@ -15,7 +15,7 @@ use Rattle.aql_session.specs.Bound.{Bound, outcomes, AreBound, earlier_of}
 use Rattle.aql_session.specs.declared.answer.Answer.{Answer}
 use Rattle.aql_words.specs.declared.words.Options.{Options}
 use Rattle.aql_answers.specs.Answered.{AreAnswered, IsStopped}
-use Rattle.aql_answers.specs.Entry.{entry, entries}
+use Rattle.aql_lines.specs.Entry.{entry, entries}
 use Rattle.aql_answers.specs.declared.steps.Halt.{Halt}
 use Rattle.aql_answers.specs.declared.steps.Halt.TheVariants as halts
 

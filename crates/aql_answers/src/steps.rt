@@ -5,12 +5,11 @@ ghost use Rattle.nrca_array.specs.Held.{held_datum};
 ghost use Rattle.aql_outside.specs.Causes.{Rose};
 ghost use Rattle.aql_words.specs.Words.{AreInRange};
 ghost use Rattle.aql_session.specs.Bound.{outcomes};
-ghost use Rattle.aql_answers.specs.Entry.{entry};
+ghost use Rattle.aql_lines.specs.Entry.{entry};
 ghost use Rattle.aql_answers.specs.Steps.{IsPrepared, Progress, Goes, Halts, IsNoFault, Declared, AllAnswered, EndsEarly};
-ghost use Rattle.aql_answers.specs.Writing.{WritesFront};
+ghost use Rattle.aql_lines.specs.Writing.{WritesFront};
 
-use crate::entries::entry_text;
-use crate::writing::write_all;
+use aql_lines::{entry_text, write_all};
 use aql_outside::{Files, Gate, Sink};
 use aql_script::Prepared;
 use aql_session::{Answer, Options, Session, StepFault};

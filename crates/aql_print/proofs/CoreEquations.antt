@@ -1,4 +1,4 @@
--- The text of each variant, as the table of texts has it.
+-- The text of each variant, by the definition of texts.
 use Rattle.std.proofs.Common.{◌≡◌, ℕ, ◌+◌, List, [], ◌∷◌, ◌++◌, length, map, take, drop, refl, sym, ap, ◌∙◌, codes, add-zero, append-nil}
 use Rattle.std.proofs.Math.Seq.{take-append_seam, drop-append_seam}
 use Rattle.std.proofs.lemmas.List.{length-map}
@@ -7,8 +7,9 @@ use Rattle.aql_value.specs.declared.ops.ArithOp.{ArithOp}
 use Rattle.aql_value.specs.declared.ops.CompareOp.{CompareOp}
 use Rattle.nrca_term.specs.Term.{Term, Parts, none, part, plain}
 use Rattle.nrca_term.specs.Nodes.{let_term, if_term, default_term, tuple_term, proj_term, arith_term, compare_term, single_term, union_term, big_union_term, sum_term, gen_term, get_term, tab_term, sub_term, dim_term, index_term, literal_term}
-use Rattle.aql_print.specs.Joined.{separated}
-use Rattle.aql_print.specs.CoreText.{arith_text, compare_text, bound_text, between, joined, loop_text, tabulated_text, indexed_text, literal_text, core_text, part_texts, one}
+use Rattle.aql_texts.specs.Joined.{separated}
+use Rattle.aql_print.specs.CoreText.{arith_text, compare_text, between, joined, loop_text, tabulated_text, indexed_text, literal_text, core_text, part_texts, one}
+use Rattle.aql_texts.specs.Names.{bound_text}
 
 -- the texts of terms
 abbrev pub core_texts : ℕ → List Term → List (List ℕ)

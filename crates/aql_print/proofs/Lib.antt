@@ -1,6 +1,5 @@
 pub mod Chains
 pub mod CoreEquations
 mod Examples
-pub mod Prefixes
 pub mod Variables
 pub mod Weights

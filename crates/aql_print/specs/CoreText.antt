@@ -8,20 +8,9 @@ use Rattle.aql_value.specs.declared.ops.ArithOp.TheVariants.{Add, Monus, Mul, Qu
 use Rattle.aql_value.specs.declared.ops.CompareOp.{CompareOp}
 use Rattle.aql_value.specs.declared.ops.CompareOp.TheVariants.{Equal, Unequal, Less, LessEqual, Greater, GreaterEqual}
 use Rattle.nrca_term.specs.Term.{Term, node, Parts, none, part, Form, var, global, bind, choose, default, big_union, sum, tab, strict}
-use Rattle.aql_print.specs.Joined.{separated}
-use Rattle.aql_print.specs.ValueText.{text}
-
--- a bound variable, by the number of binders around its own binder
-abbrev pub bound_text : ℕ → List ℕ
-bound_text n = codes "x" ++ decimal n
-
--- variable i where d binders stand around it: d - 1 - i of them stand around its own
-abbrev pub variable_text : (d i : ℕ) → List ℕ
-variable_text d i = bound_text (d - 1 - i)
-
--- a position, by the number of its declaration: the first 24 positions are those of the prelude
-abbrev pub position_text : ℕ → List ℕ
-position_text n = codes "@" ++ decimal (n - 24)
+use Rattle.aql_texts.specs.Joined.{separated}
+use Rattle.aql_texts.specs.Names.{bound_text, variable_text, position_text}
+use Rattle.aql_texts.specs.ValueText.{text}
 
 abbrev pub arith_text : ArithOp → List ℕ
 arith_text Add = codes " + "

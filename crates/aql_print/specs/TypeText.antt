@@ -2,7 +2,7 @@
 use Rattle.std.specs.Prelude.{ℕ, suc, ◌+◌, ◌/◌, ◌%◌, ◌==◌, ◌||◌, Bool, false, List, [], ◌∷◌, ◌++◌, codes, decimal, if◌then◌else◌}
 use Rattle.aql_types.specs.Types as types
 use Rattle.aql_types.specs.Types.{Ty, natural, truth, var, product, set_of, array_of, Tys, no_type, type, Sort, value, macro}
-use Rattle.aql_print.specs.Joined.{separated}
+use Rattle.aql_texts.specs.Joined.{separated}
 
 -- whether a variable is one of some
 abbrev pub is_one_of : ℕ → List ℕ → Bool

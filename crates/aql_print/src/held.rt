@@ -1,12 +1,11 @@
 ghost use Rattle.std.specs.Prelude.{◌≡◌, ◌++◌, codes, OnOk};
 ghost use Rattle.aql_value.specs.Datum.{data_of};
-ghost use Rattle.aql_print.specs.Appends.{AppendsPrefix};
-ghost use Rattle.aql_print.specs.Joined.{separated};
-ghost use Rattle.aql_print.specs.ValueText.{text, texts};
+ghost use Rattle.aql_texts.specs.Appends.{AppendsPrefix};
+ghost use Rattle.aql_texts.specs.Joined.{separated};
+ghost use Rattle.aql_texts.specs.ValueText.{text, texts};
 ghost use Rattle.nrca_array.specs.Held.{held_datum, table_datum};
 
-use crate::bytes::{put, put_before};
-use crate::value::{print_value, put_dims};
+use aql_texts::{print_value, put, put_before, put_dims};
 use aql_value::Memory;
 use nrca_array::{Flat, Held};
 use std::alloc::Global;

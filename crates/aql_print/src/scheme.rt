@@ -1,18 +1,18 @@
 ghost use Rattle.std.specs.Prelude.{◌≡◌, ◌+◌, ◌++◌, ◌∷◌, [], OnOk, IfOk, decimal, codes};
 ghost use Rattle.aql_types.specs.Types as types;
 ghost use Rattle.aql_types.specs.View.{type_of, types_of, sort_of};
-ghost use Rattle.aql_print.specs.Appends.{AppendsPrefix};
-ghost use Rattle.aql_print.specs.Joined.{separated};
+ghost use Rattle.aql_texts.specs.Appends.{AppendsPrefix};
+ghost use Rattle.aql_texts.specs.Joined.{separated};
 ghost use Rattle.aql_print.specs.TypeText as texts;
 ghost use Rattle.aql_print.specs.TypeText.{is_one_of, place, variables_all, variable_text, part_text, part_texts, type_text, scheme_text};
 
-use crate::bytes::{put, put_before, put_number};
+use aql_texts::{put, put_before, put_number};
 use aql_types::ty::{Scheme, Ty};
 use aql_value::Memory;
 use std::alloc::Global;
 
 /// Appends the text of a scheme. Where memory runs out, the old bytes and then a prefix of the text are left.
-#[tactic(auto, using(crate::proofs::Prefixes::prefix_none))]
+#[tactic(auto, using(aql_texts::specs::PrefixLaws::prefix_none))]
 pub fn print_scheme(alloc: Global, s: &Scheme, out: &mut Vec<u8>) -> Result<(), Memory>
     ensures ok { OnOk result (out.new.items ≡ out.old.items ++ scheme_text (sort_of s.now)) }
     ensures prefix { AppendsPrefix out.old.items out.new.items (scheme_text (sort_of s.now)) }

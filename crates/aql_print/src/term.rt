@@ -1,18 +1,19 @@
 ghost use Rattle.std.specs.Prelude.{◌≡◌, ◌+◌, ◌-◌, ◌++◌, map, codes, decimal, OnOk, IfOk};
 ghost use Rattle.nrca_term.specs.Nodes.{let_term, if_term, tab_term, sub_term, literal_term};
 ghost use Rattle.nrca_term.specs.View.{term_of, terms_of};
-ghost use Rattle.aql_print.specs.Appends.{AppendsPrefix};
+ghost use Rattle.aql_texts.specs.Appends.{AppendsPrefix};
 ghost use Rattle.aql_print.specs.CoreText as texts;
-ghost use Rattle.aql_print.specs.CoreText.{between, bound_text, bounds_text, core_text, joined, loop_text, position_text};
-ghost use Rattle.aql_print.specs.Joined.{separated};
+ghost use Rattle.aql_print.specs.CoreText.{between, bounds_text, core_text, joined, loop_text};
+ghost use Rattle.aql_texts.specs.Names.{bound_text, position_text};
+ghost use Rattle.aql_texts.specs.Joined.{separated};
 
-use crate::bytes::{put, put_before, put_number, put_quoted};
+use aql_texts::{put, put_before, put_bound, put_number, put_position, put_quoted, put_variable};
 use aql_value::{ArithOp, CompareOp, Memory};
 use nrca_term::{Core, Terms};
 use std::alloc::Global;
 
 /// Appends the text of a term. Where memory runs out, the old bytes and then a prefix of the text are left.
-#[tactic(auto, using(crate::proofs::Prefixes::prefix_none))]
+#[tactic(auto, using(aql_texts::specs::PrefixLaws::prefix_none))]
 pub fn print_core(alloc: Global, term: &Core, out: &mut Vec<u8>) -> Result<(), Memory>
     ensures ok { OnOk result (out.new.items ≡ out.old.items ++ core_text 0 (term_of term.now)) }
     ensures prefix { AppendsPrefix out.old.items out.new.items (core_text 0 (term_of term.now)) }
@@ -29,7 +30,7 @@ fn put_term(term: &Core, depth: u64, out: &mut Vec<u8>) -> Result<(), Memory>
     ensures { OnOk result (out.new.items ≡ out.old.items ++ core_text depth (term_of term.now)) }
 {
     match term {
-        Core::Var(i) => put_bound(depth.saturating_sub(1).saturating_sub(*i), out),
+        Core::Var(i) => put_variable(depth, *i, out),
         Core::Global(n) => put_position(*n, out),
         Core::Nat(n) => put_number(*n, out),
         Core::Bool(b) => put(if *b { b"true" } else { b"false" }, out),
@@ -246,24 +247,6 @@ fn deeper(depth: u64, by: u64) -> Result<u64, Memory>
     ensures { IfOk result (λ d. d ≡ depth + by) }
 {
     depth.checked_add(by).ok_or(Memory)
-}
-
-// Adds a bound variable, by the number of binders around its own.
-#[inline(never)]
-fn put_bound(binders: u64, out: &mut Vec<u8>) -> Result<(), Memory>
-    ensures { OnOk result (out.new.items ≡ out.old.items ++ bound_text binders) }
-{
-    put(b"x", out)?;
-    put_number(u128::from(binders), out)
-}
-
-// Adds a position, by the number of its declaration.
-#[inline(never)]
-fn put_position(n: u64, out: &mut Vec<u8>) -> Result<(), Memory>
-    ensures { OnOk result (out.new.items ≡ out.old.items ++ position_text n) }
-{
-    put(b"@", out)?;
-    put_number(u128::from(n.saturating_sub(24)), out)
 }
 
 fn arith_sign(op: ArithOp) -> &'static [u8]

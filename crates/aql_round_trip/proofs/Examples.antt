@@ -7,7 +7,7 @@ use Rattle.aql_value.specs.Strict.{Strict}
 use Rattle.aql_syntax.specs.declared.sign.Sign.TheVariants as signs
 use Rattle.aql_syntax.specs.Lexis.{numeral, mark}
 use Rattle.aql_syntax.specs.Tree.{op, members, no_tree, tree}
-use Rattle.aql_print.specs.ValueText.{text}
+use Rattle.aql_texts.specs.ValueText.{text}
 use Rattle.aql_round_trip.proofs.Said.{said, expression}
 
 -- the array of no cells

@@ -11,8 +11,8 @@ use Rattle.aql_syntax.specs.declared.sign.Sign.TheVariants as signs
 use Rattle.aql_syntax.specs.declared.token.Token.{Token}
 use Rattle.aql_syntax.specs.Signs.{spelling, is_word, joins}
 use Rattle.aql_syntax.specs.Lexis.{Lexeme, numeral, mark, is_digit, is_name_byte, Ends, run_end, run_more, Blank, blank_space, Begins, begins_word, begins_text, begins_sign, token_between, Covers, covers_blank, covers_token}
-use Rattle.aql_print.specs.Joined.{after, separated}
-use Rattle.aql_print.specs.ValueText.{text, texts}
+use Rattle.aql_texts.specs.Joined.{after, separated}
+use Rattle.aql_texts.specs.ValueText.{text, texts}
 use Rattle.aql_round_trip.proofs.Said.{said, said_list, said_after, said_numbers}
 use Rattle.aql_round_trip.proofs.Numerals.{spelled, begins}
 use Rattle.aql_round_trip.proofs.Strings.{in_string}

@@ -4,7 +4,7 @@ use Rattle.std.specs.List.{All, flat_map}
 use Rattle.std.proofs.Math.Nat.{div-add-mod, mod-lt}
 use Rattle.std.proofs.lemmas.Bool.{cases_lt, lt-ltb, le-ltb, leb-true, eqb-true, and_from, and_left, and_parts, or_left, or_right}
 use Rattle.aql_syntax.specs.Lexis.{InString, string_end, string_plain, string_escape, string_hex, is_between, is_digit, is_hex, hex_value}
-use Rattle.aql_print.specs.ValueText.{byte_text, hex_digit}
+use Rattle.aql_texts.specs.ValueText.{byte_text, hex_digit}
 use Rattle.aql_round_trip.proofs.Numerals.{digit_byte}
 
 -- a hexadecimal digit, below 10 and from 10 on

@@ -8,7 +8,7 @@ use Rattle.aql_syntax.specs.Grammar.{ReadsScript}
 use Rattle.aql_syntax.specs.Tree.{Tree, Declaration, bare}
 use Rattle.aql_syntax.specs.Matching.{Env, Globals}
 use Rattle.aql_syntax.specs.Denotation.{den}
-use Rattle.aql_print.specs.ValueText.{text}
+use Rattle.aql_texts.specs.ValueText.{text}
 
 -- the bytes have tokens, and these are the declarations
 abbrev pub IsScript : List ℕ → List Declaration → Type 0

@@ -34,7 +34,8 @@ use Rattle.aql_session.specs.declared.answer.StepFault.{StepFault}
 use Rattle.aql_session.specs.declared.answer.StepFault.TheVariants as faults
 use Rattle.aql_words.specs.Words.{HasReading, options_of}
 use Rattle.aql_answers.specs.Answered.{AreAnswered, IsStopped}
-use Rattle.aql_answers.specs.Sample.{sample_text}
+use Rattle.aql_answers.specs.AnsweredLaws.{told_at}
+use Rattle.aql_lines.specs.Sample.{sample_text}
 use Rattle.aql_run.specs.Complete.{work_of, AreOutcomes, HaveTypings, IsWithin, IsAsked, IsSound, Completes}
 use Rattle.aql_run.specs.Outcome.{Told, IsScript, HasRun, Stops, Refuses, Writes, Serves, RunsWords, IsSpent}
 use Rattle.aql_run.specs.declared.report.Stop.{Stop}
@@ -117,26 +118,12 @@ no_cause d earlier budget holds before now (faults.File f) h quiet (within, a, e
 no_cause d earlier budget holds before now faults.Device h quiet (within, a, e, (few, rose)) other = quiet rose
 no_cause d earlier budget holds before now faults.Memory h quiet cause other = other refl
 
-there_is : {X : Type 0} (xs : List X) (i : ℕ) → i < length xs → (x : X) × (slice_get xs i ≡ Some x)
-there_is [] i lt = absurd (omega (arith, lt))
-there_is (x ∷ xs) zero lt = (x, refl)
-there_is (x ∷ xs) (suc i) lt = there_is xs i (omega (arith, lt))
-
-inside : {X : Type 0} (xs : List X) (i : ℕ) (x : X) → slice_get xs i ≡ Some x → i < length xs
-inside [] i x e = absurd cc
-inside (y ∷ xs) zero x e = omega arith
-inside (y ∷ xs) (suc i) x e = omega (arith, inside xs i x e)
-
 -- the outcomes of the answers are those of the positions
 are_outcomes : (ds : List Declaration) (sorts : List Sort) (budget : ℕ) (holds : Option Content) (answers : List Answer) (V : Outcomes) →
     AreAnswered ds sorts budget holds answers V → AreOutcomes ds holds V
 are_outcomes ds sorts budget holds answers V h = record {
   prelude = h.prelude;
-  each = λ i d o there is.
-      let lt = inside V (24 + i) o is in
-      let many = h.many in
-      let (a, e) = there_is answers i (omega (arith, lt, many)) in
-      ((h.each i d a o there e is).outcome, (h.each i d a o there e is).told);
+  each = λ i d o there is. told_at ds sorts budget holds answers V i d o h there is;
 }
 
 -- no declaration of a sound script has a fault but want of memory

@@ -22,9 +22,10 @@ use Rattle.aql_session.specs.declared.answer.Answer.{Answer}
 use Rattle.aql_session.specs.declared.answer.StepFault.{StepFault}
 use Rattle.aql_session.specs.declared.answer.StepFault.TheVariants as faults
 use Rattle.aql_answers.specs.Answered.{AreAnswered, IsStopped}
-use Rattle.aql_answers.specs.Entry.{entry, entries}
-use Rattle.aql_answers.specs.Lines.{at_byte, in_declaration, of_file}
-use Rattle.aql_answers.specs.Sample.{sample_text}
+use Rattle.aql_answers.specs.AnsweredLaws.{are_values}
+use Rattle.aql_lines.specs.Entry.{entry, entries}
+use Rattle.aql_lines.specs.Lines.{at_byte, in_declaration, of_file}
+use Rattle.aql_lines.specs.Sample.{sample_text}
 use Rattle.aql_answers.specs.Steps.{own, sorts, IsPrepared, AllAnswered, CutsLines, EndsEarly}
 use Rattle.aql_answers.specs.declared.steps.Halt.{Halt}
 use Rattle.aql_answers.specs.declared.steps.Halt.TheVariants as halts
@@ -98,6 +99,7 @@ has_run p o told taken script answers V h reads is answered = record {
   limits = h.limits;
   built = h.built;
   answered = answered;
+  script_values = are_values (own p) (sorts p) o.budget told.holds answers V answered;
   printed = refl;
 }
 

@@ -19,7 +19,7 @@ use Rattle.aql_session.specs.Reading.{reading, read_fault}
 use Rattle.aql_session.specs.Step.{IsOutcome, asks}
 use Rattle.aql_session.specs.declared.answer.Answer.{Answer}
 use Rattle.aql_words.specs.Words.{HasReading, options_of}
-use Rattle.aql_answers.specs.Sample.{sample_text}
+use Rattle.aql_lines.specs.Sample.{sample_text}
 use Rattle.aql_run.specs.Outcome.{Told, RunsWords}
 use Rattle.aql_run.specs.declared.report.Stop.{Stop}
 use Rattle.aql_status.specs.declared.status.Status.{Status}

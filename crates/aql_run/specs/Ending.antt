@@ -13,8 +13,8 @@ use Rattle.aql_script.specs.declared.preparing.Prepared.{Prepared}
 use Rattle.aql_script.specs.declared.fault.ScriptFault.{ScriptFault}
 use Rattle.aql_script.specs.declared.fault.ScriptFault.TheVariants as refused
 use Rattle.aql_script.specs.Script.{Prepares, ReadsAlone}
-use Rattle.aql_answers.specs.Lines.{at_byte, in_declaration, of_file}
-use Rattle.aql_answers.specs.Sample.{sample_text}
+use Rattle.aql_lines.specs.Lines.{at_byte, in_declaration, of_file}
+use Rattle.aql_lines.specs.Sample.{sample_text}
 use Rattle.aql_answers.specs.Steps.{own, IsPrepared, AllAnswered, EndsEarly}
 use Rattle.aql_answers.specs.declared.steps.Halt.{Halt}
 use Rattle.aql_status.specs.Codes.{code_of}

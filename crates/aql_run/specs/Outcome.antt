@@ -1,26 +1,29 @@
 -- What a run did, over the words, the bytes that it took from the source and gave to the sink, and the files.
 use Rattle.std.specs.Prelude.{◌≡◌, ◌≤◌, ◌<◌, ◌+◌, ◌-◌, ◌⊎◌, ℕ, List, [], ◌++◌, Option, Some, None, length, take, drop, codes}
 use Rattle.std.specs.Io.KnownBytes.{Consumes, Appends, IsAtEnd}
+use Rattle.std.specs.Option.{ForSome}
 use Rattle.aql_outside.specs.Causes.{Rose}
 use Rattle.aql_outside.specs.Contents.{Content}
 use Rattle.aql_types.specs.Types.{Sort}
 use Rattle.aql_syntax.specs.Grammar.{SyntaxFaultAt}
 use Rattle.aql_syntax.specs.Lexis.{Lexeme, TextFaultAt}
+use Rattle.aql_syntax.specs.Script.{values}
 use Rattle.aql_syntax.specs.Tree.{Declaration}
 use Rattle.aql_infer.specs.Checked.{IsFirstUntyped}
 use Rattle.aql_lex.specs.Lexed.{IsDeepAt}
 use Rattle.nrca_term.specs.Meaning.{Outcomes}
 use Rattle.cdf_header.specs.declared.fault.CdfFault.{CdfFault}
 use Rattle.aql_script.specs.Script.{Spells, ReadsAlone, AreTyped, positions, AreWithinLimits, IsFirstLarge, NoneReadsRecords, IsFirstOfRecords}
+use Rattle.aql_session.specs.Reading.{reading}
 use Rattle.aql_session.specs.declared.answer.Answer.{Answer}
 use Rattle.aql_session.specs.declared.answer.StepFault.{StepFault}
 use Rattle.aql_session.specs.declared.answer.StepFault.TheVariants as faults
 use Rattle.aql_words.specs.Words.{HasReading, options_of}
 use Rattle.aql_words.specs.declared.words.Options.{Options}
 use Rattle.aql_answers.specs.Answered.{AreAnswered, IsStopped}
-use Rattle.aql_answers.specs.Entry.{entries}
-use Rattle.aql_answers.specs.Lines.{at_byte, in_declaration, of_file}
-use Rattle.aql_answers.specs.Sample.{sample_text}
+use Rattle.aql_lines.specs.Entry.{entries}
+use Rattle.aql_lines.specs.Lines.{at_byte, in_declaration, of_file}
+use Rattle.aql_lines.specs.Sample.{sample_text}
 use Rattle.aql_status.specs.declared.status.Status.{Status}
 use Rattle.aql_status.specs.declared.status.Status.TheVariants as status
 use Rattle.aql_run.specs.declared.report.Stop.{Stop}
@@ -60,7 +63,8 @@ IsScript None left taken script = (script ≡ taken) × IsWhole taken left
 IsScript (Some n) left taken script = (taken ≡ []) × (script ≡ sample_text n)
 
 -- The script was read, every position has its principal type and is within the limits, no declaration reads records, and the
--- first declarations have these answers, which print these lines.
+-- first declarations have these answers, which print these lines. Where the files are told, the outcomes are the script's over
+-- them, as far as the answers go.
 pub record HasRun (options : Options) (told : Told) (taken : List ℕ) (answers : List Answer) (lines : List ℕ) : Type 0 where
   pub script : List ℕ
   pub ds : List Declaration
@@ -72,6 +76,7 @@ pub record HasRun (options : Options) (told : Told) (taken : List ℕ) (answers 
   pub limits : AreWithinLimits (positions ds) (24 + length ds)
   pub built : NoneReadsRecords ds
   pub answered : AreAnswered ds sorts options.budget told.holds answers outcomes
+  pub script_values : ForSome told.holds (λ files. take (length outcomes) (values (reading files) (positions ds)) ≡ outcomes)
   pub printed : lines ≡ entries options.plan answers (drop 24 outcomes)
 
 -- the next declaration was not answered

@@ -24,7 +24,7 @@ mod reading;
 mod report;
 mod serving;
 
-pub use aql_answers::sample_script;
+pub use aql_lines::sample_script;
 use aql_outside::{Files, Gate, Sink, Source};
 pub use aql_session::Options;
 pub use aql_words::{WordFault, read_words};

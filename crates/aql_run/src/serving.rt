@@ -3,14 +3,15 @@ ghost use Rattle.std.specs.Prelude.{◌≡◌, ◌≢◌, ◌≤◌, ◌+◌, �
 ghost use Rattle.std.specs.String.{string_bytes};
 ghost use Rattle.aql_outside.specs.Causes.{Rose};
 ghost use Rattle.aql_words.specs.Words.{AreInRange};
-ghost use Rattle.aql_answers.specs.Lines.{in_declaration};
+ghost use Rattle.aql_lines.specs.Lines.{in_declaration};
 ghost use Rattle.aql_run.specs.Outcome.{IsEarly};
 ghost use Rattle.aql_run.specs.Ending.{Answers, AsksSample, EndsWith, IsReady, Refused, Responds, Running, Samples, Serving, Stopped};
 
 use crate::closed::{answer_each, read_options, ready};
 use crate::reading::{ReadFault, read_script};
 use crate::report::{End, Stop};
-use aql_answers::{Halt, byte_line, declaration_line, file_line, sample_script, write_all};
+use aql_answers::Halt;
+use aql_lines::{byte_line, declaration_line, file_line, sample_script, write_all};
 use aql_outside::{Files, Gate, Sink, Source};
 use aql_script::{Prepared, ScriptFault};
 use aql_session::{Answer, Options, StepFault};

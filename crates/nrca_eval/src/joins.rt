@@ -1,14 +1,15 @@
 //! The answers of pieces joined in the order of the pieces, and their turns added.
 
 ghost use Rattle.std.specs.Prelude.{◌≡◌, [], Some, IfOk, fold, sum_by};
-ghost use Rattle.nrca_runs.specs.Indexing.{pairs_of};
+ghost use Rattle.nrca_forms.specs.Indexing.{pairs_of};
 ghost use Rattle.nrca_runs.specs.Runs.{sums_join, sets_join, lists_join};
 ghost use Rattle.nrca_runs.specs.Within.{Within, itself};
 
 use aql_value::{Ascending, Items, Memory, canon};
 use nrca_array::Builder;
+use nrca_forms::{Indexed, join_pairs};
 use nrca_par::EvalFault;
-use nrca_runs::{Counted, Indexed, join_cells, join_pairs, join_sets, join_sums};
+use nrca_runs::{Counted, join_cells, join_sets, join_sums};
 use std::alloc::Global;
 
 /// The sum of the sums. Spent exactly where the turns pass the budget.

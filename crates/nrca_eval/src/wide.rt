@@ -1,6 +1,6 @@
 //! The evaluation of a term whose loops run in pieces: one function a form.
 
-ghost use Rattle.std.specs.Prelude.{◌≡◌, ◌≤◌, true, length};
+ghost use Rattle.std.specs.Prelude.{◌≡◌, ◌≤◌, true};
 ghost use Rattle.aql_value.specs.Partial.{each, total};
 ghost use Rattle.nrca_term.specs.Meaning.{cden};
 ghost use Rattle.nrca_term.specs.Nodes.{let_term, if_term, default_term, big_union_term, sum_term, tab_term};
@@ -18,10 +18,11 @@ use crate::loops::{cells_pieces, sum_pieces, union_pieces};
 use aql_outside::Gate;
 use aql_value::saturating_product;
 use nrca_array::Held;
+use nrca_forms::{numbers, sum_of, table_of, union_of};
 use nrca_par::EvalFault;
 use nrca_runs::{
     Counted, Env, Globals, Members, as_members, boxed, keep_part, members_below, members_of_both,
-    numbers, parts_kept, sum_of, table_of, truth_kept, unboxed, union_of,
+    parts_kept, truth_kept, unboxed,
 };
 use nrca_serial::eval;
 use nrca_term::{Core, Terms};

@@ -1,9 +1,4 @@
 pub mod Ranges
 pub mod Looked
-pub mod Strictly
 pub mod Walked
-pub mod Arities
-pub mod Grouping
-pub mod Extents
-pub mod Arrays
 pub mod Merged

@@ -5,5 +5,3 @@ pub mod Runs
 pub mod RunLaws
 pub mod Walks
 pub mod Parts
-pub mod Indexing
-pub mod IndexLaws

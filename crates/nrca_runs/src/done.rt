@@ -1,3 +1,5 @@
+//! What an evaluation answers.
+
 ghost use Rattle.std.specs.Prelude.{◌≡◌, IsOkAnd, IsErrAnd, MatchResult};
 
 use nrca_array::Held;

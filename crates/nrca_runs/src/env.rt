@@ -1,3 +1,5 @@
+//! The values among which a term is evaluated: those of the positions and of the variables.
+
 ghost use Rattle.std.specs.Prelude.{◌≡◌, ◌++◌, [], List, Some, IfOk, IfSome, MatchResult, slice_get};
 ghost use Rattle.aql_value.specs.Datum.{Datum, natural};
 ghost use Rattle.aql_value.specs.Operations.{walked};

@@ -1,10 +1,8 @@
 //! How the answers of runs that follow each other are joined.
 
 ghost use Rattle.std.specs.Prelude.{◌≡◌, IfOk};
-ghost use Rattle.nrca_runs.specs.Indexing.{pairs_of};
 ghost use Rattle.nrca_runs.specs.Runs.{sums_join, sets_join, lists_join};
 
-use crate::index::Indexed;
 use aql_value::{Ascending, Memory, add, merge};
 use nrca_array::Builder;
 use std::alloc::Global;
@@ -44,21 +42,5 @@ pub fn join_cells(
     match first.zip(second) {
         Some((first, second)) => Ok(Some(first.append(alloc, second)?)),
         None => Ok(None),
-    }
-}
-
-/// The pairs of one run and then those of another, each moved.
-pub fn join_pairs(
-    first: Option<Vec<Indexed>>,
-    second: Option<Vec<Indexed>>,
-) -> Result<Option<Vec<Indexed>>, Memory>
-    ensures { IfOk result (λ pairs. pairs_of pairs ≡ lists_join (pairs_of first) (pairs_of second)) }
-{
-    match (first, second) {
-        (Some(mut first), Some(mut second)) => {
-            first.append(&mut second)?;
-            Ok(Some(first))
-        }
-        _ => Ok(None),
     }
 }

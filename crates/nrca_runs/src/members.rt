@@ -1,3 +1,5 @@
+//! The members of a loop.
+
 ghost use Rattle.std.specs.Prelude.{◌≡◌, ◌+◌, ◌<◌, IfOk, slice_get, Some, length, option_map};
 ghost use Rattle.aql_value.specs.Meaning.{datum};
 ghost use Rattle.aql_value.specs.Operations.{as_set, as_tuple};
@@ -82,7 +84,7 @@ impl Members {
 }
 
 /// A copy of the item at a place.
-pub(crate) fn item(alloc: Global, items: &Items, at: usize) -> Result<Value, Memory>
+pub fn item(alloc: Global, items: &Items, at: usize) -> Result<Value, Memory>
     requires { at < length items.now }
     ensures { IfOk result (λ v. slice_get items.now at ≡ Some (datum v)) }
 {
@@ -150,7 +152,7 @@ pub(crate) fn ascending(value: Option<Held>) -> Option<Ascending>
 
 /// The members of the set that a value is.
 #[tactic(auto, using(aql_value::specs::Datum::data_lists))]
-pub(crate) fn set_of(value: Held) -> Option<Ascending>
+pub fn set_of(value: Held) -> Option<Ascending>
     ensures { result ≡ as_set (held_datum value) }
 {
     match value {
@@ -164,7 +166,7 @@ pub(crate) fn set_of(value: Held) -> Option<Ascending>
 
 /// The parts of the tuple that a value is.
 #[tactic(auto, using(aql_value::specs::Datum::data_lists))]
-pub(crate) fn row_of(value: Held) -> Option<Items>
+pub fn row_of(value: Held) -> Option<Items>
     ensures { result ≡ as_tuple (held_datum value) }
 {
     match value {

@@ -62,7 +62,7 @@ pub fn cells_and(
 }
 
 /// The cells, and one more.
-pub(crate) fn with_cell(
+pub fn with_cell(
     alloc: Global,
     cells: Builder,
     cell: Result<Value, Memory>,
@@ -87,7 +87,7 @@ pub fn parts_and(parts: Option<Vec<Held>>, value: Option<Held>) -> Result<Option
 }
 
 /// The value, moved where it is not packed.
-pub(crate) fn into_value(alloc: Global, held: Held) -> Result<Value, Memory>
+pub fn into_value(alloc: Global, held: Held) -> Result<Value, Memory>
     ensures { IfOk result (λ v. datum v ≡ held_datum held) }
 {
     match held {

@@ -88,7 +88,7 @@ fn count_of(items: &Items) -> usize
 }
 
 /// The element of a place.
-pub(crate) fn member_at(members: &Items, at: usize) -> &Value
+pub fn member_at(members: &Items, at: usize) -> &Value
     requires { at < length members.now }
     ensures { slice_get members.now at ≡ Some (datum result.now) }
 {

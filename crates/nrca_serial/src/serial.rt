@@ -18,12 +18,12 @@ ghost use Rattle.nrca_serial.specs.Runs.{run_values, run_turns, cell_values, cel
 
 use aql_value::{Ascending, Dims, Items, saturating_product};
 use nrca_array::{Builder, Held};
+use nrca_forms::{cell_boxed, dim_boxed, numbers, strict_boxed, sum_of, table_of, union_of};
 use nrca_par::EvalFault;
 use nrca_runs::{
-    Counted, Env, Globals, Members, Next, as_members, beside, boxed, canon_of, cell_boxed,
-    cells_and, dim_boxed, keep_part, lent, members_and, members_below, members_of_both, numbers,
-    parts_kept, position, set_index, strict_boxed, sum_and, sum_of, table_of, truth_kept, unboxed,
-    union_of, variable, zeros,
+    Counted, Env, Globals, Members, Next, as_members, beside, boxed, canon_of, cells_and,
+    keep_part, lent, members_and, members_below, members_of_both, parts_kept, position, set_index,
+    sum_and, truth_kept, unboxed, variable, zeros,
 };
 use nrca_term::{Core, Terms};
 use std::alloc::Global;

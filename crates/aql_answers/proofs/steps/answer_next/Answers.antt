@@ -5,8 +5,8 @@ use Rattle.aql_value.specs.Datum.{Datum}
 use Rattle.nrca_term.specs.Meaning.{outcome}
 use Rattle.aql_session.specs.Bound.{outcomes}
 use Rattle.aql_session.specs.declared.answer.Answer.{Answer}
-use Rattle.aql_answers.specs.Entry.{entry}
-use Rattle.aql_answers.specs.Writing.{WritesFront}
+use Rattle.aql_lines.specs.Entry.{entry}
+use Rattle.aql_lines.specs.Writing.{WritesFront}
 use Rattle.aql_answers.proofs.Answering.{next_within, next_built, has_stepped, stopped, wrote, halted, outcome_last}
 use Rattle.aql_answers.proofs.steps.answer_next.Goals as goal
 

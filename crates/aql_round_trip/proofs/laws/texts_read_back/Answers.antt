@@ -3,7 +3,7 @@ use Rattle.aql_syntax.specs.declared.sign.Sign.TheVariants as signs
 use Rattle.aql_syntax.specs.Lexis.{Lexeme, mark, covers_none}
 use Rattle.aql_syntax.specs.Grammar.{ReadsScript, decl_bare, decls_none, decls_more}
 use Rattle.aql_syntax.specs.Tree.{bare}
-use Rattle.aql_print.specs.ValueText.{text}
+use Rattle.aql_texts.specs.ValueText.{text}
 use Rattle.aql_round_trip.proofs.Said.{said, expression}
 use Rattle.aql_round_trip.proofs.Spans.{Separate, spans_end, spans, covers, bracket}
 use Rattle.aql_round_trip.proofs.Reading.{as_whole, reads}

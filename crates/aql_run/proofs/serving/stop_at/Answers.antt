@@ -1,6 +1,6 @@
 use Rattle.std.proofs.Common.{◌∙◌, refl, sym, ap, subst}
 use Rattle.std.specs.Prelude.{codes}
-use Rattle.aql_answers.specs.Lines.{in_declaration, of_file}
+use Rattle.aql_lines.specs.Lines.{in_declaration, of_file}
 use Rattle.aql_session.specs.declared.answer.StepFault.{StepFault}
 use Rattle.aql_run.specs.Outcome.{stop_of}
 use Rattle.aql_run.specs.Ending.{Stopped, stop_status, stop_line}

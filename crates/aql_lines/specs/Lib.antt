@@ -1,0 +1,4 @@
+pub mod Sample
+pub mod Entry
+pub mod Lines
+pub mod Writing

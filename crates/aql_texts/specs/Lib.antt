@@ -1,0 +1,5 @@
+pub mod Joined
+pub mod ValueText
+pub mod Names
+pub mod Appends
+pub mod PrefixLaws

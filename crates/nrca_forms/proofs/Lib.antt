@@ -1,0 +1,5 @@
+pub mod Strictly
+pub mod Arities
+pub mod Grouping
+pub mod Extents
+pub mod Arrays

@@ -1,0 +1,73 @@
+-- The pairs of an index and a value that `index` reads.
+use Rattle.std.specs.Prelude.{◌≡◌, ℕ, ◌^◌, nat_eq, nat_lt, if◌then◌else◌, List, [], ◌∷◌, ◌++◌, length, map, Option, Some, None}
+use Rattle.std.specs.Option.{option_map}
+use Rattle.std.specs.List.{slice_range}
+use Rattle.std.specs.Cmp.Lexicographic.{pointwise}
+use Rattle.std.proofs.Math.ListN.{set}
+use Rattle.std.proofs.Common.{get_or}
+use Rattle.aql_value.specs.IndicesLaws.{offset}
+use Rattle.std.specs.declared.vec.Vec.{Vec}
+use Rattle.std.proofs.Common.{Global}
+use Rattle.aql_value.specs.Datum.{Datum}
+use Rattle.aql_value.specs.Lists.{Every}
+use Rattle.aql_value.specs.Meaning.{datum}
+use Rattle.aql_value.specs.Operations.{as_array, as_indexed, dims_above, indexed, index_numbers}
+use Rattle.aql_value.specs.Partial.{◌>>=◌, each, if_some}
+use Rattle.aql_value.specs.declared.value.Value.{Value}
+use Rattle.nrca_forms.specs.declared.index.Indexed.{Indexed}
+
+-- a pair of an index and a value
+abbrev pub pair_of : Indexed → List ℕ × Datum
+pair_of p = (p.at, datum p.value)
+
+abbrev pub pairs_of : Option (Vec Indexed Global) → Option (List (List ℕ × Datum))
+pairs_of o = option_map (λ ps. map pair_of ps.items) o
+
+-- pairs and one more
+abbrev pub pairs_with : Option (List (List ℕ × Datum)) → Option (List ℕ × Datum) → Option (List (List ℕ × Datum))
+pairs_with ps p = ps >>= λ xs. p >>= λ y. Some (xs ++ y ∷ [])
+
+-- the pairs that members are, from one place up to another
+abbrev pub pairs_run : (rank : ℕ) → List Datum → ℕ → ℕ → Option (List (List ℕ × Datum))
+pairs_run rank ms a b = each (as_indexed rank) (slice_range ms a b)
+
+-- the index and the value that two parts are
+abbrev pub indexed_pair : (rank : ℕ) → List Datum → Option (List ℕ × Datum)
+indexed_pair rank [] = None
+indexed_pair rank (v ∷ []) = None
+indexed_pair rank (v ∷ w ∷ []) = index_numbers rank v >>= λ at. Some (at, w)
+indexed_pair rank (v ∷ w ∷ x ∷ vs) = None
+
+-- the numbers, where there are as many as the rank
+abbrev pub ranked_numbers : (rank : ℕ) → Option (List ℕ) → Option (List ℕ)
+ranked_numbers rank o = o >>= λ at. if nat_eq (length at) rank then Some at else None
+
+-- each index has that many numbers
+abbrev pub AreRanked : (rank : ℕ) → Option (List (List ℕ × Datum)) → Type 0
+AreRanked rank None = Unit {0}
+AreRanked rank (Some ps) = Every (λ p. length p.0 ≡ rank) ps
+
+-- the array of the sets of values that pairs have at each index
+abbrev pub pairs_value : (rank : ℕ) → Option (List (List ℕ × Datum)) → Option Datum
+pairs_value rank o = o >>= λ ps. indexed (dims_above rank (map (λ p. p.0) ps)) ps
+
+-- its cells, where there is one
+abbrev pub pairs_turns : (rank : ℕ) → Option (List (List ℕ × Datum)) → ℕ
+pairs_turns rank o = if_some (pairs_value rank o >>= as_array) (λ t. length t.cells)
+
+-- a dimension, where none stands for 2^128
+abbrev pub extent : Option ℕ → ℕ
+extent None = 2 ^ 128
+extent (Some d) = d
+
+-- a list of values
+abbrev pub values_of : Vec Value Global → List Datum
+values_of vs = map datum vs.items
+
+-- lists of values with one value more at a place
+abbrev pub push_group : ℕ → Datum → List (List Datum) → List (List Datum)
+push_group p v groups = set groups p (get_or groups p [] ++ v ∷ [])
+
+-- the same at the place of an index, where it is below the dimensions
+abbrev pub put_group : (dims at : List ℕ) → Datum → List (List Datum) → List (List Datum)
+put_group dims at v groups = if pointwise nat_lt at dims then push_group (offset dims at) v groups else groups

@@ -1,0 +1,67 @@
+//! What forms make of their parts' values, on the heap.
+
+ghost use Rattle.std.specs.Prelude.{◌≡◌, IfOk};
+ghost use Rattle.aql_value.specs.Operations.{dim_of};
+ghost use Rattle.aql_value.specs.Strict.{strict_turns};
+ghost use Rattle.nrca_array.specs.Held.{held_datum};
+ghost use Rattle.nrca_term.specs.Term.{form_of};
+ghost use Rattle.nrca_term.specs.View.{term_of};
+ghost use Rattle.nrca_runs.specs.Parts.{cell_in, numbers_in, parts_value, strict_of, strict_in};
+ghost use Rattle.nrca_runs.specs.Scope.{boxed_value};
+ghost use Rattle.nrca_runs.specs.Within.{Within};
+
+use crate::forms::strict;
+use crate::operations::{cell_of_parts, dim};
+use aql_value::Memory;
+use nrca_array::Held;
+use nrca_par::EvalFault;
+use nrca_runs::{Counted, boxed};
+use nrca_term::Core;
+use std::alloc::Global;
+
+/// The cell of an array at the index that values are, on the heap.
+#[inline(never)]
+pub fn cell_boxed(
+    alloc: Global,
+    array: &Held,
+    at: Option<Vec<Held>>,
+) -> Result<Option<Box<Held>>, Memory>
+    ensures { IfOk result (λ v. boxed_value v ≡ cell_in (held_datum array.now) (numbers_in (parts_value at))) }
+{
+    let cell = cell_of_parts(alloc, array, at)?;
+    boxed(alloc, cell)
+}
+
+/// The dimensions of an array of that rank, on the heap and without turns.
+#[inline(never)]
+pub fn dim_boxed(
+    alloc: Global,
+    array: &Held,
+    rank: u64,
+    budget: u64,
+) -> Result<Counted<Option<Box<Held>>>, EvalFault>
+    ensures { Within boxed_value budget (dim_of rank (held_datum array.now)) 0 result }
+{
+    let dims = dim(alloc, array, rank)?;
+    Ok(Counted {
+        answer: boxed(alloc, dims)?,
+        turns: 0,
+    })
+}
+
+/// What a strict form makes of its parts' values, on the heap.
+#[inline(never)]
+pub fn strict_boxed(
+    alloc: Global,
+    term: &Core,
+    parts: Option<Vec<Held>>,
+    budget: u64,
+) -> Result<Counted<Option<Box<Held>>>, EvalFault>
+    ensures { Within boxed_value budget (strict_in (strict_of (form_of (term_of term.now))) (parts_value parts)) (strict_turns (strict_of (form_of (term_of term.now))) (parts_value parts)) result }
+{
+    let made = strict(alloc, term, parts, budget)?;
+    Ok(Counted {
+        answer: boxed(alloc, made.answer)?,
+        turns: made.turns,
+    })
+}

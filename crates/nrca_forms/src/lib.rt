@@ -1,0 +1,21 @@
+//! What the forms of core terms that evaluate all their parts and bind nothing make of their
+//! parts' values.
+//!
+//! `strict` answers the value and the turns of such a form exactly, and Spent exactly where the
+//! turns pass the budget (`Within` of `nrca_runs`). Of `index` the pairs that members are can be
+//! read a run at a time: `index_run` reads a run, `join_pairs` joins runs that follow each other,
+//! by the laws in `specs/IndexLaws.antt`, and `index_pairs` makes the array of them. No term within
+//! a term is evaluated here.
+//!
+//! Read `specs/Indexing.antt`; then `forms.rt`, `operations.rt`, `index.rt` and `boxes.rt`.
+#![tactic(auto)]
+
+mod boxes;
+mod forms;
+mod index;
+mod operations;
+
+pub use boxes::{cell_boxed, dim_boxed, strict_boxed};
+pub use forms::strict;
+pub use index::{Indexed, index_pairs, index_run, join_pairs};
+pub use operations::{numbers, sum_of, table_of, union_of};

@@ -1,0 +1,376 @@
+//! What the operations make of values as they are kept.
+
+ghost use Rattle.std.specs.Prelude.{◌≡◌, ◌≤◌, ◌∷◌, [], vec_len, IfOk, Some, None, length, map, nat_eq, if◌then◌else◌};
+ghost use Rattle.std.specs.Option.{option_map};
+ghost use Rattle.aql_value.specs.Datum.{natural, set, data_of};
+ghost use Rattle.aql_value.specs.Operations.{part_of, get_of, dim_of, arith_of, compare_of, union_of as union_datum, tuple_of, set_of, literal_of, gen_of, as_natural, index_value, cell_of, only, nth};
+ghost use Rattle.aql_value.specs.Indices.{cell};
+ghost use Rattle.aql_value.specs.Lists.{below};
+ghost use Rattle.aql_value.specs.Partial.{if_some};
+ghost use Rattle.aql_value.specs.Strict.{sub_value};
+ghost use Rattle.nrca_array.specs.Held.{held_datum};
+ghost use Rattle.nrca_runs.specs.Scope.{held_value};
+ghost use Rattle.nrca_runs.specs.Within.{Within};
+ghost use Rattle.nrca_runs.specs.Parts.{held_values, parts_value, cell_in, numbers_in, numbers_with, table_in};
+
+use aql_made::{both, listed};
+use aql_value::{
+    ArithOp, Ascending, Cells, CompareOp, Dims, Index, Items, Memory, Parts, Value, canon, merge,
+};
+use nrca_array::{Builder, Flat, Held};
+use nrca_par::EvalFault;
+use nrca_runs::{Counted, into_value, item, natural, row_of, set_of, with_cell};
+use std::alloc::Global;
+
+// A value that takes no turns of its own.
+pub(crate) fn free(value: Option<Held>) -> Counted<Option<Held>>
+    ensures answer { result.answer ≡ value }
+    ensures turns { result.turns ≡ 0 }
+{
+    Counted {
+        answer: value,
+        turns: 0,
+    }
+}
+
+// The naturals below a number as a set, a turn for each.
+pub(crate) fn gen_set(
+    alloc: Global,
+    v: Held,
+    budget: u64,
+) -> Result<Counted<Option<Held>>, EvalFault>
+    ensures { Within held_value budget (gen_of (held_datum v)) (if_some (as_natural (held_datum v)) (λ n. n)) result }
+{
+    let Some(n) = natural(Some(v)) else {
+        return Ok(free(None));
+    };
+    if n > u128::from(budget) {
+        return Err(EvalFault::Spent);
+    }
+    let set = naturals_below(alloc, n as u64)?;
+    Ok(Counted {
+        answer: Some(Held::Value(Value::Members(set))),
+        turns: n as u64,
+    })
+}
+
+fn naturals_below(alloc: Global, n: u64) -> Result<Ascending, Memory>
+    ensures { IfOk result (λ set. set ≡ map natural (below n)) }
+{
+    let mut items = Vec::new(alloc);
+    for i in 0..n {
+        items.push(Value::Nat(u128::from(i)))?;
+    }
+    let set = canon(alloc, Items { items })?;
+    Ok(set)
+}
+
+pub(crate) fn single(alloc: Global, v: Held) -> Result<Held, Memory>
+    ensures { IfOk result (λ r. held_datum r ≡ set_of (held_datum v ∷ [])) }
+{
+    let items = listed(alloc, into_value(alloc, v))?;
+    Ok(Held::Value(Value::Members(canon(alloc, Items { items })?)))
+}
+
+#[tactic(auto, using(crate::proofs::Strictly::parts))]
+pub(crate) fn get(alloc: Global, v: Held) -> Result<Option<Held>, Memory>
+    ensures { IfOk result (λ r. held_value r ≡ get_of (held_datum v)) }
+{
+    let Some(set) = set_of(v) else {
+        return Ok(None);
+    };
+    let found = only_member(alloc, &set.into_items())?;
+    Ok(found)
+}
+
+#[tactic(auto, using(crate::proofs::Strictly::parts))]
+fn only_member(alloc: Global, items: &Items) -> Result<Option<Held>, Memory>
+    ensures { IfOk result (λ r. held_value r ≡ only items.now) }
+{
+    if items.items.len() == 1 {
+        Ok(Some(Held::Value(item(alloc, items, 0)?)))
+    } else {
+        Ok(None)
+    }
+}
+
+#[tactic(auto, using(crate::proofs::Strictly::parts))]
+pub(crate) fn proj(alloc: Global, v: Held, at: u64, of: u64) -> Result<Option<Held>, Memory>
+    ensures { IfOk result (λ r. held_value r ≡ part_of at of (held_datum v)) }
+{
+    let Some(items) = row_of(v) else {
+        return Ok(None);
+    };
+    if items.items.len() as u64 != of {
+        return Ok(None);
+    }
+    let found = nth_item(alloc, &items, at)?;
+    Ok(found)
+}
+
+// The item of a number counted from 1.
+#[tactic(auto, using(crate::proofs::Strictly::parts))]
+fn nth_item(alloc: Global, items: &Items, at: u64) -> Result<Option<Held>, Memory>
+    ensures { IfOk result (λ r. held_value r ≡ nth at items.now) }
+{
+    if at == 0 {
+        return Ok(None);
+    }
+    let i = (at - 1) as usize;
+    if i < items.items.len() {
+        Ok(Some(Held::Value(item(alloc, items, i)?)))
+    } else {
+        Ok(None)
+    }
+}
+
+pub(crate) fn dim(alloc: Global, v: &Held, rank: u64) -> Result<Option<Held>, Memory>
+    ensures { IfOk result (λ r. held_value r ≡ dim_of rank (held_datum v.now)) }
+{
+    match v {
+        Held::Value(Value::Grid(cells)) => {
+            // That the cells are a table says that there is a dimension.
+            let _cells = cells.items();
+            dims_value(alloc, cells.dims(), rank)
+        }
+        Held::Flat(flat) => dims_value(alloc, flat.dims(), rank),
+        _ => Ok(None),
+    }
+}
+
+#[tactic(auto, using(crate::proofs::Strictly::then_map))]
+pub(crate) fn arith(op: ArithOp, v: Held, w: Held) -> Option<Held>
+    ensures { held_value result ≡ arith_of op (held_datum v) (held_datum w) }
+{
+    match natural(Some(v)).zip(natural(Some(w))) {
+        Some((m, n)) => sum_of(op.apply(m, n)),
+        None => None,
+    }
+}
+
+pub(crate) fn compare(alloc: Global, op: CompareOp, v: Held, w: Held) -> Result<Held, Memory>
+    ensures { IfOk result (λ r. Some (held_datum r) ≡ compare_of op (held_datum v) (held_datum w)) }
+{
+    let both = both(into_value(alloc, v), into_value(alloc, w))?;
+    let truth = op.holds(&both.0, &both.1);
+    drop(both);
+    Ok(Held::Value(Value::Bool(truth)))
+}
+
+pub(crate) fn union(alloc: Global, v: Held, w: Held) -> Result<Option<Held>, Memory>
+    ensures { IfOk result (λ r. held_value r ≡ union_datum (held_datum v) (held_datum w)) }
+{
+    match set_of(v).zip(set_of(w)) {
+        Some((v, w)) => Ok(Some(Held::Value(Value::Members(merge(alloc, v, w)?)))),
+        None => Ok(None),
+    }
+}
+
+#[tactic(auto, using(crate::proofs::Strictly::tuples))]
+pub(crate) fn tuple(alloc: Global, parts: Vec<Held>) -> Result<Option<Held>, Memory>
+    ensures { IfOk result (λ r. held_value r ≡ tuple_of (held_values parts)) }
+{
+    let items = values(alloc, parts)?;
+    match Parts::new(items) {
+        Some(parts) => Ok(Some(Held::Value(Value::Row(parts)))),
+        None => Ok(None),
+    }
+}
+
+fn values(alloc: Global, parts: Vec<Held>) -> Result<Items, Memory>
+    ensures { IfOk result (λ items. items ≡ held_values parts) }
+{
+    let mut items = Vec::new(alloc);
+    for part in parts {
+        items.push(into_value(alloc, part)?)?;
+    }
+    Ok(Items { items })
+}
+
+pub(crate) fn sub(alloc: Global, parts: Vec<Held>) -> Result<Option<Held>, Memory>
+    requires { 1 ≤ vec_len parts }
+    ensures { IfOk result (λ r. held_value r ≡ sub_value (held_values parts)) }
+{
+    let mut at = parts;
+    let array = at.remove(0);
+    let cell = cell_of_parts(alloc, &array, Some(at));
+    drop(array);
+    cell
+}
+
+// The cell of an array at the index that values are.
+pub(crate) fn cell_of_parts(
+    alloc: Global,
+    array: &Held,
+    at: Option<Vec<Held>>,
+) -> Result<Option<Held>, Memory>
+    ensures { IfOk result (λ r. held_value r ≡ cell_in (held_datum array.now) (numbers_in (parts_value at))) }
+{
+    match numbers(alloc, at)? {
+        Some(at) => cell_at(alloc, array, &at),
+        None => Ok(None),
+    }
+}
+
+fn cell_at(alloc: Global, array: &Held, at: &Dims) -> Result<Option<Held>, Memory>
+    ensures { IfOk result (λ r. held_value r ≡ cell_of (held_datum array.now) at.now) }
+{
+    let at = Index::from_slice(alloc, at.dims.as_slice())?;
+    cell(alloc, array, &at)
+}
+
+#[tactic(auto, using(aql_value::specs::Datum::data_lists))]
+fn cell(alloc: Global, array: &Held, at: &Index) -> Result<Option<Held>, Memory>
+    ensures { IfOk result (λ r. held_value r ≡ cell_of (held_datum array.now) at.now.items) }
+{
+    match array {
+        Held::Value(Value::Grid(cells)) => {
+            let found = grid_cell(alloc, cells, at)?;
+            Ok(found)
+        }
+        Held::Flat(flat) => {
+            let found = flat_cell(alloc, flat, at)?;
+            Ok(found)
+        }
+        _ => Ok(None),
+    }
+}
+
+fn grid_cell(alloc: Global, cells: &Cells, at: &Index) -> Result<Option<Held>, Memory>
+    ensures { IfOk result (λ r. held_value r ≡ cell cells.now at.now.items) }
+{
+    match cells.cell(at) {
+        Some(value) => Ok(Some(Held::Value(value.copy(alloc)?))),
+        None => Ok(None),
+    }
+}
+
+fn flat_cell(alloc: Global, flat: &Flat, at: &Index) -> Result<Option<Held>, Memory>
+    ensures { IfOk result (λ r. held_value r ≡ cell flat.now at.now.items) }
+{
+    match flat.cell(alloc, at)? {
+        Some(value) => Ok(Some(Held::Value(value))),
+        None => Ok(None),
+    }
+}
+
+pub(crate) fn literal(alloc: Global, rank: usize, parts: Vec<Held>) -> Result<Option<Held>, Memory>
+    requires { rank ≤ vec_len parts }
+    ensures { IfOk result (λ r. held_value r ≡ literal_of rank (held_values parts)) }
+{
+    let mut front = parts;
+    let back = front.split_off(rank)?;
+    let Some(dims) = numbers(alloc, Some(front))? else {
+        return Ok(None);
+    };
+    let cells = packed(alloc, back)?;
+    let found = table_of(dims, Some(cells))?;
+    Ok(found)
+}
+
+fn packed(alloc: Global, cells: Vec<Held>) -> Result<Builder, Memory>
+    ensures { IfOk result (λ b. b ≡ held_values cells) }
+{
+    let mut packed = Builder::new(alloc);
+    for cell in cells {
+        packed = with_cell(alloc, packed, into_value(alloc, cell))?;
+    }
+    Ok(packed)
+}
+
+// The dimensions of an array of that rank, as a value.
+#[tactic(auto, using(crate::proofs::Strictly::indices))]
+fn dims_value(alloc: Global, dims: &Dims, rank: u64) -> Result<Option<Held>, Memory>
+    requires { 1 ≤ length dims.now }
+    ensures { IfOk result (λ r. held_value r ≡ (if nat_eq (length dims.now) rank then Some (index_value dims.now) else None)) }
+{
+    if dims.dims.len() as u64 != rank {
+        return Ok(None);
+    }
+    if dims.dims.len() == 1 {
+        return Ok(Some(Held::Value(Value::Nat(dims.dims[0]))));
+    }
+    let items = naturals(alloc, dims.dims.as_slice())?;
+    match Parts::new(items) {
+        Some(parts) => Ok(Some(Held::Value(Value::Row(parts)))),
+        None => unreachable!(),
+    }
+}
+
+fn naturals(alloc: Global, numbers: &[u128]) -> Result<Items, Memory>
+    ensures { IfOk result (λ items. items ≡ map natural numbers.now) }
+{
+    let mut items = Vec::new(alloc);
+    for n in numbers {
+        items.push(Value::Nat(*n))?;
+    }
+    Ok(Items { items })
+}
+
+fn dims_and(dims: Option<Vec<u128>>, part: Held) -> Result<Option<Vec<u128>>, Memory>
+    ensures { IfOk result (λ ds. option_map (λ v. v.items) ds ≡ numbers_with (option_map (λ v. v.items) dims) (held_datum part)) }
+{
+    match (dims, natural(Some(part))) {
+        (Some(mut dims), Some(n)) => {
+            dims.push(n)?;
+            Ok(Some(dims))
+        }
+        _ => Ok(None),
+    }
+}
+
+/// The numbers that values are.
+#[tactic(auto, using(crate::proofs::Strictly::numbers_push))]
+pub fn numbers(alloc: Global, parts: Option<Vec<Held>>) -> Result<Option<Dims>, Memory>
+    ensures { IfOk result (λ ds. ds ≡ numbers_in (parts_value parts)) }
+{
+    let Some(parts) = parts else {
+        return Ok(None);
+    };
+    let mut dims = Some(Vec::new(alloc));
+    for part in parts {
+        dims = dims_and(dims, part)?;
+    }
+    match dims {
+        Some(dims) => Ok(Some(Dims { dims })),
+        None => Ok(None),
+    }
+}
+
+/// A sum as a value.
+pub fn sum_of(sum: Option<u128>) -> Option<Held>
+    ensures { held_value result ≡ option_map natural sum }
+{
+    match sum {
+        Some(n) => Some(Held::Value(Value::Nat(n))),
+        None => None,
+    }
+}
+
+/// A set as a value.
+#[tactic(auto, using(aql_value::specs::Datum::data_lists))]
+pub fn union_of(members: Option<Ascending>) -> Option<Held>
+    ensures { held_value result ≡ option_map (λ ms. set (data_of ms)) members }
+{
+    match members {
+        Some(members) => Some(Held::Value(Value::Members(members))),
+        None => None,
+    }
+}
+
+/// The array of these dimensions and cells, where it has a rank.
+pub fn table_of(dims: Dims, cells: Option<Builder>) -> Result<Option<Held>, Memory>
+    ensures { IfOk result (λ v. held_value v ≡ table_in dims cells) }
+{
+    let Some(cells) = cells else {
+        return Ok(None);
+    };
+    let rank = dims.dims.len();
+    if rank == 0 || rank > 8 {
+        return Ok(None);
+    }
+    match cells.finish(dims)? {
+        Some(flat) => Ok(Some(Held::Flat(flat))),
+        None => Ok(None),
+    }
+}

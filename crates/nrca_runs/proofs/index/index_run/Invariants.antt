@@ -1,6 +1,0 @@
-use Rattle.std.proofs.Common.{◌≡◌}
-use Rattle.nrca_runs.specs.Indexing.{pairs_of, pairs_run}
-use Rattle.nrca_runs.proofs.index.index_run.Given as goal
-
-abbrev pub invariant-loop-i : goal.invariant-loop-i
-invariant-loop-i l = pairs_of l.pairs ≡ pairs_run l.rank l.set l.from l.i

@@ -1,7 +1,0 @@
-use Rattle.std.proofs.Common.{◌≡◌, map}
-use Rattle.aql_value.specs.Operations.{set_of}
-use Rattle.nrca_runs.specs.Indexing.{values_of}
-use Rattle.nrca_runs.proofs.index.sets_of.Given as goal
-
-abbrev pub invariant-loop-items : goal.invariant-loop-items
-invariant-loop-items l = l.cells ≡ map (λ g. set_of (values_of g)) l.yielded
