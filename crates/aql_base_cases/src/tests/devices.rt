@@ -1,8 +1,7 @@
 // Each object in memory once, through its trait.
 use aql_made::both;
 use aql_outside::{
-    Failed, Files, FreeGate, Gate, MemFiles, MemSink, MemSource, Sink, Source, SureFiles, SureSink,
-    SureSource,
+    Failed, Files, MemFiles, MemSink, MemSource, Sink, Source, SureFiles, SureSink, SureSource,
 };
 use aql_value::Memory;
 use std::alloc::Global;
@@ -207,9 +206,4 @@ fn sure_answers(alloc: Global) -> Answers {
 fn no_files(rt: HostRuntime) {
     let answers = [Ok(None), Ok(None), Ok(Some(0)), Ok(Some(0))];
     assert_eq!(rt; sure_answers(rt.alloc()), answers);
-}
-
-#[test]
-fn a_free_gate() {
-    FreeGate.pass(0);
 }

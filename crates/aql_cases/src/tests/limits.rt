@@ -46,7 +46,7 @@ fn tested(alloc: Global, tests: usize) -> Result<Vec<u8>, Memory> {
     Ok(text)
 }
 
-// A macro, and eleven of which each applies the one before twice; the applications stand in these words.
+// So many macros, each but the first of which applies the one before twice; the applications stand in these words.
 fn chain(
     alloc: Global,
     first: &str,

@@ -84,7 +84,7 @@ pub(crate) fn folder(alloc: Global) -> Result<Folder, Memory> {
     with_file(alloc, all, "signed", bytes_of(alloc, &signed))
 }
 
-// A script and what is written; the status is 9 where the last line is a fault.
+// A script and what is written; the status is 0.
 #[derive(Clone, Copy)]
 struct Row<'a>(&'a str, &'a str);
 
@@ -160,6 +160,8 @@ const FAULTS: [Refused<'static>; 13] = [
 ];
 
 const READ: &[u8] = b"readval \\V using NETCDF2 at (\"s.nc\",\"v\",(0,0),(2,3));";
+
+const READ_VALUE: &[u8] = b"typ V : [[nat]]_2\nval V = [[2,3; 1, 2, 3, 4, 5, 6]]\n";
 
 #[test]
 fn hyperslabs_are_read(rt: HostRuntime) -> Result<(), Fail> {
@@ -246,10 +248,12 @@ fn read_within_five<R: Threads + Sync>(rt: &R, alloc: Global, script: &str) -> R
     )
 }
 
-// Fails where a run made a failing call on the files, or did not end past the budget.
-fn assert_counted<R: Abort>(rt: &R, ran: Result<Ran, Memory>) -> Result<(), Fail> {
+// Fails where a run made a failing call on the files, or did not end by so many cells past the budget.
+fn assert_counted<R: Abort>(rt: &R, ran: Result<Ran, Memory>, cells: u128) -> Result<(), Fail> {
     let ran = ran?;
     assert!(rt; !ran.files_failed);
+    assert_eq!(rt; ran.cells, Some(cells));
+    assert_eq!(rt; ran.answered, 0);
     assert_ran(rt, Ok(ran), 12, b"fault budget in declaration 1\n")
 }
 
@@ -258,12 +262,21 @@ fn assert_counted<R: Abort>(rt: &R, ran: Result<Ran, Memory>) -> Result<(), Fail
 fn cells_are_counted_first(rt: HostRuntime) -> Result<(), Fail> {
     let alloc = rt.alloc();
     let rows = [
-        "readval \\V using NETCDF2 at (\"s.nc\",\"v\",(0,0),(2,3));",
-        "readval \\V using NETCDF2 at (\"none.nc\",\"v\",(0,0),(2,3));",
-        "readval \\V using NETCDF2 at (\"s.nc\",\"v\",(0,0),(340282366920938463463374607431768211455,2));",
+        (
+            "readval \\V using NETCDF2 at (\"s.nc\",\"v\",(0,0),(2,3));",
+            6,
+        ),
+        (
+            "readval \\V using NETCDF2 at (\"none.nc\",\"v\",(0,0),(2,3));",
+            6,
+        ),
+        (
+            "readval \\V using NETCDF2 at (\"s.nc\",\"v\",(0,0),(340282366920938463463374607431768211455,2));",
+            u128::MAX,
+        ),
     ];
-    for script in rows {
-        assert_counted(&rt, read_within_five(&rt, alloc, script))?;
+    for (script, cells) in rows {
+        assert_counted(&rt, read_within_five(&rt, alloc, script), cells)?;
     }
     Ok(())
 }
@@ -274,14 +287,15 @@ fn cut(bytes: Result<Vec<u8>, Memory>, length: usize) -> Result<Vec<u8>, Memory>
     Ok(bytes)
 }
 
-// A run of `READ` over a folder with one file, of these bytes.
+// A run of a script over a folder with one file, of these bytes.
 fn read_in<R: Threads + Sync>(
     rt: &R,
     alloc: Global,
+    script: &[u8],
     bytes: Result<Vec<u8>, Memory>,
 ) -> Result<Ran, Memory> {
     let folder = folder_of(alloc, bytes);
-    run_over(rt, alloc, &[], READ, folder, &SURE, &FreeGate)
+    run_over(rt, alloc, &[], script, folder, &SURE, &FreeGate)
 }
 
 fn assert_refused_at<R: Abort>(
@@ -297,13 +311,13 @@ fn assert_refused_at<R: Abort>(
     refused
 }
 
-// A file of 108 bytes, cut to each length.
+// A file of 108 bytes, cut to each length; and one of version 5, cut in the offset of its variable.
 #[test]
 fn cut_files_are_refused(rt: HostRuntime) -> Result<(), Fail> {
     let alloc = rt.alloc();
     for length in 0..108 {
         let bytes = cut(bytes_of(alloc, &ONE_RECORD_VARIABLE), length);
-        let ran = read_in(&rt, alloc, bytes);
+        let ran = read_in(&rt, alloc, READ, bytes);
         if length < 4 {
             assert_refused(&rt, alloc, ran, "not classic")?;
         } else if length < 96 {
@@ -312,7 +326,10 @@ fn cut_files_are_refused(rt: HostRuntime) -> Result<(), Fail> {
             assert_refused_at(&rt, alloc, ran, "cut", length / 2 * 2)?;
         }
     }
-    Ok(())
+    let bytes = cut(bytes_of(alloc, &VERSION_5), 122);
+    let script = b"readval \\U using NETCDF1 at (\"s.nc\",\"u\",0,3);";
+    let ran = read_in(&rt, alloc, script, bytes);
+    assert_refused(&rt, alloc, ran, "malformed at 120")
 }
 
 // The word of a header at an offset changed, and maybe a second word; then what is said of the file, and nothing where the
@@ -337,13 +354,6 @@ const CHANGED: [Changed<'static>; 14] = [
     Changed(92, 0xfffffff0, None, "cut at 4294967280"),
 ];
 
-fn assert_read<R: Abort>(rt: &R, ran: Result<Ran, Memory>) -> Result<(), Fail> {
-    let ran = ran?;
-    assert_eq!(rt; ran.status, 0);
-    drop(ran);
-    Ok(())
-}
-
 #[test]
 fn changed_headers_are_refused(rt: HostRuntime) -> Result<(), Fail> {
     let alloc = rt.alloc();
@@ -353,9 +363,9 @@ fn changed_headers_are_refused(rt: HostRuntime) -> Result<(), Fail> {
         if let Some((offset, word)) = row.2 {
             words[offset / 4] = word;
         }
-        let ran = read_in(&rt, alloc, bytes_of(alloc, &words));
+        let ran = read_in(&rt, alloc, READ, bytes_of(alloc, &words));
         if row.3.is_empty() {
-            assert_read(&rt, ran)?;
+            assert_ran(&rt, ran, 0, READ_VALUE)?;
         } else {
             assert_refused(&rt, alloc, ran, row.3)?;
         }

@@ -168,6 +168,10 @@ fn a_plan_is_the_start_term(rt: HostRuntime) -> Result<(), Fail> {
             "typ f : 'a -> 'a\nmac f\ntyp it : nat\nval it = 1\nplan it = (let x0 = 1 in (let x1 = x0 in x1))\nrules it = none\nturns it = 0\n",
         ),
         (
+            "len!([[10/i | \\i<3]]) default 0;",
+            "typ it : nat\nval it = 0\nplan it = (dim_1([[(10 / x0) | x0<3]]) default 0)\nrules it = none\nturns it = 3\n",
+        ),
+        (
             "val \\a = 1; {x | \\x <- {a}};",
             "typ a : nat\nval a = 1\nplan a = 1\nrules a = none\nturns a = 0\ntyp it : {nat}\nval it = {1}\nplan it = U{(let x1 = x0 in {x1}) | x0 in {@1}}\nrules it = none\nturns it = 1\n",
         ),

@@ -1,7 +1,7 @@
 // A run of the program over devices in memory.
 use aql_made::both;
 use aql_outside::{FreeGate, Gate, MemFiles, MemSink, MemSource};
-use aql_run::run;
+use aql_run::{Stop, run};
 use aql_value::Memory;
 use std::alloc::Global;
 use std::collections::BTreeMap;
@@ -26,12 +26,15 @@ pub(crate) const SURE: Devices<'static> = Devices {
     files_fail: &[],
 };
 
-/// What came of a run: its status, what was written, and whether a call on the files failed.
+/// What came of a run: its status, what was written, whether a call on the files failed, how many declarations were answered, and
+/// the cells that a readval asked for past the budget.
 #[derive(Drop)]
 pub(crate) struct Ran {
     pub status: u8,
     pub output: Vec<u8>,
     pub files_failed: bool,
+    pub answered: usize,
+    pub cells: Option<u128>,
 }
 
 /// The files of a run, by their names.
@@ -88,6 +91,14 @@ fn all_words(alloc: Global, words: &[&str]) -> Result<Vec<String>, Memory> {
     Ok(all)
 }
 
+// The cells that a readval asked for, where a run ended by them.
+fn cells_of(stop: &Stop) -> Option<u128> {
+    match stop {
+        Stop::Cells { cells } => Some(*cells),
+        _ => None,
+    }
+}
+
 /// Runs a script with these words behind the program's name, over these files.
 pub(crate) fn run_over<R: Threads + Sync, G: Gate>(
     rt: &R,
@@ -111,6 +122,8 @@ pub(crate) fn run_over<R: Threads + Sync, G: Gate>(
         gate,
     );
     let status = report.status;
+    let answered = report.answers.items.len();
+    let cells = cells_of(&report.stop);
     drop(report);
     drop(all);
     drop(input);
@@ -122,6 +135,8 @@ pub(crate) fn run_over<R: Threads + Sync, G: Gate>(
         status,
         output: written?,
         files_failed,
+        answered,
+        cells,
     })
 }
 

@@ -6,7 +6,7 @@ use std::test::Fail;
 #[derive(Clone, Copy)]
 struct Row<'a>(&'a str, u8, &'a str);
 
-const NUMBERS: [Row<'static>; 8] = [
+const NUMBERS: [Row<'static>; 11] = [
     Row("1+2*3;", 0, "typ it : nat\nval it = 7\n"),
     Row("", 0, ""),
     Row("3-5;", 0, "typ it : nat\nval it = 0\n"),
@@ -21,6 +21,9 @@ const NUMBERS: [Row<'static>; 8] = [
         "fault text at byte 0\n",
     ),
     Row("1/0;", 0, "typ it : nat\nval it = undefined\n"),
+    Row("1+;", 4, "fault syntax in declaration 1\n"),
+    Row("if 1 then 2 else 3;", 5, "fault type in declaration 1\n"),
+    Row("1 default 1/0;", 0, "typ it : nat\nval it = 1\n"),
     Row("10/0 default 4;", 0, "typ it : nat\nval it = 4\n"),
     Row(
         "get!({7}); get!(gen!2);",
@@ -29,7 +32,7 @@ const NUMBERS: [Row<'static>; 8] = [
     ),
 ];
 
-const SETS_AND_ARRAYS: [Row<'static>; 14] = [
+const SETS_AND_ARRAYS: [Row<'static>; 17] = [
     Row(
         "{x*x | \\x <- gen!4};",
         0,
@@ -67,6 +70,17 @@ const SETS_AND_ARRAYS: [Row<'static>; 14] = [
         "typ it : nat\nval it = undefined\n",
     ),
     Row("[[2; 5]];", 0, "typ it : [[nat]]_1\nval it = undefined\n"),
+    Row("[[i | \\i<3]][3];", 0, "typ it : nat\nval it = undefined\n"),
+    Row(
+        "let val \\a = [[i*i | \\i<4]] in a[3]+len!a end;",
+        0,
+        "typ it : nat\nval it = 13\n",
+    ),
+    Row(
+        "[[10/i default 0 | \\i<3]];",
+        0,
+        "typ it : [[nat]]_1\nval it = [[3; 0, 10, 5]]\n",
+    ),
     Row(
         "{gen!2, {0}, {}};",
         0,
@@ -94,7 +108,7 @@ const SETS_AND_ARRAYS: [Row<'static>; 14] = [
     ),
 ];
 
-const NAMES: [Row<'static>; 9] = [
+const NAMES: [Row<'static>; 10] = [
     Row(
         "macro \\f = fn \\a => {a+b | \\b <- gen!2}; {x | \\b <- gen!3, \\x <- f!b};",
         0,
@@ -118,6 +132,11 @@ const NAMES: [Row<'static>; 9] = [
         "typ count : 'a -> nat\nmac count\ntyp it : nat\nval it = 5\n",
     ),
     Row("fst;", 5, "fault type in declaration 1\n"),
+    Row(
+        "let val \\x = 1/0 in x default 3 end;",
+        0,
+        "typ it : nat\nval it = undefined\n",
+    ),
     Row(
         "readval \\r using CSVN at \"a\";",
         14,

@@ -11,7 +11,10 @@ const SUM: &str = "summap(fn \\x => x)!(gen!5000000);";
 const SAMPLE: &str =
     "typ it : {nat}\nval it = {0, 1, 2, 3, 4}\ntyp it : nat\nval it = 499500\ntyp it : nat\nval it = 10\n";
 
-const ROWS: [Row<'static>; 11] = [
+const LARGE_SAMPLE: &str =
+    "typ it : {nat}\nval it = {0, 1, 2, 3, 4}\ntyp it : nat\nval it = 499999500000\ntyp it : nat\nval it = 10\n";
+
+const ROWS: [Row<'static>; 12] = [
     Row(
         &["--budget", "1000"],
         SUM,
@@ -32,6 +35,7 @@ const ROWS: [Row<'static>; 11] = [
     ),
     Row(&["--sample", "1000"], "not read", 0, SAMPLE),
     Row(&["--sample", "1000", "--workers", "8"], "", 0, SAMPLE),
+    Row(&["--sample", "1000000"], "", 0, LARGE_SAMPLE),
     Row(&["--workers", "0"], "1;", 2, ""),
     Row(&["--workers", "65"], "1;", 2, ""),
     Row(&["--budget", "50000001"], "1;", 2, ""),

@@ -44,11 +44,11 @@ fn type_texts(alloc: Global, schemes: &[Scheme]) -> Result<String, Memory> {
     Ok(String::from_utf8_lossy(alloc, &text)?)
 }
 
-// The types of a script's own declarations. Nothing where it has a fault.
+// The types of a script's own declarations, or that it has a fault.
 fn types(alloc: Global, source: &[u8]) -> Result<String, Memory> {
     match prepare(alloc, source) {
         Ok(prepared) => type_texts(alloc, prepared.typed.items.get(24..).unwrap_or(&[])),
-        Err(_) => Ok(String::new(alloc)),
+        Err(_) => Ok(String::from_str(alloc, "refused")?),
     }
 }
 
@@ -57,11 +57,11 @@ fn parsed(alloc: Global, source: &[u8]) -> Option<Decls> {
     script(alloc, &found, source).ok()
 }
 
-// The types of declarations that no prelude stands before. Nothing where there is a fault.
+// The types of declarations that no prelude stands before, or that there is a fault.
 fn types_alone(alloc: Global, source: &[u8]) -> Result<String, Memory> {
     match parsed(alloc, source).and_then(|decls| check(alloc, &decls).ok()) {
         Some(typed) => type_texts(alloc, &typed.items),
-        None => Ok(String::new(alloc)),
+        None => Ok(String::from_str(alloc, "refused")?),
     }
 }
 
@@ -303,7 +303,7 @@ fn types_of_records(rt: HostRuntime) -> Result<(), Memory> {
             "readval \\R using CSVS at \"a\"; readval \\R using CSVHNSN at \"a\"; {x | (\\x,_,_) <- R};",
             "{string} / {nat * string * nat} / {nat}",
         ),
-        ("readval \\R using CSVS at 1;", ""),
+        ("readval \\R using CSVS at 1;", "refused"),
     ];
     for (source, expected) in rows {
         assert_text(
