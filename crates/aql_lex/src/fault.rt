@@ -4,7 +4,7 @@ use aql_value::Memory;
 use std::alloc::{AllocError, AllocFailed};
 
 /// The first byte where neither a blank nor a token begins; where there is none, the first byte of the first token
-/// after which the scan passes 400.
+/// after which the scan passes 400. Or memory was wanting.
 #[derive(Debug, Drop)]
 pub enum LexFault {
     Text { at: u64 },

@@ -73,6 +73,7 @@ fn after<'a>(prefix: &[u8], bytes: &'a [u8]) -> Option<&'a [u8]>
     Some(rest)
 }
 
+/// The reserved words.
 pub const WORDS: [Sign; 39] = [
     Sign::Val,
     Sign::Macro,
@@ -115,7 +116,7 @@ pub const WORDS: [Sign; 39] = [
     Sign::Index8,
 ];
 
-// The longer ones first.
+/// The signs, the longer ones first.
 pub const SIGNS: [Sign; 26] = [
     Sign::DoubleEqual,
     Sign::FatArrow,
@@ -145,7 +146,7 @@ pub const SIGNS: [Sign; 26] = [
     Sign::Percent,
 ];
 
-// Those that a script has most come first.
+/// Reserved words and signs together; those that a script has most come first.
 pub const ALL: [Sign; 66] = [
     Sign::Comma,
     Sign::Semicolon,

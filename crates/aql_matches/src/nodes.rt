@@ -1,7 +1,7 @@
 //! Single nodes over their parts.
 //!
 //! Each call takes its parts as they were made, where memory may have been wanting for one, so that no early end of its
-//! caller stands between two of them.
+//! caller stands between two of them. `Memory` comes where it was wanting for a part or for the node.
 
 ghost use Rattle.std.specs.Prelude.{◌≡◌, IfOk, IsOkAnd, map, true, false};
 ghost use Rattle.nrca_term.specs.Nodes.{text_term, let_term, truth_term, if_term, default_term, tuple_term, proj_term, arith_term, compare_term, empty_term, single_term, union_term, big_union_term, sum_term, gen_term, get_term, tab_term, sub_term, dim_term, index_term, literal_term};
@@ -60,6 +60,7 @@ fn pair_boxed(
     both_boxed(alloc, Ok(a), Ok(b))
 }
 
+/// A string as a term.
 pub fn text(s: Result<Str, Memory>) -> Result<Core, Memory>
     ensures { IfOk result (λ c. IsOkAnd s (λ x. term_of c ≡ text_term x)) }
 {
@@ -67,6 +68,7 @@ pub fn text(s: Result<Str, Memory>) -> Result<Core, Memory>
     Ok(Core::Text(s))
 }
 
+/// The value, and the body in which it is the innermost variable.
 pub fn let_in(
     alloc: Global,
     a: Result<Core, Memory>,
@@ -78,6 +80,7 @@ pub fn let_in(
     Ok(Core::Let(a, b))
 }
 
+/// The test, and then the parts for true and for false.
 pub fn choose(
     alloc: Global,
     test: Result<Core, Memory>,
@@ -100,6 +103,7 @@ pub fn tested(
     choose(alloc, test, both(body, Ok(Core::Empty)))
 }
 
+/// The second part where the first is true, and else false.
 pub fn conjunction(alloc: Global, parts: Result<(Core, Core), Memory>) -> Result<Core, Memory>
     ensures { IfOk result (λ c. IsOkAnd parts (λ p. term_of c ≡ if_term (term_of p.0) (term_of p.1) (truth_term false))) }
 {
@@ -107,6 +111,7 @@ pub fn conjunction(alloc: Global, parts: Result<(Core, Core), Memory>) -> Result
     choose(alloc, Ok(a), Ok((b, Core::Bool(false))))
 }
 
+/// True where the first part is, and else the second.
 pub fn disjunction(alloc: Global, parts: Result<(Core, Core), Memory>) -> Result<Core, Memory>
     ensures { IfOk result (λ c. IsOkAnd parts (λ p. term_of c ≡ if_term (term_of p.0) (truth_term true) (term_of p.1))) }
 {
@@ -114,6 +119,7 @@ pub fn disjunction(alloc: Global, parts: Result<(Core, Core), Memory>) -> Result
     choose(alloc, Ok(a), Ok((Core::Bool(true), b)))
 }
 
+/// The first part, and the second where the first is undefined.
 pub fn default(alloc: Global, parts: Result<(Core, Core), Memory>) -> Result<Core, Memory>
     ensures { IfOk result (λ c. IsOkAnd parts (λ p. term_of c ≡ default_term (term_of p.0) (term_of p.1))) }
 {
@@ -121,6 +127,7 @@ pub fn default(alloc: Global, parts: Result<(Core, Core), Memory>) -> Result<Cor
     Ok(Core::Default(a, b))
 }
 
+/// The tuple of the parts.
 pub fn tuple(items: Result<Vec<Core>, Memory>) -> Result<Core, Memory>
     ensures { IfOk result (λ c. IsOkAnd items (λ v. term_of c ≡ tuple_term (map term_of v.items))) }
 {
@@ -128,6 +135,7 @@ pub fn tuple(items: Result<Vec<Core>, Memory>) -> Result<Core, Memory>
     Ok(tuple_of(items))
 }
 
+/// A part of a tuple of so many, counted from 1.
 pub(crate) fn proj(alloc: Global, at: u64, of: u64, a: Result<Core, Memory>) -> Result<Core, Memory>
     ensures { IfOk result (λ c. IsOkAnd a (λ x. term_of c ≡ proj_term at of (term_of x))) }
 {
@@ -135,6 +143,7 @@ pub(crate) fn proj(alloc: Global, at: u64, of: u64, a: Result<Core, Memory>) -> 
     Ok(Core::Proj { at, of, part })
 }
 
+/// Two numbers under an operation.
 pub fn arith(
     alloc: Global,
     op: ArithOp,
@@ -146,6 +155,7 @@ pub fn arith(
     Ok(Core::Arith(op, a, b))
 }
 
+/// The comparison of two parts.
 pub fn compare(
     alloc: Global,
     op: CompareOp,
@@ -157,6 +167,7 @@ pub fn compare(
     Ok(Core::Compare(op, a, b))
 }
 
+/// The set of one member.
 pub fn single(alloc: Global, a: Result<Core, Memory>) -> Result<Core, Memory>
     ensures { IfOk result (λ c. IsOkAnd a (λ x. term_of c ≡ single_term (term_of x))) }
 {
@@ -164,6 +175,7 @@ pub fn single(alloc: Global, a: Result<Core, Memory>) -> Result<Core, Memory>
     Ok(Core::Single(a))
 }
 
+/// The union of two sets.
 pub fn union(alloc: Global, parts: Result<(Core, Core), Memory>) -> Result<Core, Memory>
     ensures { IfOk result (λ c. IsOkAnd parts (λ p. term_of c ≡ union_term (term_of p.0) (term_of p.1))) }
 {
@@ -171,6 +183,7 @@ pub fn union(alloc: Global, parts: Result<(Core, Core), Memory>) -> Result<Core,
     Ok(Core::Union(a, b))
 }
 
+/// The union of the sets that the body is over the members of a set, each the innermost variable.
 pub fn big_union(
     alloc: Global,
     over: Result<Core, Memory>,
@@ -182,6 +195,7 @@ pub fn big_union(
     Ok(Core::BigUnion { over, body })
 }
 
+/// The sum of the numbers that the body is over the members of a set, each the innermost variable.
 pub fn sum(
     alloc: Global,
     over: Result<Core, Memory>,
@@ -193,6 +207,7 @@ pub fn sum(
     Ok(Core::Sum { over, body })
 }
 
+/// The set of the numbers below a number.
 pub fn generated(alloc: Global, a: Result<Core, Memory>) -> Result<Core, Memory>
     ensures { IfOk result (λ c. IsOkAnd a (λ x. term_of c ≡ gen_term (term_of x))) }
 {
@@ -200,6 +215,7 @@ pub fn generated(alloc: Global, a: Result<Core, Memory>) -> Result<Core, Memory>
     Ok(Core::Gen(a))
 }
 
+/// The one member of a set.
 pub fn get(alloc: Global, a: Result<Core, Memory>) -> Result<Core, Memory>
     ensures { IfOk result (λ c. IsOkAnd a (λ x. term_of c ≡ get_term (term_of x))) }
 {
@@ -207,6 +223,7 @@ pub fn get(alloc: Global, a: Result<Core, Memory>) -> Result<Core, Memory>
     Ok(Core::Get(a))
 }
 
+/// The array of these dimensions whose cells the body is, with the indices as the innermost variables.
 pub fn tab(
     alloc: Global,
     bounds: Result<Vec<Core>, Memory>,
@@ -218,6 +235,7 @@ pub fn tab(
     Ok(tab_of(bounds, body))
 }
 
+/// The cell of an array at an index.
 pub fn sub(
     alloc: Global,
     array: Result<Core, Memory>,
@@ -229,6 +247,7 @@ pub fn sub(
     Ok(sub_of(array, at))
 }
 
+/// The dimensions of an array of that rank.
 pub fn dim(alloc: Global, rank: u64, a: Result<Core, Memory>) -> Result<Core, Memory>
     ensures { IfOk result (λ c. IsOkAnd a (λ x. term_of c ≡ dim_term rank (term_of x))) }
 {
@@ -236,6 +255,7 @@ pub fn dim(alloc: Global, rank: u64, a: Result<Core, Memory>) -> Result<Core, Me
     Ok(Core::Dim { rank, array })
 }
 
+/// The array, of that rank, of the sets of values that pairs have at each index.
 pub fn index(alloc: Global, rank: u64, a: Result<Core, Memory>) -> Result<Core, Memory>
     ensures { IfOk result (λ c. IsOkAnd a (λ x. term_of c ≡ index_term rank (term_of x))) }
 {
@@ -243,6 +263,7 @@ pub fn index(alloc: Global, rank: u64, a: Result<Core, Memory>) -> Result<Core, 
     Ok(Core::Index { rank, pairs })
 }
 
+/// The array of these dimensions and cells.
 pub fn literal(
     dims: Result<Vec<Core>, Memory>,
     cells: Result<Vec<Core>, Memory>,

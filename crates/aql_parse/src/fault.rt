@@ -3,7 +3,7 @@
 use aql_value::Memory;
 use std::alloc::{AllocError, AllocFailed};
 
-/// The first declaration that has no reading, counted from 1.
+/// The first declaration that has no reading, counted from 1; or memory was wanting.
 #[derive(Debug, Drop)]
 pub enum ParseFault {
     Syntax { declaration: u64 },

@@ -1,4 +1,4 @@
-//! The start term of a query: the core term that the table of the translation gives, and its laws.
+//! The start term of a query: the core term that it is translated to, by one case for each form, and its laws.
 //! Read `specs/Start.antt`, the definition, and then `specs/Laws.antt`, what is proved of it; each law is the contract of a
 //! function of `laws`.
 #![tactic(auto)]

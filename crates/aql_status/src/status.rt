@@ -16,7 +16,7 @@ pub enum Status {
     Syntax,
     /// A declaration has no type.
     Type,
-    /// The script is nested too deep.
+    /// The scan over the script passes its limit at a token.
     Deep,
     /// A declaration is too large.
     Large,

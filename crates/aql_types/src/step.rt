@@ -11,7 +11,7 @@ use crate::fault::UnifyFault;
 use crate::ty::Ty;
 use aql_value::Memory;
 
-// What is left after one equation.
+/// What is left after one equation: other equations, or a replacement of a variable and what is left beside it.
 #[derive(Drop)]
 pub enum Moved {
     Again(Vec<Equation>),
@@ -67,6 +67,7 @@ fn bind_to(x: u64, t: Ty, work: Vec<Equation>) -> Result<Moved, UnifyFault>
     Ok(Moved::Bound(x, t, work))
 }
 
+/// The equation put before others; it stands last in the list.
 #[tactic(auto, using(crate::proofs::Settling::work_steps))]
 pub fn push_pair(left: Ty, right: Ty, work: Vec<Equation>) -> Result<Vec<Equation>, Memory>
     ensures { IfOk result (λ w. equations_of w.items ≡ (type_of left, type_of right) ∷ equations_of work.items) }

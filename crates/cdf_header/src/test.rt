@@ -4,6 +4,7 @@ ghost use Rattle.cdf_header.specs.Format.{flaw};
 
 use crate::fault::Fault;
 
+/// What the number of a field is held against.
 #[derive(Clone, Copy, Debug, PartialEq, Eq)]
 pub enum Test {
     Any,

@@ -3,7 +3,7 @@
 //! parts. The layers above use that `weight` is the weight, `place` the part at a path, and a copy
 //! an equal term; and the definitions in `specs/`: value, type, turns, places, rules, normal terms.
 //! Read `term`, `trace`, then `specs/Term.antt`, `View`, `Meaning`, `Turns`, `Typing`, `Places`,
-//! `Subst`, `Rules`; then `access`, `walk`, `copies`.
+//! `Subst`, `Rules`; then `access`, `places`, `weights`, `copies`.
 #![tactic(auto)]
 
 mod access;

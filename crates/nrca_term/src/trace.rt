@@ -12,7 +12,7 @@ impl Model for Path {
     ghost view = { λ p. p.0.items };
 }
 
-/// The rules of the rewriting, in the order in which they are tried.
+/// The rules of the rewriting.
 #[derive(Clone, Copy, Debug, PartialEq, Eq)]
 pub enum Rule {
     B1,
