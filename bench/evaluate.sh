@@ -1,5 +1,5 @@
 #!/usr/bin/env bash
-# Measures evaluate of nrca_eval on four loops, with 1, 2 and 4 workers, beside the same loops in Python 3 and in plain Rust built by
+# Measures evaluate of nrca_eval on five loops, with 1, 2 and 4 workers, beside the same loops in Python 3 and in plain Rust built by
 # rustc -O: a sum, a tabulation, a big union with few distinct members, the set of pairs, an index of these into few cells. Prints the
 # elapsed and the processor seconds of the run of three that was the shortest, and its peak memory in KiB. `bench/evaluate.sh depth` prints instead how deep a term of nested lets, and one of nested sums,
 # is evaluated on the stack that the shell allows. Makes a small repository of its own in a temporary folder; run it from anywhere.
@@ -7,7 +7,7 @@ set -eu
 top=$(cd "$(dirname "$0")/.." && pwd)
 work=$(mktemp -d)
 trap 'rm -rf "$work"' EXIT
-crates="aql_outside aql_value aql_made aql_types nrca_term nrca_array nrca_par nrca_runs nrca_serial nrca_eval"
+crates="aql_outside aql_value aql_made aql_types nrca_term nrca_array nrca_par nrca_runs nrca_forms nrca_serial nrca_eval"
 mkdir -p "$work/crates/measure/src" "$work/crates/measure/specs" "$work/crates/measure/proofs"
 for crate in $crates; do
     for part in src specs proofs; do
@@ -272,7 +272,7 @@ PROGRAM
 rustc -O -o "$work/loops" "$work/loops.rs"
 least() {
     for _ in 1 2 3; do
-        { /usr/bin/time -f '%e %U %M' "$@" > /dev/null; } 2>&1
+        { env time -f '%e %U %M' "$@" > /dev/null; } 2>&1
     done | sort -n | head -1
 }
 printf '%-12s %9s %-10s %9s %9s %9s\n' loop n by elapsed processor KiB

@@ -106,7 +106,7 @@ program=$(find "$work/crates/measure/out" -maxdepth 1 -type f -perm -u+x | head 
 cd "$work"
 least() {
     for _ in 1 2 3; do
-        { /usr/bin/time -f '%e %M' "$@" > "$work/sum"; } 2>&1
+        { env time -f '%e %M' "$@" > "$work/sum"; } 2>&1
     done | sort -n | head -1
 }
 printf '%-22s %9s %9s %9s %9s %9s\n' cells seconds KiB plain ratio 'KiB/cells'

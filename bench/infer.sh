@@ -104,7 +104,7 @@ for line in "declarations 5000" "declarations 10000" "declarations 20000" "gener
     for call in read check; do
         untyped=$("$program" "$call" "$1" "$2")
         for _ in 1 2 3; do
-            { /usr/bin/time -f '%U %M' "$program" "$call" "$1" "$2" > /dev/null; } 2>&1
+            { env time -f '%U %M' "$program" "$call" "$1" "$2" > /dev/null; } 2>&1
         done | sort -n | head -1 | { read -r seconds kib; printf '%-6s %-14s %9s %9s %9s %9s\n' "$call" "$1" "$2" "$seconds" "$kib" "$untyped"; }
     done
 done

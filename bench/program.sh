@@ -79,7 +79,7 @@ def run(words, script, times):
         elapsed = time.perf_counter() - begun
         assert status == 0, (words, status)
         least = elapsed if least is None else min(least, elapsed)
-    timed = ["/usr/bin/time", "-o", "peak", "-f", "%M"] + words
+    timed = ["env", "time", "-o", "peak", "-f", "%M"] + words
     subprocess.check_call(timed, stdin=open(script), stdout=open("out", "wb"))
     return least, int(open("peak").read()), open("out", "rb").read()
 

@@ -90,6 +90,6 @@ for line in "declarations 131072" "declarations 262144" "declarations 524288" "l
     set -- $line
     bytes=$("$program" "$1" "$2" | cut -d' ' -f1)
     for _ in 1 2 3; do
-        { /usr/bin/time -f '%U %M' "$program" "$1" "$2" > /dev/null; } 2>&1
+        { env time -f '%U %M' "$program" "$1" "$2" > /dev/null; } 2>&1
     done | sort -n | head -1 | { read -r seconds kib; printf '%-14s %9s %9s %9s\n' "$1" "$bytes" "$seconds" "$((kib * 1024 / bytes))"; }
 done

@@ -104,6 +104,6 @@ for line in "numbers 500000" "canon_numbers 500000" "numbers 1000000" "canon_num
     "lists 500000" "merge 500000" "lists 1000000" "merge 1000000" "lists 2000000" "merge 2000000"; do
     set -- $line
     for _ in 1 2 3 4 5; do
-        { /usr/bin/time -f '%U %M' "$program" "$1" "$2" > /dev/null; } 2>&1
+        { env time -f '%U %M' "$program" "$1" "$2" > /dev/null; } 2>&1
     done | sort -n | head -1 | { read -r seconds kib; printf '%-14s %9s %9s %9s\n' "$1" "$2" "$seconds" "$kib"; }
 done
