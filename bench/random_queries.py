@@ -4,9 +4,9 @@
     bench/random_queries.py [SEED [SCRIPTS]]
 
 A script has four declarations, and each may use those before it, also undefined ones. The evaluator
-here follows docs/LANGUAGE.md and shares nothing with the program. It knows neither turns nor plans: of a
-script that passes the budget only the declarations before that are compared. It prints the first scripts that differ, and
-how many declarations it compared; its status is 1 where one differs.
+here follows docs/LANGUAGE.md and shares nothing with the program. It knows neither turns nor plans:
+of a script that passes the budget only the declarations before that are compared. It prints the
+first scripts that differ, and how many declarations it compared; its status is 1 where one differs.
 
 An expression is made as a pair of its text and its meaning: a function from the values of the names
 to the value, which raises Undefined where there is none. The names of an expression under way are a
