@@ -7,7 +7,7 @@ use aql_outside::{Failed, Sink};
 /// Writes a text, in as many pieces as the sink takes it.
 pub fn write_all<O: Sink>(output: &mut O, text: &[u8]) -> Result<(), Failed>
     ensures written { WritesFront (O.holds output.old) (O.holds output.new) text.now result }
-    ensures cause { HasCause (O.faults output.old) (O.faults output.new) result }
+    ensures cause { HasCause O.quiet (O.faults output.old) (O.faults output.new) result }
 {
     let mut done = 0;
     'pieces: while done < text.len() {

@@ -74,12 +74,14 @@ impl Files for MemFiles {
 
     ghost faults = { λ s. (files_calls s).failed };
 
+    ghost quiet = { Unit {0} };
+
     ghost counted = { λ s. s.calls.counted };
 
     fn size(&mut self, name: &str) -> Result<Option<u64>, Failed>
         ensures told { TellsSize (Some (files_content self.old)) name.now result }
         ensures kept { Some (files_content self.new) ≡ Some (files_content self.old) }
-        ensures cause { HasCause (files_calls self.old).failed (files_calls self.new).failed result }
+        ensures cause { HasCause (Unit {0}) (files_calls self.old).failed (files_calls self.new).failed result }
         ensures calls { files_calls self.new ≡ after_call (files_calls self.old) (is_err result) }
         ensures fails { IsErr result ↔ NextFails (files_calls self.old) }
     {
@@ -95,7 +97,7 @@ impl Files for MemFiles {
         ensures bound { ReadsAtMost result into.new }
         ensures told { GivesAt (Some (files_content self.old)) name.now at result into.new }
         ensures kept { Some (files_content self.new) ≡ Some (files_content self.old) }
-        ensures cause { HasCause (files_calls self.old).failed (files_calls self.new).failed result }
+        ensures cause { HasCause (Unit {0}) (files_calls self.old).failed (files_calls self.new).failed result }
         ensures calls { files_calls self.new ≡ after_call (files_calls self.old) (is_err result) }
         ensures fails { IsErr result ↔ NextFails (files_calls self.old) }
         ensures rest { IfOk result (λ n. drop n into.new ≡ drop n into.old) }
@@ -139,12 +141,14 @@ impl Files for SureFiles {
 
     ghost faults = { λ _. 0 };
 
+    ghost quiet = { Unit {0} };
+
     ghost counted = { λ _. Prim.omega arith };
 
     fn size(&mut self, name: &str) -> Result<Option<u64>, Failed>
         ensures told { TellsSize (Some (sure_files_content self.old)) name.now result }
         ensures kept { Some (sure_files_content self.new) ≡ Some (sure_files_content self.old) }
-        ensures cause { HasCause 0 0 result }
+        ensures cause { HasCause (Unit {0}) 0 0 result }
         ensures sure { IsOk result }
     {
         Ok(size_in(&self.content, name))
@@ -154,7 +158,7 @@ impl Files for SureFiles {
         ensures bound { ReadsAtMost result into.new }
         ensures told { GivesAt (Some (sure_files_content self.old)) name.now at result into.new }
         ensures kept { Some (sure_files_content self.new) ≡ Some (sure_files_content self.old) }
-        ensures cause { HasCause 0 0 result }
+        ensures cause { HasCause (Unit {0}) 0 0 result }
         ensures sure { IsOk result }
         ensures rest { IfOk result (λ n. drop n into.new ≡ drop n into.old) }
     {

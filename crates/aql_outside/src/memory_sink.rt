@@ -70,13 +70,15 @@ impl Sink for MemSink {
 
     ghost faults = { λ s. (sink_calls s).failed };
 
+    ghost quiet = { Unit {0} };
+
     ghost counted = { λ s. s.calls.counted };
 
     fn write(&mut self, from: &[u8]) -> Result<usize, Failed>
         ensures bound { WritesAtMost result from.now }
         ensures progress { TakesSome result from.now }
         ensures bytes { WriteAppends (Some (sink_bytes self.old)) (Some (sink_bytes self.new)) result from.now }
-        ensures cause { HasCause (sink_calls self.old).failed (sink_calls self.new).failed result }
+        ensures cause { HasCause (Unit {0}) (sink_calls self.old).failed (sink_calls self.new).failed result }
         ensures calls { sink_calls self.new ≡ after_call (sink_calls self.old) (is_err result) }
         ensures fails { IsErr result ↔ (NextFails (sink_calls self.old) ⊎ ((sink_room self.old ≡ 0) × (0 < length from.now))) }
         ensures count { IfOk result (λ n. n ≡ min (next_piece (sink_calls self.old) (length from.now)) (sink_room self.old)) }
@@ -117,13 +119,15 @@ impl Sink for SureSink {
 
     ghost faults = { λ _. 0 };
 
+    ghost quiet = { Unit {0} };
+
     ghost counted = { λ _. Prim.omega arith };
 
     fn write(&mut self, from: &[u8]) -> Result<usize, Failed>
         ensures bound { WritesAtMost result from.now }
         ensures progress { TakesSome result from.now }
         ensures bytes { WriteAppends None None result from.now }
-        ensures cause { HasCause 0 0 result }
+        ensures cause { HasCause (Unit {0}) 0 0 result }
         ensures sure { IsOk result }
         ensures whole { IfOk result (λ n. n ≡ length from.now) }
     {

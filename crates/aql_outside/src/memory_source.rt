@@ -63,12 +63,14 @@ impl Source for MemSource {
 
     ghost faults = { λ s. (source_calls s).failed };
 
+    ghost quiet = { Unit {0} };
+
     ghost counted = { λ s. s.calls.counted };
 
     fn read(&mut self, into: &mut [u8]) -> Result<usize, Failed>
         ensures bound { ReadsAtMost result into.new }
         ensures bytes { ReadConsumes (Some (source_left self.old)) (Some (source_left self.new)) result into.new }
-        ensures cause { HasCause (source_calls self.old).failed (source_calls self.new).failed result }
+        ensures cause { HasCause (Unit {0}) (source_calls self.old).failed (source_calls self.new).failed result }
         ensures calls { source_calls self.new ≡ after_call (source_calls self.old) (is_err result) }
         ensures fails { IsErr result ↔ NextFails (source_calls self.old) }
         ensures count { IfOk result (λ n. n ≡ min (next_piece (source_calls self.old) (length into.old)) (length (source_left self.old))) }
@@ -118,12 +120,14 @@ impl Source for SureSource {
 
     ghost faults = { λ _. 0 };
 
+    ghost quiet = { Unit {0} };
+
     ghost counted = { λ _. Prim.omega arith };
 
     fn read(&mut self, into: &mut [u8]) -> Result<usize, Failed>
         ensures bound { ReadsAtMost result into.new }
         ensures bytes { ReadConsumes (Some (sure_source_left self.old)) (Some (sure_source_left self.new)) result into.new }
-        ensures cause { HasCause 0 0 result }
+        ensures cause { HasCause (Unit {0}) 0 0 result }
         ensures sure { IsOk result }
         ensures count { IfOk result (λ n. n ≡ min (length into.old) (length (sure_source_left self.old))) }
         ensures rest { IfOk result (λ n. drop n into.new ≡ drop n into.old) }

@@ -27,6 +27,8 @@ impl<R: rt::Files> Files for FileSystem<'_, R> {
 
     ghost faults = { λ s. s.faults };
 
+    ghost quiet = { Unit {0} };
+
     ghost counted = { λ s. s.counted };
 
     fn size(&mut self, name: &str) -> Result<Option<u64>, Failed> {

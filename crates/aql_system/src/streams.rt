@@ -28,6 +28,8 @@ impl<R: Read> Source for InputStream<R> {
 
     ghost faults = { λ s. s.faults };
 
+    ghost quiet = { Unit {0} };
+
     ghost counted = { λ s. s.counted };
 
     fn read(&mut self, into: &mut [u8]) -> Result<usize, Failed> {
@@ -63,6 +65,8 @@ impl<W: Write> Sink for OutputStream<W> {
     ghost holds = { λ s. W.contents s.inner };
 
     ghost faults = { λ s. s.faults };
+
+    ghost quiet = { Unit {0} };
 
     ghost counted = { λ s. s.counted };
 
