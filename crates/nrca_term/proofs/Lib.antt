@@ -1,4 +1,5 @@
 pub mod Children
+pub mod ConstantParts
 pub mod Filling
 pub mod Swaps
 pub mod WeightLemmas

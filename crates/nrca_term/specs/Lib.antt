@@ -32,3 +32,5 @@ pub mod FactsLaws
 pub mod Contexts
 pub mod ShiftLaws
 pub mod SubstTops
+pub mod Valid
+pub mod ValidLaws

@@ -1,5 +1,5 @@
 -- Nameless core terms. A node is a form and its parts, and each part has a number of variables of its own.
-use Rattle.std.specs.Prelude.{◌≡◌, ℕ, zero, suc, ◌+◌, ◌*◌, ◌<◌, List, [], ◌∷◌, nat_lt, if◌then◌else◌, Option, Some, None}
+use Rattle.std.specs.Prelude.{◌≡◌, ℕ, zero, suc, ◌+◌, ◌*◌, ◌<◌, ◌≤◌, List, [], ◌∷◌, nat_lt, if◌then◌else◌, Option, Some, None}
 use Rattle.aql_value.specs.Strict.{Strict}
 
 -- The forms. `strict` are those that evaluate every part and bind nothing: their values stand with the operations on values.
@@ -91,6 +91,10 @@ abbrev mutual
 abbrev pub list_weight : List Term → ℕ
 list_weight [] = 0
 list_weight (t ∷ ts) = weight_of t + list_weight ts
+
+-- with so many variables around it: their number and the weight are together at most 1,280,000, 64 times 20,000
+abbrev pub IsSmall : (around : ℕ) → Term → Type 0
+IsSmall around t = weight_of t + around ≤ 1280000
 
 -- the number of variables that a form binds in its part i
 abbrev pub form_binders : Form → ℕ → ℕ

@@ -1,9 +1,10 @@
 //! Core terms: nameless terms that the rewriting and the evaluator work on, and their meaning.
 //! A contract sees a `Core` as the pure term `term_of` of it (`specs/View.antt`): a form and its
-//! parts. The layers above use that `weight` is the weight, `place` the part at a path, and a copy
-//! an equal term; and the definitions in `specs/`: value, type, turns, places, rules, normal terms.
-//! Read `term`, `trace`, then `specs/Term.antt`, `View`, `Meaning`, `Turns`, `Typing`, `Places`,
-//! `Subst`, `Rules`; then `access`, `places`, `weights`, `copies`.
+//! parts. The layers above use that `weight` is the weight, `place` the part at a path, a copy an
+//! equal term, and each constant a value of the language (`constants`); and the definitions in
+//! `specs/`: value, type, turns, places, rules, normal terms. Read `term`, `trace`, then
+//! `specs/Term.antt`, `View`, `Meaning`, `Turns`, `Typing`, `Places`, `Subst`, `Rules`, `Valid`;
+//! then `access`, `places`, `weights`, `copies`, `validity`.
 #![tactic(auto)]
 
 mod access;
@@ -11,9 +12,11 @@ mod copies;
 mod places;
 mod term;
 mod trace;
+mod validity;
 mod weights;
 
 pub use places::place;
 pub use term::{Core, Terms};
 pub use trace::{Path, Rule, Step, Trace};
+pub use validity::constants;
 pub use weights::weight;
