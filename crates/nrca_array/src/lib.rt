@@ -25,6 +25,10 @@ pub use held::Held;
 // A kept value may be sent to another thread, and lent to several.
 fn crosses_threads<T: Send + Sync>(_value: &T) {}
 
+fn flat_crosses_threads(flat: &Flat) {
+    crosses_threads(flat);
+}
+
 fn held_crosses_threads(held: &Held) {
     crosses_threads(held);
 }

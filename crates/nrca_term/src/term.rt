@@ -38,3 +38,10 @@ pub enum Core {
     Index { rank: u64, pairs: Box<Core> },
     Literal { dims: Terms, cells: Terms },
 }
+
+// A `Core` may be sent to another thread, and lent to several.
+fn crosses_threads<T: Send + Sync>(_term: &T) {}
+
+fn core_crosses_threads(term: &Core) {
+    crosses_threads(term);
+}

@@ -4,8 +4,6 @@ use nrca_term::{Core, Path, place, weight};
 use std::alloc::Global;
 use std::test::Fail;
 
-fn crosses_threads<T: Send + Sync>(_term: &T) {}
-
 // The part at the end of these steps: none where there is no such part, and else its variable, if it is one.
 fn variable_at(alloc: Global, term: &Core, steps: &[u64]) -> Result<Option<Option<u64>>, Memory> {
     let path = Path(Vec::from_slice(alloc, steps)?);
@@ -19,7 +17,6 @@ fn variable_at(alloc: Global, term: &Core, steps: &[u64]) -> Result<Option<Optio
 
 fn weight_of(alloc: Global, words: &str) -> Result<u128, Memory> {
     let term = words::term(alloc, words)?;
-    crosses_threads(&term);
     let found = weight(&term);
     drop(term);
     Ok(found)
