@@ -14,6 +14,8 @@ pub mod Size
 pub mod Sound
 pub mod Tree
 pub mod Typing
+pub mod Uses
+pub mod UsesLaws
 pub mod View
 pub mod ViewLaws
 pub mod Weakening

@@ -1,8 +1,6 @@
 -- Which types an expression, a pattern and a declaration have.
--- Each type that a typing uses is within the limits: it is a part of one of those that are asked to be so, which are the
--- type of a declaration, the two types of a macro that is applied, and those that come in where no type around holds them:
--- the sides of a comparison, the sets of generators, `get` and `summap`, the arrays of generators, subscripts and dimensions,
--- the pairs of `index_k`, what `let`, `==` and the argument of a function bind, and the argument of a `readval`.
+-- Each type that a typing uses is within the limits (`UsesLaws`: `expression-uses`, `declaration-uses`), though few are asked to be:
+-- those that are no part of a type that is within already.
 use Rattle.std.specs.Prelude.{◌≡◌, List, [], ◌∷◌, Bool, true, false, Option, Some, None}
 use Rattle.aql_value.specs.Strict.{Strict}
 use Rattle.aql_types.specs.Types as types
@@ -70,6 +68,7 @@ FirstWithin (t ∷ ts) = IsWithin t
 -- of the operations whose operand's type is no part of the result's, the type of the first operand is within the limits
 abbrev pub OperandWithin : Strict → List Ty → Type 0
 OperandWithin (Strict.compare o) ts = FirstWithin ts
+OperandWithin (Strict.proj at of) ts = FirstWithin ts
 OperandWithin Strict.get ts = FirstWithin ts
 OperandWithin Strict.sub ts = FirstWithin ts
 OperandWithin (Strict.dim k) ts = FirstWithin ts
