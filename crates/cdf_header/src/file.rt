@@ -1,6 +1,6 @@
 // Reading the header of a file.
 ghost use Rattle.std.specs.Prelude.{◌≡◌, ◌≤◌, ◌<◌, List, ℕ, Some, None, true, min, length, take, vec_len, IfOk, IfErr, IsErr, IsErrOf, IsTrue};
-ghost use Rattle.aql_outside.specs.Causes.{Rose};
+ghost use Rattle.aql_outside.specs.Causes.{Blames};
 ghost use Rattle.aql_outside.specs.Contents.{bytes_in, IsAbsent};
 ghost use Rattle.cdf_header.specs.Header.{Head};
 ghost use Rattle.cdf_header.specs.Format.{header, done, run};
@@ -27,8 +27,7 @@ fn read_piece<F: Files>(
     requires room { length front.old.items < target }
     requires limit { target ≤ 16777216 }
     ensures kept { F.holds files.new ≡ F.holds files.old }
-    ensures later { F.faults files.old ≤ F.faults files.new }
-    ensures failed { IsErrOf result CdfFault.Device → Rose (F.faults files.old) (F.faults files.new) }
+    ensures blamed { Blames F.quiet (IsErrOf result CdfFault.Device) (F.faults files.old) (F.faults files.new) }
     ensures causes { IfErr result IsOutside }
     ensures within { IfOk result (λ whole. length front.new.items ≤ target) }
     ensures grows { IfOk result (λ whole. IsTrue whole → length front.old.items < length front.new.items) }
@@ -57,8 +56,7 @@ fn grow<F: Files>(
     requires room { length front.old.items ≤ target }
     requires limit { target ≤ 16777216 }
     ensures kept { F.holds files.new ≡ F.holds files.old }
-    ensures later { F.faults files.old ≤ F.faults files.new }
-    ensures failed { IsErrOf result CdfFault.Device → Rose (F.faults files.old) (F.faults files.new) }
+    ensures blamed { Blames F.quiet (IsErrOf result CdfFault.Device) (F.faults files.old) (F.faults files.new) }
     ensures causes { IfErr result IsOutside }
     ensures within { IfOk result (λ whole. length front.new.items ≤ target) }
     ensures whole { IfOk result (λ whole. IsTrue whole → target ≤ length front.new.items) }
@@ -89,8 +87,7 @@ fn read_fields<F: Files>(
     requires room { length start.items ≤ most }
     requires limit { most ≤ 16777216 }
     ensures kept { F.holds files.new ≡ F.holds files.old }
-    ensures later { F.faults files.old ≤ F.faults files.new }
-    ensures failed { IsErrOf result CdfFault.Device → Rose (F.faults files.old) (F.faults files.new) }
+    ensures blamed { Blames F.quiet (IsErrOf result CdfFault.Device) (F.faults files.old) (F.faults files.new) }
     ensures causes { IfErr result IsOfHeader }
     ensures told { (bytes : List ℕ) → bytes_in (F.holds files.old) name.now ≡ Some bytes → most ≡ min 16777216 (length bytes) → whole ≡ true → IsFront bytes start.items
         → Answers (run (header size v done) (take 16777216 bytes) 4) result }
@@ -139,8 +136,7 @@ fn is_known(v: u8) -> bool
 // The header of the file of a name.
 fn header_or_fault<F: Files>(alloc: Global, files: &mut F, name: &str) -> Result<Header, CdfFault>
     ensures kept { F.holds files.new ≡ F.holds files.old }
-    ensures later { F.faults files.old ≤ F.faults files.new }
-    ensures failed { IsErrOf result CdfFault.Device → Rose (F.faults files.old) (F.faults files.new) }
+    ensures blamed { Blames F.quiet (IsErrOf result CdfFault.Device) (F.faults files.old) (F.faults files.new) }
     ensures causes { IfErr result IsOfHeader }
     // Where the file is told and there.
     ensures told { (bytes : List ℕ) → bytes_in (F.holds files.old) name.now ≡ Some bytes → Reading bytes result }
@@ -169,8 +165,7 @@ fn header_or_fault<F: Files>(alloc: Global, files: &mut F, name: &str) -> Result
 // The same, with the header that the bytes spell.
 fn read_named<F: Files>(alloc: Global, files: &mut F, name: &str) -> Result<Header, CdfFault>
     ensures kept { F.holds files.new ≡ F.holds files.old }
-    ensures later { F.faults files.old ≤ F.faults files.new }
-    ensures failed { IsErrOf result CdfFault.Device → Rose (F.faults files.old) (F.faults files.new) }
+    ensures blamed { Blames F.quiet (IsErrOf result CdfFault.Device) (F.faults files.old) (F.faults files.new) }
     ensures causes { IfErr result IsOfHeader }
     ensures told { (bytes : List ℕ) → bytes_in (F.holds files.old) name.now ≡ Some bytes → Reading bytes result }
     ensures only { (bytes : List ℕ) (h : Head) → bytes_in (F.holds files.old) name.now ≡ Some bytes → IsHeader bytes h → Finds h result }
@@ -184,8 +179,8 @@ fn read_named<F: Files>(alloc: Global, files: &mut F, name: &str) -> Result<Head
 /// bytes, a read that gives fewer bytes than asked is the end of the file.
 pub fn read_header<F: Files>(alloc: Global, files: &mut F, name: &Str) -> Result<Header, CdfFault>
     ensures kept { F.holds files.new ≡ F.holds files.old }
-    ensures later { F.faults files.old ≤ F.faults files.new }
-    ensures failed { IsErrOf result CdfFault.Device → Rose (F.faults files.old) (F.faults files.new) }
+    // Where `Device` is answered the count of faults rose; of quiet files it is greater only there.
+    ensures blamed { Blames F.quiet (IsErrOf result CdfFault.Device) (F.faults files.old) (F.faults files.new) }
     // A fault is one of a header, of the device or of memory, whatever the files tell.
     ensures causes { IfErr result IsOfHeader }
     // Where the file is told and there, a header is answered that its bytes spell, or the first fault in order.
@@ -194,8 +189,9 @@ pub fn read_header<F: Files>(alloc: Global, files: &mut F, name: &Str) -> Result
     ensures only { (bytes : List ℕ) (h : Head) → IsUtf8 name.now → bytes_in (F.holds files.old) name.now ≡ Some bytes → IsHeader bytes h → Finds h result }
     // Where it is told that no file has the name.
     ensures absent { IsAbsent (F.holds files.old) name.now → IfErr result IsLost × IsErr result }
-    // A name that is not UTF-8 names no file.
+    // A name that is not UTF-8 names no file, and no call is made on the files.
     ensures unnamed { ¬ (IsUtf8 name.now) → result ≡ Err CdfFault.Absent }
+    ensures untouched { ¬ (IsUtf8 name.now) → files.new ≡ files.old }
 {
     match str::from_utf8(&name.bytes) {
         Ok(text) => read_named(alloc, files, text),
