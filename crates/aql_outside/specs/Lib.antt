@@ -1,4 +1,5 @@
 pub mod Causes
+pub mod CausesLaws
 pub mod Contents
 pub mod Calls
 pub mod Memory
