@@ -5,9 +5,10 @@ use Rattle.cdf_header.specs.declared.fault.CdfFault.{CdfFault}
 use Rattle.cdf_slab.specs.Numbers.{Number, number_at}
 use Rattle.cdf_slab.specs.Walk.{Step, along, walk, AreWithin, places_left, RoomSoFar, Turn}
 use Rattle.cdf_slab.specs.Going.{Goes}
+use Rattle.cdf_slab.specs.Slab.{IsLate}
 use Rattle.cdf_slab.proofs.Walking.{map-append, capped-walk}
 use Rattle.cdf_slab.proofs.Cuts.{blocks_next, blocks_done, stopped, same_within}
-use Rattle.cdf_slab.proofs.Goings.{goes-none, goes-then, goes-fails}
+use Rattle.cdf_slab.proofs.Goings.{goes-none, goes-then, goes-fails, late_more}
 
 pub AreWithin-append : (size end : ℕ) (ps qs : List ℕ) → AreWithin size end (ps ++ qs) → AreWithin size end ps × AreWithin size end qs
 AreWithin-append size end [] qs h = (tt, h)
@@ -91,6 +92,19 @@ count_next rest a base i size end here now more before total s t lt e = record {
     length-append (walk rest (along a base i)) (places_left rest a base (i + 1)),
   );
 }
+
+-- the count of a fault of one block, in the words of the whole
+pub count_late : (signed : Bool) (rest : List Step) (a : Step) (base i size end here now before total : ℕ) (e : CdfFault) → CountSoFar rest a base i now before total → Turn rest a base i size end here → i < a.count →
+    IsLate signed (now + length (walk rest here)) e → IsLate signed (before + total) e
+count_late signed rest a base i size end here now before total e s t lt late =
+    late_more signed _ (before + total) e
+    (omega (
+      arith,
+      s.many,
+      ap length t.same,
+      ap length (blocks_next (λ j. walk rest (along a base j)) i a.count lt),
+      length-append (walk rest (along a base i)) (places_left rest a base (i + 1)),
+    )) late
 
 pub count_done : (rest : List Step) (a : Step) (base i now before total : ℕ) → CountSoFar rest a base i now before total → a.count ≤ i → now ≡ before + total
 count_done rest a base i now before total s le = omega (arith, s.many, ap length (blocks_done (λ j. walk rest (along a base j)) i a.count le))

@@ -1,5 +1,5 @@
 -- Reading some numbers and then others.
-use Rattle.std.proofs.Common.{◌≡◌, ℕ, ◌+◌, Bool, true, false, if◌then◌else◌, List, [], ◌∷◌, ◌++◌, length, Option, Some, None, Result, Ok, Err, refl, sym, ap, subst, ◌∙◌, arith, append_assoc, length-append}
+use Rattle.std.proofs.Common.{◌≡◌, ℕ, ◌+◌, ◌<◌, ◌≤◌, Bool, true, false, if◌then◌else◌, List, [], ◌∷◌, ◌++◌, length, Option, Some, None, Result, Ok, Err, refl, sym, ap, subst, ◌∙◌, arith, append_assoc, length-append}
 use Rattle.std.proofs.lemmas.List.{append-nil}
 use Rattle.aql_value.specs.Datum.{Datum, natural}
 use Rattle.aql_value.specs.Partial.{◌>>=◌, each}
@@ -10,7 +10,7 @@ use Rattle.std.specs.Prelude.{IfOk, IfErr}
 use Rattle.aql_value.specs.Lists.{Every, Every-append}
 use Rattle.cdf_slab.specs.Numbers.{Number, IsCell, cell_of}
 use Rattle.cdf_slab.specs.Slab.{first_negative, IsLate}
-use Rattle.cdf_slab.specs.Window.{IsOutside}
+use Rattle.cdf_slab.specs.Window.{IsOutside, IsOfPiece}
 use Rattle.cdf_slab.specs.Going.{Goes}
 
 pub goes-none : (signed : Bool) (before : List Datum) → Goes signed [] before (Ok before)
@@ -107,36 +107,33 @@ pub goes-kinds : (signed : Bool) (ns : List Number) (before : List Datum) (r : R
 goes-kinds signed ns before (Ok all) h k = subst (Every (IsCell signed)) (sym h.2) (Every-append (IsCell signed) before h.0 k (cells-given signed ns h.0 h.1))
 goes-kinds signed ns before (Err e) h k = tt
 
--- a fault of reading numbers
-pub goes_late : (signed : Bool) (ns : List Number) (before : List Datum) (r : Result (List Datum) CdfFault) → Goes signed ns before r → IfErr r (IsLate signed)
-goes_late signed ns before (Ok all) g = tt
-goes_late signed ns before (Err (faults.Negative c)) g = g.0
-goes_late signed ns before (Err faults.Device) g = tt
-goes_late signed ns before (Err faults.Memory) g = tt
-goes_late signed ns before (Err faults.Absent) g = absurd g
-goes_late signed ns before (Err faults.NotClassic) g = absurd g
-goes_late signed ns before (Err (faults.Version v)) g = absurd g
-goes_late signed ns before (Err (faults.Malformed k)) g = absurd g
-goes_late signed ns before (Err (faults.TooMany l)) g = absurd g
-goes_late signed ns before (Err faults.NoVariable) g = absurd g
-goes_late signed ns before (Err (faults.Rank r)) g = absurd g
-goes_late signed ns before (Err faults.FloatVariable) g = absurd g
-goes_late signed ns before (Err (faults.Stride d)) g = absurd g
-goes_late signed ns before (Err (faults.Outside d)) g = absurd g
-goes_late signed ns before (Err (faults.Cut k)) g = absurd g
+-- the first number below 0 is one of them
+first_negative-below : (k : ℕ) (ns : List Number) (c : ℕ) → first_negative k ns ≡ Some c → c < k + length ns
+first_negative-below k [] c e = absurd cc
+first_negative-below k (n ∷ ns) c e = go n.0 (λ h. first_negative-below (k + 1) ns c h) e
+  where
+    go : (b : Bool) → (first_negative (k + 1) ns ≡ Some c → c < k + 1 + length ns) → (if b then Some k else first_negative (k + 1) ns) ≡ Some c → c < k + length (n ∷ ns)
+    go true h e = let z : k ≡ c = cc in omega (arith, z)
+    go false h e = omega (arith, h e)
 
-pub outside_late : (signed : Bool) (e : CdfFault) → IsOutside e → IsLate signed e
-outside_late signed faults.Device out = tt
-outside_late signed faults.Memory out = tt
-outside_late signed faults.Absent out = absurd out
-outside_late signed faults.NotClassic out = absurd out
-outside_late signed (faults.Version v) out = absurd out
-outside_late signed (faults.Malformed k) out = absurd out
-outside_late signed (faults.TooMany l) out = absurd out
-outside_late signed faults.NoVariable out = absurd out
-outside_late signed (faults.Rank r) out = absurd out
-outside_late signed faults.FloatVariable out = absurd out
-outside_late signed (faults.Stride d) out = absurd out
-outside_late signed (faults.Outside d) out = absurd out
-outside_late signed (faults.Cut k) out = absurd out
-outside_late signed (faults.Negative c) out = absurd out
+-- a fault of reading numbers
+pub goes_late : (signed : Bool) (ns : List Number) (before : List Datum) (r : Result (List Datum) CdfFault) → Goes signed ns before r → IfErr r (IsLate signed (length before + length ns))
+goes_late signed ns before (Ok all) g = tt
+goes_late signed ns before (Err (faults.Negative c)) g = (g.0, first_negative-below (length before) ns c g.1)
+goes_late signed ns before (Err (faults.Cut at)) g = absurd g
+goes_late signed ns before (Err e) g = g
+
+-- the same of more cells
+pub late_more : (signed : Bool) (m n : ℕ) (e : CdfFault) → m ≤ n → IsLate signed m e → IsLate signed n e
+late_more signed m n (faults.Negative c) le late = (late.0, omega (arith, le, late.1))
+late_more signed m n e le late = late
+
+-- a fault of the device is one of reading a piece
+pub outside_piece : (e : CdfFault) → IsOutside e → IsOfPiece e
+outside_piece (faults.Cut at) out = tt
+outside_piece e out = out
+
+-- a fault of reading a piece, whatever the cells
+pub piece_late : (signed : Bool) (many : ℕ) (e : CdfFault) → IsOfPiece e → IsLate signed many e
+piece_late signed many (faults.Negative c) piece = absurd piece
+piece_late signed many e piece = piece

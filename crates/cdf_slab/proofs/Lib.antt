@@ -9,3 +9,4 @@ pub mod Blocks
 pub mod Answering
 pub mod Rows
 pub mod Naturals
+pub mod Requests

@@ -13,10 +13,11 @@ use Rattle.cdf_slab.specs.declared.window.Window.{Window}
 use Rattle.cdf_slab.specs.Numbers.{Number, number_of, number_at}
 use Rattle.cdf_slab.specs.Run.{apart, run, HasRun, HoldsRun}
 use Rattle.cdf_slab.specs.Walk.{Step, along, walk, AreWithin, places_left, RoomSoFar, Turn}
+use Rattle.cdf_slab.specs.Slab.{IsLate}
 use Rattle.cdf_slab.specs.Window.{IsPiece}
 use Rattle.cdf_slab.specs.Going.{Goes}
 use Rattle.cdf_slab.proofs.Blocks.{AreWithin-append, ReadSoFar, CountSoFar}
-use Rattle.cdf_slab.proofs.Goings.{goes-then, goes-fails}
+use Rattle.cdf_slab.proofs.Goings.{goes-then, goes-fails, goes_late, late_more}
 use Rattle.cdf_slab.proofs.Pieces.{piece_number}
 use Rattle.cdf_slab.proofs.Walking.{map-append, map-twice}
 
@@ -138,6 +139,23 @@ row_counts a base i n size end here step now more before total s t e = record {
     length-range_with_len 0 n,
   );
 }
+
+-- the count of a fault of a run, in the words of the whole row
+pub row_late : (signed : Bool) (kind size : ℕ) (a : Step) (base i n end here step : ℕ) (from : List ℕ) (now : List Datum) (before total : ℕ) (e : CdfFault) →
+    CountSoFar [] a base i (length now) before total → RowTurn a base i n size end here step → Goes signed (map (number_of kind) (run size step n from)) now (Err e) → IsLate signed (before + total) e
+row_late signed kind size a base i n end here step from now before total e s t g =
+    late_more signed _ (before + total) e
+    (omega (
+      arith,
+      s.many,
+      ap length t.places,
+      length-append (apart here step n) (places_left [] a base (i + n)),
+      length-map (range_with_len 0 n) (λ k. here + k * step),
+      length-map (run size step n from) (number_of kind),
+      length-map (range_with_len 0 n) (λ k. big_number size (drop (k * step) from)),
+      length-range_with_len 0 n,
+    ))
+    (goes_late signed (map (number_of kind) (run size step n from)) now (Err e) g)
 
 -- what is made of a run in a piece is made of the file's numbers there
 pub run_told : (signed : Bool) (bytes : List ℕ) (w : Window) (kind size place step n : ℕ) (from : List ℕ) (now : List Datum) (r : Result (List Datum) CdfFault) →

@@ -1,5 +1,6 @@
 -- The hyperslab of a variable: its cells, and why it has none.
-use Rattle.std.specs.Prelude.{◌≡◌, ℕ, ◌+◌, ◌-◌, ◌*◌, ◌^◌, min, Bool, false, not, ◌||◌, nat_eq, nat_lt, List, [], ◌∷◌, length, map, Option, Some, None, option_map, Result, Ok, Err, ◌⊎◌, if◌then◌else◌}
+use Rattle.std.specs.Prelude.{◌≡◌, ◌≢◌, ℕ, ◌+◌, ◌-◌, ◌*◌, ◌^◌, ◌≤◌, ◌<◌, min, Bool, false, not, ◌||◌, nat_eq, nat_lt, List, [], ◌∷◌, length, map, Option, Some, None, option_map, Result, Ok, Err, ◌⊎◌, if◌then◌else◌}
+use Rattle.std.specs.Str.{IsUtf8}
 use Rattle.aql_value.specs.Datum.{Table}
 use Rattle.aql_value.specs.Indices.{indices, product}
 use Rattle.aql_value.specs.Lists.{Every}
@@ -109,10 +110,26 @@ pub record IsShaped (count : List ℕ) (signed : Bool) (t : Table) : Type 0 wher
   pub full : product count ≡ length t.cells
   pub kinds : Every (IsCell signed) t.cells
 
--- a fault that may come where the variable, the strides and the indices are right
-abbrev pub IsLate : (signed : Bool) → CdfFault → Type 0
-IsLate signed (faults.Cut at) = Unit {0}
-IsLate signed (faults.Negative c) = signed ≡ false
-IsLate signed faults.Device = Unit {0}
-IsLate signed faults.Memory = Unit {0}
-IsLate signed e = ⊥
+-- a fault that may come of so many cells where the variable, the strides and the indices are right
+abbrev pub IsLate : (signed : Bool) (many : ℕ) → CdfFault → Type 0
+IsLate signed many (faults.Cut at) = Unit {0}
+IsLate signed many (faults.Negative c) = (signed ≡ false) × (c < many)
+IsLate signed many faults.Device = Unit {0}
+IsLate signed many faults.Memory = Unit {0}
+IsLate signed many e = ⊥
+
+-- what a fault says of what is asked for, whatever the files tell
+abbrev pub IsOfRequest : (start count stride : List ℕ) → (signed : Bool) → CdfFault → Type 0
+IsOfRequest start count stride signed (faults.Rank r) = r ≢ length start
+IsOfRequest start count stride signed (faults.Stride j) = first_zero 1 stride ≡ Some j
+IsOfRequest start count stride signed (faults.Outside j) = (1 ≤ j) × (j ≤ length start)
+IsOfRequest start count stride signed (faults.Negative c) = (signed ≡ false) × (c < product count)
+IsOfRequest start count stride signed e = Unit {0}
+
+-- no cell is asked for, or the header tells a fault
+abbrev pub NeedsNoCell : Head → Var → (start count stride : List ℕ) → Type 0
+NeedsNoCell h v start count stride = (product count ≡ 0) ⊎ ((f : CdfFault) × (early_fault h v start count stride ≡ Some f))
+
+-- the name is not UTF-8, no cell is asked for, or the header tells a fault
+abbrev pub AsksNothing : (name : List ℕ) → Head → Var → (start count stride : List ℕ) → Type 0
+AsksNothing name h v start count stride = (¬ (IsUtf8 name)) ⊎ NeedsNoCell h v start count stride

@@ -19,3 +19,10 @@ abbrev pub IsOutside : CdfFault → Type 0
 IsOutside faults.Device = Unit {0}
 IsOutside faults.Memory = Unit {0}
 IsOutside e = ⊥
+
+-- a fault of reading a piece: fewer bytes came than were asked, the device failed, or memory was wanting
+abbrev pub IsOfPiece : CdfFault → Type 0
+IsOfPiece (faults.Cut at) = Unit {0}
+IsOfPiece faults.Device = Unit {0}
+IsOfPiece faults.Memory = Unit {0}
+IsOfPiece e = ⊥

@@ -1,7 +1,7 @@
 //! The cells of a hyperslab, dimension after dimension.
 
 ghost use Rattle.std.specs.Prelude.{◌≡◌, ◌+◌, ◌-◌, ◌*◌, ◌^◌, ◌≤◌, ◌<◌, ◌⊎◌, min, List, ℕ, Some, [], ◌∷◌, length, map, IfOk, IfErr, IsErrOf};
-ghost use Rattle.aql_outside.specs.Causes.{Rose};
+ghost use Rattle.aql_outside.specs.Causes.{Blames};
 ghost use Rattle.aql_outside.specs.Contents.{bytes_in};
 ghost use Rattle.aql_value.specs.Lists.{Every};
 ghost use Rattle.cdf_header.specs.Format.{type_size};
@@ -36,9 +36,8 @@ fn read_cell<F: Files>(
     requires is { reading.size ≡ type_size reading.kind }
     requires within { place + reading.size ≤ reading.end }
     ensures kept { F.holds files.new ≡ F.holds files.old }
-    ensures later { F.faults files.old ≤ F.faults files.new }
-    ensures failed { IsErrOf result CdfFault.Device → Rose (F.faults files.old) (F.faults files.new) }
-    ensures late { IfErr result (IsLate reading.signed) }
+    ensures blamed { Blames F.quiet (IsErrOf result CdfFault.Device) (F.faults files.old) (F.faults files.new) }
+    ensures late { IfErr result (IsLate reading.signed (length cells + 1)) }
     ensures many { IfOk result (λ all. length all ≡ length cells + 1) }
     ensures kinds { Every (IsCell reading.signed) cells → IfOk result (Every (IsCell reading.signed)) }
     ensures told { (bytes : List ℕ) → bytes_in (F.holds files.old) name.now ≡ Some bytes → reading.end ≤ length bytes → IsPiece bytes window.old
@@ -89,9 +88,8 @@ fn read_row<F: Files>(
     requires small { reading.end < 2 ^ 64 }
     requires within { AreWithin reading.size reading.end (walk (step_of a ∷ []) base) }
     ensures kept { F.holds files.new ≡ F.holds files.old }
-    ensures later { F.faults files.old ≤ F.faults files.new }
-    ensures failed { IsErrOf result CdfFault.Device → Rose (F.faults files.old) (F.faults files.new) }
-    ensures late { IfErr result (IsLate reading.signed) }
+    ensures blamed { Blames F.quiet (IsErrOf result CdfFault.Device) (F.faults files.old) (F.faults files.new) }
+    ensures late { IfErr result (IsLate reading.signed (length cells + length (walk (step_of a ∷ []) base))) }
     ensures many { IfOk result (λ all. length all ≡ length cells + length (walk (step_of a ∷ []) base)) }
     ensures kinds { Every (IsCell reading.signed) cells → IfOk result (Every (IsCell reading.signed)) }
     ensures told { (bytes : List ℕ) → bytes_in (F.holds files.old) name.now ≡ Some bytes → reading.end ≤ length bytes → IsPiece bytes window.old
@@ -146,9 +144,8 @@ pub(crate) fn read_cells<F: Files>(
     requires small { reading.end < 2 ^ 64 }
     requires within { AreWithin reading.size reading.end (walk (steps_of axes.now) base) }
     ensures kept { F.holds files.new ≡ F.holds files.old }
-    ensures later { F.faults files.old ≤ F.faults files.new }
-    ensures failed { IsErrOf result CdfFault.Device → Rose (F.faults files.old) (F.faults files.new) }
-    ensures late { IfErr result (IsLate reading.signed) }
+    ensures blamed { Blames F.quiet (IsErrOf result CdfFault.Device) (F.faults files.old) (F.faults files.new) }
+    ensures late { IfErr result (IsLate reading.signed (length cells + length (walk (steps_of axes.now) base))) }
     ensures many { IfOk result (λ all. length all ≡ length cells + length (walk (steps_of axes.now) base)) }
     ensures kinds { Every (IsCell reading.signed) cells → IfOk result (Every (IsCell reading.signed)) }
     ensures told { (bytes : List ℕ) → bytes_in (F.holds files.old) name.now ≡ Some bytes → reading.end ≤ length bytes → IsPiece bytes window.old

@@ -2,13 +2,13 @@
 
 ghost use Rattle.std.specs.Prelude.{◌≡◌, ◌≢◌, ◌≤◌, ◌<◌, Bool, List, ℕ, Some, None, Err, length, IfOk, IfErr, IsErrOf};
 ghost use Rattle.std.specs.Str.{IsUtf8};
-ghost use Rattle.aql_outside.specs.Causes.{Rose};
+ghost use Rattle.aql_outside.specs.Causes.{Blames};
 ghost use Rattle.aql_outside.specs.Contents.{bytes_in};
 ghost use Rattle.aql_value.specs.Indices.{product};
 ghost use Rattle.aql_value.specs.Lists.{Every};
 ghost use Rattle.cdf_header.specs.Places.{variable_at};
 ghost use Rattle.cdf_slab.specs.Numbers.{IsCell};
-ghost use Rattle.cdf_slab.specs.Slab.{slab_numbers, slab, or_else, cut_fault, index_fault, early_fault, negative_fault, slab_fault, Answers, AnswersEarly, IsShaped, IsLate};
+ghost use Rattle.cdf_slab.specs.Slab.{slab_numbers, slab, or_else, cut_fault, index_fault, early_fault, negative_fault, slab_fault, first_zero, Answers, AnswersEarly, IsShaped, IsLate, IsOfRequest, NeedsNoCell, AsksNothing};
 
 use crate::axes::axes_of;
 use crate::cells::read_cells;
@@ -48,17 +48,23 @@ pub fn read_slab<F: Files>(
     requires strides { length stride.now.items ≡ length start.now.items }
     requires cells { product count.now.items ≤ 50000000 }
     ensures kept { F.holds files.new ≡ F.holds files.old }
-    ensures later { F.faults files.old ≤ F.faults files.new }
-    ensures failed { IsErrOf result CdfFault.Device → Rose (F.faults files.old) (F.faults files.new) }
+    // Where `Device` is answered the count of faults rose; of quiet files it is greater only there.
+    ensures blamed { Blames F.quiet (IsErrOf result CdfFault.Device) (F.faults files.old) (F.faults files.new) }
     // An array has the counts as dimensions and a cell for each index, whatever the files tell.
     ensures shaped { IfOk result (IsShaped count.now.items signed) }
     // A fault that the header tells is answered, whatever the files tell.
     ensures early { IsUtf8 name.now → AnswersEarly (early_fault header.now (variable_at header.now v) start.now.items count.now.items stride.now.items) result }
     // Where the variable, the strides and the indices are right, no other fault comes than these.
-    ensures late { IsUtf8 name.now → index_fault header.now (variable_at header.now v) start.now.items count.now.items stride.now.items ≡ None → IfErr result (IsLate signed) }
+    ensures late { IsUtf8 name.now → index_fault header.now (variable_at header.now v) start.now.items count.now.items stride.now.items ≡ None → IfErr result (IsLate signed (product count.now.items)) }
     // Where the file is told, the hyperslab is answered, or the first fault.
     ensures told { (bytes : List ℕ) → IsUtf8 name.now → bytes_in (F.holds files.old) name.now ≡ Some bytes → header.now.bytes ≡ length bytes
         → Answers (slab_fault bytes header.now (variable_at header.now v) start.now.items count.now.items stride.now.items signed) (slab bytes header.now (variable_at header.now v) start.now.items count.now.items stride.now.items signed) result }
+    // What a fault says of the request, and that an array has no stride 0, whatever the files tell.
+    ensures request { IfErr result (IsOfRequest start.now.items count.now.items stride.now.items signed) }
+    ensures strides { IfOk result (λ _. first_zero 1 stride.now.items ≡ None) }
+    // Where the name is not UTF-8, no cell is asked for or the header tells a fault, no call is made on the files.
+    ensures untouched { AsksNothing name.now header.now (variable_at header.now v) start.now.items count.now.items stride.now.items
+        → files.new ≡ files.old }
     // A name that is not UTF-8 names no file.
     ensures unnamed { (IsUtf8 name.now → ⊥) → result ≡ Err CdfFault.Absent }
 {
@@ -87,11 +93,13 @@ fn read_named<F: Files>(
     requires strides { length stride.now ≡ length start.now }
     requires cells { product count.now ≤ 50000000 }
     ensures kept { F.holds files.new ≡ F.holds files.old }
-    ensures later { F.faults files.old ≤ F.faults files.new }
-    ensures failed { IsErrOf result CdfFault.Device → Rose (F.faults files.old) (F.faults files.new) }
+    ensures blamed { Blames F.quiet (IsErrOf result CdfFault.Device) (F.faults files.old) (F.faults files.new) }
     ensures shaped { IfOk result (IsShaped count.now signed) }
     ensures early { AnswersEarly (early_fault header.now (variable_at header.now v) start.now count.now stride.now) result }
-    ensures late { index_fault header.now (variable_at header.now v) start.now count.now stride.now ≡ None → IfErr result (IsLate signed) }
+    ensures late { index_fault header.now (variable_at header.now v) start.now count.now stride.now ≡ None → IfErr result (IsLate signed (product count.now)) }
+    ensures request { IfErr result (IsOfRequest start.now count.now stride.now signed) }
+    ensures strides { IfOk result (λ _. first_zero 1 stride.now ≡ None) }
+    ensures untouched { NeedsNoCell header.now (variable_at header.now v) start.now count.now stride.now → files.new ≡ files.old }
     ensures told { (bytes : List ℕ) → bytes_in (F.holds files.old) name.now ≡ Some bytes → header.now.bytes ≡ length bytes
         → Answers (slab_fault bytes header.now (variable_at header.now v) start.now count.now stride.now signed) (slab bytes header.now (variable_at header.now v) start.now count.now stride.now signed) result }
 {
@@ -125,11 +133,11 @@ fn read_some<F: Files>(
     requires cells { product count.now ≤ 50000000 }
     requires full { product count.now ≢ 0 }
     ensures kept { F.holds files.new ≡ F.holds files.old }
-    ensures later { F.faults files.old ≤ F.faults files.new }
-    ensures failed { IsErrOf result CdfFault.Device → Rose (F.faults files.old) (F.faults files.new) }
+    ensures blamed { Blames F.quiet (IsErrOf result CdfFault.Device) (F.faults files.old) (F.faults files.new) }
     ensures shaped { IfOk result (IsShaped count.now signed) }
     ensures early { AnswersEarly (cut_fault header.now (variable_at header.now v) start.now count.now stride.now) result }
-    ensures late { IfErr result (IsLate signed) }
+    ensures late { IfErr result (IsLate signed (product count.now)) }
+    ensures untouched { (f : CdfFault) → cut_fault header.now (variable_at header.now v) start.now count.now stride.now ≡ Some f → files.new ≡ files.old }
     ensures told { (bytes : List ℕ) → bytes_in (F.holds files.old) name.now ≡ Some bytes → header.now.bytes ≡ length bytes
         → Answers (or_else (cut_fault header.now (variable_at header.now v) start.now count.now stride.now) (negative_fault signed (slab_numbers bytes header.now (variable_at header.now v) start.now count.now stride.now))) (slab bytes header.now (variable_at header.now v) start.now count.now stride.now signed) result }
 {

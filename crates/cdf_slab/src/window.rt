@@ -1,12 +1,11 @@
 //! A piece of a file, read where its numbers are asked for.
 
-ghost use Rattle.std.specs.Prelude.{◌≡◌, ◌+◌, ◌-◌, ◌^◌, ◌≤◌, ◌<◌, ◌⊎◌, Bool, List, ℕ, Some, false, length, drop, min, IfOk, IfErr, IsErrOf, IsTrue};
-ghost use Rattle.aql_outside.specs.Causes.{Rose};
+ghost use Rattle.std.specs.Prelude.{◌≡◌, ◌+◌, ◌-◌, ◌^◌, ◌≤◌, ◌<◌, ◌⊎◌, List, ℕ, Some, false, length, drop, min, IfOk, IfErr, IsErrOf, IsTrue};
+ghost use Rattle.aql_outside.specs.Causes.{Blames};
 ghost use Rattle.aql_outside.specs.Contents.{bytes_in};
 ghost use Rattle.byteorder.specs.Endian.{big_number};
 ghost use Rattle.cdf_slab.specs.Run.{HoldsRun};
-ghost use Rattle.cdf_slab.specs.Slab.{IsLate};
-ghost use Rattle.cdf_slab.specs.Window.{IsPiece, Holds, IsOutside};
+ghost use Rattle.cdf_slab.specs.Window.{IsPiece, Holds, IsOutside, IsOfPiece};
 
 use crate::numbers::spelled_at;
 use crate::runs::Reading;
@@ -94,8 +93,7 @@ fn load<F: Files>(
 ) -> Result<Window, CdfFault>
     requires { room ≤ 65536 }
     ensures kept { F.holds files.new ≡ F.holds files.old }
-    ensures later { F.faults files.old ≤ F.faults files.new }
-    ensures failed { IsErrOf result CdfFault.Device → Rose (F.faults files.old) (F.faults files.new) }
+    ensures blamed { Blames F.quiet (IsErrOf result CdfFault.Device) (F.faults files.old) (F.faults files.new) }
     ensures causes { IfErr result IsOutside }
     ensures told { (bytes : List ℕ) → bytes_in (F.holds files.old) name.now ≡ Some bytes → at + room ≤ length bytes
         → IfOk result (λ w. IsPiece bytes w × (w.at ≡ at) × (length w.bytes.items ≡ room)) }
@@ -132,9 +130,8 @@ fn hold<F: Files>(
     requires size { (size ≡ 1) ⊎ ((size ≡ 2) ⊎ ((size ≡ 4) ⊎ (size ≡ 8))) }
     requires within { place + size ≤ end }
     ensures kept { F.holds files.new ≡ F.holds files.old }
-    ensures later { F.faults files.old ≤ F.faults files.new }
-    ensures failed { IsErrOf result CdfFault.Device → Rose (F.faults files.old) (F.faults files.new) }
-    ensures late { (signed : Bool) → IfErr result (IsLate signed) }
+    ensures blamed { Blames F.quiet (IsErrOf result CdfFault.Device) (F.faults files.old) (F.faults files.new) }
+    ensures late { IfErr result IsOfPiece }
     ensures holds { IfOk result (λ _. Holds window.new place size) }
     ensures told { (bytes : List ℕ) → bytes_in (F.holds files.old) name.now ≡ Some bytes → end ≤ length bytes → IsPiece bytes window.old
         → IfErr result IsOutside × IfOk result (λ _. IsPiece bytes window.new) }
@@ -171,9 +168,8 @@ pub(crate) fn number_in<F: Files>(
     requires size { (size ≡ 1) ⊎ ((size ≡ 2) ⊎ ((size ≡ 4) ⊎ (size ≡ 8))) }
     requires within { place + size ≤ end }
     ensures kept { F.holds files.new ≡ F.holds files.old }
-    ensures later { F.faults files.old ≤ F.faults files.new }
-    ensures failed { IsErrOf result CdfFault.Device → Rose (F.faults files.old) (F.faults files.new) }
-    ensures late { (signed : Bool) → IfErr result (IsLate signed) }
+    ensures blamed { Blames F.quiet (IsErrOf result CdfFault.Device) (F.faults files.old) (F.faults files.new) }
+    ensures late { IfErr result IsOfPiece }
     ensures told { (bytes : List ℕ) → bytes_in (F.holds files.old) name.now ≡ Some bytes → end ≤ length bytes → IsPiece bytes window.old
         → IfErr result IsOutside × IfOk result (λ x. (x ≡ big_number size (drop place bytes)) × IsPiece bytes window.new) }
 {
@@ -199,9 +195,8 @@ pub(crate) fn run_in<F: Files>(
     requires within { place + reading.size ≤ reading.end }
     requires some { 1 ≤ most }
     ensures kept { F.holds files.new ≡ F.holds files.old }
-    ensures later { F.faults files.old ≤ F.faults files.new }
-    ensures failed { IsErrOf result CdfFault.Device → Rose (F.faults files.old) (F.faults files.new) }
-    ensures late { (signed : Bool) → IfErr result (IsLate signed) }
+    ensures blamed { Blames F.quiet (IsErrOf result CdfFault.Device) (F.faults files.old) (F.faults files.new) }
+    ensures late { IfErr result IsOfPiece }
     ensures some { IfOk result (λ n. 1 ≤ n) }
     ensures most { IfOk result (λ n. n ≤ most) }
     ensures near { IfOk result (λ n. 2 ≤ n → step < 2 ^ 64 - 1) }

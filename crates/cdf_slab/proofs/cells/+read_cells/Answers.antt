@@ -1,11 +1,13 @@
-use Rattle.std.proofs.Common.{◌≡◌, ◌+◌, ap, sym, subst, ◌∙◌, arith, length, map}
-use Rattle.std.specs.Prelude.{IfOk}
+use Rattle.std.proofs.Common.{◌≡◌, ◌+◌, ap, sym, subst, ◌∙◌, length, map}
+use Rattle.std.specs.Prelude.{IfOk, IfErr}
 use Rattle.aql_outside.specs.Contents.{bytes_in}
 use Rattle.cdf_slab.specs.Numbers.{number_at}
 use Rattle.cdf_slab.specs.Walk.{steps_of, walk}
 use Rattle.cdf_slab.specs.Going.{Goes}
+use Rattle.cdf_slab.specs.Slab.{IsLate}
 use Rattle.cdf_slab.specs.Window.{IsPiece}
-use Rattle.cdf_slab.proofs.Blocks.{read_next, read_fails, read_done, count_next, count_done, none_is, one_is}
+use Rattle.aql_outside.specs.CausesLaws.{blamed_as, blamed_then}
+use Rattle.cdf_slab.proofs.Blocks.{read_next, read_fails, read_done, count_next, count_late, count_done, none_is, one_is}
 use Rattle.cdf_slab.proofs.cells.+read_cells.Goals as goal
 
 pub returns-in-empty-clause-told : goal.returns-in-empty-clause-told
@@ -28,7 +30,7 @@ cells-preserved t g c =
       many = count_next _ _ _ _ _ _ _ _ _ _ _ c.cells.invariant.many s c.cells-test.true c.in-Ok.ensures.many;
       kinds = λ h. c.in-Ok.ensures.kinds (c.cells.invariant.kinds h);
       kept = c.in-Ok.ensures.kept ∙ c.cells.invariant.kept;
-      later = omega (arith, c.cells.invariant.later, c.in-Ok.ensures.later);
+      blames = blamed_then _ _ _ _ _ _ c.cells.invariant.blames (λ x. x) (blamed_as _ _ ⊥ _ _ (λ e. cc) (λ x. absurd x) c.in-Ok.ensures.blamed);
       told = λ bytes there le p.
           let old = c.cells.invariant.told bytes there le p in
           let r = c.in-Ok.ensures.told bytes (ap (λ h. bytes_in h c.args.name.now) c.cells.invariant.kept ∙ there) le old.0 in
@@ -41,6 +43,19 @@ returns-in-Err-clause-told t g c = λ bytes there le p.
     let old = c.cells.invariant.told bytes there le p in
     let r = c.in-Err.ensures.told bytes (ap (λ h. bytes_in h c.args.name.now) c.cells.invariant.kept ∙ there) le old.0 in
     (read_fails _ _ _ _ _ _ _ _ _ _ _ _ _ _ old.1 s c.cells-test.true r.0, tt)
+
+pub returns-in-Err-clause-late : goal.returns-in-Err-clause-late
+returns-in-Err-clause-late t g c =
+    count_late c.args.reading.signed _ _ _ _ _ _ _ _ _ _ c.in-Err.fault c.cells.invariant.many c.place_along-here.ensures.turn c.cells-test.true c.in-Err.ensures.late
+
+pub returns-in-empty-clause-late : goal.returns-in-empty-clause-late
+returns-in-empty-clause-late t g c =
+    subst (λ l. IfErr c.read_cell.result (IsLate c.args.reading.signed (length c.args.cells + length (walk (steps_of l) c.args.base)))) (sym (none_is c.args.axes.now c.in-empty.len_below)) c.read_cell.ensures.late
+
+pub returns-in-len1-clause-late : goal.returns-in-len1-clause-late
+returns-in-len1-clause-late t g c =
+    subst (λ l. IfErr c.read_row.result (IsLate c.args.reading.signed (length c.args.cells + length (walk (steps_of l) c.args.base))))
+    (sym (one_is c.args.axes.now (record { start = 0; count = 0; stride = 0; weight = 0 }) c.in-len1.len_at_least c.in-len1.len_below)) c.read_row.ensures.late
 
 pub returns-after-cells-clause-told : goal.returns-after-cells-clause-told
 returns-after-cells-clause-told t g c = λ bytes there le p.

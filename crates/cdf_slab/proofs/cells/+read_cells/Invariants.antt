@@ -1,4 +1,5 @@
 use Rattle.std.proofs.Common.{length, ◌≡◌, ◌≤◌, ◌<◌, ◌^◌, ◌⊎◌, List, ℕ, Some, map}
+use Rattle.aql_outside.specs.Causes.{Blames}
 use Rattle.aql_outside.specs.Contents.{bytes_in}
 use Rattle.aql_value.specs.Lists.{Every}
 use Rattle.cdf_header.specs.Format.{type_size}
@@ -20,7 +21,7 @@ invariant-cells g l = record {
   many : CountSoFar (steps_of l.rest) (step_of l.a) l.base l.i (length l.all) (length l.fn.cells) (length (walk (steps_of l.axes) l.base));
   kinds : Every (IsCell l.reading.signed) l.fn.cells → Every (IsCell l.reading.signed) l.all;
   kept : g.F.Files.holds l.files ≡ g.F.Files.holds l.fn.files;
-  later : g.F.Files.faults l.fn.files ≤ g.F.Files.faults l.files;
+  blames : Blames g.F.Files.quiet ⊥ (g.F.Files.faults l.fn.files) (g.F.Files.faults l.files);
   told : (bytes : List ℕ) → bytes_in (g.F.Files.holds l.fn.files) l.name ≡ Some bytes → l.reading.end ≤ length bytes → IsPiece bytes l.fn.window →
       IsPiece bytes l.window
       × ReadSoFar l.reading.signed bytes l.reading.kind (steps_of l.rest) (step_of l.a) l.base l.i (map (number_at bytes l.reading.kind) (walk (steps_of l.axes) l.base)) l.all l.fn.cells;

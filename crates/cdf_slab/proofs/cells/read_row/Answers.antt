@@ -3,9 +3,10 @@ use Rattle.aql_outside.specs.Contents.{bytes_in}
 use Rattle.cdf_slab.specs.Numbers.{number_of}
 use Rattle.cdf_slab.specs.Run.{run, HasRun}
 use Rattle.cdf_slab.specs.Walk.{step_of}
+use Rattle.aql_outside.specs.CausesLaws.{blamed_as, blamed_then}
 use Rattle.cdf_slab.proofs.Blocks.{read_done}
-use Rattle.cdf_slab.proofs.Goings.{goes-kinds}
-use Rattle.cdf_slab.proofs.Rows.{row_turn, row_next, row_fails, row_counts, run_told, has_run}
+use Rattle.cdf_slab.proofs.Goings.{goes-kinds, piece_late}
+use Rattle.cdf_slab.proofs.Rows.{row_turn, row_next, row_fails, row_counts, row_late, run_told, has_run}
 use Rattle.cdf_slab.proofs.cells.read_row.Goals as goal
 
 pub from-bytes-requires-clause-within : goal.from-bytes-requires-clause-within
@@ -34,7 +35,7 @@ row-preserved g c =
           goes-kinds c.args.reading.signed (map (number_of c.args.reading.kind) (run c.args.reading.size step n c.from-bytes.result.now)) c.row.all (Ok c.in-Ok-push_run.more) c.in-Ok-push_run.ensures.goes
           (c.row.invariant.kinds h);
       kept = c.in-Ok.ensures.kept ∙ c.row.invariant.kept;
-      later = omega (arith, c.row.invariant.later, c.in-Ok.ensures.later);
+      blames = blamed_then _ _ _ _ _ _ c.row.invariant.blames (λ x. x) (blamed_as _ _ ⊥ _ _ (λ e. cc) (λ x. absurd x) c.in-Ok.ensures.blamed);
       told = λ bytes there le p.
           let old = c.row.invariant.told bytes there le p in
           let r = c.in-Ok.ensures.told bytes (ap (λ h. bytes_in h c.args.name.now) c.row.invariant.kept ∙ there) le old.0 in
@@ -54,8 +55,17 @@ returns-in-Err-push_run-clause-told g c = λ bytes there is p.
     let m = run_told c.args.reading.signed bytes c.run_in.new.window c.args.reading.kind c.args.reading.size here step n c.from-bytes.result.now c.row.all (Err c.in-Err-push_run.fault) c.requires.is c.in-Ok.ensures.run r.1 c.from-bytes.ensures c.in-Err-push_run.ensures.goes in
     (row_fails _ _ _ _ _ _ _ _ _ _ _ _ _ _ _ old.1 t m, tt)
 
+pub returns-in-Err-push_run-clause-late : goal.returns-in-Err-push_run-clause-late
+returns-in-Err-push_run-clause-late g c =
+    let n = c.in-Ok.count in
+    let step = c.step_along-step.result in
+    let here = c.place_along-here.result in
+    let le : c.row.i + n ≤ c.args.a.count = omega (arith, c.in-Ok.ensures.most, c.row-test.true) in
+    let t = row_turn (step_of c.args.a) c.args.base c.row.i n c.args.reading.size c.args.reading.end here step (2 ^ 64 - 1) c.row.invariant.room c.place_along-here.ensures.turn le c.row.invariant.step c.in-Ok.ensures.near in
+    row_late c.args.reading.signed c.args.reading.kind c.args.reading.size (step_of c.args.a) c.args.base c.row.i n c.args.reading.end here step c.from-bytes.result.now c.row.all _ _ c.in-Err-push_run.fault c.row.invariant.many t c.in-Err-push_run.ensures.goes
+
 pub returns-in-Err-clause-late : goal.returns-in-Err-clause-late
-returns-in-Err-clause-late g c = c.in-Err.ensures.late c.args.reading.signed
+returns-in-Err-clause-late g c = piece_late c.args.reading.signed _ c.in-Err.fault c.in-Err.ensures.late
 
 pub returns-clause-told : goal.returns-clause-told
 returns-clause-told g c = λ bytes there le p.

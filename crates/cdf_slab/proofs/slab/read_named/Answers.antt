@@ -3,7 +3,12 @@ use Rattle.cdf_header.specs.Places.{variable_at}
 use Rattle.aql_value.specs.Indices.{product}
 use Rattle.cdf_slab.specs.Slab.{slab_numbers, slab, or_else, cut_fault, negative_fault, Answers, AnswersEarly}
 use Rattle.cdf_slab.proofs.Answering.{early-none, empty_early, empty_told}
+use Rattle.cdf_slab.proofs.Requests.{index_request}
 use Rattle.cdf_slab.proofs.slab.read_named.Goals as goal
+
+pub returns-in-Some-clause-request : goal.returns-in-Some-clause-request
+returns-in-Some-clause-request g c =
+    index_request c.args.header.now (variable_at c.args.header.now c.args.v) c.args.start.now c.args.count.now c.args.stride.now c.args.signed c.in-Some.fault (sym c.first_fault.ensures.which ∙ c.in-Some.is)
 
 pub returns-then-saturating_product-eq0-clause-early : goal.returns-then-saturating_product-eq0-clause-early
 returns-then-saturating_product-eq0-clause-early g c =

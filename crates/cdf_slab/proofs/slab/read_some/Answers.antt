@@ -1,10 +1,13 @@
-use Rattle.std.proofs.Common.{rules, ◌≡◌, ◌<◌, ◌^◌, Some, option_map, Ok, Err, length, sym, ap, subst, ◌∙◌, arith}
+use Rattle.std.proofs.Common.{rules, ◌≡◌, ◌+◌, ◌<◌, ◌≤◌, ◌^◌, Some, option_map, Ok, Err, length, sym, ap, subst, ◌∙◌, arith}
+use Rattle.std.proofs.lemmas.Option.{none-some}
+use Rattle.aql_value.specs.Indices.{product}
 use Rattle.cdf_header.specs.declared.fault.CdfFault.TheVariants as faults
 use Rattle.cdf_header.specs.Format.{type_size}
 use Rattle.cdf_header.specs.Places.{variable_at}
 use Rattle.cdf_slab.specs.Slab.{cell_places, slab_numbers, slab, or_else, first_cut, negative_fault, Answers}
 use Rattle.cdf_slab.specs.Walk.{steps_of, walk, AreWithin}
 use Rattle.cdf_slab.proofs.Answering.{leads, cut_found, walk_found, room_found, places_many, cut_early, goes_as, read_all, read_some, early-none, counts_small}
+use Rattle.cdf_slab.proofs.Goings.{late_more}
 use Rattle.cdf_slab.proofs.slab.read_some.Goals as goal
 
 pub axes_of-requires-clause-fit : goal.axes_of-requires-clause-fit
@@ -119,3 +122,54 @@ returns-clause-told g c = λ bytes there is.
     subst (λ o. Answers (or_else (option_map faults.Cut o) (negative_fault c.args.signed (slab_numbers bytes h v c.args.start.now c.args.count.now c.args.stride.now)))
     (slab bytes h v c.args.start.now c.args.count.now c.args.stride.now c.args.signed) (Err c.in-Err.fault)) (sym none)
     (read_some c.args.signed (slab_numbers bytes h v c.args.start.now c.args.count.now c.args.stride.now) (slab bytes h v c.args.start.now c.args.count.now c.args.stride.now c.args.signed) c.in-Err.fault (goes_as c.args.signed bytes c.kind.result v.kind _ (cell_places h v c.args.start.now c.args.count.now c.args.stride.now) c.new.result (Err c.in-Err.fault) c.kind.ensures visited c.new.ensures r.0))
+
+pub returns-in_err-shaped-in-Ok-clause-untouched : goal.returns-in_err-shaped-in-Ok-clause-untouched
+returns-in_err-shaped-in-Ok-clause-untouched g c = λ f e.
+    let h = c.args.header.now in
+    let v = variable_at c.args.header.now c.args.v in
+    let small : c.bytes-end.result < 2 ^ 64 = search rules in
+    let l = leads h v c.args.start.now c.args.count.now c.args.stride.now c.in_ok-axes.axes.items c.in_ok-axes.ensures c.requires.counts c.requires.strides c.requires.rank in
+    let cut : c.cut_from.result ≡ first_cut (type_size v.kind) h.bytes (cell_places h v c.args.start.now c.args.count.now c.args.stride.now) =
+    cut_found h v c.args.start.now c.args.count.now c.args.stride.now c.in_ok-axes.axes.items c.deref.result.now c.width-size.result c.bytes-end.result c.from-base.result c.cut_from.result l
+    c.deref.ensures.value c.width-size.ensures.is c.bytes-end.ensures (c.from-base.ensures ∙ c.begin.ensures) small c.cut_from.ensures in
+    let none = sym cut ∙ c.in_default.is in
+    absurd (none-some f (sym (ap (option_map faults.Cut) none) ∙ e))
+
+pub returns-in-Ok-clause-untouched : goal.returns-in-Ok-clause-untouched
+returns-in-Ok-clause-untouched g c = λ f e.
+    let h = c.args.header.now in
+    let v = variable_at c.args.header.now c.args.v in
+    let small : c.bytes-end.result < 2 ^ 64 = search rules in
+    let l = leads h v c.args.start.now c.args.count.now c.args.stride.now c.in_ok-axes.axes.items c.in_ok-axes.ensures c.requires.counts c.requires.strides c.requires.rank in
+    let cut : c.cut_from.result ≡ first_cut (type_size v.kind) h.bytes (cell_places h v c.args.start.now c.args.count.now c.args.stride.now) =
+    cut_found h v c.args.start.now c.args.count.now c.args.stride.now c.in_ok-axes.axes.items c.deref.result.now c.width-size.result c.bytes-end.result c.from-base.result c.cut_from.result l
+    c.deref.ensures.value c.width-size.ensures.is c.bytes-end.ensures (c.from-base.ensures ∙ c.begin.ensures) small c.cut_from.ensures in
+    let none = sym cut ∙ c.in_default.is in
+    absurd (none-some f (sym (ap (option_map faults.Cut) none) ∙ e))
+
+pub returns-clause-untouched : goal.returns-clause-untouched
+returns-clause-untouched g c = λ f e.
+    let h = c.args.header.now in
+    let v = variable_at c.args.header.now c.args.v in
+    let small : c.bytes-end.result < 2 ^ 64 = search rules in
+    let l = leads h v c.args.start.now c.args.count.now c.args.stride.now c.in_ok-axes.axes.items c.in_ok-axes.ensures c.requires.counts c.requires.strides c.requires.rank in
+    let cut : c.cut_from.result ≡ first_cut (type_size v.kind) h.bytes (cell_places h v c.args.start.now c.args.count.now c.args.stride.now) =
+    cut_found h v c.args.start.now c.args.count.now c.args.stride.now c.in_ok-axes.axes.items c.deref.result.now c.width-size.result c.bytes-end.result c.from-base.result c.cut_from.result l
+    c.deref.ensures.value c.width-size.ensures.is c.bytes-end.ensures (c.from-base.ensures ∙ c.begin.ensures) small c.cut_from.ensures in
+    let none = sym cut ∙ c.in_default.is in
+    absurd (none-some f (sym (ap (option_map faults.Cut) none) ∙ e))
+
+pub returns-clause-late : goal.returns-clause-late
+returns-clause-late g c =
+    let h = c.args.header.now in
+    let v = variable_at c.args.header.now c.args.v in
+    let small : c.bytes-end.result < 2 ^ 64 = search rules in
+    let l = leads h v c.args.start.now c.args.count.now c.args.stride.now c.in_ok-axes.axes.items c.in_ok-axes.ensures c.requires.counts c.requires.strides c.requires.rank in
+    let cut : c.cut_from.result ≡ first_cut (type_size v.kind) h.bytes (cell_places h v c.args.start.now c.args.count.now c.args.stride.now) =
+    cut_found h v c.args.start.now c.args.count.now c.args.stride.now c.in_ok-axes.axes.items c.deref.result.now c.width-size.result c.bytes-end.result c.from-base.result c.cut_from.result l
+    c.deref.ensures.value c.width-size.ensures.is c.bytes-end.ensures (c.from-base.ensures ∙ c.begin.ensures) small c.cut_from.ensures in
+    let none = sym cut ∙ c.in_default.is in
+    let visited = walk_found h v c.args.start.now c.args.count.now c.args.stride.now c.in_ok-axes.axes.items c.deref-3.result.now c.bytes-end.result c.from-base.result l
+    c.deref-3.ensures.value c.bytes-end.ensures (c.from-base.ensures ∙ c.begin.ensures) small none in
+    let many : length c.new.result + length (walk (steps_of c.deref-3.result.now) c.from-base.result) ≤ product c.args.count.now = omega (arith, ap length c.new.ensures, ap length visited, places_many h v c.args.start.now c.args.count.now c.args.stride.now) in
+    late_more c.args.signed _ (product c.args.count.now) c.in-Err.fault many c.in-Err.ensures.late
