@@ -1,5 +1,5 @@
 -- What the start term of a declaration is, by the laws of start terms and what inference answers.
-use Rattle.std.proofs.Common.{◌≡◌, ◌<◌, ◌≤◌, ◌*◌, ℕ, zero, suc, ◌+◌, ◌-◌, List, [], ◌∷◌, ◌++◌, length, map, take, get_or, Option, Some, None, IsSome, Result, Ok, Err, IfErr, refl, sym, ap, ◌∙◌, subst, reverse, arith, append-nil, append_assoc, length-append}
+use Rattle.std.proofs.Common.{◌≡◌, ◌<◌, ◌≤◌, ◌*◌, ℕ, zero, suc, ◌+◌, ◌-◌, List, [], ◌∷◌, ◌++◌, length, map, take, get_or, Option, Some, None, IsSome, Result, Ok, Err, IfOk, IfErr, refl, sym, ap, ◌∙◌, subst, reverse, arith, append-nil, append_assoc, length-append}
 use Rattle.std.proofs.lemmas.Grind.{get_or_at_push}
 use Rattle.std.specs.List.{slice_get}
 use mathlib.Core.List.{reverse_aux}
@@ -15,7 +15,7 @@ use Rattle.aql_syntax.specs.declared.ast.Decl.{Decl}
 use Rattle.aql_syntax.specs.declared.ast.Decl.TheVariants.{Bare}
 use Rattle.aql_syntax.specs.declared.ast.Expr.{Expr}
 use Rattle.aql_constraints.specs.Typed.{ArePrincipal}
-use Rattle.nrca_term.specs.Term.{Term, Closed, WellFormed, weight_of}
+use Rattle.nrca_term.specs.Term.{Term, Closed, WellFormed, weight_of, IsSmall}
 use Rattle.nrca_term.specs.Meaning.{cden}
 use Rattle.nrca_term.specs.Turns.{settle}
 use Rattle.nrca_term.specs.Typing.{instances, ctyped}
@@ -189,6 +189,21 @@ pub fault_here : (ds before : List Decl) (n : ℕ) (x : Expr) → Chosen ds befo
 fault_here ds before n x h f w =
     subst (λ k. IsFaultAt k (expanded_levels (decls_of ds) n) f) (sym (size_here-code ds before n x h))
     (subst (λ k. IsFaultAt (size (tree_of x) (extents_of (latest before))) k f) (sym (levels_here-code ds before n x h)) w)
+
+-- within the limits the weight is at most 64 times 20,000
+pub small_here : (ds before : List Decl) (n : ℕ) (x : Expr) → Chosen ds before n x → (sorts : List Sort) (t : Term) →
+    t ≡ start (tree_of x) (knowns_of (latest before)) [] →
+    AreWithin (size (tree_of x) (extents_of (latest before))) (levels (tree_of x) (extents_of (latest before))) →
+    ArePrincipal [] (decls_of ds) sorts → IsSmall 0 t
+small_here ds before n x h sorts t is w p =
+    let made = translated_here ds before n x h sorts t is (tree_of x) h.query in
+    let fits = within_here ds before n x h w in
+    omega (arith, made.weight p, fits.0)
+
+-- what follows from two things that are known of an answer
+pub ok_join : {T E : Type 0} (r : Result T E) (P Q R : T → Type 0) → ((x : T) → P x → Q x → R x) → IfOk r P → IfOk r Q → IfOk r R
+ok_join (Ok x) P Q R f h k = f x h k
+ok_join (Err e) P Q R f h k = tt
 
 -- what follows from what is known of a fault
 pub err_map : {T E : Type 0} (r : Result T E) (P Q : E → Type 0) → ((x : E) → P x → Q x) → IfErr r P → IfErr r Q

@@ -3,14 +3,17 @@ use Rattle.std.specs.Prelude.{◌≡◌, ℕ, ◌-◌, ◌*◌, ◌^◌, ◌<◌
 use Rattle.std.specs.List.{slice_get}
 use Rattle.aql_types.specs.Types.{Ty, Sort, IsType}
 use Rattle.aql_syntax.specs.Tree.{Tree, Declaration}
+use Rattle.aql_syntax.specs.View.{decls_of}
+use Rattle.aql_syntax.specs.declared.ast.Decls.{Decls}
 use Rattle.aql_syntax.specs.Denotation.{den}
 use Rattle.aql_syntax.specs.Work.{work}
 use Rattle.aql_syntax.specs.Script.{Earlier, globals_of}
 use Rattle.aql_syntax.specs.Sound.{declarations_of}
 use Rattle.aql_syntax.specs.Typing.{Has, scope_of}
 use Rattle.aql_syntax.specs.Size.{before, expanded_size, expanded_levels}
-use Rattle.aql_constraints.specs.Typed.{ArePrincipal}
-use Rattle.nrca_term.specs.Term.{Term, Closed, WellFormed, weight_of}
+use Rattle.aql_constraints.specs.Typed.{ArePrincipal, sorts_of}
+use Rattle.aql_constraints.specs.declared.typed.Typed.{Typed}
+use Rattle.nrca_term.specs.Term.{Term, Closed, WellFormed, weight_of, IsSmall}
 use Rattle.nrca_term.specs.Meaning.{Outcomes, cden}
 use Rattle.nrca_term.specs.Turns.{settle}
 use Rattle.nrca_term.specs.Typing.{instances, ctyped}
@@ -51,6 +54,10 @@ pub record IsTranslated (ds : List Declaration) (sorts : List Sort) (n : ℕ) (e
   -- each type of the expression that is one of the language is a type of it, over the principal types of the positions
   pub types : ArePrincipal [] ds sorts → (later : List Ty) (T : Ty) → IsType T → Has e (scope_of (before ds n)) [] T →
       ctyped (instances (types_before sorts n ++ later)) [] t T
+
+-- The term, which has no variable around it, is small where the schemes are the answer of inference.
+abbrev pub IsSmallWherePrincipal : Decls → Typed → Term → Type 0
+IsSmallWherePrincipal decls typed t = ArePrincipal [] (decls_of decls.items.items) (sorts_of typed.items.items) → IsSmall 0 t
 
 -- at most 20,000 nodes and 1,000 levels
 abbrev pub AreWithin : (size levels : ℕ) → Type 0

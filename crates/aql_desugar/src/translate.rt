@@ -10,7 +10,7 @@ ghost use Rattle.aql_constraints.specs.Typed.{sorts_of};
 ghost use Rattle.nrca_term.specs.View.{term_of};
 ghost use Rattle.aql_start.specs.Start as start_term;
 ghost use Rattle.aql_start.specs.Start.{knowns_of};
-ghost use Rattle.aql_desugar.specs.Translation.{query_of, IsTranslated, IsWithinLimits, IsFaultOf, AreWithin, IsFaultAt};
+ghost use Rattle.aql_desugar.specs.Translation.{query_of, IsTranslated, IsSmallWherePrincipal, IsWithinLimits, IsFaultOf, AreWithin, IsFaultAt};
 
 use crate::fault::Fault;
 use aql_constraints::typed::Typed;
@@ -33,6 +33,7 @@ pub fn translate(alloc: Global, decls: &Decls, typed: &Typed, n: u64) -> Result<
     requires last { n ≤ length decls.now.items.items }
     requires query { IsSome (query_of (decls_of decls.now.items.items) n) }
     ensures translated { IfOk result (λ c. (e : Tree) → query_of (decls_of decls.now.items.items) n ≡ Some e → IsTranslated (decls_of decls.now.items.items) (sorts_of typed.now.items.items) n e (term_of c)) }
+    ensures small { IfOk result (λ c. IsSmallWherePrincipal decls.now typed.now (term_of c)) }
     ensures within { IfOk result (λ _. IsWithinLimits (decls_of decls.now.items.items) n) }
     ensures fault { IfErr result (λ f. IsFaultOf (decls_of decls.now.items.items) n f) }
 {

@@ -2,7 +2,7 @@ use Rattle.std.proofs.Common.{◌-◌, take, refl, ap, arith}
 use Rattle.aql_constraints.specs.Typed.{sorts_of}
 use Rattle.nrca_term.specs.View.{term_of}
 use Rattle.aql_matches.specs.Parts.{ok_map}
-use Rattle.aql_desugar.proofs.Translating.{Chosen, chosen, chosen_some, translated_here, within_here, fault_here, err_map}
+use Rattle.aql_desugar.proofs.Translating.{Chosen, chosen, chosen_some, translated_here, small_here, within_here, fault_here, err_map, ok_join}
 use Rattle.aql_desugar.proofs.translate.translate.Goals as goal
 
 -- the declaration that is translated, and those before it
@@ -20,6 +20,12 @@ pub returns-clause-translated : goal.returns-clause-translated
 returns-clause-translated c =
     ok_map c.limited.result _ _ (λ t is. translated_here c.args.decls.now.items.items (take (c.args.n - 1) c.deref.result.now) c.args.n c.in-Some.e.now (here c) (sorts_of c.args.typed.now.items.items) (term_of t) is)
     c.limited.ensures.made
+
+pub returns-clause-small : goal.returns-clause-small
+returns-clause-small c =
+    ok_join c.limited.result _ _ _
+    (λ t is w p. small_here c.args.decls.now.items.items (take (c.args.n - 1) c.deref.result.now) c.args.n c.in-Some.e.now (here c) (sorts_of c.args.typed.now.items.items) (term_of t) is w p)
+    c.limited.ensures.made c.limited.ensures.within
 
 pub returns-clause-within : goal.returns-clause-within
 returns-clause-within c =
