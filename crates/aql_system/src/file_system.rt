@@ -1,11 +1,14 @@
 // The system's files by name, which count their faults and tell no bytes.
-ghost use Rattle.std.specs.Prelude.{◌≡◌, ◌-◌, ◌^◌, ◌≤◌, IfOk, length, None};
+ghost use Rattle.std.specs.Prelude.{◌≡◌, ◌-◌, ◌^◌, ◌≤◌, IfOk, length, take, None};
+ghost use Rattle.std.specs.Io.KnownBytes.{Consumes};
+ghost use Rattle.aql_system.specs.Filling.{GivesNext};
 
 use aql_outside::{Failed, Files};
 use std::io::{self, ErrorKind, Read, Seek, SeekFrom};
 use std::{fs, rt};
 
-/// The file system as files by name: relative names stand in the folder that the program runs in.
+/// The file system as files by name: relative names stand in the folder that the program runs in. What
+/// is no regular file, as a folder, a pipe or a device, has no size: it fails before it is opened.
 #[derive(Drop)]
 pub struct FileSystem<'a, R> {
     rt: &'a R,
@@ -22,6 +25,15 @@ impl<'a, R: rt::Files> FileSystem<'a, R> {
     }
 }
 
+impl<R> FileSystem<'_, R> {
+    /// How many calls have failed, in a counter that stays at its end.
+    pub fn faults(&self) -> u64
+        ensures { result ≡ self.now.faults }
+    {
+        self.faults
+    }
+}
+
 impl<R: rt::Files> Files for FileSystem<'_, R> {
     ghost holds = { λ _. None };
 
@@ -33,9 +45,9 @@ impl<R: rt::Files> Files for FileSystem<'_, R> {
 
     fn size(&mut self, name: &str) -> Result<Option<u64>, Failed> {
         match fs::metadata(self.rt, name) {
-            Ok(found) => Ok(Some(found.len())),
+            Ok(found) if found.is_file() => Ok(Some(found.len())),
             Err(error) if error.kind() == ErrorKind::NotFound => Ok(None),
-            Err(_) => {
+            _ => {
                 self.faults = self.faults.saturating_add(1);
                 Err(Failed)
             }
@@ -59,11 +71,22 @@ fn read_from<R: rt::Files>(rt: &R, name: &str, at: u64, into: &mut [u8]) -> io::
 {
     let mut file = fs::open(rt, name)?;
     file.seek(SeekFrom::Start(at))?;
+    read_full(&mut file, into)
+}
+
+/// Reads until the piece is full or a read gives nothing, and answers how many bytes were read. An
+/// error of the reader is answered at once; what was read before it stands in the piece.
+pub fn read_full<R: Read>(reader: &mut R, into: &mut [u8]) -> io::Result<usize>
+    ensures bound { IfOk result (λ count. count ≤ length into.new) }
+    ensures next { GivesNext (R.remaining reader.old) result into.new }
+    ensures consumed { IfOk result (λ count.
+        Consumes (R.remaining reader.old) (R.remaining reader.new) (take count into.new)) }
+{
     let mut count = 0;
     'reads: while count < into.len() {
-        let given = file.read(&mut into[count..])?;
+        let given = reader.read(&mut into[count..])?;
         if given == 0 {
-            break;
+            return Ok(count);
         }
         count += given;
     }

@@ -11,5 +11,5 @@
 mod file_system;
 mod streams;
 
-pub use file_system::FileSystem;
+pub use file_system::{FileSystem, read_full};
 pub use streams::{InputStream, OutputStream};

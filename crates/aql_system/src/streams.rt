@@ -21,6 +21,13 @@ impl<R> InputStream<R> {
     {
         InputStream { inner, faults: 0 }
     }
+
+    /// How many calls have failed, in a counter that stays at its end.
+    pub fn faults(&self) -> u64
+        ensures { result ≡ self.now.faults }
+    {
+        self.faults
+    }
 }
 
 impl<R: Read> Source for InputStream<R> {
@@ -58,6 +65,13 @@ impl<W> OutputStream<W> {
         ensures faults { result.faults ≡ 0 }
     {
         OutputStream { inner, faults: 0 }
+    }
+
+    /// How many calls have failed, in a counter that stays at its end.
+    pub fn faults(&self) -> u64
+        ensures { result ≡ self.now.faults }
+    {
+        self.faults
     }
 }
 

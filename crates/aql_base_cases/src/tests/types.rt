@@ -51,17 +51,19 @@ fn doubled(alloc: Global, n: u64) -> Made {
     Ok(row(items))
 }
 
+// Whether there is no unifier.
 fn clashes(alloc: Global, a: Made, b: Made) -> Result<bool, Memory> {
     let (a, b) = both(a, b)?;
     let found = unify(alloc, &a, &b);
     drop(a);
     drop(b);
     match found {
-        Err(UnifyFault::Clash) => Ok(true),
-        other => {
-            drop(other);
+        Ok(unifier) => {
+            drop(unifier);
             Ok(false)
         }
+        Err(UnifyFault::Clash) => Ok(true),
+        Err(UnifyFault::Memory) => Err(Memory),
     }
 }
 

@@ -1,14 +1,14 @@
-use aql_words::{Options, read_words};
+use aql_words::{Options, WordFault, read_words};
 use std::alloc::AllocError;
 
-// The options that words after the program's name ask for.
-fn read(rt: &impl AllocGlobal, words: &[&str]) -> Result<Option<Options>, AllocError> {
+// The options that words after the program's name ask for, or why they have no reading.
+fn read(rt: &impl AllocGlobal, words: &[&str]) -> Result<Result<Options, WordFault>, AllocError> {
     let mut all = Vec::new(rt.alloc());
     all.push(String::from_str(rt.alloc(), "aql")?)?;
     for word in words {
         all.push(String::from_str(rt.alloc(), word)?)?;
     }
-    Ok(read_words(rt.alloc(), all.as_slice()).ok())
+    Ok(read_words(rt.alloc(), all.as_slice()))
 }
 
 // A row: the words, and then workers, budget, plan and sample.
@@ -44,7 +44,7 @@ fn words_are_read(rt: HostRuntime) -> Result<(), AllocError> {
             plan,
             sample,
         };
-        assert_eq!(rt; read(&rt, words)?, Some(wanted));
+        assert_eq!(rt; read(&rt, words)?, Ok(wanted));
     }
     Ok(())
 }
@@ -68,7 +68,7 @@ fn words_without_a_reading(rt: HostRuntime) -> Result<(), AllocError> {
         &["--plan", "--plan"],
     ];
     for words in rows {
-        assert_eq!(rt; read(&rt, words)?, None);
+        assert_eq!(rt; read(&rt, words)?, Err(WordFault::Usage));
     }
     Ok(())
 }
