@@ -6,6 +6,7 @@ pub mod Evaluating
 pub mod Asking
 pub mod Heads
 pub mod Headers
+pub mod Requests
 pub mod Opening
 pub mod Obtaining
 pub mod Running

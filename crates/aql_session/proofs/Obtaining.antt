@@ -13,7 +13,7 @@ use Rattle.aql_types.specs.ValueTypes.{HasType}
 use Rattle.aql_syntax.specs.Tree.{Reader}
 use Rattle.aql_syntax.specs.Typing.{reader_type, argument_type}
 use Rattle.cdf_slab.specs.Numbers.{IsCell}
-use Rattle.cdf_slab.specs.Slab.{IsShaped}
+use Rattle.cdf_slab.specs.Slab.{IsShaped, first_zero}
 use Rattle.nrca_array.specs.Held.{table_datum}
 use Rattle.nrca_runs.specs.Scope.{held_value}
 use Rattle.aql_session.specs.Asked.{Asked, asked_of, cells}
@@ -76,6 +76,7 @@ module _ (r : Reader) (v : Datum) (request : Request) (asked : IsRequestOf r v r
     many = few (product request.count.items) x.cells p (omega (arith, h.within, b)) ∙ sym (ap (λ o. if_some o cells) asked.is);
     within = λ a q. subst (λ y. cells y ≤ budget) (asked-is a q) h.within;
     named = λ a q. subst (λ y. IsUtf8 y.file) (asked-is a q) h.slab.named;
+    strides = λ a q. subst (λ y. first_zero 1 y.stride ≡ None) (asked-is a q) h.slab.strides;
     file = λ a q files l. subst (λ y. read_fault files y ≡ None) (asked-is a q) (h.slab.told files l).0;
     outcome = (
       request_asked request,

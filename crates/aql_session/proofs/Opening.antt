@@ -13,12 +13,12 @@ use Rattle.cdf_header.specs.Header.{Head}
 use Rattle.cdf_header.specs.Places.{FindsFirst, variable_at}
 use Rattle.cdf_header.specs.declared.fault.CdfFault.{CdfFault}
 use Rattle.cdf_header.specs.declared.fault.CdfFault.TheVariants as file_faults
-use Rattle.cdf_slab.specs.Slab.{slab, slab_fault, Answers}
+use Rattle.cdf_slab.specs.Slab.{slab, slab_fault, Answers, IsOfRequest}
 use Rattle.nrca_array.specs.Held.{table_datum}
 use Rattle.aql_session.specs.Asked.{Asked, cells}
 use Rattle.aql_session.specs.Reading.{find_in, in_header, in_file, at_name, opened, fault_in, read_fault, value_in, unless, read_value}
 use Rattle.aql_session.specs.Runs.{handed_on, IsFileAt, IsFileCause, IsReadCause}
-use Rattle.aql_session.specs.Step.{IsOfFile}
+use Rattle.aql_session.specs.Step.{IsOfFile, IsOfVersion}
 use Rattle.aql_session.specs.declared.answer.StepFault.{StepFault}
 use Rattle.aql_session.specs.declared.answer.StepFault.TheVariants as faults
 use Rattle.aql_session.specs.declared.readings.Found.{Found}
@@ -149,21 +149,22 @@ utf8-is name n = elim (cases_Bool (is_utf8 name)) [
 
 -- a fault that is handed on has its cause
 pub handed-cause : (a : Asked) (holds : Option Content) (before now : ℕ) (f : CdfFault) → (f ≡ file_faults.Device → Rose before now) →
-    ((IsUtf8 a.file → ⊥) → f ≡ file_faults.Absent) → (IsOfFile f → ForSome holds (λ files. read_fault files a ≡ Some f)) → IsFileCause a holds before now (handed_on f)
-handed-cause a holds before now file_faults.Absent r u t = (record { own = tt; unnamed = u }, t tt)
-handed-cause a holds before now file_faults.NotClassic r u t = (record { own = tt; unnamed = u }, t tt)
-handed-cause a holds before now (file_faults.Version v) r u t = (record { own = tt; unnamed = u }, t tt)
-handed-cause a holds before now (file_faults.Malformed k) r u t = (record { own = tt; unnamed = u }, t tt)
-handed-cause a holds before now (file_faults.TooMany l) r u t = (record { own = tt; unnamed = u }, t tt)
-handed-cause a holds before now file_faults.NoVariable r u t = (record { own = tt; unnamed = u }, t tt)
-handed-cause a holds before now (file_faults.Rank n) r u t = (record { own = tt; unnamed = u }, t tt)
-handed-cause a holds before now file_faults.FloatVariable r u t = (record { own = tt; unnamed = u }, t tt)
-handed-cause a holds before now (file_faults.Stride d) r u t = (record { own = tt; unnamed = u }, t tt)
-handed-cause a holds before now (file_faults.Outside d) r u t = (record { own = tt; unnamed = u }, t tt)
-handed-cause a holds before now (file_faults.Cut n) r u t = (record { own = tt; unnamed = u }, t tt)
-handed-cause a holds before now (file_faults.Negative n) r u t = (record { own = tt; unnamed = u }, t tt)
-handed-cause a holds before now file_faults.Device r u t = r refl
-handed-cause a holds before now file_faults.Memory r u t = tt
+    ((IsUtf8 a.file → ⊥) → f ≡ file_faults.Absent) → IsOfVersion f → IsOfRequest a.start a.count a.stride a.signed f →
+    (IsOfFile f → ForSome holds (λ files. read_fault files a ≡ Some f)) → IsFileCause a holds before now (handed_on f)
+handed-cause a holds before now file_faults.Absent r u v q t = (record { own = tt; unnamed = u; version = v; request = q }, t tt)
+handed-cause a holds before now file_faults.NotClassic r u v q t = (record { own = tt; unnamed = u; version = v; request = q }, t tt)
+handed-cause a holds before now (file_faults.Version x) r u v q t = (record { own = tt; unnamed = u; version = v; request = q }, t tt)
+handed-cause a holds before now (file_faults.Malformed k) r u v q t = (record { own = tt; unnamed = u; version = v; request = q }, t tt)
+handed-cause a holds before now (file_faults.TooMany l) r u v q t = (record { own = tt; unnamed = u; version = v; request = q }, t tt)
+handed-cause a holds before now file_faults.NoVariable r u v q t = (record { own = tt; unnamed = u; version = v; request = q }, t tt)
+handed-cause a holds before now (file_faults.Rank n) r u v q t = (record { own = tt; unnamed = u; version = v; request = q }, t tt)
+handed-cause a holds before now file_faults.FloatVariable r u v q t = (record { own = tt; unnamed = u; version = v; request = q }, t tt)
+handed-cause a holds before now (file_faults.Stride d) r u v q t = (record { own = tt; unnamed = u; version = v; request = q }, t tt)
+handed-cause a holds before now (file_faults.Outside d) r u v q t = (record { own = tt; unnamed = u; version = v; request = q }, t tt)
+handed-cause a holds before now (file_faults.Cut n) r u v q t = (record { own = tt; unnamed = u; version = v; request = q }, t tt)
+handed-cause a holds before now (file_faults.Negative n) r u v q t = (record { own = tt; unnamed = u; version = v; request = q }, t tt)
+handed-cause a holds before now file_faults.Device r u v q t = r refl
+handed-cause a holds before now file_faults.Memory r u v q t = tt
 
 -- of a call that came after others on the files, and within the budget
 pub read-cause : (a : Asked) (budget : ℕ) (holds mid : Option Content) (before middle now : ℕ) (f : StepFault) → cells a ≤ budget → mid ≡ holds → before ≤ middle →

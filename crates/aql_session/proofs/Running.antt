@@ -1,6 +1,6 @@
 -- The run of a declaration, beside what `step` says of it.
-use Rattle.std.proofs.Common.{◌≡◌, ℕ, zero, suc, ◌+◌, ◌-◌, ◌^◌, ◌<◌, ◌≤◌, List, [], ◌∷◌, ◌++◌, length, take, Option, Some, None, refl, sym, ap, ◌∙◌, subst, arith, length-take, inl, inr}
-use Rattle.std.specs.Prelude.{slice_get, get_or, option_map}
+use Rattle.std.proofs.Common.{◌≡◌, ℕ, zero, suc, ◌+◌, ◌-◌, ◌^◌, ◌<◌, ◌≤◌, List, [], ◌∷◌, ◌++◌, length, take, Option, Some, None, refl, sym, ap, ◌∙◌, subst, arith, length-take}
+use Rattle.std.specs.Prelude.{slice_get, get_or, option_map, Result, Err, IfErr}
 use Rattle.std.specs.Option.{ForSome}
 use Rattle.std.specs.Str.{IsUtf8}
 use Rattle.std.proofs.lemmas.Option.{slice_get-get_or}
@@ -25,11 +25,12 @@ use Rattle.nrca_runs.specs.Scope.{held_value}
 use Rattle.nrca_term.specs.Equations.{term_of-Bottom}
 use Rattle.nrca_term.specs.Meaning.{Outcomes}
 use Rattle.nrca_term.specs.declared.term.Core.TheVariants as core
+use Rattle.cdf_slab.specs.Slab.{first_zero}
 use Rattle.aql_session.specs.Asked.{Asked, cells}
 use Rattle.aql_session.specs.Bound.{Bound, AreBound, earlier_of, outcomes}
 use Rattle.aql_session.specs.Reading.{read_fault, read_value, reading}
 use Rattle.aql_session.specs.Runs.{Stands, IsPlain, IsSpent, IsEvaluated, IsReadBy, IsArgumentCause, IsRun, IsAnswerOf, asked_in, query_value}
-use Rattle.aql_session.specs.Step.{IsAnswer, IsOutcome, IsReadOutcome, Binds, IsCause, ReadsNoFile, asks}
+use Rattle.aql_session.specs.Step.{IsAnswer, IsOutcome, IsReadOutcome, Binds, IsCause, IsOverTurns, ReadsNoFile, asks}
 use Rattle.aql_session.specs.declared.answer.Answer.{Answer}
 use Rattle.aql_session.specs.declared.answer.Ran.TheVariants as ran
 use Rattle.aql_session.specs.declared.answer.StepFault.{StepFault}
@@ -58,7 +59,7 @@ plain-run (val x e) earlier budget holds q p h = record {
   start = h.start;
   by = refl;
   turns = omega (arith, h.turns);
-  answerable = record { query = h.within; cells = λ a k. cc; named = λ a k. cc; file = λ a k. cc };
+  answerable = record { query = h.within; cells = λ a k. cc; named = λ a k. cc; strides = λ a k. cc; file = λ a k. cc };
   outcome = h.value;
 }
 plain-run (mac f p body) earlier budget holds q u h = absurd u
@@ -67,7 +68,7 @@ plain-run (bare e) earlier budget holds q p h = record {
   start = h.start;
   by = refl;
   turns = omega (arith, h.turns);
-  answerable = record { query = h.within; cells = λ a k. cc; named = λ a k. cc; file = λ a k. cc };
+  answerable = record { query = h.within; cells = λ a k. cc; named = λ a k. cc; strides = λ a k. cc; file = λ a k. cc };
   outcome = h.value;
 }
 
@@ -78,7 +79,7 @@ macro-run f p body earlier budget holds = record {
   start = term_of-Bottom;
   by = refl;
   turns = refl;
-  answerable = record { query = omega arith; cells = λ a k. cc; named = λ a k. cc; file = λ a k. cc };
+  answerable = record { query = omega arith; cells = λ a k. cc; named = λ a k. cc; strides = λ a k. cc; file = λ a k. cc };
   outcome = refl;
 }
 
@@ -88,6 +89,14 @@ spent-cause d earlier budget holds before now (faults.Cells c) h = absurd h
 spent-cause d earlier budget holds before now (faults.File f) h = absurd h
 spent-cause d earlier budget holds before now faults.Device h = absurd h
 spent-cause d earlier budget holds before now faults.Memory h = tt
+
+-- a query that is no readval's argument does not blame the files
+pub plain-device : (position : Option Declaration) (d : Declaration) (earlier : Earlier) (budget : ℕ) (r : Result Run StepFault) → position ≡ Some d →
+    ((holds : Option Content) (before now : ℕ) → IfErr r (λ f. ForSome position (λ e. IsCause e earlier budget holds before now f))) → r ≡ Err faults.Device → ⊥
+plain-device position d earlier budget r there cause device =
+    let h : IfErr (let x : Result Run StepFault = Err faults.Device in x) (λ f. ForSome position (λ e. IsCause e earlier budget None 1 0 f)) =
+    subst (λ (x : Result Run StepFault). IfErr x (λ f. ForSome position (λ e. IsCause e earlier budget None 1 0 f))) device (cause None 1 0) in
+    let rose = (h d there).3.1 in absurd (omega (arith, rose))
 
 some-within : (o : Option Asked) (budget : ℕ) → ForSome o (λ a. cells a ≤ budget) → if_some o cells ≤ budget
 some-within None budget h = omega arith
@@ -111,6 +120,7 @@ module _ (x : Name) (r : Reader) (e : Tree) (earlier : Earlier) (budget : ℕ) (
       query = h.within;
       cells = subst (λ o. ForSome o (λ a. cells a ≤ budget)) asked-is k.within;
       named = subst (λ o. ForSome o (λ a. IsUtf8 a.file)) asked-is k.named;
+      strides = subst (λ o. ForSome o (λ a. first_zero 1 a.stride ≡ None)) asked-is k.strides;
       file = subst (λ o. ForSome o (λ a. ForSome holds (λ files. read_fault files a ≡ None))) asked-is k.file;
     };
     outcome = subst (λ o. IsReadOutcome r o holds (held_value y.value)) argument-is k.outcome;
@@ -131,8 +141,15 @@ module _ (x : Name) (r : Reader) (e : Tree) (earlier : Earlier) (budget : ℕ) (
 
   -- where no file is read, the cells pass the budget
   pub readval-unread : ReadsNoFile (read x r e) earlier budget → ForSome (asked_in r (held_value q.value)) (λ a. budget < cells a)
-  readval-unread (inl l) = absurd (omega (arith, l, h.within))
-  readval-unread (inr k) = subst (λ o. ForSome o (λ a. budget < cells a)) (sym asked-is) k
+  readval-unread k = subst (λ o. ForSome o (λ a. budget < cells a)) (sym asked-is) k
+
+  -- a fault of the reading is none of the turns
+  pub readval-turns : (holds : Option Content) (before now : ℕ) (f : StepFault) → IsArgumentCause r (held_value q.value) budget holds before now f → IsOverTurns f → ⊥
+  readval-turns holds before now (faults.Query s p t) k over = k.2
+  readval-turns holds before now (faults.Cells c) k over = over
+  readval-turns holds before now (faults.File f) k over = over
+  readval-turns holds before now faults.Device k over = over
+  readval-turns holds before now faults.Memory k over = over
 
 -- what the check says of a readval
 record ReadHas (r : Reader) (e : Tree) (earlier : List Declaration) : Type 0 where

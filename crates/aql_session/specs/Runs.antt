@@ -25,7 +25,7 @@ use Rattle.aql_start.specs.Start.{query}
 use Rattle.cdf_header.specs.Places.{variable_at}
 use Rattle.cdf_header.specs.declared.fault.CdfFault.{CdfFault}
 use Rattle.cdf_header.specs.declared.fault.CdfFault.TheVariants as file_faults
-use Rattle.cdf_slab.specs.Slab.{IsShaped}
+use Rattle.cdf_slab.specs.Slab.{IsShaped, first_zero}
 use Rattle.aql_session.specs.Asked.{Asked, asked_of, cells}
 use Rattle.aql_session.specs.Bound.{earlier_of}
 use Rattle.aql_session.specs.Reading.{opened, read_fault, read_value}
@@ -121,6 +121,7 @@ pub record IsOpened (a : Asked) (holds : Option Content) (found : Found) : Type 
 pub record IsSlabOf (a : Asked) (holds : Option Content) (t : Table) : Type 0 where
   pub shaped : IsShaped a.count a.signed t
   pub named : IsUtf8 a.file
+  pub strides : first_zero 1 a.stride ≡ None
   pub told : ForSome holds (λ files. (read_fault files a ≡ None) × (read_value files a ≡ Some (table_datum t)))
 
 pub record IsReadOf (a : Asked) (budget : ℕ) (holds : Option Content) (t : Table) : Type 0 where
@@ -131,14 +132,14 @@ pub record IsReadOf (a : Asked) (budget : ℕ) (holds : Option Content) (t : Tab
 abbrev pub IsFileCause : Asked → Option Content → (before now : ℕ) → StepFault → Type 0
 IsFileCause a holds before now (faults.Query start plan trace) = ⊥
 IsFileCause a holds before now (faults.Cells c) = ⊥
-IsFileCause a holds before now (faults.File f) = IsFaultOf a.file f × ForSome holds (λ files. read_fault files a ≡ Some f)
+IsFileCause a holds before now (faults.File f) = IsFaultOf a f × ForSome holds (λ files. read_fault files a ≡ Some f)
 IsFileCause a holds before now faults.Device = Rose before now
 IsFileCause a holds before now faults.Memory = Unit {0}
 
 abbrev pub IsReadCause : Asked → (budget : ℕ) → Option Content → (before now : ℕ) → StepFault → Type 0
 IsReadCause a budget holds before now (faults.Query start plan trace) = ⊥
 IsReadCause a budget holds before now (faults.Cells c) = (budget < cells a) × (c ≡ min (cells a) (2 ^ 128 - 1))
-IsReadCause a budget holds before now (faults.File f) = (cells a ≤ budget) × IsFaultOf a.file f × ForSome holds (λ files. read_fault files a ≡ Some f)
+IsReadCause a budget holds before now (faults.File f) = (cells a ≤ budget) × IsFaultOf a f × ForSome holds (λ files. read_fault files a ≡ Some f)
 IsReadCause a budget holds before now faults.Device = (cells a ≤ budget) × Rose before now
 IsReadCause a budget holds before now faults.Memory = Unit {0}
 
@@ -157,6 +158,7 @@ pub record IsReadBy (r : Reader) (argument : Option Datum) (budget : ℕ) (holds
   pub many : x.cells ≡ if_some (asked_in r argument) cells
   pub within : ForSome (asked_in r argument) (λ a. cells a ≤ budget)
   pub named : ForSome (asked_in r argument) (λ a. IsUtf8 a.file)
+  pub strides : ForSome (asked_in r argument) (λ a. first_zero 1 a.stride ≡ None)
   pub file : ForSome (asked_in r argument) (λ a. ForSome holds (λ files. read_fault files a ≡ None))
   pub outcome : IsReadOutcome r argument holds (held_value x.value)
 

@@ -1,5 +1,5 @@
 -- What `step` answers of a declaration, what it binds it to, and why it answers a fault.
-use Rattle.std.specs.Prelude.{◌≡◌, ℕ, ◌+◌, ◌-◌, ◌^◌, ◌<◌, ◌≤◌, ◌⊎◌, min, List, [], ◌∷◌, ◌++◌, Option, Some, None}
+use Rattle.std.specs.Prelude.{◌≡◌, ℕ, ◌+◌, ◌-◌, ◌^◌, ◌<◌, ◌≤◌, min, List, [], ◌∷◌, ◌++◌, Option, Some, None}
 use Rattle.std.specs.Option.{ForSome}
 use Rattle.std.specs.Str.{IsUtf8}
 use Rattle.aql_outside.specs.Causes.{Rose}
@@ -23,6 +23,8 @@ use Rattle.aql_start.specs.Laws.{outcomes_of}
 use Rattle.aql_start.specs.Start.{start, knowns_of, query}
 use Rattle.cdf_header.specs.declared.fault.CdfFault.{CdfFault}
 use Rattle.cdf_header.specs.declared.fault.CdfFault.TheVariants as file_faults
+use Rattle.cdf_header.specs.File.{IsKnown}
+use Rattle.cdf_slab.specs.Slab.{IsOfRequest, first_zero}
 use Rattle.aql_session.specs.Asked.{Asked, asked_of, cells}
 use Rattle.aql_session.specs.Bound.{Bound}
 use Rattle.aql_session.specs.Reading.{read_fault, read_value, reading}
@@ -97,11 +99,13 @@ pub record IsAnswer (d : Declaration) (earlier : Earlier) (sort : Option Sort) (
   pub by : a.by ≡ ran_of d
   pub turns : a.turns ≡ turns_of d earlier
 
--- it is answered only where the start term and the cells are within the budget, the file's name is UTF-8, and the files, where they are told, have no fault
+-- it is answered only where the start term and the cells are within the budget, the file's name is UTF-8, no stride is 0, and the
+-- files, where they are told, have no fault
 pub record IsAnswerable (d : Declaration) (earlier : Earlier) (budget : ℕ) (holds : Option Content) : Type 0 where
   pub query : query_turns d earlier ≤ budget
   pub cells : ForSome (asks d earlier) (λ a. cells a ≤ budget)
   pub named : ForSome (asks d earlier) (λ a. IsUtf8 a.file)
+  pub strides : ForSome (asks d earlier) (λ a. first_zero 1 a.stride ≡ None)
   pub file : ForSome (asks d earlier) (λ a. ForSome holds (λ files. read_fault files a ≡ None))
 
 -- The outcome.
@@ -147,10 +151,18 @@ IsOfFile file_faults.Device = ⊥
 IsOfFile file_faults.Memory = ⊥
 IsOfFile f = Unit {0}
 
--- a fault of a file of this name: where the name is not UTF-8 there is no such file, whatever the files tell
-pub record IsFaultOf (name : List ℕ) (f : CdfFault) : Type 0 where
+-- a version that a fault names is none that is read
+abbrev pub IsOfVersion : CdfFault → Type 0
+IsOfVersion (file_faults.Version v) = IsKnown v → ⊥
+IsOfVersion f = Unit {0}
+
+-- a fault of what is asked for, whatever the files tell: where the name is not UTF-8 there is no such file, and what the fault says of
+-- the version, the rank, the strides, the dimensions and the cells is so
+pub record IsFaultOf (a : Asked) (f : CdfFault) : Type 0 where
   pub own : IsOfFile f
-  pub unnamed : (IsUtf8 name → ⊥) → f ≡ file_faults.Absent
+  pub unnamed : (IsUtf8 a.file → ⊥) → f ≡ file_faults.Absent
+  pub version : IsOfVersion f
+  pub request : IsOfRequest a.start a.count a.stride a.signed f
 
 -- when each fault comes: Query exactly past the budget, Cells exactly where then the cells pass it, File only where they do not, and exactly
 -- the first fault that the files tell; Device only where the count of faults rose; want of memory is free
@@ -159,10 +171,18 @@ IsCause d earlier budget holds before now (faults.Query start plan trace) =
     (budget < query_turns d earlier) × (term_of start ≡ start_of d earlier) × (term_of plan ≡ term_of start) × (trace ≡ [])
 IsCause d earlier budget holds before now (faults.Cells c) = Asks d earlier budget (λ a. (budget < cells a) × (c ≡ min (cells a) (2 ^ 128 - 1)))
 IsCause d earlier budget holds before now (faults.File f) =
-    Asks d earlier budget (λ a. (cells a ≤ budget) × IsFaultOf a.file f × ForSome holds (λ files. read_fault files a ≡ Some f))
+    Asks d earlier budget (λ a. (cells a ≤ budget) × IsFaultOf a f × ForSome holds (λ files. read_fault files a ≡ Some f))
 IsCause d earlier budget holds before now faults.Device = Asks d earlier budget (λ a. (cells a ≤ budget) × Rose before now)
 IsCause d earlier budget holds before now faults.Memory = Unit {0}
 
--- no file is read: the argument passes the budget, or it is undefined or there is none, or the cells pass the budget
+-- no file is read: there is no argument, or it is undefined, or the cells that it asks for pass the budget
 abbrev pub ReadsNoFile : Declaration → Earlier → (budget : ℕ) → Type 0
-ReadsNoFile d earlier budget = (budget < query_turns d earlier) ⊎ ForSome (asks d earlier) (λ a. budget < cells a)
+ReadsNoFile d earlier budget = ForSome (asks d earlier) (λ a. budget < cells a)
+
+-- the turns passed the budget
+abbrev pub IsOverTurns : StepFault → Type 0
+IsOverTurns (faults.Query start plan trace) = Unit {0}
+IsOverTurns (faults.Cells c) = ⊥
+IsOverTurns (faults.File f) = ⊥
+IsOverTurns faults.Device = ⊥
+IsOverTurns faults.Memory = ⊥

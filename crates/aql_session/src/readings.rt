@@ -1,6 +1,7 @@
 //! Readvals: what a reader's argument asks for, and the reading of files.
-ghost use Rattle.std.specs.Prelude.{◌≡◌, ◌<◌, ◌≤◌, ◌∷◌, [], Some, map, vec_len, IfOk, IsOkAnd, IfErr, replicate};
+ghost use Rattle.std.specs.Prelude.{◌≡◌, ◌<◌, ◌≤◌, ◌∷◌, [], Some, map, vec_len, IfOk, IsOkAnd, IfErr, IsErrOf, replicate};
 ghost use Rattle.std.specs.Option.{option_map, ForSome};
+ghost use Rattle.aql_outside.specs.Causes.{Blames};
 ghost use Rattle.aql_syntax.specs.Typing.{argument_type, reader_type};
 ghost use Rattle.aql_syntax.specs.View.{reader_of};
 ghost use Rattle.aql_types.specs.Types.{IsWithin};
@@ -57,7 +58,7 @@ pub(crate) fn read_argument<F: Files>(
     ensures read { IfOk result (IsReadBy (reader_of reader.now) (held_value argument) budget (F.holds files.old)) }
     ensures cause { IfErr result (IsArgumentCause (reader_of reader.now) (held_value argument) budget (F.holds files.old) (F.faults files.old) (F.faults files.new)) }
     ensures kept { F.holds files.new ≡ F.holds files.old }
-    ensures later { F.faults files.old ≤ F.faults files.new }
+    ensures blamed { Blames F.quiet (IsErrOf result StepFault.Device) (F.faults files.old) (F.faults files.new) }
     ensures untouched { ForSome (asked_in (reader_of reader.now) (held_value argument)) (λ a. budget < cells a) → files.new ≡ files.old }
 {
     match argument {
@@ -84,7 +85,7 @@ fn read_value<F: Files>(
     ensures read { IfOk result (IsReadBy (reader_of reader.now) (Some (held_datum argument)) budget (F.holds files.old)) }
     ensures cause { IfErr result (IsArgumentCause (reader_of reader.now) (Some (held_datum argument)) budget (F.holds files.old) (F.faults files.old) (F.faults files.new)) }
     ensures kept { F.holds files.new ≡ F.holds files.old }
-    ensures later { F.faults files.old ≤ F.faults files.new }
+    ensures blamed { Blames F.quiet (IsErrOf result StepFault.Device) (F.faults files.old) (F.faults files.new) }
     ensures untouched { ForSome (asked_of (reader_of reader.now) (held_datum argument)) (λ a. budget < cells a) → files.new ≡ files.old }
 {
     let request = typed_request(alloc, reader, argument)?;
@@ -125,7 +126,7 @@ pub(crate) fn read_request<F: Files>(
     ensures read { IfOk result (IsReadOf (request_asked request.now) budget (F.holds files.old)) }
     ensures cause { IfErr result (IsReadCause (request_asked request.now) budget (F.holds files.old) (F.faults files.old) (F.faults files.new)) }
     ensures kept { F.holds files.new ≡ F.holds files.old }
-    ensures later { F.faults files.old ≤ F.faults files.new }
+    ensures blamed { Blames F.quiet (IsErrOf result StepFault.Device) (F.faults files.old) (F.faults files.new) }
     ensures untouched { budget < cells (request_asked request.now) → files.new ≡ files.old }
 {
     let cells = saturating_product(&request.count);
@@ -150,7 +151,7 @@ fn open<F: Files>(alloc: Global, files: &mut F, request: &Request) -> Result<Fou
     ensures opened { IfOk result (IsOpened (request_asked request.now) (F.holds files.old)) }
     ensures cause { IfErr result (IsFileCause (request_asked request.now) (F.holds files.old) (F.faults files.old) (F.faults files.new)) }
     ensures kept { F.holds files.new ≡ F.holds files.old }
-    ensures later { F.faults files.old ≤ F.faults files.new }
+    ensures blamed { Blames F.quiet (IsErrOf result StepFault.Device) (F.faults files.old) (F.faults files.new) }
 {
     match read_header(alloc, files, &request.file) {
         Ok(header) => match header.find(&request.variable) {
@@ -176,7 +177,7 @@ fn read_found<F: Files>(
     ensures read { IfOk result (IsSlabOf (request_asked request.now) (F.holds files.old)) }
     ensures cause { IfErr result (IsFileCause (request_asked request.now) (F.holds files.old) (F.faults files.old) (F.faults files.new)) }
     ensures kept { F.holds files.new ≡ F.holds files.old }
-    ensures later { F.faults files.old ≤ F.faults files.new }
+    ensures blamed { Blames F.quiet (IsErrOf result StepFault.Device) (F.faults files.old) (F.faults files.new) }
 {
     match read_slab(
         alloc,

@@ -1,12 +1,13 @@
 //! The run of a declaration, which binds nothing.
-ghost use Rattle.std.specs.Prelude.{◌≡◌, ◌≤◌, ◌-◌, ℕ, length, Some, Option, IfOk, IfErr};
+ghost use Rattle.std.specs.Prelude.{◌≡◌, ◌≤◌, ◌-◌, ℕ, length, Some, Option, IfOk, IfErr, IsErrOf};
 ghost use Rattle.std.specs.List.{slice_get};
 ghost use Rattle.std.specs.Option.{ForSome};
 ghost use Rattle.aql_constraints.specs.Typed.{sorts_of};
+ghost use Rattle.aql_outside.specs.Causes.{Blames};
 ghost use Rattle.aql_outside.specs.Contents.{Content};
 ghost use Rattle.aql_syntax.specs.View.{decl_of, decls_of, reader_of};
 ghost use Rattle.aql_session.specs.Bound.{earlier_of};
-ghost use Rattle.aql_session.specs.Step.{ReadsNoRecords, IsCause, ReadsNoFile};
+ghost use Rattle.aql_session.specs.Step.{ReadsNoRecords, IsCause, IsOverTurns, ReadsNoFile};
 ghost use Rattle.aql_session.specs.Runs.{Stands, IsQuery, IsPlain, IsReadval, IsRun};
 
 use crate::answer::{Ran, StepFault};
@@ -52,9 +53,10 @@ pub(crate) fn run_declaration<R: Threads + Sync, F: Files, G: Gate>(
     ensures cause { IfErr result (λ f. ForSome (slice_get (decls_of decls.now.items.items) (n - 1)) (λ d.
         IsCause d (earlier_of (decls_of decls.now.items.items) globals.now) options.now.budget (F.holds files.old) (F.faults files.old) (F.faults files.new) f)) }
     ensures kept { F.holds files.new ≡ F.holds files.old }
-    ensures later { F.faults files.old ≤ F.faults files.new }
+    ensures blamed { Blames F.quiet (IsErrOf result StepFault.Device) (F.faults files.old) (F.faults files.new) }
     ensures untouched { ForSome (slice_get (decls_of decls.now.items.items) (n - 1)) (λ d.
         ReadsNoFile d (earlier_of (decls_of decls.now.items.items) globals.now) options.now.budget → files.new ≡ files.old) }
+    ensures unread { IfErr result (λ f. IsOverTurns f → files.new ≡ files.old) }
 {
     match declaration(decls, n) {
         Decl::Val { name: _, expr: _ } => {
@@ -159,9 +161,10 @@ fn run_readval<R: Threads + Sync, F: Files, G: Gate>(
     ensures cause { IfErr result (λ f. ForSome (slice_get (decls_of decls.now.items.items) (n - 1)) (λ d.
         IsCause d (earlier_of (decls_of decls.now.items.items) globals.now) options.now.budget (F.holds files.old) (F.faults files.old) (F.faults files.new) f)) }
     ensures kept { F.holds files.new ≡ F.holds files.old }
-    ensures later { F.faults files.old ≤ F.faults files.new }
+    ensures blamed { Blames F.quiet (IsErrOf result StepFault.Device) (F.faults files.old) (F.faults files.new) }
     ensures untouched { ForSome (slice_get (decls_of decls.now.items.items) (n - 1)) (λ d.
         ReadsNoFile d (earlier_of (decls_of decls.now.items.items) globals.now) options.now.budget → files.new ≡ files.old) }
+    ensures unread { IfErr result (λ f. IsOverTurns f → files.new ≡ files.old) }
 {
     match run_query(rt, alloc, globals, decls, typed, n, options, gate) {
         Ok(

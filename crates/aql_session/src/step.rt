@@ -1,8 +1,9 @@
 //! One declaration after another.
-ghost use Rattle.std.specs.Prelude.{◌≡◌, ◌≤◌, ◌-◌, ◌++◌, ◌∷◌, [], length, Some, IfOk, IfErr, OnOk, OnErr};
+ghost use Rattle.std.specs.Prelude.{◌≡◌, ◌≤◌, ◌-◌, ◌++◌, ◌∷◌, [], length, Some, IfOk, IfErr, IsErrOf, OnOk, OnErr};
 ghost use Rattle.std.specs.List.{slice_get};
 ghost use Rattle.std.specs.Option.{ForSome};
 ghost use Rattle.aql_constraints.specs.Typed.{ArePrincipal, sorts_of};
+ghost use Rattle.aql_outside.specs.Causes.{Blames};
 ghost use Rattle.aql_syntax.specs.Sound.{OutcomesHave};
 ghost use Rattle.aql_syntax.specs.Tree.{declared, it};
 ghost use Rattle.aql_syntax.specs.View.{decl_of, decls_of};
@@ -10,7 +11,7 @@ ghost use Rattle.aql_types.specs.View.{sort_of};
 ghost use Rattle.nrca_runs.specs.Scope.{held_value};
 ghost use Rattle.nrca_term.specs.View.{term_of};
 ghost use Rattle.aql_session.specs.Bound.{AreBound, earlier_of, outcomes};
-ghost use Rattle.aql_session.specs.Step.{AreWithinLimits, ReadsNoRecords, IsAnswer, IsAnswerable, Binds, IsCause, ReadsNoFile};
+ghost use Rattle.aql_session.specs.Step.{AreWithinLimits, ReadsNoRecords, IsAnswer, IsAnswerable, Binds, IsCause, IsOverTurns, ReadsNoFile};
 ghost use Rattle.aql_session.specs.Runs.{Stands, IsRun, IsAnswerOf};
 
 use crate::answer::{Answer, StepFault};
@@ -71,11 +72,12 @@ impl Session {
             IsCause d (earlier_of (decls_of decls.now.items.items) (outcomes self.old)) options.now.budget (F.holds files.old) (F.faults files.old) (F.faults files.new) f)) }
         ensures as_before { OnErr result (self.new ≡ self.old) }
 
-        // The files keep what they hold, and no call is made on them unless a file is read.
+        // The files keep what they hold, their faults end in `Device`, and no call is made on them unless a file is read.
         ensures kept { F.holds files.new ≡ F.holds files.old }
-        ensures later { F.faults files.old ≤ F.faults files.new }
+        ensures blamed { Blames F.quiet (IsErrOf result StepFault.Device) (F.faults files.old) (F.faults files.new) }
         ensures untouched { ForSome (slice_get (decls_of decls.now.items.items) (n - 1)) (λ d.
             ReadsNoFile d (earlier_of (decls_of decls.now.items.items) (outcomes self.old)) options.now.budget → files.new ≡ files.old) }
+        ensures unread { IfErr result (λ f. IsOverTurns f → files.new ≡ files.old) }
     {
         match self.run_next(rt, alloc, decls, typed, n, options, files, gate) {
             Ok(run) => Ok(self.keep(alloc, decls, typed, n, run)?),
@@ -104,9 +106,10 @@ impl Session {
         ensures cause { IfErr result (λ f. ForSome (slice_get (decls_of decls.now.items.items) (n - 1)) (λ d.
             IsCause d (earlier_of (decls_of decls.now.items.items) (outcomes self.now)) options.now.budget (F.holds files.old) (F.faults files.old) (F.faults files.new) f)) }
         ensures kept { F.holds files.new ≡ F.holds files.old }
-        ensures later { F.faults files.old ≤ F.faults files.new }
+        ensures blamed { Blames F.quiet (IsErrOf result StepFault.Device) (F.faults files.old) (F.faults files.new) }
         ensures untouched { ForSome (slice_get (decls_of decls.now.items.items) (n - 1)) (λ d.
             ReadsNoFile d (earlier_of (decls_of decls.now.items.items) (outcomes self.now)) options.now.budget → files.new ≡ files.old) }
+        ensures unread { IfErr result (λ f. IsOverTurns f → files.new ≡ files.old) }
     {
         run_declaration(
             rt,

@@ -3,6 +3,7 @@ use Rattle.std.specs.Prelude.{Ok, Err}
 use Rattle.aql_session.specs.Reading.{fault_in}
 use Rattle.aql_session.specs.Runs.{request_asked, IsFileCause}
 use Rattle.aql_session.proofs.Opening.{says-of, nameless, file-at, failed, handed-cause}
+use Rattle.aql_session.proofs.Requests.{header-version, header-request}
 use Rattle.aql_session.proofs.readings.open.Goals as goal
 
 pub returns-in-Some-clause-opened : goal.returns-in-Some-clause-opened
@@ -19,7 +20,7 @@ returns-in-Some-clause-opened g c =
 pub returns-in-None-clause-cause : goal.returns-in-None-clause-cause
 returns-in-None-clause-cause g c =
     let a = request_asked c.args.request.now in (
-      record { own = tt; unnamed = λ n. (let z = c.in-Ok.ensures.unnamed n in cc) },
+      record { own = tt; unnamed = λ n. (let z = c.in-Ok.ensures.unnamed n in cc); version = tt; request = tt },
       λ files e.
           nameless a files c.in-Ok.header
           (says-of a (g.F.Files.holds c.args.files.now) files (Ok c.in-Ok.header) e c.in-Ok.ensures.told (λ q. (let z : false ≡ true = (c.in-Ok.ensures.absent q).1 in cc)) c.in-Ok.ensures.unnamed)
@@ -33,7 +34,8 @@ returns-in-Err-clause-cause g c =
     let before = g.F.Files.faults c.args.files.now in
     let now = g.F.Files.faults c.read_header.new.files in
     subst (IsFileCause a holds before now) (sym c.hand_on.ensures)
-    (handed-cause a holds before now c.in-Err.fault (λ q. c.in-Err.ensures.failed (ap Err q)) (λ n. (let z = c.in-Err.ensures.unnamed n in cc)) (λ u files e.
+    (handed-cause a holds before now c.in-Err.fault (λ q. c.in-Err.ensures.blamed.failed (ap Err q)) (λ n. (let z = c.in-Err.ensures.unnamed n in cc))
+    (header-version c.in-Err.fault c.in-Err.ensures.causes) (header-request a.start a.count a.stride a.signed c.in-Err.fault c.in-Err.ensures.causes) (λ u files e.
     ap (fault_in a)
     (failed a files c.in-Err.fault u
     (says-of a holds files (Err c.in-Err.fault) e c.in-Err.ensures.told (λ q. (c.in-Err.fault, refl, (c.in-Err.ensures.absent q).0)) c.in-Err.ensures.unnamed))))
