@@ -1,2 +1,3 @@
 mod Searching
 mod Positions
+pub mod Examples
