@@ -27,7 +27,7 @@ use Rattle.aql_script.specs.Script.{positions, reads_records}
 use Rattle.aql_script.specs.declared.preparing.Prepared.{Prepared}
 use Rattle.aql_session.specs.Bound.{Bound, names, outcomes, AreBound, onto, earlier_of}
 use Rattle.aql_session.specs.Reading.{reading}
-use Rattle.aql_session.specs.Step.{AreWithinLimits, ReadsNoRecords, IsAnswer, IsAnswerable, IsOutcome, IsCause, Binds}
+use Rattle.aql_session.specs.Step.{AreWithinLimits, ReadsNoRecords, IsAnswer, IsAnswerable, IsOutcome, IsCause, Binds, ReadsNoFile}
 use Rattle.aql_session.specs.declared.answer.StepFault.{StepFault}
 use Rattle.aql_session.specs.declared.answer.Answer.{Answer}
 use Rattle.aql_answers.specs.Answered.{IsAnswered, AreAnswered, IsStopped}
@@ -36,7 +36,7 @@ use Rattle.aql_lines.specs.Entry.{entry}
 use Rattle.aql_lines.specs.Writing.{WritesFront}
 use Rattle.aql_answers.specs.declared.steps.Halt.{Halt}
 use Rattle.aql_answers.specs.declared.steps.Halt.TheVariants as halts
-use Rattle.aql_answers.specs.Steps.{own, sorts, IsPrepared, Progress, Goes, CutsEntry, Halts, IsNoFault}
+use Rattle.aql_answers.specs.Steps.{own, sorts, IsPrepared, Progress, Goes, NextReadsNoFile, CutsEntry, Halts, IsNoFault}
 
 some_is : {A : Type 0} (x y : A) → ◌≡◌ {A = Option A} (Some x) (Some y) → x ≡ y
 some_is x y e = cc
@@ -235,7 +235,7 @@ has_stepped p o holds answers s s' a n h is le so_far answer answerable binds =
 module _ (p : Prepared) (o : Options) (holds : Option Content) (answers answers' : List Answer) (s s' : Bound) (a : Answer) (out : Option Datum) (old new : Option (List ℕ)) where
   pub wrote : (r : Result (Unit {0}) Halt) (h : HasStepped p o holds answers s s' a) → answers' ≡ answers ++ a ∷ [] → out ≡ h.outcome →
       WritesFront old new (entry o.plan a out) r → OnOk r (Goes p o holds answers answers' s s' old new)
-  wrote (Ok x) h longer is (front, rest, split, appended, all) = record {
+  wrote (Ok x) h longer is (front, rest, split, appended, all, _) = record {
     answer = a;
     outcome = h.outcome;
     longer = longer;
@@ -261,7 +261,15 @@ module _ (p : Prepared) (o : Options) (holds : Option Content) (answers answers'
 
   pub halted : (r : Result (Unit {0}) Halt) (before now : ℕ) (h : HasStepped p o holds answers s s' a) → answers' ≡ answers ++ a ∷ [] → out ≡ h.outcome →
       WritesFront old new (entry o.plan a out) r → IfErr r IsNoFault → IfErr r (λ e. Halts p o holds before now answers answers' (outcomes s) old new e)
+  unfolding cut
   halted (Ok x) before now h longer is w c = tt
   halted (Err (halts.Fault f)) before now h longer is w c = absurd c
-  halted (Err halts.Memory) before now h longer is (front, rest, split, appended, all) c = inr (cut h longer is front rest split appended)
-  halted (Err halts.Sink) before now h longer is (front, rest, split, appended, all) c = cut h longer is front rest split appended
+  halted (Err halts.Memory) before now h longer is (front, rest, split, appended, all, _) c = inr (cut h longer is front rest split appended)
+  halted (Err halts.Sink) before now h longer is (front, rest, split, appended, all, some) c = (cut h longer is front rest split appended, some)
+
+-- where the next declaration reads no file
+pub next_unread : (p : Prepared) (budget : ℕ) (V : Outcomes) (n k : ℕ) → IsPrepared p → n ≡ 25 + k → n ≤ length p.decls.items.items → NextReadsNoFile p budget k V →
+    (d : Declaration) × (slice_get (decls_of p.decls.items.items) (n - 1) ≡ Some d) × ReadsNoFile d (earlier_of (decls_of p.decls.items.items) V) budget
+next_unread p budget V n k h is le none =
+    let x = next_is p n (omega (arith, is)) le in
+    (x.0, x.1, subst (λ (ds : List Declaration). ReadsNoFile x.0 (earlier_of ds V) budget) (sym h.all) (none x.0 (next_there p n x.0 k h is x.1)))

@@ -2,9 +2,11 @@
 use Rattle.std.proofs.Common.{ℕ, zero, suc, ◌≡◌, ◌+◌, ◌-◌, ◌<◌, ◌≤◌, inl, inr, List, [], ◌∷◌, ◌++◌, refl, sym, ap, ◌∙◌, subst, length, take, drop, append_assoc, append-nil, length-append, length-drop, arith, Bool}
 use Rattle.std.proofs.KnownBytes.{Appends-nil, Appends-trans}
 use Rattle.std.proofs.Math.Seq.{take-append_seam}
+use Rattle.std.proofs.lemmas.List.{take-append-le}
+use Rattle.std.specs.List.{slice_get}
 use Rattle.std.specs.Io.KnownBytes.{Appends}
-use Rattle.std.specs.Prelude.{Option}
-use Rattle.aql_outside.specs.Causes.{Rose}
+use Rattle.std.specs.Prelude.{Option, Some}
+use Rattle.aql_outside.specs.Causes.{Blames, Rose}
 use Rattle.aql_outside.specs.Contents.{Content}
 use Rattle.aql_value.specs.Datum.{Datum}
 use Rattle.aql_syntax.specs.Script.{Earlier}
@@ -12,15 +14,17 @@ use Rattle.aql_syntax.specs.Tree.{Declaration}
 use Rattle.nrca_term.specs.Meaning.{Outcomes}
 use Rattle.aql_script.specs.PositionLaws.{length_positions}
 use Rattle.aql_script.specs.declared.preparing.Prepared.{Prepared}
-use Rattle.aql_session.specs.Bound.{Bound, outcomes}
-use Rattle.aql_session.specs.Step.{IsCause}
+use Rattle.aql_script.specs.Script.{positions}
+use Rattle.aql_outside.specs.CausesLaws.{blamed_as, blamed_then}
+use Rattle.aql_session.specs.Bound.{Bound, outcomes, earlier_of}
+use Rattle.aql_session.specs.Step.{IsCause, ReadsNoFile}
 use Rattle.aql_session.specs.declared.answer.Answer.{Answer}
 use Rattle.aql_session.specs.declared.answer.StepFault.{StepFault}
 use Rattle.aql_session.specs.declared.answer.StepFault.TheVariants as faults
 use Rattle.aql_words.specs.declared.words.Options.{Options}
-use Rattle.aql_answers.specs.Answered.{AreAnswered, IsStopped}
+use Rattle.aql_answers.specs.Answered.{AreAnswered, IsStopped, ReadNoFile, reached}
 use Rattle.aql_lines.specs.Entry.{entry, entries}
-use Rattle.aql_answers.specs.Steps.{own, sorts, IsPrepared, Declared, Goes, CutsEntry, Halts, Going, AllAnswered, CutsLines, EndsEarly}
+use Rattle.aql_answers.specs.Steps.{own, sorts, IsPrepared, Declared, Goes, NextReadsNoFile, CutsEntry, Halts, IsOver, Going, AllAnswered, CutsLines, EndsEarly}
 use Rattle.aql_answers.specs.declared.steps.Halt.{Halt}
 use Rattle.aql_answers.specs.declared.steps.Halt.TheVariants as halts
 use Rattle.aql_answers.proofs.Answering.{decls_length}
@@ -68,17 +72,38 @@ drop_more V o zero le = refl
 drop_more [] o (suc n) le = absurd (omega (arith, le))
 drop_more (v ∷ V) o (suc n) le = drop_more V o n (omega (arith, le))
 
+-- ---- the declarations that read no file
+
+-- fewer of those that read none
+read_fewer : (ds : List Declaration) (budget : ℕ) (V : Outcomes) (k m : ℕ) → k ≤ m → ReadNoFile ds budget V m → ReadNoFile ds budget V k
+read_fewer ds budget V k m le h i d lt = h i d (omega (arith, le, lt))
+
+-- where one outcome more is known, the same of those before it
+read_before : (ds : List Declaration) (budget : ℕ) (V W : Outcomes) (o : Option Datum) (k : ℕ) → length V ≡ 24 + k → W ≡ V ++ o ∷ [] →
+    ReadNoFile ds budget W k → ReadNoFile ds budget V k
+read_before ds budget V W o k many is h i d lt there =
+    subst (λ (X : Outcomes). ReadsNoFile d (earlier_of (positions ds) X) budget)
+    (ap (take (24 + i)) is ∙ take-append-le (24 + i) V (o ∷ []) (omega (arith, many, lt))) (h i d lt there)
+
+-- and of the one of which it is
+read_last : (ds : List Declaration) (budget : ℕ) (V W : Outcomes) (after : Outcomes) (k m : ℕ) (d : Declaration) → length V ≡ 24 + k → W ≡ V ++ after → k < m →
+    ReadNoFile ds budget W m → slice_get (positions ds) (24 + k) ≡ Some d → ReadsNoFile d (earlier_of (positions ds) V) budget
+read_last ds budget V W after k m d many is lt h there =
+    subst (λ (X : Outcomes). ReadsNoFile d (earlier_of (positions ds) X) budget)
+    (ap (take (24 + k)) is ∙ (ap (λ n. take n (V ++ after)) (sym many) ∙ take-append_seam V after)) (h k d lt there)
+
 -- a run with no answer yet
-pub going_first : (p : Prepared) (o : Options) (holds : Option Content) (answers : List Answer) (s : Bound) (old : Option (List ℕ)) → Declared p 24 s → answers ≡ [] →
-    Going p o holds answers s 25 old old
-going_first p o holds answers s old h none =
-    subst (λ (l : List Answer). Going p o holds l s 25 old old) (sym none)
-    (record { progress = at_first p o.budget holds s h; next = refl; written = Appends-nil old })
+pub going_first : (p : Prepared) (o : Options) (holds : Option Content) (same : Type 0) (answers : List Answer) (s : Bound) (old : Option (List ℕ)) → Declared p 24 s →
+    answers ≡ [] → same → Going p o holds same answers s 25 old old
+going_first p o holds same answers s old h none there =
+    subst (λ (l : List Answer). Going p o holds same l s 25 old old) (sym none)
+    (record { progress = at_first p o.budget holds s h; next = refl; written = Appends-nil old; untouched = λ reads. there })
 
 -- one answer more
-pub going_next : (p : Prepared) (o : Options) (holds : Option Content) (answers answers' : List Answer) (s s' : Bound) (n : ℕ) (old mid new : Option (List ℕ)) →
-    Going p o holds answers s n old mid → Goes p o holds answers answers' s s' mid new → Going p o holds answers' s' (n + 1) old new
-going_next p o holds answers answers' s s' n old mid new h g =
+pub going_next : (p : Prepared) (o : Options) (holds : Option Content) (same same' : Type 0) (answers answers' : List Answer) (s s' : Bound) (n : ℕ) (old mid new : Option (List ℕ)) →
+    Going p o holds same answers s n old mid → Goes p o holds answers answers' s s' mid new → (same → NextReadsNoFile p o.budget (length answers) (outcomes s) → same') →
+    Going p o holds same' answers' s' (n + 1) old new
+going_next p o holds same same' answers answers' s s' n old mid new h g more =
     let is = h.next in
     let count = h.progress.answered.many in
     let longer = ap length g.longer ∙ length-append answers (g.answer ∷ []) in
@@ -87,6 +112,10 @@ going_next p o holds answers answers' s s' n old mid new h g =
       next = omega (arith, is, longer);
       written = subst (Appends old new) (sym (lines (length-drop 24 (outcomes s) ∙ omega (arith, count)) (omega (arith, count))))
           (Appends-trans old mid new (entries o.plan answers (drop 24 (outcomes s))) (entry o.plan g.answer g.outcome) h.written g.written);
+      untouched = λ reads. more
+          (h.untouched (read_before (own p) o.budget (outcomes s) (outcomes s') g.outcome (length answers) count g.outcomes
+          (read_fewer (own p) o.budget (outcomes s') (length answers) (length answers') (omega (arith, longer)) reads)))
+          (λ d there. read_last (own p) o.budget (outcomes s) (outcomes s') (g.outcome ∷ []) (length answers) (length answers') d count g.outcomes (omega (arith, longer)) reads there);
     }
   where
     lines : length (drop 24 (outcomes s)) ≡ length answers → 24 ≤ length (outcomes s) →
@@ -98,14 +127,14 @@ going_next p o holds answers answers' s s' n old mid new h g =
         ∙ entries_more o.plan answers (drop 24 (outcomes s)) g.answer g.outcome same))
 
 -- every position was gone over
-pub all_answered : (p : Prepared) (o : Options) (holds : Option Content) (answers : List Answer) (s : Bound) (n : ℕ) (old new : Option (List ℕ)) → IsPrepared p →
-    Going p o holds answers s n old new → n ≡ length p.decls.items.items + 1 → AllAnswered p o holds answers old new
-all_answered p o holds answers s n old new h g e =
+pub all_answered : (p : Prepared) (o : Options) (holds : Option Content) (same : Type 0) (answers : List Answer) (s : Bound) (n : ℕ) (old new : Option (List ℕ)) → IsPrepared p →
+    Going p o holds same answers s n old new → n ≡ length p.decls.items.items + 1 → AllAnswered p o holds same answers old new
+all_answered p o holds same answers s n old new h g e =
     let is = g.next in
     let all = ap length h.all in
     let own_count = length_positions (own p) in
     let count = decls_length p.decls.items.items in
-    record { outcomes = outcomes s; answered = g.progress.answered; all = omega (arith, is, all, own_count, count, e); written = g.written }
+    record { outcomes = outcomes s; answered = g.progress.answered; all = omega (arith, is, all, own_count, count, e); written = g.written; untouched = g.untouched }
 
 -- a cause within a call is one within a longer call
 rose_wider : (before now before' now' : ℕ) → before' ≤ before → now ≤ now' → Rose before now → Rose before' now'
@@ -121,16 +150,18 @@ cause_wider d earlier budget holds before now before' now' faults.Device a b (wi
 cause_wider d earlier budget holds before now before' now' faults.Memory a b h = h
 
 -- the lines so far are those of the answers, all of them
-none_cut : (p : Prepared) (o : Options) (holds : Option Content) (answers : List Answer) (V : Outcomes) → AreAnswered (own p) (sorts p) o.budget holds answers V →
-    CutsLines p o holds answers (entries o.plan answers (drop 24 V))
-none_cut p o holds answers V h =
+none_cut : (p : Prepared) (o : Options) (holds : Option Content) (same : Type 0) (begun : ℕ) (answers : List Answer) (V : Outcomes) →
+    AreAnswered (own p) (sorts p) o.budget holds answers V → (ReadNoFile (own p) o.budget V begun → same) →
+    CutsLines p o holds same begun answers (entries o.plan answers (drop 24 V))
+none_cut p o holds same begun answers V h untouched =
     let x = entries_last o.plan answers (drop 24 V) in
-    record { outcomes = V; answered = h; back = []; front = sym (append-nil (entries o.plan answers (drop 24 V))); last = x.0; whole = x.1 }
+    record { outcomes = V; answered = h; back = []; front = sym (append-nil (entries o.plan answers (drop 24 V))); last = x.0; whole = x.1; untouched = untouched }
 
 -- a front of the last answer's lines
-one_cut : (p : Prepared) (o : Options) (holds : Option Content) (answers answers' : List Answer) (V : Outcomes) (mid new : Option (List ℕ)) → AreAnswered (own p) (sorts p) o.budget holds answers V →
-    (c : CutsEntry p o holds answers answers' V mid new) → CutsLines p o holds answers' (entries o.plan answers (drop 24 V) ++ c.front)
-one_cut p o holds answers answers' V mid new h c =
+one_cut : (p : Prepared) (o : Options) (holds : Option Content) (same : Type 0) (begun : ℕ) (answers answers' : List Answer) (V : Outcomes) (mid new : Option (List ℕ)) →
+    AreAnswered (own p) (sorts p) o.budget holds answers V → (c : CutsEntry p o holds answers answers' V mid new) → (ReadNoFile (own p) o.budget (V ++ c.outcome ∷ []) begun → same) →
+    (d : CutsLines p o holds same begun answers' (entries o.plan answers (drop 24 V) ++ c.front)) × (d.back ≡ c.rest)
+one_cut p o holds same begun answers answers' V mid new h c untouched =
     let count = h.many in
     made (length-drop 24 V ∙ omega (arith, count)) (omega (arith, count))
   where
@@ -143,78 +174,137 @@ one_cut p o holds answers answers' V mid new h c =
         let at : length answers' - 1 ≡ length answers = omega (arith, long) in
         ap (λ k. take k answers') at ∙ (ap (take (length answers)) c.longer ∙ take-append_seam answers (c.answer ∷ []))
 
-    made : length (drop 24 V) ≡ length answers → 24 ≤ length V → CutsLines p o holds answers' (shown V ++ c.front)
-    made same le = record {
-      outcomes = V ++ c.outcome ∷ [];
-      answered = c.answered;
-      back = c.rest;
-      front = ap (λ (l : List Answer). entries o.plan l (drop 24 (V ++ c.outcome ∷ []))) c.longer
-          ∙ (ap (entries o.plan (answers ++ c.answer ∷ [])) (drop_more V c.outcome 24 le)
-          ∙ (entries_more o.plan answers (drop 24 V) c.answer c.outcome same
-          ∙ (ap (λ l. shown V ++ l) c.split ∙ sym (append_assoc (shown V) c.front c.rest))));
-      last = c.front;
-      whole = ap (λ l. l ++ c.front)
-          (sym (ap (λ (l : List Answer). entries o.plan l (drop 24 (V ++ c.outcome ∷ []))) short
-          ∙ (ap (entries o.plan answers) (drop_more V c.outcome 24 le) ∙ entries_ignore o.plan answers (drop 24 V) c.outcome same)));
+    made : length (drop 24 V) ≡ length answers → 24 ≤ length V → (d : CutsLines p o holds same begun answers' (shown V ++ c.front)) × (d.back ≡ c.rest)
+    made many le = (
+      record {
+        outcomes = V ++ c.outcome ∷ [];
+        answered = c.answered;
+        back = c.rest;
+        front = ap (λ (l : List Answer). entries o.plan l (drop 24 (V ++ c.outcome ∷ []))) c.longer
+            ∙ (ap (entries o.plan (answers ++ c.answer ∷ [])) (drop_more V c.outcome 24 le)
+            ∙ (entries_more o.plan answers (drop 24 V) c.answer c.outcome many
+            ∙ (ap (λ l. shown V ++ l) c.split ∙ sym (append_assoc (shown V) c.front c.rest))));
+        last = c.front;
+        whole = ap (λ l. l ++ c.front)
+            (sym (ap (λ (l : List Answer). entries o.plan l (drop 24 (V ++ c.outcome ∷ []))) short
+            ∙ (ap (entries o.plan answers) (drop_more V c.outcome 24 le) ∙ entries_ignore o.plan answers (drop 24 V) c.outcome many)));
+        untouched = untouched;
+      },
+      refl,
+    )
+
+-- The run ends before the last declaration, or before its lines are all written. Where the next declaration reads no file, or its turns
+-- passed the budget, the files are as before it.
+module _ (p : Prepared) (o : Options) (holds : Option Content) (same same' : Type 0) (answers answers' : List Answer) (s : Bound) (n : ℕ) (old mid new : Option (List ℕ))
+    (g : Going p o holds same answers s n old mid) (more : same → NextReadsNoFile p o.budget (length answers) (outcomes s) → same') where
+  abbrev V : Outcomes
+  V = outcomes s
+
+  count : length V ≡ 24 + length answers
+  count = g.progress.answered.many
+
+  -- nothing more was answered
+  stayed : (m : ℕ) → length answers + 1 ≤ m → ReadNoFile (own p) o.budget V m → same'
+  stayed m le reads = more (g.untouched (read_fewer (own p) o.budget V (length answers) m (omega (arith, le)) reads))
+      (λ d there. read_last (own p) o.budget V V [] (length answers) m d count (sym (append-nil V)) (omega (arith, le)) reads there)
+
+  -- one declaration more was answered
+  went : (c : CutsEntry p o holds answers answers' V mid new) (m : ℕ) → length answers' ≤ m → ReadNoFile (own p) o.budget (V ++ c.outcome ∷ []) m → same'
+  went c m le reads =
+      let longer = ap length c.longer ∙ length-append answers (c.answer ∷ []) in
+      more
+      (g.untouched (read_before (own p) o.budget V (V ++ c.outcome ∷ []) c.outcome (length answers) count refl
+      (read_fewer (own p) o.budget (V ++ c.outcome ∷ []) (length answers) m (omega (arith, le, longer)) reads)))
+      (λ d there. read_last (own p) o.budget V (V ++ c.outcome ∷ []) (c.outcome ∷ []) (length answers) m d count refl (omega (arith, le, longer)) reads there)
+
+  lines : Appends mid new [] → Appends old new (entries o.plan answers (drop 24 V))
+  lines w = subst (Appends old new) (append-nil _) (Appends-trans old mid new (entries o.plan answers (drop 24 V)) [] g.written w)
+
+  came : (f : StepFault) → (same → IsOver (halts.Fault f) → same') → ReadNoFile (own p) o.budget V (reached f (length answers)) → same'
+  came (faults.Query start plan trace) over reads = over (g.untouched reads) tt
+  came (faults.Cells c) over reads = stayed (length answers + 1) (omega arith) reads
+  came (faults.File f) over reads = stayed (length answers + 1) (omega arith) reads
+  came faults.Device over reads = stayed (length answers + 1) (omega arith) reads
+  came faults.Memory over reads = stayed (length answers + 1) (omega arith) reads
+
+  pub ends_early : (before now before' now' : ℕ) (halt : Halt) → before' ≤ before → now ≤ now' → (same → IsOver halt → same') →
+      Halts p o holds before now answers answers' V mid new halt → EndsEarly p o holds same' before' now' answers' old new halt
+  ends_early before now before' now' (halts.Fault f) a b over (stays, (d, there, cause)) = (
+    V,
+    subst (λ (l : List Answer). AreAnswered (own p) (sorts p) o.budget holds l V) (sym stays.same) g.progress.answered,
+    subst (λ (l : List Answer). IsStopped (own p) o.budget holds before' now' (length l) V f) (sym stays.same)
+        (d, there, cause_wider d _ o.budget holds before now before' now' f a b cause),
+    subst (λ (l : List Answer). Appends old new (entries o.plan l (drop 24 V))) (sym stays.same) (lines stays.written),
+    subst (λ (l : List Answer). ReadNoFile (own p) o.budget V (reached f (length l)) → same') (sym stays.same) (came f over),
+  )
+  ends_early before now before' now' halts.Memory a b over (inl stays) = (
+    entries o.plan answers (drop 24 V),
+    lines stays.written,
+    inr (subst (λ (l : List Answer). CutsLines p o holds same' (length l + 1) l (entries o.plan answers (drop 24 V))) (sym stays.same)
+        (none_cut p o holds same' (length answers + 1) answers V g.progress.answered (stayed (length answers + 1) (omega arith)))),
+  )
+  ends_early before now before' now' halts.Memory a b over (inr cut) = (
+    entries o.plan answers (drop 24 V) ++ cut.front,
+    Appends-trans old mid new (entries o.plan answers (drop 24 V)) cut.front g.written cut.written,
+    inr (one_cut p o holds same' (length answers' + 1) answers answers' V mid new g.progress.answered cut (went cut (length answers' + 1) (omega arith))).0,
+  )
+  ends_early before now before' now' halts.Sink a b over (cut, some) = (
+    entries o.plan answers (drop 24 V) ++ cut.front,
+    Appends-trans old mid new (entries o.plan answers (drop 24 V)) cut.front g.written cut.written,
+    (let (d, is) = one_cut p o holds same' (length answers') answers answers' V mid new g.progress.answered cut (went cut (length answers') (omega arith)) in
+        (d, λ none. some (sym is ∙ none))),
+  )
+
+pub no_memory : (p : Prepared) (o : Options) (holds : Option Content) (same : Type 0) (before now : ℕ) (answers : List Answer) (old : Option (List ℕ)) → answers ≡ [] → same →
+    EndsEarly p o holds same before now answers old old halts.Memory
+no_memory p o holds same before now answers old e there = ([], Appends-nil old, inl (e, refl, there))
+
+-- what holds before each position: what was gone over, and the same files, with counts for which no device is blamed
+pub record Before (p : Prepared) (o : Options) (h0 h : Option Content) (same : Type 0) (answers : List Answer) (s : Bound) (n count : ℕ) (old mid : Option (List ℕ))
+    (quiet loud : Type 0) (f0 f k0 k : ℕ) : Type 0 where
+  pub within : n ≤ count + 1
+  pub going : Going p o h same answers s n old mid
+  pub kept : h ≡ h0
+  pub files : Blames quiet ⊥ f0 f
+  pub output : Blames loud ⊥ k0 k
+
+pub begins : (p : Prepared) (o : Options) (h0 h : Option Content) (same : Type 0) (answers : List Answer) (s : Bound) (count : ℕ) (old : Option (List ℕ)) (quiet loud : Type 0) (f0 f k0 : ℕ) →
+    IsPrepared p → Declared p 24 s → answers ≡ [] → count ≡ length p.decls.items.items → h ≡ h0 → f ≡ f0 → same →
+    Before p o h0 h same answers s 25 count old old quiet loud f0 f k0 k0
+begins p o h0 h same answers s count old quiet loud f0 f k0 prepared made none is kept count_is there =
+    let long = prelude_last p 24 prepared (omega arith) in
+    record {
+      within = omega (arith, long, is);
+      going = going_first p o h same answers s old made none there;
+      kept = kept;
+      files = record { later = omega (arith, count_is); failed = λ b. absurd b; noticed = λ q less. absurd (omega (arith, less, count_is)) };
+      output = record { later = omega arith; failed = λ b. absurd b; noticed = λ q less. absurd (omega (arith, less)) };
     }
 
--- the run ends before the last declaration, or before its lines are all written
-pub ends_early : (p : Prepared) (o : Options) (holds : Option Content) (before now before' now' : ℕ) (answers answers' : List Answer) (s : Bound) (n : ℕ) (old mid new : Option (List ℕ)) (halt : Halt) →
-    before' ≤ before → now ≤ now' → Going p o holds answers s n old mid → Halts p o holds before now answers answers' (outcomes s) mid new halt → EndsEarly p o holds before' now' answers' old new halt
-ends_early p o holds before now before' now' answers answers' s n old mid new (halts.Fault f) a b g (stays, (d, there, cause)) = (
-  outcomes s,
-  subst (λ (l : List Answer). AreAnswered (own p) (sorts p) o.budget holds l (outcomes s)) (sym stays.same) g.progress.answered,
-  subst (λ (l : List Answer). IsStopped (own p) o.budget holds before' now' (length l) (outcomes s) f) (sym stays.same)
-      (d, there, cause_wider d _ o.budget holds before now before' now' f a b cause),
-  subst (λ (l : List Answer). Appends old new (entries o.plan l (drop 24 (outcomes s)))) (sym stays.same) (stayed stays.written),
-)
-  where
-    stayed : Appends mid new [] → Appends old new (entries o.plan answers (drop 24 (outcomes s)))
-    stayed w = subst (Appends old new) (append-nil _) (Appends-trans old mid new (entries o.plan answers (drop 24 (outcomes s))) [] g.written w)
-ends_early p o holds before now before' now' answers answers' s n old mid new halts.Memory a b g (inl stays) = (
-  entries o.plan answers (drop 24 (outcomes s)),
-  subst (Appends old new) (append-nil _) (Appends-trans old mid new (entries o.plan answers (drop 24 (outcomes s))) [] g.written stays.written),
-  inr (subst (λ (l : List Answer). CutsLines p o holds l (entries o.plan answers (drop 24 (outcomes s)))) (sym stays.same) (none_cut p o holds answers (outcomes s) g.progress.answered)),
-)
-ends_early p o holds before now before' now' answers answers' s n old mid new halts.Memory a b g (inr cut) = (
-  entries o.plan answers (drop 24 (outcomes s)) ++ cut.front,
-  Appends-trans old mid new (entries o.plan answers (drop 24 (outcomes s))) cut.front g.written cut.written,
-  inr (one_cut p o holds answers answers' (outcomes s) mid new g.progress.answered cut),
-)
-ends_early p o holds before now before' now' answers answers' s n old mid new halts.Sink a b g cut = (
-  entries o.plan answers (drop 24 (outcomes s)) ++ cut.front,
-  Appends-trans old mid new (entries o.plan answers (drop 24 (outcomes s))) cut.front g.written cut.written,
-  one_cut p o holds answers answers' (outcomes s) mid new g.progress.answered cut,
-)
+pub goes_on : (p : Prepared) (o : Options) (h0 h h' : Option Content) (same same' : Type 0) (answers answers' : List Answer) (s s' : Bound) (n count : ℕ) (old mid new : Option (List ℕ))
+    (quiet loud a b : Type 0) (f0 f f' k0 k k' : ℕ) → Before p o h0 h same answers s n count old mid quiet loud f0 f k0 k → n < count + 1 → Goes p o h answers answers' s s' mid new →
+    (same → NextReadsNoFile p o.budget (length answers) (outcomes s) → same') → h' ≡ h → Blames quiet a f f' → (a → ⊥) → Blames loud b k k' → (b → ⊥) →
+    Before p o h0 h' same' answers' s' (n + 1) count old new quiet loud f0 f' k0 k'
+goes_on p o h0 h h' same same' answers answers' s s' n count old mid new quiet loud a b f0 f f' k0 k k' w lt goes more kept u quietly v never =
+    let next = going_next p o h same same' answers answers' s s' n old mid new w.going goes more in
+    record {
+      within = omega (arith, lt);
+      going = subst (λ (z : Option Content). Going p o z same' answers' s' (n + 1) old new) (sym kept) next;
+      kept = kept ∙ w.kept;
+      files = blamed_then quiet ⊥ ⊥ f0 f f' w.files (λ x. x) (blamed_as quiet a ⊥ f f' quietly (λ x. absurd x) u);
+      output = blamed_then loud ⊥ ⊥ k0 k k' w.output (λ x. x) (blamed_as loud b ⊥ k k' never (λ x. absurd x) v);
+    }
 
-pub no_memory : (p : Prepared) (o : Options) (holds : Option Content) (before now : ℕ) (answers : List Answer) (old : Option (List ℕ)) → answers ≡ [] →
-    EndsEarly p o holds before now answers old old halts.Memory
-no_memory p o holds before now answers old e = ([], Appends-nil old, inl (e, refl))
+pub ends_here : (p : Prepared) (o : Options) (h0 h : Option Content) (same same' : Type 0) (answers answers' : List Answer) (s : Bound) (n count : ℕ) (old mid new : Option (List ℕ))
+    (quiet loud : Type 0) (f0 f f' k0 k : ℕ) (halt : Halt) → Before p o h0 h same answers s n count old mid quiet loud f0 f k0 k → f ≤ f' →
+    (same → NextReadsNoFile p o.budget (length answers) (outcomes s) → same') → (same → IsOver halt → same') →
+    Halts p o h f f' answers answers' (outcomes s) mid new halt → EndsEarly p o h0 same' f0 f' answers' old new halt
+ends_here p o h0 h same same' answers answers' s n count old mid new quiet loud f0 f f' k0 k halt w u more over halts =
+    subst (λ (z : Option Content). EndsEarly p o z same' f0 f' answers' old new halt) w.kept
+    (ends_early p o h same same' answers answers' s n old mid new w.going more f f' f0 f' halt w.files.later (omega arith) over halts)
 
--- what holds before each position: what was gone over, and the same files, with counts that did not fall
-abbrev pub Before : Prepared → Options → (h0 h : Option Content) → List Answer → Bound → (n count : ℕ) → (old mid : Option (List ℕ)) → (f0 f k0 k : ℕ) → Type 0
-Before p o h0 h answers s n count old mid f0 f k0 k = (n ≤ count + 1) × Going p o h answers s n old mid × (h ≡ h0) × (f0 ≤ f) × (k0 ≤ k)
-
-pub begins : (p : Prepared) (o : Options) (h0 h : Option Content) (answers : List Answer) (s : Bound) (count : ℕ) (old : Option (List ℕ)) (f0 f k0 : ℕ) → IsPrepared p →
-    Declared p 24 s → answers ≡ [] → count ≡ length p.decls.items.items → h ≡ h0 → f0 ≤ f → Before p o h0 h answers s 25 count old old f0 f k0 k0
-begins p o h0 h answers s count old f0 f k0 prepared made none is same le =
-    let long = prelude_last p 24 prepared (omega arith) in
-    (omega (arith, long, is), going_first p o h answers s old made none, same, le, omega arith)
-
-pub goes_on : (p : Prepared) (o : Options) (h0 h h' : Option Content) (answers answers' : List Answer) (s s' : Bound) (n count : ℕ) (old mid new : Option (List ℕ)) (f0 f f' k0 k k' : ℕ) →
-    Before p o h0 h answers s n count old mid f0 f k0 k → n < count + 1 → Goes p o h answers answers' s s' mid new → h' ≡ h → f ≤ f' → k ≤ k' →
-    Before p o h0 h' answers' s' (n + 1) count old new f0 f' k0 k'
-goes_on p o h0 h h' answers answers' s s' n count old mid new f0 f f' k0 k k' (within, g, e, x, y) lt goes same u v =
-    let next = going_next p o h answers answers' s s' n old mid new g goes in
-    (omega (arith, lt), subst (λ (z : Option Content). Going p o z answers' s' (n + 1) old new) (sym same) next, same ∙ e, omega (arith, x, u), omega (arith, y, v))
-
-pub ends_here : (p : Prepared) (o : Options) (h0 h : Option Content) (answers answers' : List Answer) (s : Bound) (n count : ℕ) (old mid new : Option (List ℕ)) (f0 f f' k0 k : ℕ) (halt : Halt) →
-    Before p o h0 h answers s n count old mid f0 f k0 k → f ≤ f' → Halts p o h f f' answers answers' (outcomes s) mid new halt → EndsEarly p o h0 f0 f' answers' old new halt
-ends_here p o h0 h answers answers' s n count old mid new f0 f f' k0 k halt (within, g, e, x, y) u halts =
-    subst (λ (z : Option Content). EndsEarly p o z f0 f' answers' old new halt) e
-    (ends_early p o h f f' f0 f' answers answers' s n old mid new halt x (omega arith) g halts)
-
-pub all_here : (p : Prepared) (o : Options) (h0 h : Option Content) (answers : List Answer) (s : Bound) (n count : ℕ) (old mid : Option (List ℕ)) (f0 f k0 k : ℕ) → IsPrepared p →
-    Before p o h0 h answers s n count old mid f0 f k0 k → count + 1 ≤ n → count ≡ length p.decls.items.items → AllAnswered p o h0 answers old mid
-all_here p o h0 h answers s n count old mid f0 f k0 k prepared (within, g, e, x, y) ge is =
-    subst (λ (z : Option Content). AllAnswered p o z answers old mid) e (all_answered p o h answers s n old mid prepared g (omega (arith, within, ge, is)))
+pub all_here : (p : Prepared) (o : Options) (h0 h : Option Content) (same : Type 0) (answers : List Answer) (s : Bound) (n count : ℕ) (old mid : Option (List ℕ)) (quiet loud : Type 0)
+    (f0 f k0 k : ℕ) → IsPrepared p → Before p o h0 h same answers s n count old mid quiet loud f0 f k0 k → count + 1 ≤ n → count ≡ length p.decls.items.items → AllAnswered p o h0 same answers old mid
+all_here p o h0 h same answers s n count old mid quiet loud f0 f k0 k prepared w ge is =
+    let within = w.within in
+    subst (λ (z : Option Content). AllAnswered p o z same answers old mid) w.kept (all_answered p o h same answers s n old mid prepared w.going (omega (arith, within, ge, is)))

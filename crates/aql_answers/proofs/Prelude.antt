@@ -13,7 +13,7 @@ use Rattle.aql_script.specs.PositionLaws.{length_positions}
 use Rattle.aql_script.specs.Script.{positions}
 use Rattle.aql_script.specs.declared.preparing.Prepared.{Prepared}
 use Rattle.aql_session.specs.Bound.{Bound, names, outcomes, AreBound, earlier_of}
-use Rattle.aql_session.specs.Step.{IsOutcome, Binds, ReadsNoRecords}
+use Rattle.aql_session.specs.Step.{IsOutcome, Binds, ReadsNoFile, ReadsNoRecords}
 use Rattle.aql_answers.specs.Answered.{AreAnswered}
 use Rattle.aql_answers.specs.AnsweredLaws.{is_macro, macro_at}
 use Rattle.aql_answers.specs.Steps.{own, sorts, IsPrepared, Declared, Progress}
@@ -126,3 +126,16 @@ pub next_declared : (p : Prepared) (holds : Option Content) (s s' : Bound) (n : 
 next_declared p holds s s' n h one lt so_far binds =
     let same : suc (n - 1) ≡ n + 1 - 1 = omega (arith, one) in
     subst (λ k. Declared p k s') same (one_declared p holds s s' (n - 1) h (omega (arith, one, lt)) so_far binds)
+
+macro_unread : (d : Declaration) (earlier : Earlier) (budget : ℕ) → is_macro d ≡ true → ReadsNoFile d earlier budget
+macro_unread (val x e) earlier budget m = absurd cc
+macro_unread (mac f p body) earlier budget m = λ a e. absurd cc
+macro_unread (read x r e) earlier budget m = absurd cc
+macro_unread (bare e) earlier budget m = absurd cc
+
+-- the declarations of the prelude read no file
+pub prelude_unread : (p : Prepared) (budget : ℕ) (V : List (Option Datum)) (n : ℕ) → IsPrepared p → 1 ≤ n → n < 25 →
+    (d : Declaration) × (slice_get (decls_of p.decls.items.items) (n - 1) ≡ Some d) × ReadsNoFile d (earlier_of (decls_of p.decls.items.items) V) budget
+prelude_unread p budget V n h one lt =
+    let x = there_is p (n - 1) h (omega (arith, one, lt)) in
+    (x.0, x.1, macro_unread x.0 (earlier_of (decls_of p.decls.items.items) V) budget (prelude_macro p (n - 1) x.0 h (omega (arith, one, lt)) x.1))

@@ -1,5 +1,5 @@
 -- The declarations of a script that were answered, and why the next one was not.
-use Rattle.std.specs.Prelude.{◌≡◌, ◌≤◌, ℕ, ◌+◌, List, length, take, replicate, Option, Some, None}
+use Rattle.std.specs.Prelude.{◌≡◌, ◌≤◌, ◌<◌, ℕ, ◌+◌, List, length, take, replicate, Option, Some, None}
 use Rattle.std.specs.List.{slice_get}
 use Rattle.std.specs.Option.{ForSome}
 use Rattle.aql_outside.specs.Contents.{Content}
@@ -10,9 +10,10 @@ use Rattle.aql_syntax.specs.Tree.{Declaration}
 use Rattle.nrca_term.specs.Meaning.{Outcomes}
 use Rattle.aql_session.specs.Bound.{earlier_of}
 use Rattle.aql_session.specs.Reading.{reading}
-use Rattle.aql_session.specs.Step.{IsAnswer, IsAnswerable, IsOutcome, IsCause}
+use Rattle.aql_session.specs.Step.{IsAnswer, IsAnswerable, IsOutcome, IsCause, ReadsNoFile}
 use Rattle.aql_session.specs.declared.answer.Answer.{Answer}
 use Rattle.aql_session.specs.declared.answer.StepFault.{StepFault}
+use Rattle.aql_session.specs.declared.answer.StepFault.TheVariants as faults
 use Rattle.aql_script.specs.Script.{positions}
 
 -- the answer of a declaration after others, and its outcome: what it denotes or reads; where the files are told, the script's
@@ -36,3 +37,17 @@ pub record AreAnswered (ds : List Declaration) (sorts : List Sort) (budget : ℕ
 abbrev pub IsStopped : List Declaration → (budget : ℕ) → Option Content → (before now : ℕ) → (answered : ℕ) → Outcomes → StepFault → Type 0
 IsStopped ds budget holds before now answered V f =
     (d : Declaration) × (slice_get (positions ds) (24 + answered) ≡ Some d) × IsCause d (earlier_of (positions ds) V) budget holds before now f
+
+-- the first so many declarations of a script read no file
+abbrev pub ReadNoFile : List Declaration → (budget : ℕ) → Outcomes → (begun : ℕ) → Type 0
+ReadNoFile ds budget V begun = (i : ℕ) (d : Declaration) → i < begun → slice_get (positions ds) (24 + i) ≡ Some d →
+    ReadsNoFile d (earlier_of (positions ds) (take (24 + i) V)) budget
+
+-- how many declarations may have come to the files, where the one behind those that were answered has this fault: it did not where its
+-- turns passed the budget
+abbrev pub reached : StepFault → (answered : ℕ) → ℕ
+reached (faults.Query start plan trace) n = n
+reached (faults.Cells c) n = n + 1
+reached (faults.File f) n = n + 1
+reached faults.Device n = n + 1
+reached faults.Memory n = n + 1

@@ -1,5 +1,6 @@
 -- What the functions within this crate say of the run of the declarations.
-use Rattle.std.specs.Prelude.{◌≡◌, ℕ, suc, ◌+◌, ◌-◌, ◌⊎◌, List, [], ◌∷◌, ◌++◌, length, take, drop, replicate, Option, None}
+use Rattle.std.specs.Prelude.{◌≡◌, ◌≢◌, ℕ, suc, ◌+◌, ◌-◌, ◌⊎◌, List, [], ◌∷◌, ◌++◌, length, take, drop, replicate, Option, Some, None}
+use Rattle.std.specs.List.{slice_get}
 use Rattle.std.specs.Io.KnownBytes.{Appends}
 use Rattle.aql_outside.specs.Contents.{Content}
 use Rattle.aql_value.specs.Datum.{Datum}
@@ -12,9 +13,10 @@ use Rattle.nrca_term.specs.Meaning.{Outcomes}
 use Rattle.aql_script.specs.Script.{AreTyped, positions, AreWithinLimits, NoneReadsRecords}
 use Rattle.aql_script.specs.declared.preparing.Prepared.{Prepared}
 use Rattle.aql_session.specs.Bound.{Bound, outcomes, AreBound, earlier_of}
+use Rattle.aql_session.specs.Step.{IsOverTurns, ReadsNoFile}
 use Rattle.aql_session.specs.declared.answer.Answer.{Answer}
 use Rattle.aql_words.specs.declared.words.Options.{Options}
-use Rattle.aql_answers.specs.Answered.{AreAnswered, IsStopped}
+use Rattle.aql_answers.specs.Answered.{AreAnswered, IsStopped, ReadNoFile, reached}
 use Rattle.aql_lines.specs.Entry.{entry, entries}
 use Rattle.aql_answers.specs.declared.steps.Halt.{Halt}
 use Rattle.aql_answers.specs.declared.steps.Halt.TheVariants as halts
@@ -59,6 +61,10 @@ pub record CutsEntry (p : Prepared) (options : Options) (holds : Option Content)
   pub split : entry options.plan answer outcome ≡ front ++ rest
   pub written : Appends old new front
 
+-- declaration k of a script, counted from 0, reads no file
+abbrev pub NextReadsNoFile : Prepared → (budget : ℕ) → (k : ℕ) → Outcomes → Type 0
+NextReadsNoFile p budget k V = (d : Declaration) → slice_get (positions (own p)) (24 + k) ≡ Some d → ReadsNoFile d (earlier_of (positions (own p)) V) budget
+
 -- no answer more, and nothing written
 pub record Stays (answers answers' : List Answer) (old new : Option (List ℕ)) : Type 0 where
   pub same : answers' ≡ answers
@@ -69,7 +75,13 @@ abbrev pub Halts : Prepared → Options → Option Content → (before now : ℕ
 Halts p options holds before now answers answers' V old new (halts.Fault f) =
     Stays answers answers' old new × IsStopped (own p) options.budget holds before now (length answers) V f
 Halts p options holds before now answers answers' V old new halts.Memory = Stays answers answers' old new ⊎ CutsEntry p options holds answers answers' V old new
-Halts p options holds before now answers answers' V old new halts.Sink = CutsEntry p options holds answers answers' V old new
+Halts p options holds before now answers answers' V old new halts.Sink = (c : CutsEntry p options holds answers answers' V old new) × (c.rest ≢ [])
+
+-- the turns of the next declaration passed the budget
+abbrev pub IsOver : Halt → Type 0
+IsOver (halts.Fault f) = IsOverTurns f
+IsOver halts.Memory = ⊥
+IsOver halts.Sink = ⊥
 
 -- memory or the sink was wanting
 abbrev pub IsNoFault : Halt → Type 0
@@ -83,33 +95,40 @@ pub record Declared (p : Prepared) (k : ℕ) (s : Bound) : Type 0 where
   pub none : outcomes s ≡ replicate k None
   pub types : OutcomesHave (earlier_of (positions (own p)) (outcomes s))
 
--- the declarations so far were answered and their lines written; declaration n of the positions is next
-pub record Going (p : Prepared) (o : Options) (holds : Option Content) (answers : List Answer) (s : Bound) (n : ℕ) (old now : Option (List ℕ)) : Type 0 where
+-- The declarations so far were answered and their lines written; declaration n of the positions is next. Where none so far reads a file,
+-- the files are as before.
+pub record Going (p : Prepared) (o : Options) (holds : Option Content) (same : Type 0) (answers : List Answer) (s : Bound) (n : ℕ) (old now : Option (List ℕ)) : Type 0 where
   pub progress : Progress p o.budget holds answers s
   pub next : n ≡ 25 + length answers
   pub written : Appends old now (entries o.plan answers (drop 24 (outcomes s)))
+  pub untouched : ReadNoFile (own p) o.budget (outcomes s) (length answers) → same
 
--- every declaration was answered, and the lines of all were written
-pub record AllAnswered (p : Prepared) (o : Options) (holds : Option Content) (answers : List Answer) (old new : Option (List ℕ)) : Type 0 where
+-- Every declaration was answered, and the lines of all were written. Where none of them reads a file, the files are as before, as `same`
+-- says.
+pub record AllAnswered (p : Prepared) (o : Options) (holds : Option Content) (same : Type 0) (answers : List Answer) (old new : Option (List ℕ)) : Type 0 where
   pub outcomes : Outcomes
   pub answered : AreAnswered (own p) (sorts p) o.budget holds answers outcomes
   pub all : length answers ≡ length (own p)
+  pub untouched : ReadNoFile (own p) o.budget outcomes (length answers) → same
   pub written : Appends old new (entries o.plan answers (drop 24 outcomes))
 
--- these were answered, and all their lines but a back of the last one's were written
-pub record CutsLines (p : Prepared) (o : Options) (holds : Option Content) (answers : List Answer) (written : List ℕ) : Type 0 where
+-- These were answered, and all their lines but a back of the last one's were written. Where the first so many read no file, the files are
+-- as before.
+pub record CutsLines (p : Prepared) (o : Options) (holds : Option Content) (same : Type 0) (begun : ℕ) (answers : List Answer) (written : List ℕ) : Type 0 where
   pub outcomes : Outcomes
   pub answered : AreAnswered (own p) (sorts p) o.budget holds answers outcomes
   pub back : List ℕ
   pub front : entries o.plan answers (drop 24 outcomes) ≡ written ++ back
   pub last : List ℕ
   pub whole : written ≡ entries o.plan (take (length answers - 1) answers) (drop 24 outcomes) ++ last
+  pub untouched : ReadNoFile (own p) o.budget outcomes begun → same
 
 -- not all were answered, or not all lines written
-abbrev pub EndsEarly : Prepared → Options → Option Content → (before now : ℕ) → List Answer → (old new : Option (List ℕ)) → Halt → Type 0
-EndsEarly p o holds before now answers old new (halts.Fault f) =
+abbrev pub EndsEarly : Prepared → Options → Option Content → (same : Type 0) → (before now : ℕ) → List Answer → (old new : Option (List ℕ)) → Halt → Type 0
+EndsEarly p o holds same before now answers old new (halts.Fault f) =
     (V : Outcomes) × AreAnswered (own p) (sorts p) o.budget holds answers V × IsStopped (own p) o.budget holds before now (length answers) V f
-    × Appends old new (entries o.plan answers (drop 24 V))
-EndsEarly p o holds before now answers old new halts.Memory =
-    (written : List ℕ) × Appends old new written × (((answers ≡ []) × (written ≡ [])) ⊎ CutsLines p o holds answers written)
-EndsEarly p o holds before now answers old new halts.Sink = (written : List ℕ) × Appends old new written × CutsLines p o holds answers written
+    × Appends old new (entries o.plan answers (drop 24 V)) × (ReadNoFile (own p) o.budget V (reached f (length answers)) → same)
+EndsEarly p o holds same before now answers old new halts.Memory = (written : List ℕ) × Appends old new written
+    × (((answers ≡ []) × (written ≡ []) × same) ⊎ CutsLines p o holds same (length answers + 1) answers written)
+EndsEarly p o holds same before now answers old new halts.Sink =
+    (written : List ℕ) × Appends old new written × ((c : CutsLines p o holds same (length answers) answers written) × (c.back ≢ []))

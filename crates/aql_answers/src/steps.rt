@@ -2,11 +2,11 @@
 ghost use Rattle.std.specs.Prelude.{◌≡◌, ◌≤◌, ◌<◌, ◌+◌, ◌-◌, ◌∷◌, [], length, vec_len, OnOk, IfOk, IfErr, IsOk, IsErrOf, Some};
 ghost use Rattle.std.specs.Option.{option_map};
 ghost use Rattle.nrca_array.specs.Held.{held_datum};
-ghost use Rattle.aql_outside.specs.Causes.{Rose};
+ghost use Rattle.aql_outside.specs.Causes.{Blames};
 ghost use Rattle.aql_words.specs.Words.{AreInRange};
 ghost use Rattle.aql_session.specs.Bound.{outcomes};
 ghost use Rattle.aql_lines.specs.Entry.{entry};
-ghost use Rattle.aql_answers.specs.Steps.{IsPrepared, Progress, Goes, Halts, IsNoFault, Declared, AllAnswered, EndsEarly};
+ghost use Rattle.aql_answers.specs.Steps.{IsPrepared, Progress, Goes, Halts, IsNoFault, IsOver, Declared, NextReadsNoFile, AllAnswered, EndsEarly};
 ghost use Rattle.aql_lines.specs.Writing.{WritesFront};
 
 use aql_lines::{entry_text, write_all};
@@ -44,12 +44,13 @@ pub fn answer_all<R: Threads + Sync, O: Sink, F: Files, G: Gate>(
     requires prepared { IsPrepared prepared.now }
     requires none { answers.old.items ≡ [] }
     requires options { AreInRange options.now }
-    ensures done { OnOk result (AllAnswered prepared.now options.now (F.holds files.old) answers.new.items (O.holds output.old) (O.holds output.new)) }
-    ensures early { IfErr result (λ h. EndsEarly prepared.now options.now (F.holds files.old) (F.faults files.old) (F.faults files.new) answers.new.items (O.holds output.old) (O.holds output.new) h) }
+    ensures done { OnOk result (AllAnswered prepared.now options.now (F.holds files.old) (files.new ≡ files.old)
+        answers.new.items (O.holds output.old) (O.holds output.new)) }
+    ensures early { IfErr result (λ h. EndsEarly prepared.now options.now (F.holds files.old) (files.new ≡ files.old) (F.faults files.old)
+        (F.faults files.new) answers.new.items (O.holds output.old) (O.holds output.new) h) }
     ensures kept { F.holds files.new ≡ F.holds files.old }
-    ensures later_files { F.faults files.old ≤ F.faults files.new }
-    ensures later { O.faults output.old ≤ O.faults output.new }
-    ensures failed { IsErrOf result Halt.Sink → Rose (O.faults output.old) (O.faults output.new) }
+    ensures files { Blames F.quiet (IsErrOf result (Halt.Fault StepFault.Device)) (F.faults files.old) (F.faults files.new) }
+    ensures output { Blames O.quiet (IsErrOf result Halt.Sink) (O.faults output.old) (O.faults output.new) }
 {
     let Ok(mut session) = declared(rt, alloc, prepared, options, files, gate) else {
         return Err(Halt::Memory);
@@ -87,8 +88,7 @@ fn declared<R: Threads + Sync, F: Files, G: Gate>(
     requires prepared { IsPrepared prepared.now }
     requires options { AreInRange options.now }
     ensures made { IfOk result (λ s. Declared prepared.now 24 s) }
-    ensures kept { F.holds files.new ≡ F.holds files.old }
-    ensures later_files { F.faults files.old ≤ F.faults files.new }
+    ensures untouched { files.new ≡ files.old }
 {
     let mut session = Session::new(alloc)?;
     'prelude: for n in 1..25 {
@@ -114,8 +114,7 @@ fn declare_next<R: Threads + Sync, F: Files, G: Gate>(
     requires so_far { Declared prepared.now (n - 1) session.old }
     requires options { AreInRange options.now }
     ensures made { OnOk result (Declared prepared.now (n + 1 - 1) session.new) }
-    ensures kept { F.holds files.new ≡ F.holds files.old }
-    ensures later_files { F.faults files.old ≤ F.faults files.new }
+    ensures untouched { files.new ≡ files.old }
 {
     let stepped = session.step(
         rt,
@@ -161,10 +160,11 @@ pub(crate) fn answer_next<R: Threads + Sync, O: Sink, F: Files, G: Gate>(
     requires options { AreInRange options.now }
     ensures goes { OnOk result (Goes prepared.now options.now (F.holds files.old) answers.old.items answers.new.items session.old session.new (O.holds output.old) (O.holds output.new)) }
     ensures halts { IfErr result (λ h. Halts prepared.now options.now (F.holds files.old) (F.faults files.old) (F.faults files.new) answers.old.items answers.new.items (outcomes session.old) (O.holds output.old) (O.holds output.new) h) }
+    ensures untouched { NextReadsNoFile prepared.now options.now.budget (length answers.old.items) (outcomes session.old) → files.new ≡ files.old }
+    ensures unread { IfErr result (λ h. IsOver h → files.new ≡ files.old) }
     ensures kept { F.holds files.new ≡ F.holds files.old }
-    ensures later_files { F.faults files.old ≤ F.faults files.new }
-    ensures later { O.faults output.old ≤ O.faults output.new }
-    ensures failed { IsErrOf result Halt.Sink → Rose (O.faults output.old) (O.faults output.new) }
+    ensures files { Blames F.quiet (IsErrOf result (Halt.Fault StepFault.Device)) (F.faults files.old) (F.faults files.new) }
+    ensures output { Blames O.quiet (IsErrOf result Halt.Sink) (O.faults output.old) (O.faults output.new) }
 {
     if answers.reserve(1).is_err() {
         return Err(Halt::Memory);
@@ -198,8 +198,7 @@ fn write_entry<O: Sink>(
     outcome: Option<&Held>,
 ) -> Result<(), Halt>
     ensures written { WritesFront (O.holds output.old) (O.holds output.new) (entry plan answer.now (option_map (λ h. held_datum h.now) outcome.entry)) result }
-    ensures later { O.faults output.old ≤ O.faults output.new }
-    ensures failed { IsErrOf result Halt.Sink → Rose (O.faults output.old) (O.faults output.new) }
+    ensures output { Blames O.quiet (IsErrOf result Halt.Sink) (O.faults output.old) (O.faults output.new) }
     ensures causes { IfErr result IsNoFault }
 {
     let Ok(text) = entry_text(alloc, plan, answer, outcome) else {

@@ -1,5 +1,5 @@
 -- Writing, piece after piece.
-use Rattle.std.proofs.Common.{◌≡◌, ◌≤◌, ◌+◌, ◌-◌, ℕ, List, ◌++◌, sym, ◌∙◌, ap, subst, take, drop, length, arith}
+use Rattle.std.proofs.Common.{◌≡◌, ◌≤◌, ◌<◌, ◌+◌, ◌-◌, ℕ, List, length-drop, ◌++◌, sym, ◌∙◌, ap, subst, take, drop, length, arith}
 use Rattle.std.specs.Prelude.{Option, Result, Err}
 use Rattle.std.proofs.lemmas.Grind.{common_steps}
 use Rattle.std.proofs.lemmas.List.{take-append-drop}
@@ -17,5 +17,12 @@ writes_more a b c text done n le h k =
     let both : Appends a c (take done text ++ take n (take (length text - done) (drop done text))) = Appends-trans a b c _ _ h k in
     subst (λ (x : List ℕ). Appends a c x) (ap (λ t. take done text ++ t) (next_piece text done n le) ∙ sym (take-add done n text)) both
 
-pub writes_part : {T E : Type 0} (a b c : Option (List ℕ)) (text : List ℕ) (done : ℕ) (r : Result T E) (e : E) → r ≡ Err e → Appends a b (take done text) → Keeps b c → WritesFront a c text r
-writes_part a b c text done r e err h k = (take done text, drop done text, sym (take-append-drop done text), Appends-kept a b c _ h k, rw err tt)
+pub writes_part : {T E : Type 0} (a b c : Option (List ℕ)) (text : List ℕ) (done : ℕ) (r : Result T E) (e : E) → r ≡ Err e → done < length text → Appends a b (take done text) → Keeps b c → WritesFront a c text r
+writes_part a b c text done r e err less h k = (
+  take done text,
+  drop done text,
+  sym (take-append-drop done text),
+  Appends-kept a b c _ h k,
+  rw err tt,
+  rw err (λ none. (let l = ap length none in absurd (omega (arith, l, length-drop done text, less)))),
+)

@@ -1,71 +1,51 @@
 -- A run that is given what it must be ends well.
-use Rattle.std.proofs.Common.{◌≡◌, ◌∙◌, ◌≤◌, ◌<◌, ◌+◌, ◌⊎◌, inl, inr, ℕ, zero, suc, List, [], ◌∷◌, ◌++◌, refl, sym, ap, subst, length, take, arith, length-append, append-nil, false, true}
-use Rattle.std.specs.Prelude.{Option, Some, None, codes}
+use Rattle.std.proofs.Common.{◌≡◌, ◌∙◌, ◌≤◌, ◌<◌, ◌+◌, ◌⊎◌, inl, inr, ℕ, zero, suc, List, [], ◌∷◌, refl, sym, ap, subst, length, arith, append-nil}
+use Rattle.std.specs.Prelude.{Option, Some, None}
 use Rattle.std.specs.List.{slice_get}
-use Rattle.std.specs.Option.{ForSome}
-use Rattle.std.specs.Io.KnownBytes.{Consumes, IsAtEnd}
-use Rattle.std.proofs.lemmas.Option.{slice_get_cases}
 use Rattle.aql_outside.specs.Causes.{Rose}
 use Rattle.aql_outside.specs.Contents.{Content}
-use Rattle.aql_value.specs.Datum.{Datum}
 use Rattle.aql_types.specs.Types.{Sort}
-use Rattle.aql_syntax.specs.Grammar.{ReadsScript, SyntaxFaultAt}
-use Rattle.aql_syntax.specs.Lexis.{Lexeme, TextFaultAt}
+use Rattle.aql_syntax.specs.Grammar.{ReadsScript}
+use Rattle.aql_syntax.specs.Lexis.{Lexeme}
 use Rattle.aql_syntax.specs.Script.{Earlier, globals_of}
 use Rattle.aql_syntax.specs.Sound.{declarations_of}
 use Rattle.aql_syntax.specs.Tree.{Tree, Declaration, val, mac, read, bare}
 use Rattle.aql_syntax.specs.Work.{work}
 use Rattle.aql_infer.specs.Checked.{IsFirstUntyped}
-use Rattle.aql_lex.specs.Lexed.{OneList, TokensOrTextFault, ShallowOrDeep, IsDeepAt}
+use Rattle.aql_lex.specs.Lexed.{OneList, TokensOrTextFault, ShallowOrDeep}
 use Rattle.aql_grammar.specs.Scripts.{either}
 use Rattle.nrca_term.specs.Meaning.{Outcomes}
 use Rattle.nrca_term.specs.Turns.{settle}
 use Rattle.aql_start.specs.Laws.{outcomes_of}
 use Rattle.aql_start.specs.Positions.{start-turns}
 use Rattle.aql_start.specs.Start.{start, knowns_of}
-use Rattle.cdf_header.specs.declared.fault.CdfFault.{CdfFault}
-use Rattle.aql_script.specs.Script.{Spells, Reads, ReadsAlone, AreTyped, positions, AreWithinLimits, IsFirstLarge, NoneReadsRecords, IsFirstOfRecords}
-use Rattle.aql_session.specs.Asked.{Asked, cells}
+use Rattle.aql_script.specs.Script.{Spells, Reads, positions, AreWithinLimits, IsFirstLarge, NoneReadsRecords, IsFirstOfRecords}
 use Rattle.aql_session.specs.Bound.{earlier_of}
 use Rattle.aql_session.specs.Reading.{read_fault}
-use Rattle.aql_session.specs.Step.{asks, query_turns, IsCause}
+use Rattle.aql_session.specs.Step.{query_turns, IsCause}
 use Rattle.aql_session.specs.declared.answer.Answer.{Answer}
 use Rattle.aql_session.specs.declared.answer.StepFault.{StepFault}
 use Rattle.aql_session.specs.declared.answer.StepFault.TheVariants as faults
-use Rattle.aql_words.specs.Words.{HasReading, options_of}
-use Rattle.aql_answers.specs.Answered.{AreAnswered, IsStopped}
+use Rattle.aql_words.specs.Words.{options_of}
+use Rattle.aql_answers.specs.Answered.{AreAnswered, reached}
 use Rattle.aql_answers.specs.AnsweredLaws.{told_at}
-use Rattle.aql_lines.specs.Sample.{sample_text}
-use Rattle.aql_run.specs.Complete.{work_of, AreOutcomes, HaveTypings, IsWithin, IsAsked, IsSound, Completes}
-use Rattle.aql_run.specs.Outcome.{Told, IsScript, HasRun, Stops, Refuses, Writes, Serves, RunsWords, IsSpent}
+use Rattle.aql_run.specs.Complete.{work_of, AreOutcomes, HaveTypings, IsWithin, IsSound, EndsWell, Lexed}
+use Rattle.aql_run.specs.Outcome.{Told, IsScript, HasRun, Stops, Refuses, RunsWords, IsSpent}
 use Rattle.aql_run.specs.declared.report.Stop.{Stop}
 use Rattle.aql_status.specs.declared.status.Status.{Status}
 use Rattle.aql_status.specs.declared.status.Status.TheVariants as status
 
 -- ---- the script
 
-some_is : {A : Type 0} (x y : A) → ◌≡◌ {A = Option A} (Some x) (Some y) → x ≡ y
-some_is x y e = cc
+-- a run has one script
+same_script : (sample : Option ℕ) (left : Option (List ℕ)) (taken script given : List ℕ) → IsScript sample left taken given → IsScript sample left taken script → script ≡ given
+same_script (Some n) left taken script given (_, it) (none, is) = is ∙ sym it
+same_script None left taken script given (it, _) (is, whole) = is ∙ sym it
 
--- the script that was read is the one that is asked for
-same_script : (sample : Option ℕ) (left left' : Option (List ℕ)) (taken script given : List ℕ) → IsAsked sample left given → Consumes left left' taken → IsScript sample left' taken script → script ≡ given
-same_script (Some n) left left' taken script given asked consumed (none, is) = is ∙ sym asked
-same_script None None left' taken script given (e, few) consumed (is, whole) = absurd cc
-same_script None (Some xs) None taken script given (e, few) consumed (is, whole) = absurd consumed
-same_script None (Some xs) (Some ys) taken script given (e, few) consumed (is, (short, atend)) =
-    is ∙ (sym (append-nil taken) ∙ (ap (λ l. taken ++ l) (sym atend) ∙ (sym consumed ∙ some_is xs given e)))
-
--- no more is taken than is there
-few_taken : (left left' : Option (List ℕ)) (taken given : List ℕ) → left ≡ Some given → Consumes left left' taken → length taken ≤ length given
-few_taken None left' taken given e consumed = absurd cc
-few_taken (Some xs) None taken given e consumed = absurd consumed
-few_taken (Some xs) (Some ys) taken given e consumed =
-    let all : length given ≡ length (taken ++ ys) = ap length (sym (some_is xs given e) ∙ consumed) in
-    omega (arith, all, length-append taken ys)
-
-asked_short : (sample : Option ℕ) (left left' : Option (List ℕ)) (taken given : List ℕ) → sample ≡ None → IsAsked sample left given → Consumes left left' taken → length taken ≤ 1048576
-asked_short (Some n) left left' taken given e asked consumed = absurd cc
-asked_short None left left' taken given e (is, few) consumed = omega (arith, few_taken left left' taken given is consumed, few)
+-- and as far as it is the source's, a short one
+short_script : (sample : Option ℕ) (left : Option (List ℕ)) (taken script : List ℕ) → sample ≡ None → IsScript sample left taken script → length taken ≤ 1048576
+short_script (Some n) left taken script e is = absurd cc
+short_script None left taken script e (is, (few, _)) = few
 
 -- ---- faults of a script that it does not have
 
@@ -127,12 +107,12 @@ are_outcomes ds sorts budget holds answers V h = record {
 }
 
 -- no declaration of a sound script has a fault but want of memory
-never_stops : (words : List (List ℕ)) (told : Told) (left : Option (List ℕ)) (taken lines : List ℕ) (answers : List Answer) (f : StepFault) → IsSound words left told.holds →
-    Consumes left told.left taken → (Rose told.files_before told.files_now → ⊥) → (run : HasRun (options_of words) told taken answers lines) → Stops run f →
-    (f ≡ faults.Memory → ⊥) → ⊥
-never_stops words told left taken lines answers f h consumed quiet run (d, there, cause) other =
-    let same : run.script ≡ h.script = same_script (options_of words).sample left told.left taken run.script h.script h.asked consumed run.is in
-    let ds : h.ds ≡ run.ds = run.reads.1 h.ds (subst (λ (x : List ℕ). Reads x h.ds) (sym same) h.are) in
+never_stops : (words : List (List ℕ)) (told : Told) (same : Type 0) (begun : ℕ) (taken lines given : List ℕ) (answers : List Answer) (f : StepFault) →
+    IsScript (options_of words).sample told.left taken given → IsSound words given told.holds →
+    (Rose told.files_before told.files_now → ⊥) → (run : HasRun (options_of words) told same begun taken answers lines) → Stops run f → (f ≡ faults.Memory → ⊥) → ⊥
+never_stops words told same begun taken lines given answers f it h quiet run (d, there, cause) other =
+    let the : run.script ≡ given = same_script (options_of words).sample told.left taken run.script given it run.is in
+    let ds : h.ds ≡ run.ds = run.reads.1 h.ds (subst (λ (x : List ℕ). Reads x h.ds) (sym the) h.are) in
     let many = run.answered.many in
     let at : slice_get (positions run.ds) (length run.outcomes) ≡ Some d = ap (slice_get (positions run.ds)) many ∙ there in
     let is : AreOutcomes h.ds told.holds run.outcomes =
@@ -143,13 +123,13 @@ never_stops words told left taken lines answers f h consumed quiet run (d, there
     no_cause d (earlier_of (positions run.ds) run.outcomes) (options_of words).budget told.holds told.files_before told.files_now f
     (subst (λ (l : List Declaration). IsWithin d (earlier_of (positions l) run.outcomes) (options_of words).budget told.holds) ds within) quiet cause other
 
--- a script that is refused is the one that is asked for, with the reading that it has
-refuses_none : (words : List (List ℕ)) (told : Told) (left : Option (List ℕ)) (taken : List ℕ) (answers : List Answer) (stop : Stop) (lines line fault : List ℕ) (P : List ℕ → Type 0) →
-    (h : IsSound words left told.holds) → Consumes left told.left taken → Refuses (options_of words) told taken answers stop lines line fault P →
+-- a script that is refused is the one of the run, with the reading that it has
+refuses_none : (words : List (List ℕ)) (told : Told) (same : Type 0) (taken given : List ℕ) (answers : List Answer) (stop : Stop) (lines line fault : List ℕ) (P : List ℕ → Type 0) →
+    IsScript (options_of words).sample told.left taken given → (h : IsSound words given told.holds) → Refuses (options_of words) told same taken answers stop lines line fault P →
     ((script : List ℕ) → Reads script h.ds → P script → ⊥) → ⊥
-refuses_none words told left taken answers stop lines line fault P h consumed (script, is, p, _, _, _, _) never =
-    let same : script ≡ h.script = same_script (options_of words).sample left told.left taken script h.script h.asked consumed is in
-    never script (subst (λ (x : List ℕ). Reads x h.ds) (sym same) h.are) p
+refuses_none words told same taken given answers stop lines line fault P it h (script, is, p, _) never =
+    let the : script ≡ given = same_script (options_of words).sample told.left taken script given it is in
+    never script (subst (λ (x : List ℕ). Reads x h.ds) (sym the) h.are) p
 
 spells_one : OneList → (script : List ℕ) (ls ms : List Lexeme) → Spells script ls → Spells script ms → ls ≡ ms
 spells_one one script ls ms (ts, a, _) (us, b, _) = (one script ts us ls ms a b).lexemes
@@ -161,35 +141,44 @@ spent_not_memory (faults.File f) h e = h
 spent_not_memory faults.Device h e = h
 spent_not_memory faults.Memory h e = h
 
-pub completes : OneList → TokensOrTextFault → ShallowOrDeep → Completes
-unfolding Completes
-completes one text deep status.Done words told left taken answers stop written consumed runs h source quiet sink = inl refl
-completes one text deep status.Memory words told left taken answers stop written consumed runs h source quiet sink = inr refl
-completes one text deep status.Usage words told left taken answers stop written consumed runs h source quiet sink = absurd (runs.0 h.reads)
-completes one text deep status.Output words told left taken answers stop written consumed runs h source quiet sink = absurd (sink refl)
-completes one text deep status.Text words told left taken answers stop written consumed (_, (lines, line, (k, r), _)) h source quiet sink =
-    absurd (refuses_none words told left taken answers stop lines line _ _ h consumed r (λ script are p. text k script are.1.0 are.0 are.1.1 p))
-completes one text deep status.Deep words told left taken answers stop written consumed (_, (lines, line, (k, r), _)) h source quiet sink =
-    absurd (refuses_none words told left taken answers stop lines line _ _ h consumed r (λ script are p. deep k script are.1.0 (are.0, (are.1.1, are.1.2)) p))
-completes one text deep status.Syntax words told left taken answers stop written consumed (_, (lines, line, (n, r), _)) h source quiet sink =
-    absurd (refuses_none words told left taken answers stop lines line _ _ h consumed r
-    (λ script are p. either h.ds n p.0 (subst (λ (l : List Lexeme). ReadsScript h.ds l) (spells_one one script are.0 p.0 are.1 p.1) are.2) p.2))
-completes one text deep status.Type words told left taken answers stop written consumed (_, (lines, line, (n, r), _)) h source quiet sink =
-    absurd (refuses_none words told left taken answers stop lines line _ _ h consumed r
-    (λ script are p. typed_or_not [] (positions h.ds) (24 + n) h.typed
-    (subst (λ (l : List Declaration). IsFirstUntyped [] (positions l) (24 + n)) (sym (p.1.1 h.ds are)) p.3)))
-completes one text deep status.Large words told left taken answers stop written consumed (_, (lines, line, (n, r), _)) h source quiet sink =
-    absurd (refuses_none words told left taken answers stop lines line _ _ h consumed r
-    (λ script are p. within_or_large h.ds n h.limits (subst (λ (l : List Declaration). IsFirstLarge l n) (sym (p.1.1 h.ds are)) p.3)))
-completes one text deep status.Unbuilt words told left taken answers stop written consumed (_, (lines, line, (n, r), _)) h source quiet sink =
-    absurd (refuses_none words told left taken answers stop lines line _ _ h consumed r
-    (λ script are p. records_or_none 1 h.ds n h.built (subst (λ (l : List Declaration). IsFirstOfRecords 1 l n) (sym (p.1.1 h.ds are)) p.4)))
-completes one text deep status.Long words told left taken answers stop written consumed (_, (lines, line, (none, long, _, _, _, _), _)) h source quiet sink =
-    let few = asked_short (options_of words).sample left told.left taken h.script none h.asked consumed in absurd (omega (arith, long, few))
-completes one text deep status.Input words told left taken answers stop written consumed (_, (lines, line, (none, few, rose, _, _, _, _), _)) h source quiet sink = absurd (source rose)
-completes one text deep status.File words told left taken answers stop written consumed (_, (lines, line, (run, f, stops, _, _), _)) h source quiet sink =
-    absurd (never_stops words told left taken lines answers (faults.File f) h consumed quiet run stops (λ e. absurd cc))
-completes one text deep status.Spent words told left taken answers stop written consumed (_, (lines, line, (run, f, spent, stops, _, _), _)) h source quiet sink =
-    absurd (never_stops words told left taken lines answers f h consumed quiet run stops (spent_not_memory f spent))
-completes one text deep status.Files words told left taken answers stop written consumed (_, (lines, line, (run, stops, _, _), _)) h source quiet sink =
-    absurd (never_stops words told left taken lines answers faults.Device h consumed quiet run stops (λ e. absurd cc))
+-- the end of a run over a sound script
+module _ (one : OneList) (text : TokensOrTextFault) (deep : ShallowOrDeep) (words : List (List ℕ)) (told : Told) (same sink : Type 0) (taken : List ℕ) (answers : List Answer) (stop : Stop)
+    (written given : List ℕ) (it : IsScript (options_of words).sample told.left taken given) (h : IsSound words given told.holds)
+    (source : Rose told.input_before told.input_now → ⊥) (quiet : Rose told.files_before told.files_now → ⊥) where
+  ends : (s : Status) → RunsWords s words told same taken answers stop written → (s ≡ status.Output → ⊥) → (s ≡ status.Done) ⊎ (s ≡ status.Memory)
+  ends status.Done runs whole = inl refl
+  ends status.Memory runs whole = inr refl
+  ends status.Usage runs whole = absurd (runs.0 h.reads)
+  ends status.Output runs whole = absurd (whole refl)
+  ends status.Text (_, (lines, line, (k, r), _)) whole =
+      absurd (refuses_none words told same taken given answers stop lines line _ _ it h r (λ script are p. text k script are.1.0 are.0 are.1.1 p))
+  ends status.Deep (_, (lines, line, (k, r), _)) whole =
+      absurd (refuses_none words told same taken given answers stop lines line _ _ it h r (λ script are p. deep k script are.1.0 (are.0, (are.1.1, are.1.2)) p))
+  ends status.Syntax (_, (lines, line, (n, r), _)) whole =
+      absurd (refuses_none words told same taken given answers stop lines line _ _ it h r
+      (λ script are p. either h.ds n p.0 (subst (λ (l : List Lexeme). ReadsScript h.ds l) (spells_one one script are.0 p.0 are.1 p.1) are.2) p.2))
+  ends status.Type (_, (lines, line, (n, r), _)) whole =
+      absurd (refuses_none words told same taken given answers stop lines line _ _ it h r
+      (λ script are p. typed_or_not [] (positions h.ds) (24 + n) h.typed
+      (subst (λ (l : List Declaration). IsFirstUntyped [] (positions l) (24 + n)) (sym (p.1.1 h.ds are)) p.3)))
+  ends status.Large (_, (lines, line, (n, r), _)) whole =
+      absurd (refuses_none words told same taken given answers stop lines line _ _ it h r
+      (λ script are p. within_or_large h.ds n h.limits (subst (λ (l : List Declaration). IsFirstLarge l n) (sym (p.1.1 h.ds are)) p.3)))
+  ends status.Unbuilt (_, (lines, line, (n, r), _)) whole =
+      absurd (refuses_none words told same taken given answers stop lines line _ _ it h r
+      (λ script are p. records_or_none 1 h.ds n h.built (subst (λ (l : List Declaration). IsFirstOfRecords 1 l n) (sym (p.1.1 h.ds are)) p.4)))
+  ends status.Long (_, (lines, line, (none, long, _), _)) whole =
+      let few = short_script (options_of words).sample told.left taken given none it in absurd (omega (arith, long, few))
+  ends status.Input (_, (lines, line, (none, few, rose, _), _)) whole = absurd (source rose)
+  ends status.File (_, (lines, line, (run, f, stops, _, _), _)) whole =
+      absurd (never_stops words told same (length answers + 1) taken lines given answers (faults.File f) it h quiet run stops (λ e. absurd cc))
+  ends status.Spent (_, (lines, line, (f, spent, run, stops, _, _), _)) whole =
+      absurd (never_stops words told same (reached f (length answers)) taken lines given answers f it h quiet run stops (spent_not_memory f spent))
+  ends status.Files (_, (lines, line, (run, stops, _, _), _)) whole =
+      absurd (never_stops words told same (length answers + 1) taken lines given answers faults.Device it h quiet run stops (λ e. absurd cc))
+
+pub ends_well : Lexed → (s : Status) (words : List (List ℕ)) (told : Told) (same sink : Type 0) (taken : List ℕ) (answers : List Answer) (stop : Stop) (written : List ℕ) →
+    (s ≡ status.Output → sink) → RunsWords s words told same taken answers stop written → EndsWell s words told sink taken
+unfolding Lexed
+ends_well (one, text, deep) s words told same sink taken answers stop written output runs given it h source quiet whole =
+    ends one text deep words told same sink taken answers stop written given it h source quiet s runs (λ is. whole (output is))

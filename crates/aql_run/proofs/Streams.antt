@@ -1,5 +1,5 @@
 -- Reading, piece after piece.
-use Rattle.std.proofs.Common.{◌≡◌, ◌≤◌, ◌+◌, ℕ, List, [], ◌++◌, length, arith, length-append}
+use Rattle.std.proofs.Common.{◌≤◌, ℕ, List, [], ◌++◌, length, arith, length-append}
 use Rattle.std.specs.Prelude.{Option}
 use Rattle.std.proofs.lemmas.Grind.{common_steps}
 use Rattle.std.specs.Io.KnownBytes.{Consumes}

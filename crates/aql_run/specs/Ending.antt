@@ -1,5 +1,5 @@
 -- What the functions within this crate say of the end of a run.
-use Rattle.std.specs.Prelude.{◌≡◌, ◌⊎◌, ℕ, List, [], ◌++◌, Option, Some, None, Result, codes, OnOk, IfOk, IfErr, IsErrOf}
+use Rattle.std.specs.Prelude.{◌≡◌, ◌⊎◌, ℕ, List, [], Option, Some, Result, codes, OnOk, IfOk, IfErr, IsErrOf}
 use Rattle.std.specs.Io.KnownBytes.{Appends}
 use Rattle.aql_outside.specs.Contents.{Content}
 use Rattle.aql_session.specs.declared.answer.Answer.{Answer}
@@ -18,7 +18,7 @@ use Rattle.aql_lines.specs.Sample.{sample_text}
 use Rattle.aql_answers.specs.Steps.{own, IsPrepared, AllAnswered, EndsEarly}
 use Rattle.aql_answers.specs.declared.steps.Halt.{Halt}
 use Rattle.aql_status.specs.Codes.{code_of}
-use Rattle.aql_run.specs.Outcome.{IsPrefix, IsScript, Passes, RunsWords, Serves, stop_of, told_of}
+use Rattle.aql_run.specs.Outcome.{IsCut, IsScript, Passes, RunsWords, Serves, stop_of, told_of}
 use Rattle.aql_run.specs.declared.report.End.{End}
 use Rattle.aql_run.specs.declared.report.Stop.{Stop}
 use Rattle.aql_run.specs.declared.report.Stop.TheVariants as stops
@@ -45,13 +45,15 @@ unfoldable pub IsReady : Prepared → Type 0
 IsReady p = IsPrepared p
 
 -- the declarations were answered, or the first ones
-unfoldable pub Answering : Prepared → Options → (files_before files_now : ℕ) → Option Content → List Answer → (old new : Option (List ℕ)) → Result (Unit {0}) Halt → Type 0
-Answering p o before now holds answers old new r = OnOk r (AllAnswered p o holds answers old new) × IfErr r (λ h. EndsEarly p o holds before now answers old new h)
+unfoldable pub Answering : Prepared → Options → (same : Type 0) → (files_before files_now : ℕ) → Option Content → List Answer → (old new : Option (List ℕ)) →
+    Result (Unit {0}) Halt → Type 0
+Answering p o same before now holds answers old new r =
+    OnOk r (AllAnswered p o holds same answers old new) × IfErr r (λ h. EndsEarly p o holds same before now answers old new h)
 
--- the line was written and the status stands; or the sink failed and a front of the line was written; or there was no memory for it
+-- the line was written and the status stands; or the sink failed and a part of the line is lacking; or there was no memory for it
 abbrev pub EndsWith : Option (List ℕ) → Option (List ℕ) → (line : List ℕ) → Status → (result : Status) → Type 0
 EndsWith old new line wanted result = (written : List ℕ) × Appends old new written
-    × (((result ≡ wanted) × (written ≡ line)) ⊎ (((result ≡ status.Output) × IsPrefix written line) ⊎ ((result ≡ status.Memory) × (written ≡ []))))
+    × (((result ≡ wanted) × (written ≡ line)) ⊎ (((result ≡ status.Output) × IsCut written line) ⊎ ((result ≡ status.Memory) × (written ≡ []))))
 
 -- the line of a script with a fault
 abbrev pub refusal_line : ScriptFault → List ℕ
@@ -93,35 +95,43 @@ stop_line n faults.Memory = []
 unfoldable pub Stopped : ℕ → StepFault → Option (List ℕ) → Option (List ℕ) → End → Type 0
 Stopped n f old new e = (written : List ℕ) × Appends old new written
     × (((e.status ≡ stop_status f) × (e.stop ≡ stop_of f) × (written ≡ stop_line n f))
-    ⊎ (((e.status ≡ status.Output) × (e.stop ≡ stops.Other) × IsPrefix written (stop_line n f))
+    ⊎ (((e.status ≡ status.Output) × (e.stop ≡ stops.Other) × IsCut written (stop_line n f))
     ⊎ ((e.status ≡ status.Memory) × (e.stop ≡ stops.Other) × (written ≡ []))))
 
 -- what was written for a script, whatever was taken for it
-unfoldable pub Responds : Options → (script : List ℕ) → (files_before files_now : ℕ) → Option Content → List Answer → End → Option (List ℕ) → Option (List ℕ) → Type 0
-Responds options script files_before files_now holds answers e old new = (written : List ℕ) × Appends old new written
+unfoldable pub Responds : Options → (script : List ℕ) → (same : Type 0) → (files_before files_now : ℕ) → Option Content → List Answer → End →
+    Option (List ℕ) → Option (List ℕ) → Type 0
+Responds options script same files_before files_now holds answers e old new = (written : List ℕ) × Appends old new written
     × ((input_before input_now : ℕ) (left : Option (List ℕ)) (taken : List ℕ) → IsScript options.sample left taken script →
-    Serves e.status options (told_of input_before input_now left files_before files_now holds) taken answers e.stop written)
+    Serves e.status options (told_of input_before input_now left files_before files_now holds) same taken answers e.stop written)
 
 -- what was written for a script with these declarations
-unfoldable pub Answers : Prepared → Options → (files_before files_now : ℕ) → Option Content → List Answer → End → Option (List ℕ) → Option (List ℕ) → Type 0
-Answers p options files_before files_now holds answers e old new =
-    (script : List ℕ) → ReadsAlone script (own p) → Responds options script files_before files_now holds answers e old new
+unfoldable pub Answers : Prepared → Options → (same : Type 0) → (files_before files_now : ℕ) → Option Content → List Answer → End →
+    Option (List ℕ) → Option (List ℕ) → Type 0
+Answers p options same files_before files_now holds answers e old new =
+    (script : List ℕ) → ReadsAlone script (own p) → Responds options script same files_before files_now holds answers e old new
 
 -- what was written for the built-in script of n cells
-unfoldable pub Samples : ℕ → Options → (files_before files_now : ℕ) → Option Content → List Answer → End → Option (List ℕ) → Option (List ℕ) → Type 0
-Samples n options files_before files_now holds answers e old new = Responds options (sample_text n) files_before files_now holds answers e old new
+unfoldable pub Samples : ℕ → Options → (same : Type 0) → (files_before files_now : ℕ) → Option Content → List Answer → End →
+    Option (List ℕ) → Option (List ℕ) → Type 0
+Samples n options same files_before files_now holds answers e old new = Responds options (sample_text n) same files_before files_now holds answers e old new
 
 -- what was taken from the source and written by a run with these options
-unfoldable pub Serving : Options → (input_before input_now files_before files_now : ℕ) → Option Content → List Answer → End → (left left' holds holds' : Option (List ℕ)) → Type 0
-Serving options input_before input_now files_before files_now content answers e left left' holds holds' =
-    Passes (λ taken written. Serves e.status options (told_of input_before input_now left' files_before files_now content) taken answers e.stop written) left left' holds holds'
+unfoldable pub Serving : Options → (same : Type 0) → (input_before input_now files_before files_now : ℕ) → Option Content → List Answer → End →
+    (left left' holds holds' : Option (List ℕ)) → Type 0
+Serving options same input_before input_now files_before files_now content answers e left left' holds holds' =
+    Passes (λ taken written. Serves e.status options (told_of input_before input_now left' files_before files_now content) same taken answers e.stop written)
+    left left' holds holds'
 
 -- the same of a run with these words
-unfoldable pub Running : (words : List (List ℕ)) → (input_before input_now files_before files_now : ℕ) → Option Content → List Answer → End → (left left' holds holds' : Option (List ℕ)) → Type 0
-Running words input_before input_now files_before files_now content answers e left left' holds holds' =
-    Passes (λ taken written. RunsWords e.status words (told_of input_before input_now left' files_before files_now content) taken answers e.stop written) left left' holds holds'
+unfoldable pub Running : (words : List (List ℕ)) → (same : Type 0) → (input_before input_now files_before files_now : ℕ) → Option Content → List Answer → End →
+    (left left' holds holds' : Option (List ℕ)) → Type 0
+Running words same input_before input_now files_before files_now content answers e left left' holds holds' =
+    Passes (λ taken written. RunsWords e.status words (told_of input_before input_now left' files_before files_now content) same taken answers e.stop written)
+    left left' holds holds'
 
 -- the same with the number of the status
-unfoldable pub Reported : (words : List (List ℕ)) → (input_before input_now files_before files_now : ℕ) → Option Content → List Answer → Stop → ℕ → (left left' holds holds' : Option (List ℕ)) → Type 0
-Reported words input_before input_now before now content answers stop n left left' holds holds' = (s : Status) × (n ≡ code_of s)
-    × Passes (λ taken written. RunsWords s words (told_of input_before input_now left' before now content) taken answers stop written) left left' holds holds'
+unfoldable pub Reported : (words : List (List ℕ)) → (same : Type 0) → (input_before input_now files_before files_now : ℕ) → Option Content → List Answer → Stop → ℕ →
+    (left left' holds holds' : Option (List ℕ)) → Type 0
+Reported words same input_before input_now before now content answers stop n left left' holds holds' = (s : Status) × (n ≡ code_of s)
+    × Passes (λ taken written. RunsWords s words (told_of input_before input_now left' before now content) same taken answers stop written) left left' holds holds'

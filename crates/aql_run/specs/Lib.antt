@@ -2,3 +2,4 @@ pub mod Outcome
 pub mod Complete
 pub mod Reading
 pub mod Ending
+pub mod Examples

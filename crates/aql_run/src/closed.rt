@@ -2,14 +2,14 @@
 //! proofs above.
 ghost use Rattle.std.specs.Prelude.{◌≡◌, ◌≤◌, ℕ, [], map, IfOk, IsErrOf};
 ghost use Rattle.std.specs.String.{string_bytes};
-ghost use Rattle.aql_outside.specs.Causes.{Rose};
+ghost use Rattle.aql_outside.specs.Causes.{Blames};
 ghost use Rattle.aql_words.specs.Words.{AreInRange};
 ghost use Rattle.aql_run.specs.Ending.{Answering, Asks, IsReady, Readies};
 
 use aql_answers::{Halt, answer_all};
 use aql_outside::{Files, Gate, Sink};
 use aql_script::{Prepared, ScriptFault, prepare};
-use aql_session::{Answer, Options};
+use aql_session::{Answer, Options, StepFault};
 use aql_words::{WordFault, read_words};
 use std::alloc::Global;
 use std::thread::Threads;
@@ -43,11 +43,10 @@ pub(crate) fn answer_each<R: Threads + Sync, O: Sink, F: Files, G: Gate>(
     requires prepared { IsReady prepared.now }
     requires none { answers.old.items ≡ [] }
     requires options { AreInRange options.now }
-    ensures written { Answering prepared.now options.now (F.faults files.old) (F.faults files.new) (F.holds files.old) answers.new.items (O.holds output.old) (O.holds output.new) result }
-    ensures failed { IsErrOf result Halt.Sink → Rose (O.faults output.old) (O.faults output.new) }
+    ensures written { Answering prepared.now options.now (files.new ≡ files.old) (F.faults files.old) (F.faults files.new) (F.holds files.old) answers.new.items (O.holds output.old) (O.holds output.new) result }
     ensures kept { F.holds files.new ≡ F.holds files.old }
-    ensures later_output { O.faults output.old ≤ O.faults output.new }
-    ensures later_files { F.faults files.old ≤ F.faults files.new }
+    ensures files { Blames F.quiet (IsErrOf result (Halt.Fault StepFault.Device)) (F.faults files.old) (F.faults files.new) }
+    ensures output { Blames O.quiet (IsErrOf result Halt.Sink) (O.faults output.old) (O.faults output.new) }
 {
     answer_all(rt, alloc, prepared, options, output, files, gate, answers)
 }

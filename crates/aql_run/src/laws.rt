@@ -1,12 +1,11 @@
-//! What follows from what a run does.
-ghost use Rattle.aql_run.specs.Complete.{Completes};
+//! What is known of the tokens of every script.
+ghost use Rattle.aql_run.specs.Complete.{Lexed};
 
 use aql_lex::laws::one_answer;
 
-/// A run over a sound script, in which no count of faults rises, ends with every declaration answered, or for want of
-/// memory.
-pub fn completeness()
-    ensures { Completes }
+/// Each script has one list of tokens, or a byte where none begins; and its depth is within the limit or passes it.
+pub(crate) fn lexed()
+    ensures { Lexed }
 {
     one_answer();
 }

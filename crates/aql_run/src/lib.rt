@@ -8,13 +8,13 @@
 //! statuses are those of `aql_status`.
 #![tactic(auto)]
 
-ghost use Rattle.std.specs.Prelude.{◌≡◌, ◌≤◌, ◌⊎◌, ℕ, Some, map};
+ghost use Rattle.std.specs.Prelude.{◌≡◌, ◌≤◌, ◌<◌, ◌⊎◌, ℕ, Some, map};
 ghost use Rattle.std.specs.String.{string_bytes};
-ghost use Rattle.aql_outside.specs.Causes.{Rose};
+ghost use Rattle.aql_outside.specs.Causes.{Blames, Rose};
 ghost use Rattle.aql_words.specs.Words.{options_of};
-ghost use Rattle.aql_run.specs.Complete.{IsSound};
+ghost use Rattle.aql_run.specs.Complete.{EndsWell};
 ghost use Rattle.aql_run.specs.Ending.{AsksSample, Reported};
-ghost use Rattle.aql_run.specs.Outcome.{IsEarly, Passes, RunsWords, told_of};
+ghost use Rattle.aql_run.specs.Outcome.{Passes, RunsWords, told_of};
 ghost use Rattle.aql_status.specs.Codes.{code_of};
 ghost use Rattle.aql_status.specs.declared.status.Status.{Status};
 
@@ -28,7 +28,7 @@ pub use aql_lines::sample_script;
 use aql_outside::{Files, Gate, Sink, Source};
 pub use aql_session::Options;
 pub use aql_words::{WordFault, read_words};
-pub use laws::completeness;
+use laws::lexed;
 pub use report::{Answers, Report, Stop};
 use serving::end_of;
 use std::alloc::Global;
@@ -48,17 +48,17 @@ pub fn run<R: Threads + Sync, S: Source, O: Sink, F: Files, G: Gate>(
     files: &mut F,
     gate: &G,
 ) -> Report
-    // What was written is what the script's declarations print, as far as they were answered; the status has its cause.
-    ensures serves { (status : Status) × (result.status ≡ code_of status)
-        × Passes (λ taken written. RunsWords status (map string_bytes words.now)
-        (told_of (S.faults input.old) (S.faults input.new) (S.left input.new) (F.faults files.old) (F.faults files.new) (F.holds files.old)) taken result.answers.items.items result.stop written)
+    // What was written is what the script's declarations print, as far as they were answered; the status has its cause. Where the
+    // script is sound, all of it was read, and no count of faults rose, every declaration was answered, or memory is wanting.
+    ensures serves { let told = told_of (S.faults input.old) (S.faults input.new) (S.left input.new) (F.faults files.old) (F.faults files.new) (F.holds files.old) in
+        (status : Status) × (result.status ≡ code_of status)
+        × Passes (λ taken written. RunsWords status (map string_bytes words.now) told (files.new ≡ files.old) taken result.answers.items.items result.stop written
+        × EndsWell status (map string_bytes words.now) told (Rose (O.faults output.old) (O.faults output.new)) taken)
         (S.left input.old) (S.left input.new) (O.holds output.old) (O.holds output.new) }
 
-    // Where the words have no reading nothing is touched, with a sample the source is not, and where no declaration was begun
-    // no file is.
+    // Where the words have no reading nothing is touched, and with a sample the source is not.
     ensures untouched_input { result.status ≡ 2 → input.new ≡ input.old }
     ensures untouched_output { result.status ≡ 2 → output.new ≡ output.old }
-    ensures untouched_files { (status : Status) → result.status ≡ code_of status → IsEarly status → files.new ≡ files.old }
     ensures sample { (n : ℕ) → (options_of (map string_bytes words.now)).sample ≡ Some n → input.new ≡ input.old }
 
     // A device is blamed only where its count of faults rose in this call, and no count falls.
@@ -70,11 +70,13 @@ pub fn run<R: Threads + Sync, S: Source, O: Sink, F: Files, G: Gate>(
     ensures later_output { O.faults output.old ≤ O.faults output.new }
     ensures later_files { F.faults files.old ≤ F.faults files.new }
 
-    // Over a sound script, where no count of faults rises, every declaration is answered, or memory is wanting.
-    ensures complete { IsSound (map string_bytes words.now) (S.left input.old) (F.holds files.old) → (Rose (S.faults input.old) (S.faults input.new) → ⊥)
-        → (Rose (F.faults files.old) (F.faults files.new) → ⊥) → (Rose (O.faults output.old) (O.faults output.new) → ⊥) → (result.status ≡ 0) ⊎ (result.status ≡ 1) }
+    // No failure is passed over: where calls that end well leave a device's count of faults, one that is greater than before ended the run;
+    // if not with that device's status, then as the sink failed at the line of the fault.
+    ensures noticed_input { S.quiet → S.faults input.old < S.faults input.new → (result.status ≡ 10) ⊎ (result.status ≡ 11) }
+    ensures noticed_output { O.quiet → O.faults output.old < O.faults output.new → result.status ≡ 11 }
+    ensures noticed_files { F.quiet → F.faults files.old < F.faults files.new → (result.status ≡ 13) ⊎ (result.status ≡ 11) }
 {
-    completeness();
+    lexed();
     reported(rt, alloc, words, input, output, files, gate)
 }
 
@@ -88,17 +90,17 @@ fn reported<R: Threads + Sync, S: Source, O: Sink, F: Files, G: Gate>(
     files: &mut F,
     gate: &G,
 ) -> Report
-    ensures serves { Reported (map string_bytes words.now) (S.faults input.old) (S.faults input.new) (F.faults files.old) (F.faults files.new) (F.holds files.old) result.answers.items.items result.stop result.status
+    ensures serves { Reported (map string_bytes words.now) (files.new ≡ files.old) (S.faults input.old) (S.faults input.new) (F.faults files.old) (F.faults files.new) (F.holds files.old) result.answers.items.items result.stop result.status
         (S.left input.old) (S.left input.new) (O.holds output.old) (O.holds output.new) }
     ensures untouched_input { result.status ≡ 2 → input.new ≡ input.old }
     ensures untouched_output { result.status ≡ 2 → output.new ≡ output.old }
-    ensures untouched_files { (status : Status) → result.status ≡ code_of status → IsEarly status → files.new ≡ files.old }
     ensures sample { (n : ℕ) → AsksSample (map string_bytes words.now) n → input.new ≡ input.old }
-    ensures output { result.status ≡ 11 → Rose (O.faults output.old) (O.faults output.new) }
+    ensures output { Blames O.quiet (result.status ≡ 11) (O.faults output.old) (O.faults output.new) }
     ensures kept { F.holds files.new ≡ F.holds files.old }
     ensures later_input { S.faults input.old ≤ S.faults input.new }
-    ensures later_output { O.faults output.old ≤ O.faults output.new }
     ensures later_files { F.faults files.old ≤ F.faults files.new }
+    ensures noticed_input { S.quiet → S.faults input.old < S.faults input.new → (result.status ≡ 10) ⊎ (result.status ≡ 11) }
+    ensures noticed_files { F.quiet → F.faults files.old < F.faults files.new → (result.status ≡ 13) ⊎ (result.status ≡ 11) }
 {
     let mut answers = Vec::new(alloc);
     let end = end_of(rt, alloc, words, input, output, files, gate, &mut answers);

@@ -1,6 +1,6 @@
 // Reading a source to its end.
 ghost use Rattle.std.specs.Prelude.{◌≡◌, ◌≤◌, vec_len, IfOk, IfErr, IsErrOf};
-ghost use Rattle.aql_outside.specs.Causes.{Rose};
+ghost use Rattle.aql_outside.specs.Causes.{Blames};
 ghost use Rattle.aql_run.specs.Reading.{TakesPiece, PieceFails, ReadFails, ReadsWhole};
 ghost use Rattle.aql_run.specs.declared.reading.ReadFault.TheVariants.{Memory};
 
@@ -35,8 +35,7 @@ impl From<AllocError> for ReadFault {
 pub fn read_script<S: Source>(alloc: Global, input: &mut S) -> Result<Vec<u8>, ReadFault>
     ensures whole { IfOk result (λ script. ReadsWhole (S.left input.old) (S.left input.new) script.items) }
     ensures fails { IfErr result (λ e. ReadFails (S.left input.old) (S.left input.new) e) }
-    ensures later { S.faults input.old ≤ S.faults input.new }
-    ensures failed { IsErrOf result ReadFault.Failed → Rose (S.faults input.old) (S.faults input.new) }
+    ensures input { Blames S.quiet (IsErrOf result ReadFault.Failed) (S.faults input.old) (S.faults input.new) }
 {
     let mut script = Vec::new(alloc);
     'pieces: while script.len() <= LIMIT {
@@ -52,8 +51,7 @@ fn read_piece<S: Source>(input: &mut S, script: &mut Vec<u8>) -> Result<usize, R
     requires { vec_len script.old ≤ 1048576 }
     ensures taken { IfOk result (λ n. TakesPiece (S.left input.old) (S.left input.new) script.old.items script.new.items n) }
     ensures fails { IfErr result (λ e. PieceFails (S.left input.old) (S.left input.new) script.old.items e) }
-    ensures later { S.faults input.old ≤ S.faults input.new }
-    ensures failed { IsErrOf result ReadFault.Failed → Rose (S.faults input.old) (S.faults input.new) }
+    ensures input { Blames S.quiet (IsErrOf result ReadFault.Failed) (S.faults input.old) (S.faults input.new) }
 {
     let mut piece = [0u8; PIECE];
     let room = (LIMIT + 1 - script.len()).min(PIECE);

@@ -1,10 +1,9 @@
 //! A run, from the words to the last line.
-ghost use Rattle.std.specs.Prelude.{◌≡◌, ◌≢◌, ◌≤◌, ◌+◌, ◌⊎◌, List, ℕ, [], codes, map, length, IfOk, None, Some};
+ghost use Rattle.std.specs.Prelude.{◌≡◌, ◌≢◌, ◌≤◌, ◌<◌, ◌+◌, ◌⊎◌, List, ℕ, [], codes, map, length, IfOk, None, Some};
 ghost use Rattle.std.specs.String.{string_bytes};
-ghost use Rattle.aql_outside.specs.Causes.{Rose};
+ghost use Rattle.aql_outside.specs.Causes.{Blames};
 ghost use Rattle.aql_words.specs.Words.{AreInRange};
 ghost use Rattle.aql_lines.specs.Lines.{in_declaration};
-ghost use Rattle.aql_run.specs.Outcome.{IsEarly};
 ghost use Rattle.aql_run.specs.Ending.{Answers, AsksSample, EndsWith, IsReady, Refused, Responds, Running, Samples, Serving, Stopped};
 
 use crate::closed::{answer_each, read_options, ready};
@@ -33,17 +32,17 @@ pub(crate) fn end_of<R: Threads + Sync, S: Source, O: Sink, F: Files, G: Gate>(
     answers: &mut Vec<Answer>,
 ) -> End
     requires none { answers.old.items ≡ [] }
-    ensures serves { Running (map string_bytes words.now) (S.faults input.old) (S.faults input.new) (F.faults files.old) (F.faults files.new) (F.holds files.old) answers.new.items result
+    ensures serves { Running (map string_bytes words.now) (files.new ≡ files.old) (S.faults input.old) (S.faults input.new) (F.faults files.old) (F.faults files.new) (F.holds files.old) answers.new.items result
         (S.left input.old) (S.left input.new) (O.holds output.old) (O.holds output.new) }
     ensures untouched_input { result.status ≡ Status.Usage → input.new ≡ input.old }
     ensures untouched_output { result.status ≡ Status.Usage → output.new ≡ output.old }
-    ensures untouched_files { IsEarly result.status → files.new ≡ files.old }
     ensures sample { (n : ℕ) → AsksSample (map string_bytes words.now) n → input.new ≡ input.old }
-    ensures failed { result.status ≡ Status.Output → Rose (O.faults output.old) (O.faults output.new) }
+    ensures output { Blames O.quiet (result.status ≡ Status.Output) (O.faults output.old) (O.faults output.new) }
     ensures kept { F.holds files.new ≡ F.holds files.old }
     ensures later_input { S.faults input.old ≤ S.faults input.new }
-    ensures later_output { O.faults output.old ≤ O.faults output.new }
+    ensures noticed_input { S.quiet → S.faults input.old < S.faults input.new → (result.status ≡ Status.Input) ⊎ (result.status ≡ Status.Output) }
     ensures later_files { F.faults files.old ≤ F.faults files.new }
+    ensures noticed_files { F.quiet → F.faults files.old < F.faults files.new → (result.status ≡ Status.Files) ⊎ (result.status ≡ Status.Output) }
 {
     match read_options(alloc, words) {
         Ok(options) => serve(rt, alloc, &options, input, output, files, gate, answers),
@@ -71,15 +70,15 @@ fn serve<R: Threads + Sync, S: Source, O: Sink, F: Files, G: Gate>(
 ) -> End
     requires none { answers.old.items ≡ [] }
     requires options { AreInRange options.now }
-    ensures serves { Serving options.now (S.faults input.old) (S.faults input.new) (F.faults files.old) (F.faults files.new) (F.holds files.old) answers.new.items result
+    ensures serves { Serving options.now (files.new ≡ files.old) (S.faults input.old) (S.faults input.new) (F.faults files.old) (F.faults files.new) (F.holds files.old) answers.new.items result
         (S.left input.old) (S.left input.new) (O.holds output.old) (O.holds output.new) }
     ensures sample { (n : ℕ) → options.now.sample ≡ Some n → input.new ≡ input.old }
-    ensures untouched_files { IsEarly result.status → files.new ≡ files.old }
-    ensures failed { result.status ≡ Status.Output → Rose (O.faults output.old) (O.faults output.new) }
+    ensures output { Blames O.quiet (result.status ≡ Status.Output) (O.faults output.old) (O.faults output.new) }
     ensures kept { F.holds files.new ≡ F.holds files.old }
     ensures later_input { S.faults input.old ≤ S.faults input.new }
-    ensures later_output { O.faults output.old ≤ O.faults output.new }
+    ensures noticed_input { S.quiet → S.faults input.old < S.faults input.new → (result.status ≡ Status.Input) ⊎ (result.status ≡ Status.Output) }
     ensures later_files { F.faults files.old ≤ F.faults files.new }
+    ensures noticed_files { F.quiet → F.faults files.old < F.faults files.new → (result.status ≡ Status.Files) ⊎ (result.status ≡ Status.Output) }
 {
     match options.sample {
         Some(n) => serve_sample(rt, alloc, options, n, output, files, gate, answers),
@@ -100,12 +99,11 @@ fn serve_sample<R: Threads + Sync, O: Sink, F: Files, G: Gate>(
 ) -> End
     requires none { answers.old.items ≡ [] }
     requires options { AreInRange options.now }
-    ensures written { Samples n options.now (F.faults files.old) (F.faults files.new) (F.holds files.old) answers.new.items result (O.holds output.old) (O.holds output.new) }
-    ensures untouched_files { IsEarly result.status → files.new ≡ files.old }
-    ensures failed { result.status ≡ Status.Output → Rose (O.faults output.old) (O.faults output.new) }
+    ensures written { Samples n options.now (files.new ≡ files.old) (F.faults files.old) (F.faults files.new) (F.holds files.old) answers.new.items result (O.holds output.old) (O.holds output.new) }
+    ensures output { Blames O.quiet (result.status ≡ Status.Output) (O.faults output.old) (O.faults output.new) }
     ensures kept { F.holds files.new ≡ F.holds files.old }
-    ensures later_output { O.faults output.old ≤ O.faults output.new }
     ensures later_files { F.faults files.old ≤ F.faults files.new }
+    ensures noticed_files { F.quiet → F.faults files.old < F.faults files.new → (result.status ≡ Status.Files) ⊎ (result.status ≡ Status.Output) }
 {
     match sample_script(alloc, n) {
         Ok(script) => respond(rt, alloc, options, &script, output, files, gate, answers),
@@ -130,14 +128,14 @@ fn serve_source<R: Threads + Sync, S: Source, O: Sink, F: Files, G: Gate>(
     requires none { answers.old.items ≡ [] }
     requires options { AreInRange options.now }
     requires no_sample { options.now.sample ≡ None }
-    ensures serves { Serving options.now (S.faults input.old) (S.faults input.new) (F.faults files.old) (F.faults files.new) (F.holds files.old) answers.new.items result
+    ensures serves { Serving options.now (files.new ≡ files.old) (S.faults input.old) (S.faults input.new) (F.faults files.old) (F.faults files.new) (F.holds files.old) answers.new.items result
         (S.left input.old) (S.left input.new) (O.holds output.old) (O.holds output.new) }
-    ensures untouched_files { IsEarly result.status → files.new ≡ files.old }
-    ensures failed { result.status ≡ Status.Output → Rose (O.faults output.old) (O.faults output.new) }
+    ensures output { Blames O.quiet (result.status ≡ Status.Output) (O.faults output.old) (O.faults output.new) }
     ensures kept { F.holds files.new ≡ F.holds files.old }
     ensures later_input { S.faults input.old ≤ S.faults input.new }
-    ensures later_output { O.faults output.old ≤ O.faults output.new }
+    ensures noticed_input { S.quiet → S.faults input.old < S.faults input.new → (result.status ≡ Status.Input) ⊎ (result.status ≡ Status.Output) }
     ensures later_files { F.faults files.old ≤ F.faults files.new }
+    ensures noticed_files { F.quiet → F.faults files.old < F.faults files.new → (result.status ≡ Status.Files) ⊎ (result.status ≡ Status.Output) }
 {
     match read_script(alloc, input) {
         Ok(script) => respond(rt, alloc, options, &script, output, files, gate, answers),
@@ -169,12 +167,11 @@ fn respond<R: Threads + Sync, O: Sink, F: Files, G: Gate>(
 ) -> End
     requires none { answers.old.items ≡ [] }
     requires options { AreInRange options.now }
-    ensures written { Responds options.now script.now (F.faults files.old) (F.faults files.new) (F.holds files.old) answers.new.items result (O.holds output.old) (O.holds output.new) }
-    ensures untouched_files { IsEarly result.status → files.new ≡ files.old }
-    ensures failed { result.status ≡ Status.Output → Rose (O.faults output.old) (O.faults output.new) }
+    ensures written { Responds options.now script.now (files.new ≡ files.old) (F.faults files.old) (F.faults files.new) (F.holds files.old) answers.new.items result (O.holds output.old) (O.holds output.new) }
+    ensures output { Blames O.quiet (result.status ≡ Status.Output) (O.faults output.old) (O.faults output.new) }
     ensures kept { F.holds files.new ≡ F.holds files.old }
-    ensures later_output { O.faults output.old ≤ O.faults output.new }
     ensures later_files { F.faults files.old ≤ F.faults files.new }
+    ensures noticed_files { F.quiet → F.faults files.old < F.faults files.new → (result.status ≡ Status.Files) ⊎ (result.status ≡ Status.Output) }
 {
     match ready(alloc, script) {
         Ok(prepared) => answer(rt, alloc, &prepared, options, output, files, gate, answers),
@@ -199,12 +196,11 @@ fn answer<R: Threads + Sync, O: Sink, F: Files, G: Gate>(
     requires prepared { IsReady prepared.now }
     requires none { answers.old.items ≡ [] }
     requires options { AreInRange options.now }
-    ensures written { Answers prepared.now options.now (F.faults files.old) (F.faults files.new) (F.holds files.old) answers.new.items result (O.holds output.old) (O.holds output.new) }
-    ensures late { IsEarly result.status → ⊥ }
-    ensures failed { result.status ≡ Status.Output → Rose (O.faults output.old) (O.faults output.new) }
+    ensures written { Answers prepared.now options.now (files.new ≡ files.old) (F.faults files.old) (F.faults files.new) (F.holds files.old) answers.new.items result (O.holds output.old) (O.holds output.new) }
+    ensures output { Blames O.quiet (result.status ≡ Status.Output) (O.faults output.old) (O.faults output.new) }
     ensures kept { F.holds files.new ≡ F.holds files.old }
-    ensures later_output { O.faults output.old ≤ O.faults output.new }
     ensures later_files { F.faults files.old ≤ F.faults files.new }
+    ensures noticed_files { F.quiet → F.faults files.old < F.faults files.new → (result.status ≡ Status.Files) ⊎ (result.status ≡ Status.Output) }
 {
     match answer_each(rt, alloc, prepared, options, output, files, gate, answers) {
         Ok(()) => End {
@@ -229,8 +225,8 @@ fn answer<R: Threads + Sync, O: Sink, F: Files, G: Gate>(
 // Writes the line of the fault of declaration n.
 fn stop_at<O: Sink>(alloc: Global, n: u64, fault: StepFault, output: &mut O) -> End
     ensures written { Stopped n fault (O.holds output.old) (O.holds output.new) result }
-    ensures failed { result.status ≡ Status.Output → Rose (O.faults output.old) (O.faults output.new) }
-    ensures later { O.faults output.old ≤ O.faults output.new }
+    ensures device { fault ≡ StepFault.Device → (result.status ≡ Status.Files) ⊎ (result.status ≡ Status.Output) }
+    ensures output { Blames O.quiet (result.status ≡ Status.Output) (O.faults output.old) (O.faults output.new) }
 {
     match fault {
         StepFault::Query { start, plan, trace } => {
@@ -279,8 +275,7 @@ fn kept(status: Status, wanted: Status, stop: Stop) -> End
 // Writes the line of a script's fault.
 fn refuse<O: Sink>(alloc: Global, fault: ScriptFault, output: &mut O) -> Status
     ensures written { Refused fault (O.holds output.old) (O.holds output.new) result }
-    ensures failed { result ≡ Status.Output → Rose (O.faults output.old) (O.faults output.new) }
-    ensures later { O.faults output.old ≤ O.faults output.new }
+    ensures output { Blames O.quiet (result ≡ Status.Output) (O.faults output.old) (O.faults output.new) }
 {
     match fault {
         ScriptFault::Text { at } => {
@@ -317,8 +312,7 @@ fn refuse<O: Sink>(alloc: Global, fault: ScriptFault, output: &mut O) -> Status
 fn end_with_made<O: Sink>(output: &mut O, line: Result<Vec<u8>, Memory>, status: Status) -> Status
     requires real { status ≢ Status.Output }
     ensures written { (text : List ℕ) → IfOk line (λ l. l.items ≡ text) → EndsWith (O.holds output.old) (O.holds output.new) text status result }
-    ensures failed { result ≡ Status.Output → Rose (O.faults output.old) (O.faults output.new) }
-    ensures later { O.faults output.old ≤ O.faults output.new }
+    ensures output { Blames O.quiet (result ≡ Status.Output) (O.faults output.old) (O.faults output.new) }
 {
     match line {
         Ok(text) => end_with(output, &text, status),
@@ -330,8 +324,8 @@ fn end_with_made<O: Sink>(output: &mut O, line: Result<Vec<u8>, Memory>, status:
 fn end_with<O: Sink>(output: &mut O, line: &[u8], status: Status) -> Status
     requires real { status ≢ Status.Output }
     ensures written { EndsWith (O.holds output.old) (O.holds output.new) line.now status result }
-    ensures failed { result ≡ Status.Output → Rose (O.faults output.old) (O.faults output.new) }
-    ensures later { O.faults output.old ≤ O.faults output.new }
+    ensures ends { (result ≡ status) ⊎ (result ≡ Status.Output) }
+    ensures output { Blames O.quiet (result ≡ Status.Output) (O.faults output.old) (O.faults output.new) }
 {
     match write_all(output, line) {
         Ok(()) => status,

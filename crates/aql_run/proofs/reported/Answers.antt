@@ -1,16 +1,21 @@
-use Rattle.std.proofs.Common.{subst, sym}
+use Rattle.std.proofs.Common.{◌≡◌, ◌∙◌, ◌⊎◌, inl, inr, ℕ, ap}
 use Rattle.std.specs.Prelude.{map}
 use Rattle.std.specs.String.{string_bytes}
-use Rattle.aql_run.specs.Outcome.{IsEarly}
+use Rattle.aql_status.specs.Codes.{code_of, status_is}
 use Rattle.aql_status.specs.declared.status.Status.{Status}
 use Rattle.aql_status.specs.declared.status.Status.TheVariants as status
-use Rattle.aql_status.specs.Codes.{status_is}
+use Rattle.aql_outside.specs.CausesLaws.{blamed_as}
 use Rattle.aql_run.proofs.Endings.{reports}
 use Rattle.aql_run.proofs.reported.Goals as goal
 
+-- one of two statuses, by their numbers
+one_of : (s a b : Status) (n : ℕ) → n ≡ code_of s → (s ≡ a) ⊎ (s ≡ b) → (n ≡ code_of a) ⊎ (n ≡ code_of b)
+one_of s a b n is (inl e) = inl (is ∙ ap code_of e)
+one_of s a b n is (inr e) = inr (is ∙ ap code_of e)
+
 pub returns-clause-serves : goal.returns-clause-serves
 returns-clause-serves g c =
-    reports (map string_bytes c.args.words.now) (g.S.Source.faults c.args.input.now) (g.S.Source.faults c.end_of-end.new.input)
+    reports (map string_bytes c.args.words.now) (c.end_of-end.new.files ≡ c.args.files.now) (g.S.Source.faults c.args.input.now) (g.S.Source.faults c.end_of-end.new.input)
     (g.F.Files.faults c.args.files.now) (g.F.Files.faults c.end_of-end.new.files) (g.F.Files.holds c.args.files.now) c.end_of-end.new.answers.items c.end_of-end.result c.code-status.result
     (g.S.Source.left c.args.input.now) (g.S.Source.left c.end_of-end.new.input) (g.O.Sink.holds c.args.output.now) (g.O.Sink.holds c.end_of-end.new.output)
     c.code-status.ensures c.end_of-end.ensures.serves
@@ -21,10 +26,15 @@ returns-clause-untouched_input g c is = c.end_of-end.ensures.untouched_input (st
 pub returns-clause-untouched_output : goal.returns-clause-untouched_output
 returns-clause-untouched_output g c is = c.end_of-end.ensures.untouched_output (status_is c.end_of-end.result.status status.Usage c.code-status.result c.code-status.ensures is)
 
-pub returns-clause-untouched_files : goal.returns-clause-untouched_files
-returns-clause-untouched_files g c s is early =
-    c.end_of-end.ensures.untouched_files
-    (subst (λ (x : Status). IsEarly x) (sym (status_is c.end_of-end.result.status s c.code-status.result c.code-status.ensures is)) early)
-
 pub returns-clause-output : goal.returns-clause-output
-returns-clause-output g c is = c.end_of-end.ensures.failed (status_is c.end_of-end.result.status status.Output c.code-status.result c.code-status.ensures is)
+returns-clause-output g c =
+    blamed_as g.O.Sink.quiet (c.end_of-end.result.status ≡ status.Output) (c.code-status.result ≡ 11) (g.O.Sink.faults c.args.output.now) (g.O.Sink.faults c.end_of-end.new.output)
+    (λ e. c.code-status.ensures ∙ ap code_of e) (λ is. status_is c.end_of-end.result.status status.Output c.code-status.result c.code-status.ensures is) c.end_of-end.ensures.output
+
+pub returns-clause-noticed_input : goal.returns-clause-noticed_input
+returns-clause-noticed_input g c q less =
+    one_of c.end_of-end.result.status status.Input status.Output c.code-status.result c.code-status.ensures (c.end_of-end.ensures.noticed_input q less)
+
+pub returns-clause-noticed_files : goal.returns-clause-noticed_files
+returns-clause-noticed_files g c q less =
+    one_of c.end_of-end.result.status status.Files status.Output c.code-status.result c.code-status.ensures (c.end_of-end.ensures.noticed_files q less)

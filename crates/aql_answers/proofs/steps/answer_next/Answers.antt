@@ -1,4 +1,4 @@
-use Rattle.std.proofs.Common.{subst, ap, ◌∙◌, arith, length, List, ◌++◌, ◌∷◌, []}
+use Rattle.std.proofs.Common.{subst, ap, ◌∙◌, length, List, ◌++◌, ◌∷◌, []}
 use Rattle.std.proofs.KnownBytes.{Appends-nil}
 use Rattle.std.specs.Prelude.{Option}
 use Rattle.aql_value.specs.Datum.{Datum}
@@ -7,7 +7,8 @@ use Rattle.aql_session.specs.Bound.{outcomes}
 use Rattle.aql_session.specs.declared.answer.Answer.{Answer}
 use Rattle.aql_lines.specs.Entry.{entry}
 use Rattle.aql_lines.specs.Writing.{WritesFront}
-use Rattle.aql_answers.proofs.Answering.{next_within, next_built, has_stepped, stopped, wrote, halted, outcome_last}
+use Rattle.aql_outside.specs.CausesLaws.{blamed_as, none_blamed}
+use Rattle.aql_answers.proofs.Answering.{next_within, next_built, has_stepped, stopped, wrote, halted, outcome_last, next_unread}
 use Rattle.aql_answers.proofs.steps.answer_next.Goals as goal
 
 pub step-requires-clause-limits : goal.step-requires-clause-limits
@@ -40,6 +41,12 @@ returns-in-Ok-clause-halts g c =
     c.write_entry-written.ensures.written)
     c.write_entry-written.ensures.causes
 
+pub returns-in-Ok-clause-untouched : goal.returns-in-Ok-clause-untouched
+returns-in-Ok-clause-untouched g c none =
+    let (d, there, reads) = next_unread c.args.prepared.now c.args.options.now.budget (outcomes c.args.session.now) c.args.n (length c.args.answers.now.items)
+    c.requires.prepared c.requires.next c.requires.last none in
+    c.in-Ok.ensures.untouched d there reads
+
 pub returns-in-Err : goal.returns-in-Err
 returns-in-Err g c = record {
   goes = tt;
@@ -48,8 +55,18 @@ returns-in-Err g c = record {
     stopped c.args.prepared.now c.args.options.now.budget (g.F.Files.holds c.args.files.now) (g.F.Files.faults c.args.files.now) (g.F.Files.faults c.step.new.files)
         c.args.answers.now.items (outcomes c.args.session.now) c.args.n c.in-Err.fault c.requires.prepared c.requires.next c.requires.last c.in-Err.ensures.cause,
   );
+  untouched = λ none.
+      (let (d, there, reads) = next_unread c.args.prepared.now c.args.options.now.budget (outcomes c.args.session.now) c.args.n (length c.args.answers.now.items)
+      c.requires.prepared c.requires.next c.requires.last none in
+      c.in-Err.ensures.untouched d there reads);
+  unread = c.in-Err.ensures.unread;
   kept = c.in-Err.ensures.kept;
-  later_files = c.in-Err.ensures.later;
-  later = omega arith;
-  failed = λ h. absurd cc;
+  files = blamed_as _ _ _ _ _ (λ e. cc) (λ e. cc) c.in-Err.ensures.blamed;
+  output = none_blamed _ _ _ (λ e. cc);
 }
+
+pub returns-in-Err-Memory-clause-untouched : goal.returns-in-Err-Memory-clause-untouched
+returns-in-Err-Memory-clause-untouched g c none =
+    let (d, there, reads) = next_unread c.args.prepared.now c.args.options.now.budget (outcomes c.args.session.now) c.args.n (length c.args.answers.now.items)
+    c.requires.prepared c.requires.next c.requires.last none in
+    c.in-Err-Memory.ensures.untouched d there reads

@@ -1,6 +1,7 @@
 use Rattle.std.proofs.Common.{◌-◌, Result, Ok, Err, OnOk}
 use Rattle.std.specs.Prelude.{IsOk}
-use Rattle.aql_answers.proofs.Prelude.{prelude_last, prelude_bound, prelude_types, prelude_arrays, next_declared}
+use Rattle.aql_session.specs.Bound.{outcomes}
+use Rattle.aql_answers.proofs.Prelude.{prelude_last, prelude_bound, prelude_types, prelude_arrays, prelude_unread, next_declared}
 use Rattle.aql_answers.proofs.steps.declare_next.Goals as goal
 
 pub step-stepped-requires-clause-last : goal.step-stepped-requires-clause-last
@@ -25,3 +26,8 @@ pub returns-clause-made : goal.returns-clause-made
 returns-clause-made g c =
     on_done c.step-stepped.result c.done.result _ _ c.done.ensures c.step-stepped.ensures.binds
     (next_declared c.args.prepared.now (g.F.Files.holds c.args.files.now) c.args.session.now c.step-stepped.new.self c.args.n c.requires.prepared c.requires.first c.requires.last c.requires.so_far)
+
+pub returns-clause-untouched : goal.returns-clause-untouched
+returns-clause-untouched g c =
+    let (d, there, reads) = prelude_unread c.args.prepared.now c.args.options.now.budget (outcomes c.args.session.now) c.args.n c.requires.prepared c.requires.first c.requires.last in
+    c.step-stepped.ensures.untouched d there reads

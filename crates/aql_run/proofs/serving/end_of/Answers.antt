@@ -1,25 +1,25 @@
+use Rattle.std.proofs.Common.{refl, ◌≡◌}
 use Rattle.std.specs.Prelude.{map}
 use Rattle.std.specs.String.{string_bytes}
 use Rattle.aql_run.proofs.Endings.{asks_sample, never_usage, no_memory, options_run, words_refused}
-use Rattle.aql_status.specs.declared.status.Status.TheVariants as status
 use Rattle.aql_run.proofs.serving.end_of.Goals as goal
 
 pub returns-in-Ok-clause-serves : goal.returns-in-Ok-clause-serves
 returns-in-Ok-clause-serves g c =
-    options_run (map string_bytes c.args.words.now) c.in-Ok.options (g.S.Source.faults c.args.input.now) (g.S.Source.faults c.serve.new.input)
+    options_run (map string_bytes c.args.words.now) c.in-Ok.options (c.serve.new.files ≡ c.args.files.now) (g.S.Source.faults c.args.input.now) (g.S.Source.faults c.serve.new.input)
     (g.F.Files.faults c.args.files.now) (g.F.Files.faults c.serve.new.files) (g.F.Files.holds c.args.files.now) c.serve.new.answers.items c.serve.result
     (g.S.Source.left c.args.input.now) (g.S.Source.left c.serve.new.input) (g.O.Sink.holds c.args.output.now) (g.O.Sink.holds c.serve.new.output)
     c.in-Ok.ensures.asks c.serve.ensures.serves
 
 pub returns-in-Ok-clause-untouched_input : goal.returns-in-Ok-clause-untouched_input
 returns-in-Ok-clause-untouched_input g c is =
-    absurd (never_usage c.in-Ok.options (g.S.Source.faults c.args.input.now) (g.S.Source.faults c.serve.new.input)
+    absurd (never_usage c.in-Ok.options (c.serve.new.files ≡ c.args.files.now) (g.S.Source.faults c.args.input.now) (g.S.Source.faults c.serve.new.input)
     (g.F.Files.faults c.args.files.now) (g.F.Files.faults c.serve.new.files) (g.F.Files.holds c.args.files.now) c.serve.new.answers.items c.serve.result
     (g.S.Source.left c.args.input.now) (g.S.Source.left c.serve.new.input) (g.O.Sink.holds c.args.output.now) (g.O.Sink.holds c.serve.new.output) c.serve.ensures.serves is)
 
 pub returns-in-Ok-clause-untouched_output : goal.returns-in-Ok-clause-untouched_output
 returns-in-Ok-clause-untouched_output g c is =
-    absurd (never_usage c.in-Ok.options (g.S.Source.faults c.args.input.now) (g.S.Source.faults c.serve.new.input)
+    absurd (never_usage c.in-Ok.options (c.serve.new.files ≡ c.args.files.now) (g.S.Source.faults c.args.input.now) (g.S.Source.faults c.serve.new.input)
     (g.F.Files.faults c.args.files.now) (g.F.Files.faults c.serve.new.files) (g.F.Files.holds c.args.files.now) c.serve.new.answers.items c.serve.result
     (g.S.Source.left c.args.input.now) (g.S.Source.left c.serve.new.input) (g.O.Sink.holds c.args.output.now) (g.O.Sink.holds c.serve.new.output) c.serve.ensures.serves is)
 
@@ -28,10 +28,10 @@ returns-in-Ok-clause-sample g c n asked = c.serve.ensures.sample n (asks_sample 
 
 pub returns-in-Err-Usage-clause-serves : goal.returns-in-Err-Usage-clause-serves
 returns-in-Err-Usage-clause-serves g c =
-    words_refused (map string_bytes c.args.words.now) c.in-Err-Usage.field-0 (g.S.Source.faults c.args.input.now) (g.F.Files.faults c.args.files.now) (g.F.Files.holds c.args.files.now)
-    c.args.answers.now.items (g.S.Source.left c.args.input.now) (g.O.Sink.holds c.args.output.now) c.in-Err-Usage.field-0-is c.requires.none c.in-Err-Usage.ensures.asks
+    words_refused (map string_bytes c.args.words.now) c.in-Err-Usage.field-0 (c.args.files.now ≡ c.args.files.now) (g.S.Source.faults c.args.input.now) (g.F.Files.faults c.args.files.now) (g.F.Files.holds c.args.files.now)
+    c.args.answers.now.items (g.S.Source.left c.args.input.now) (g.O.Sink.holds c.args.output.now) c.in-Err-Usage.field-0-is c.requires.none refl c.in-Err-Usage.ensures.asks
 
 pub returns-in-Err-Memory-clause-serves : goal.returns-in-Err-Memory-clause-serves
 returns-in-Err-Memory-clause-serves g c =
-    no_memory (map string_bytes c.args.words.now) (g.S.Source.faults c.args.input.now) (g.F.Files.faults c.args.files.now) (g.F.Files.holds c.args.files.now)
-    c.args.answers.now.items (g.S.Source.left c.args.input.now) (g.O.Sink.holds c.args.output.now) c.requires.none
+    no_memory (map string_bytes c.args.words.now) (c.args.files.now ≡ c.args.files.now) (g.S.Source.faults c.args.input.now) (g.F.Files.faults c.args.files.now) (g.F.Files.holds c.args.files.now)
+    c.args.answers.now.items (g.S.Source.left c.args.input.now) (g.O.Sink.holds c.args.output.now) c.requires.none refl
