@@ -66,7 +66,7 @@ fn file_fails<R: Threads + Sync + Abort>(rt: &R, alloc: Global, k: u64) -> Resul
     let mut devices = SURE;
     devices.files_fail = &fails;
     let ran = run_over(rt, alloc, &[], SCRIPT, folder(alloc), &devices, &FreeGate)?;
-    if ran.files_failed {
+    if ran.failures.files > 0 {
         let output = b"typ it : nat\nval it = 1\nfault files\n";
         assert_ran(rt, Ok(ran), 13, output)?;
         Ok(true)
@@ -139,6 +139,131 @@ fn failing_streams(rt: HostRuntime) -> Result<(), Fail> {
         assert_eq!(rt; read, 4 < k);
         let written = sink_serves(&rt, rt.alloc(), k)?;
         assert_eq!(rt; written, 5 < k);
+    }
+    Ok(())
+}
+
+// The numbers of calls, from the first on.
+const CALLS: [u64; 64] = [
+    1, 2, 3, 4, 5, 6, 7, 8, 9, 10, 11, 12, 13, 14, 15, 16, 17, 18, 19, 20, 21, 22, 23, 24, 25, 26,
+    27, 28, 29, 30, 31, 32, 33, 34, 35, 36, 37, 38, 39, 40, 41, 42, 43, 44, 45, 46, 47, 48, 49, 50,
+    51, 52, 53, 54, 55, 56, 57, 58, 59, 60, 61, 62, 63, 64,
+];
+
+// The numbers of all calls behind the first so many.
+fn calls_behind(first: usize) -> &'static [u64] {
+    match CALLS.get(first..) {
+        Some(calls) => calls,
+        None => &[],
+    }
+}
+
+// A script that ends with this status and this output over devices that do not fail.
+#[derive(Clone, Copy)]
+struct Ending {
+    words: &'static [&'static str],
+    script: &'static [u8],
+    status: u8,
+    output: &'static [u8],
+}
+
+const fn ends_in(script: &'static [u8], status: u8, output: &'static [u8]) -> Ending {
+    Ending {
+        words: &[],
+        script,
+        status,
+        output,
+    }
+}
+
+// Fails where a run over these devices did not end as its script says or, where one call failed, with the status for it and a front of what
+// it writes then; or where a call followed a failure.
+fn assert_stops<R: Threads + Sync + Abort>(
+    rt: &R,
+    alloc: Global,
+    ending: Ending,
+    devices: &Devices<'_>,
+    broken: u8,
+    output: &[u8],
+) -> Result<(), Fail> {
+    let ran = run_over(
+        rt,
+        alloc,
+        ending.words,
+        ending.script,
+        folder(alloc),
+        devices,
+        &FreeGate,
+    )?;
+    let failed = ran
+        .failures
+        .source
+        .max(ran.failures.sink)
+        .max(ran.failures.files);
+    if failed == 0 {
+        return assert_ran(rt, Ok(ran), ending.status, ending.output);
+    }
+    assert_eq!(rt; failed, 1);
+    assert_eq!(rt; ran.status, broken);
+    assert!(rt; output.starts_with(&ran.output));
+    drop(ran);
+    Ok(())
+}
+
+// Runs a script over a source, over a sink and over files of which every call fails behind the first so many.
+fn assert_never_asked_again<R: Threads + Sync + Abort>(
+    rt: &R,
+    alloc: Global,
+    ending: Ending,
+    first: usize,
+) -> Result<(), Fail> {
+    let calls = calls_behind(first);
+    let mut devices = SURE;
+    devices.pieces = &PIECES;
+    devices.source_fails = calls;
+    assert_stops(rt, alloc, ending, &devices, 10, b"fault input\n")?;
+    devices.source_fails = &[];
+    devices.sink_fails = calls;
+    assert_stops(rt, alloc, ending, &devices, 11, ending.output)?;
+    devices.sink_fails = &[];
+    devices.files_fail = calls;
+    let output = b"typ it : nat\nval it = 1\nfault files\n";
+    assert_stops(rt, alloc, ending, &devices, 13, output)
+}
+
+// No call on a device follows its first failure, whatever line the run ends in. This refuses a write that is tried again after it failed,
+// a read that is, and a run that goes on reading or writing behind a failure.
+#[test]
+fn a_device_that_failed_is_not_asked_again(rt: HostRuntime) -> Result<(), Fail> {
+    let mut spent = ends_in(
+        b"1; summap(fn \\x => x)!(gen!5000);",
+        12,
+        b"typ it : nat\nval it = 1\nfault budget in declaration 2\n",
+    );
+    spent.words = &["--budget", "1000"];
+    let mut cells = ends_in(
+        SCRIPT,
+        12,
+        b"typ it : nat\nval it = 1\nfault budget in declaration 2\n",
+    );
+    cells.words = &["--budget", "5"];
+    let endings = [
+        ends_in(SCRIPT, 0, OUTPUT),
+        ends_in(b"1; $", 3, b"fault text at byte 3\n"),
+        ends_in(b"1; 2", 4, b"fault syntax in declaration 2\n"),
+        ends_in(b"1; 1 = true;", 5, b"fault type in declaration 2\n"),
+        ends_in(
+            b"1; readval \\V using NETCDF1 at (\"s.nc\",\"q\",0,1);",
+            9,
+            b"typ it : nat\nval it = 1\nfault file in declaration 2: no variable\n",
+        ),
+        spent,
+        cells,
+    ];
+    for ending in endings {
+        for first in 0..10 {
+            assert_never_asked_again(&rt, rt.alloc(), ending, first)?;
+        }
     }
     Ok(())
 }

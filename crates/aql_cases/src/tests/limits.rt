@@ -1,5 +1,6 @@
 // Scripts at the limits: bytes, depth, sizes, types.
 use crate::tests::running::{assert_ran, run_script};
+use aql_made::both;
 use aql_value::Memory;
 use std::alloc::Global;
 use std::process::Abort;
@@ -43,6 +44,42 @@ fn tested(alloc: Global, tests: usize) -> Result<Vec<u8>, Memory> {
         push(&mut text, ", true")?;
     }
     push(&mut text, "};")?;
+    Ok(text)
+}
+
+// Truth, negated so many times.
+fn negated(alloc: Global, times: usize) -> Result<Vec<u8>, Memory> {
+    let mut text = repeated(alloc, "not ", times)?;
+    push(&mut text, "true;")?;
+    Ok(text)
+}
+
+// So many sets, each but the innermost the one member of another, around this.
+fn push_sets(text: &mut Vec<u8>, depth: usize, inner: &str) -> Result<(), Memory> {
+    for _ in 0..depth {
+        push(text, "{")?;
+    }
+    push(text, inner)?;
+    for _ in 0..depth {
+        push(text, "}")?;
+    }
+    Ok(())
+}
+
+fn sets(alloc: Global, depth: usize) -> Result<Vec<u8>, Memory> {
+    let mut text = Vec::new(alloc);
+    push_sets(&mut text, depth, "")?;
+    push(&mut text, ";")?;
+    Ok(text)
+}
+
+// What is written of these sets.
+fn lines_of_sets(alloc: Global, depth: usize) -> Result<Vec<u8>, Memory> {
+    let mut text = repeated(alloc, "typ it : ", 1)?;
+    push_sets(&mut text, depth, "'a")?;
+    push(&mut text, "\nval it = ")?;
+    push_sets(&mut text, depth, "")?;
+    push(&mut text, "\n")?;
     Ok(text)
 }
 
@@ -112,6 +149,25 @@ fn scripts_at_the_limits(rt: HostRuntime) -> Result<(), Fail> {
     assert_script(&rt, alloc, open, 3, "fault text at byte 0\n")?;
     let closed = repeated(alloc, "1;(*)", 1);
     assert_script(&rt, alloc, closed, 3, "fault text at byte 2\n")
+}
+
+fn assert_sets<R: Threads + Sync + Abort>(rt: &R, alloc: Global, depth: usize) -> Result<(), Fail> {
+    let (script, lines) = both(sets(alloc, depth), lines_of_sets(alloc, depth))?;
+    let ran = run_script(rt, alloc, &[], &script);
+    drop(script);
+    let found = assert_ran(rt, ran, 0, &lines);
+    drop(lines);
+    found
+}
+
+// Each part of an expression that is 399 deep has its type. Refused here: an inference that gives up at depth 300, as with `300` in
+// the place of `u64::MAX` in `declare` of aql_infer.
+#[test]
+fn deep_expressions_have_their_types(rt: HostRuntime) -> Result<(), Fail> {
+    let alloc = rt.alloc();
+    let truth = "typ it : bool\nval it = false\n";
+    assert_script(&rt, alloc, negated(alloc, 399), 0, truth)?;
+    assert_sets(&rt, alloc, 399)
 }
 
 // The beginning of a let of the next name, which is the name before and 195 ones.

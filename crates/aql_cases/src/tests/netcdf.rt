@@ -251,7 +251,7 @@ fn read_within_five<R: Threads + Sync>(rt: &R, alloc: Global, script: &str) -> R
 // Fails where a run made a failing call on the files, or did not end by so many cells past the budget.
 fn assert_counted<R: Abort>(rt: &R, ran: Result<Ran, Memory>, cells: u128) -> Result<(), Fail> {
     let ran = ran?;
-    assert!(rt; !ran.files_failed);
+    assert_eq!(rt; ran.failures.files, 0);
     assert_eq!(rt; ran.cells, Some(cells));
     assert_eq!(rt; ran.answered, 0);
     assert_ran(rt, Ok(ran), 12, b"fault budget in declaration 1\n")

@@ -26,13 +26,21 @@ pub(crate) const SURE: Devices<'static> = Devices {
     files_fail: &[],
 };
 
-/// What came of a run: its status, what was written, whether a call on the files failed, how many declarations were answered, and
-/// the cells that a readval asked for past the budget.
+/// How many calls on each device failed in a run.
+#[derive(Clone, Copy, Debug, PartialEq, Eq)]
+pub(crate) struct Failures {
+    pub source: u64,
+    pub sink: u64,
+    pub files: u64,
+}
+
+/// What came of a run: its status, what was written, how many calls failed, how many declarations were answered, and the cells that a
+/// readval asked for past the budget.
 #[derive(Drop)]
 pub(crate) struct Ran {
     pub status: u8,
     pub output: Vec<u8>,
-    pub files_failed: bool,
+    pub failures: Failures,
     pub answered: usize,
     pub cells: Option<u128>,
 }
@@ -126,15 +134,19 @@ pub(crate) fn run_over<R: Threads + Sync, G: Gate>(
     let cells = cells_of(&report.stop);
     drop(report);
     drop(all);
-    drop(input);
     let written = output.written().to_vec(alloc);
+    let failures = Failures {
+        source: input.faults(),
+        sink: output.faults(),
+        files: files.faults(),
+    };
+    drop(input);
     drop(output);
-    let files_failed = files.faults() > 0;
     drop(files);
     Ok(Ran {
         status,
         output: written?,
-        files_failed,
+        failures,
         answered,
         cells,
     })
