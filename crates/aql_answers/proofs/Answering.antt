@@ -18,7 +18,7 @@ use Rattle.aql_syntax.specs.Sound.{OutcomesHave}
 use Rattle.aql_syntax.specs.Tree.{Declaration, val, mac, read, bare, declared, plain, signed, strided, records}
 use Rattle.aql_syntax.specs.View.{decls_of}
 use Rattle.aql_syntax.specs.declared.ast.Decl.{Decl}
-use Rattle.aql_words.specs.declared.words.Options.{Options}
+use Rattle.aql_answers.specs.Settings.{Settings}
 use Rattle.aql_value.specs.Partial.{◌>>=◌}
 use Rattle.nrca_term.specs.Meaning.{Outcomes, outcome}
 use Rattle.aql_prelude.specs.Prelude.{prelude_decls}
@@ -107,7 +107,7 @@ decls_length [] = refl
 decls_length (d ∷ ds) = ap suc (decls_length ds)
 
 -- what a step says of the declaration that stands next, and of the session after it
-pub record HasStepped (p : Prepared) (o : Options) (holds : Option Content) (answers : List Answer) (s s' : Bound) (a : Answer) : Type 0 where
+pub record HasStepped (p : Prepared) (o : Settings) (holds : Option Content) (answers : List Answer) (s s' : Bound) (a : Answer) : Type 0 where
   pub outcome : Option Datum
   pub outcomes : outcomes s' ≡ outcomes s ++ outcome ∷ []
   pub progress : Progress p o.budget holds (answers ++ a ∷ []) s'
@@ -119,7 +119,7 @@ next_there p n d k h is e =
     let at : n - 1 ≡ 24 + k = omega (arith, is) in
     ap (λ (l : List Declaration). slice_get l (24 + k)) (sym h.all) ∙ (ap (slice_get (decls_of p.decls.items.items)) (sym at) ∙ e)
 
-pub stepped : (p : Prepared) (o : Options) (holds : Option Content) (answers : List Answer) (s s' : Bound) (a : Answer) (n : ℕ) (d : Declaration) → IsPrepared p →
+pub stepped : (p : Prepared) (o : Settings) (holds : Option Content) (answers : List Answer) (s s' : Bound) (a : Answer) (n : ℕ) (d : Declaration) → IsPrepared p →
     n ≡ 25 + length answers → Progress p o.budget holds answers s → slice_get (decls_of p.decls.items.items) (n - 1) ≡ Some d →
     IsAnswer d (earlier_of (decls_of p.decls.items.items) (outcomes s)) (slice_get (sorts p) (n - 1)) a →
     IsAnswerable d (earlier_of (decls_of p.decls.items.items) (outcomes s)) o.budget holds →
@@ -221,7 +221,7 @@ pub outcome_last : (V : Outcomes) (o : Option Datum) (n k : ℕ) → length V �
 outcome_last V o n k many is =
     subst (λ m. outcome (V ++ o ∷ []) m ≡ o) (sym (next V n k many is)) (ap (λ (x : Option (Option Datum)). x >>= λ z. z) (last_is V o))
 
-pub has_stepped : (p : Prepared) (o : Options) (holds : Option Content) (answers : List Answer) (s s' : Bound) (a : Answer) (n : ℕ) → IsPrepared p →
+pub has_stepped : (p : Prepared) (o : Settings) (holds : Option Content) (answers : List Answer) (s s' : Bound) (a : Answer) (n : ℕ) → IsPrepared p →
     n ≡ 25 + length answers → n ≤ length p.decls.items.items → Progress p o.budget holds answers s →
     ((d : Declaration) → slice_get (decls_of p.decls.items.items) (n - 1) ≡ Some d → IsAnswer d (earlier_of (decls_of p.decls.items.items) (outcomes s)) (slice_get (sorts p) (n - 1)) a) →
     ((d : Declaration) → slice_get (decls_of p.decls.items.items) (n - 1) ≡ Some d → IsAnswerable d (earlier_of (decls_of p.decls.items.items) (outcomes s)) o.budget holds) →
@@ -232,7 +232,7 @@ has_stepped p o holds answers s s' a n h is le so_far answer answerable binds =
     stepped p o holds answers s s' a n x.0 h is so_far x.1 (answer x.0 x.1) (answerable x.0 x.1) (binds x.0 x.1)
 
 -- The lines of the answer were written, all or a front of them.
-module _ (p : Prepared) (o : Options) (holds : Option Content) (answers answers' : List Answer) (s s' : Bound) (a : Answer) (out : Option Datum) (old new : Option (List ℕ)) where
+module _ (p : Prepared) (o : Settings) (holds : Option Content) (answers answers' : List Answer) (s s' : Bound) (a : Answer) (out : Option Datum) (old new : Option (List ℕ)) where
   pub wrote : (r : Result (Unit {0}) Halt) (h : HasStepped p o holds answers s s' a) → answers' ≡ answers ++ a ∷ [] → out ≡ h.outcome →
       WritesFront old new (entry o.plan a out) r → OnOk r (Goes p o holds answers answers' s s' old new)
   wrote (Ok x) h longer is (front, rest, split, appended, all, _) = record {

@@ -21,7 +21,7 @@ use Rattle.aql_session.specs.Step.{IsCause, ReadsNoFile}
 use Rattle.aql_session.specs.declared.answer.Answer.{Answer}
 use Rattle.aql_session.specs.declared.answer.StepFault.{StepFault}
 use Rattle.aql_session.specs.declared.answer.StepFault.TheVariants as faults
-use Rattle.aql_words.specs.declared.words.Options.{Options}
+use Rattle.aql_answers.specs.Settings.{Settings}
 use Rattle.aql_answers.specs.Answered.{AreAnswered, IsStopped, ReadNoFile, reached}
 use Rattle.aql_lines.specs.Entry.{entry, entries}
 use Rattle.aql_answers.specs.Steps.{own, sorts, IsPrepared, Declared, Goes, NextReadsNoFile, CutsEntry, Halts, IsOver, Going, AllAnswered, CutsLines, EndsEarly}
@@ -93,14 +93,14 @@ read_last ds budget V W after k m d many is lt h there =
     (ap (take (24 + k)) is ∙ (ap (λ n. take n (V ++ after)) (sym many) ∙ take-append_seam V after)) (h k d lt there)
 
 -- a run with no answer yet
-pub going_first : (p : Prepared) (o : Options) (holds : Option Content) (same : Type 0) (answers : List Answer) (s : Bound) (old : Option (List ℕ)) → Declared p 24 s →
+pub going_first : (p : Prepared) (o : Settings) (holds : Option Content) (same : Type 0) (answers : List Answer) (s : Bound) (old : Option (List ℕ)) → Declared p 24 s →
     answers ≡ [] → same → Going p o holds same answers s 25 old old
 going_first p o holds same answers s old h none there =
     subst (λ (l : List Answer). Going p o holds same l s 25 old old) (sym none)
     (record { progress = at_first p o.budget holds s h; next = refl; written = Appends-nil old; untouched = λ reads. there })
 
 -- one answer more
-pub going_next : (p : Prepared) (o : Options) (holds : Option Content) (same same' : Type 0) (answers answers' : List Answer) (s s' : Bound) (n : ℕ) (old mid new : Option (List ℕ)) →
+pub going_next : (p : Prepared) (o : Settings) (holds : Option Content) (same same' : Type 0) (answers answers' : List Answer) (s s' : Bound) (n : ℕ) (old mid new : Option (List ℕ)) →
     Going p o holds same answers s n old mid → Goes p o holds answers answers' s s' mid new → (same → NextReadsNoFile p o.budget (length answers) (outcomes s) → same') →
     Going p o holds same' answers' s' (n + 1) old new
 going_next p o holds same same' answers answers' s s' n old mid new h g more =
@@ -127,7 +127,7 @@ going_next p o holds same same' answers answers' s s' n old mid new h g more =
         ∙ entries_more o.plan answers (drop 24 (outcomes s)) g.answer g.outcome same))
 
 -- every position was gone over
-pub all_answered : (p : Prepared) (o : Options) (holds : Option Content) (same : Type 0) (answers : List Answer) (s : Bound) (n : ℕ) (old new : Option (List ℕ)) → IsPrepared p →
+pub all_answered : (p : Prepared) (o : Settings) (holds : Option Content) (same : Type 0) (answers : List Answer) (s : Bound) (n : ℕ) (old new : Option (List ℕ)) → IsPrepared p →
     Going p o holds same answers s n old new → n ≡ length p.decls.items.items + 1 → AllAnswered p o holds same answers old new
 all_answered p o holds same answers s n old new h g e =
     let is = g.next in
@@ -150,7 +150,7 @@ cause_wider d earlier budget holds before now before' now' faults.Device a b (wi
 cause_wider d earlier budget holds before now before' now' faults.Memory a b h = h
 
 -- the lines so far are those of the answers, all of them
-none_cut : (p : Prepared) (o : Options) (holds : Option Content) (same : Type 0) (begun : ℕ) (answers : List Answer) (V : Outcomes) →
+none_cut : (p : Prepared) (o : Settings) (holds : Option Content) (same : Type 0) (begun : ℕ) (answers : List Answer) (V : Outcomes) →
     AreAnswered (own p) (sorts p) o.budget holds answers V → (ReadNoFile (own p) o.budget V begun → same) →
     CutsLines p o holds same begun answers (entries o.plan answers (drop 24 V))
 none_cut p o holds same begun answers V h untouched =
@@ -158,7 +158,7 @@ none_cut p o holds same begun answers V h untouched =
     record { outcomes = V; answered = h; back = []; front = sym (append-nil (entries o.plan answers (drop 24 V))); last = x.0; whole = x.1; untouched = untouched }
 
 -- a front of the last answer's lines
-one_cut : (p : Prepared) (o : Options) (holds : Option Content) (same : Type 0) (begun : ℕ) (answers answers' : List Answer) (V : Outcomes) (mid new : Option (List ℕ)) →
+one_cut : (p : Prepared) (o : Settings) (holds : Option Content) (same : Type 0) (begun : ℕ) (answers answers' : List Answer) (V : Outcomes) (mid new : Option (List ℕ)) →
     AreAnswered (own p) (sorts p) o.budget holds answers V → (c : CutsEntry p o holds answers answers' V mid new) → (ReadNoFile (own p) o.budget (V ++ c.outcome ∷ []) begun → same) →
     (d : CutsLines p o holds same begun answers' (entries o.plan answers (drop 24 V) ++ c.front)) × (d.back ≡ c.rest)
 one_cut p o holds same begun answers answers' V mid new h c untouched =
@@ -195,7 +195,7 @@ one_cut p o holds same begun answers answers' V mid new h c untouched =
 
 -- The run ends before the last declaration, or before its lines are all written. Where the next declaration reads no file, or its turns
 -- passed the budget, the files are as before it.
-module _ (p : Prepared) (o : Options) (holds : Option Content) (same same' : Type 0) (answers answers' : List Answer) (s : Bound) (n : ℕ) (old mid new : Option (List ℕ))
+module _ (p : Prepared) (o : Settings) (holds : Option Content) (same same' : Type 0) (answers answers' : List Answer) (s : Bound) (n : ℕ) (old mid new : Option (List ℕ))
     (g : Going p o holds same answers s n old mid) (more : same → NextReadsNoFile p o.budget (length answers) (outcomes s) → same') where
   abbrev V : Outcomes
   V = outcomes s
@@ -255,12 +255,12 @@ module _ (p : Prepared) (o : Options) (holds : Option Content) (same same' : Typ
         (d, λ none. some (sym is ∙ none))),
   )
 
-pub no_memory : (p : Prepared) (o : Options) (holds : Option Content) (same : Type 0) (before now : ℕ) (answers : List Answer) (old : Option (List ℕ)) → answers ≡ [] → same →
+pub no_memory : (p : Prepared) (o : Settings) (holds : Option Content) (same : Type 0) (before now : ℕ) (answers : List Answer) (old : Option (List ℕ)) → answers ≡ [] → same →
     EndsEarly p o holds same before now answers old old halts.Memory
 no_memory p o holds same before now answers old e there = ([], Appends-nil old, inl (e, refl, there))
 
 -- what holds before each position: what was gone over, and the same files, with counts for which no device is blamed
-pub record Before (p : Prepared) (o : Options) (h0 h : Option Content) (same : Type 0) (answers : List Answer) (s : Bound) (n count : ℕ) (old mid : Option (List ℕ))
+pub record Before (p : Prepared) (o : Settings) (h0 h : Option Content) (same : Type 0) (answers : List Answer) (s : Bound) (n count : ℕ) (old mid : Option (List ℕ))
     (quiet loud : Type 0) (f0 f k0 k : ℕ) : Type 0 where
   pub within : n ≤ count + 1
   pub going : Going p o h same answers s n old mid
@@ -268,7 +268,7 @@ pub record Before (p : Prepared) (o : Options) (h0 h : Option Content) (same : T
   pub files : Blames quiet ⊥ f0 f
   pub output : Blames loud ⊥ k0 k
 
-pub begins : (p : Prepared) (o : Options) (h0 h : Option Content) (same : Type 0) (answers : List Answer) (s : Bound) (count : ℕ) (old : Option (List ℕ)) (quiet loud : Type 0) (f0 f k0 : ℕ) →
+pub begins : (p : Prepared) (o : Settings) (h0 h : Option Content) (same : Type 0) (answers : List Answer) (s : Bound) (count : ℕ) (old : Option (List ℕ)) (quiet loud : Type 0) (f0 f k0 : ℕ) →
     IsPrepared p → Declared p 24 s → answers ≡ [] → count ≡ length p.decls.items.items → h ≡ h0 → f ≡ f0 → same →
     Before p o h0 h same answers s 25 count old old quiet loud f0 f k0 k0
 begins p o h0 h same answers s count old quiet loud f0 f k0 prepared made none is kept count_is there =
@@ -281,7 +281,7 @@ begins p o h0 h same answers s count old quiet loud f0 f k0 prepared made none i
       output = record { later = omega arith; failed = λ b. absurd b; noticed = λ q less. absurd (omega (arith, less)) };
     }
 
-pub goes_on : (p : Prepared) (o : Options) (h0 h h' : Option Content) (same same' : Type 0) (answers answers' : List Answer) (s s' : Bound) (n count : ℕ) (old mid new : Option (List ℕ))
+pub goes_on : (p : Prepared) (o : Settings) (h0 h h' : Option Content) (same same' : Type 0) (answers answers' : List Answer) (s s' : Bound) (n count : ℕ) (old mid new : Option (List ℕ))
     (quiet loud a b : Type 0) (f0 f f' k0 k k' : ℕ) → Before p o h0 h same answers s n count old mid quiet loud f0 f k0 k → n < count + 1 → Goes p o h answers answers' s s' mid new →
     (same → NextReadsNoFile p o.budget (length answers) (outcomes s) → same') → h' ≡ h → Blames quiet a f f' → (a → ⊥) → Blames loud b k k' → (b → ⊥) →
     Before p o h0 h' same' answers' s' (n + 1) count old new quiet loud f0 f' k0 k'
@@ -295,7 +295,7 @@ goes_on p o h0 h h' same same' answers answers' s s' n count old mid new quiet l
       output = blamed_then loud ⊥ ⊥ k0 k k' w.output (λ x. x) (blamed_as loud b ⊥ k k' never (λ x. absurd x) v);
     }
 
-pub ends_here : (p : Prepared) (o : Options) (h0 h : Option Content) (same same' : Type 0) (answers answers' : List Answer) (s : Bound) (n count : ℕ) (old mid new : Option (List ℕ))
+pub ends_here : (p : Prepared) (o : Settings) (h0 h : Option Content) (same same' : Type 0) (answers answers' : List Answer) (s : Bound) (n count : ℕ) (old mid new : Option (List ℕ))
     (quiet loud : Type 0) (f0 f f' k0 k : ℕ) (halt : Halt) → Before p o h0 h same answers s n count old mid quiet loud f0 f k0 k → f ≤ f' →
     (same → NextReadsNoFile p o.budget (length answers) (outcomes s) → same') → (same → IsOver halt → same') →
     Halts p o h f f' answers answers' (outcomes s) mid new halt → EndsEarly p o h0 same' f0 f' answers' old new halt
@@ -303,7 +303,7 @@ ends_here p o h0 h same same' answers answers' s n count old mid new quiet loud 
     subst (λ (z : Option Content). EndsEarly p o z same' f0 f' answers' old new halt) w.kept
     (ends_early p o h same same' answers answers' s n old mid new w.going more f f' f0 f' halt w.files.later (omega arith) over halts)
 
-pub all_here : (p : Prepared) (o : Options) (h0 h : Option Content) (same : Type 0) (answers : List Answer) (s : Bound) (n count : ℕ) (old mid : Option (List ℕ)) (quiet loud : Type 0)
+pub all_here : (p : Prepared) (o : Settings) (h0 h : Option Content) (same : Type 0) (answers : List Answer) (s : Bound) (n count : ℕ) (old mid : Option (List ℕ)) (quiet loud : Type 0)
     (f0 f k0 k : ℕ) → IsPrepared p → Before p o h0 h same answers s n count old mid quiet loud f0 f k0 k → count + 1 ≤ n → count ≡ length p.decls.items.items → AllAnswered p o h0 same answers old mid
 all_here p o h0 h same answers s n count old mid quiet loud f0 f k0 k prepared w ge is =
     let within = w.within in

@@ -1,3 +1,4 @@
+pub mod Settings
 pub mod Answered
 pub mod Steps
 pub mod AnsweredLaws

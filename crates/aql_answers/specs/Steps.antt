@@ -15,7 +15,7 @@ use Rattle.aql_script.specs.declared.preparing.Prepared.{Prepared}
 use Rattle.aql_session.specs.Bound.{Bound, outcomes, AreBound, earlier_of}
 use Rattle.aql_session.specs.Step.{IsOverTurns, ReadsNoFile}
 use Rattle.aql_session.specs.declared.answer.Answer.{Answer}
-use Rattle.aql_words.specs.declared.words.Options.{Options}
+use Rattle.aql_answers.specs.Settings.{Settings}
 use Rattle.aql_answers.specs.Answered.{AreAnswered, IsStopped, ReadNoFile, reached}
 use Rattle.aql_lines.specs.Entry.{entry, entries}
 use Rattle.aql_answers.specs.declared.steps.Halt.{Halt}
@@ -42,23 +42,23 @@ pub record Progress (p : Prepared) (budget : ℕ) (holds : Option Content) (answ
   pub answered : AreAnswered (own p) (sorts p) budget holds answers (outcomes s)
 
 -- one answer more, and its lines
-pub record Goes (p : Prepared) (options : Options) (holds : Option Content) (answers answers' : List Answer) (s s' : Bound) (old new : Option (List ℕ)) : Type 0 where
+pub record Goes (p : Prepared) (settings : Settings) (holds : Option Content) (answers answers' : List Answer) (s s' : Bound) (old new : Option (List ℕ)) : Type 0 where
   pub answer : Answer
   pub outcome : Option Datum
   pub longer : answers' ≡ answers ++ answer ∷ []
   pub outcomes : outcomes s' ≡ outcomes s ++ outcome ∷ []
-  pub progress : Progress p options.budget holds answers' s'
-  pub written : Appends old new (entry options.plan answer outcome)
+  pub progress : Progress p settings.budget holds answers' s'
+  pub written : Appends old new (entry settings.plan answer outcome)
 
 -- one answer more, and a front of its lines
-pub record CutsEntry (p : Prepared) (options : Options) (holds : Option Content) (answers answers' : List Answer) (V : Outcomes) (old new : Option (List ℕ)) : Type 0 where
+pub record CutsEntry (p : Prepared) (settings : Settings) (holds : Option Content) (answers answers' : List Answer) (V : Outcomes) (old new : Option (List ℕ)) : Type 0 where
   pub answer : Answer
   pub outcome : Option Datum
   pub longer : answers' ≡ answers ++ answer ∷ []
-  pub answered : AreAnswered (own p) (sorts p) options.budget holds answers' (V ++ outcome ∷ [])
+  pub answered : AreAnswered (own p) (sorts p) settings.budget holds answers' (V ++ outcome ∷ [])
   pub front : List ℕ
   pub rest : List ℕ
-  pub split : entry options.plan answer outcome ≡ front ++ rest
+  pub split : entry settings.plan answer outcome ≡ front ++ rest
   pub written : Appends old new front
 
 -- declaration k of a script, counted from 0, reads no file
@@ -71,11 +71,11 @@ pub record Stays (answers answers' : List Answer) (old new : Option (List ℕ)) 
   pub written : Appends old new []
 
 -- the next declaration was not answered, or its lines were not all written
-abbrev pub Halts : Prepared → Options → Option Content → (before now : ℕ) → (answers answers' : List Answer) → Outcomes → (old new : Option (List ℕ)) → Halt → Type 0
-Halts p options holds before now answers answers' V old new (halts.Fault f) =
-    Stays answers answers' old new × IsStopped (own p) options.budget holds before now (length answers) V f
-Halts p options holds before now answers answers' V old new halts.Memory = Stays answers answers' old new ⊎ CutsEntry p options holds answers answers' V old new
-Halts p options holds before now answers answers' V old new halts.Sink = (c : CutsEntry p options holds answers answers' V old new) × (c.rest ≢ [])
+abbrev pub Halts : Prepared → Settings → Option Content → (before now : ℕ) → (answers answers' : List Answer) → Outcomes → (old new : Option (List ℕ)) → Halt → Type 0
+Halts p settings holds before now answers answers' V old new (halts.Fault f) =
+    Stays answers answers' old new × IsStopped (own p) settings.budget holds before now (length answers) V f
+Halts p settings holds before now answers answers' V old new halts.Memory = Stays answers answers' old new ⊎ CutsEntry p settings holds answers answers' V old new
+Halts p settings holds before now answers answers' V old new halts.Sink = (c : CutsEntry p settings holds answers answers' V old new) × (c.rest ≢ [])
 
 -- the turns of the next declaration passed the budget
 abbrev pub IsOver : Halt → Type 0
@@ -97,7 +97,7 @@ pub record Declared (p : Prepared) (k : ℕ) (s : Bound) : Type 0 where
 
 -- The declarations so far were answered and their lines written; declaration n of the positions is next. Where none so far reads a file,
 -- the files are as before.
-pub record Going (p : Prepared) (o : Options) (holds : Option Content) (same : Type 0) (answers : List Answer) (s : Bound) (n : ℕ) (old now : Option (List ℕ)) : Type 0 where
+pub record Going (p : Prepared) (o : Settings) (holds : Option Content) (same : Type 0) (answers : List Answer) (s : Bound) (n : ℕ) (old now : Option (List ℕ)) : Type 0 where
   pub progress : Progress p o.budget holds answers s
   pub next : n ≡ 25 + length answers
   pub written : Appends old now (entries o.plan answers (drop 24 (outcomes s)))
@@ -105,7 +105,7 @@ pub record Going (p : Prepared) (o : Options) (holds : Option Content) (same : T
 
 -- Every declaration was answered, and the lines of all were written. Where none of them reads a file, the files are as before, as `same`
 -- says.
-pub record AllAnswered (p : Prepared) (o : Options) (holds : Option Content) (same : Type 0) (answers : List Answer) (old new : Option (List ℕ)) : Type 0 where
+pub record AllAnswered (p : Prepared) (o : Settings) (holds : Option Content) (same : Type 0) (answers : List Answer) (old new : Option (List ℕ)) : Type 0 where
   pub outcomes : Outcomes
   pub answered : AreAnswered (own p) (sorts p) o.budget holds answers outcomes
   pub all : length answers ≡ length (own p)
@@ -114,7 +114,7 @@ pub record AllAnswered (p : Prepared) (o : Options) (holds : Option Content) (sa
 
 -- These were answered, and all their lines but a back of the last one's were written. Where the first so many read no file, the files are
 -- as before.
-pub record CutsLines (p : Prepared) (o : Options) (holds : Option Content) (same : Type 0) (begun : ℕ) (answers : List Answer) (written : List ℕ) : Type 0 where
+pub record CutsLines (p : Prepared) (o : Settings) (holds : Option Content) (same : Type 0) (begun : ℕ) (answers : List Answer) (written : List ℕ) : Type 0 where
   pub outcomes : Outcomes
   pub answered : AreAnswered (own p) (sorts p) o.budget holds answers outcomes
   pub back : List ℕ
@@ -124,7 +124,7 @@ pub record CutsLines (p : Prepared) (o : Options) (holds : Option Content) (same
   pub untouched : ReadNoFile (own p) o.budget outcomes begun → same
 
 -- not all were answered, or not all lines written
-abbrev pub EndsEarly : Prepared → Options → Option Content → (same : Type 0) → (before now : ℕ) → List Answer → (old new : Option (List ℕ)) → Halt → Type 0
+abbrev pub EndsEarly : Prepared → Settings → Option Content → (same : Type 0) → (before now : ℕ) → List Answer → (old new : Option (List ℕ)) → Halt → Type 0
 EndsEarly p o holds same before now answers old new (halts.Fault f) =
     (V : Outcomes) × AreAnswered (own p) (sorts p) o.budget holds answers V × IsStopped (own p) o.budget holds before now (length answers) V f
     × Appends old new (entries o.plan answers (drop 24 V)) × (ReadNoFile (own p) o.budget V (reached f (length answers)) → same)

@@ -6,6 +6,7 @@ ghost use Rattle.aql_outside.specs.Causes.{Blames};
 ghost use Rattle.aql_words.specs.Words.{AreInRange};
 ghost use Rattle.aql_session.specs.Bound.{outcomes};
 ghost use Rattle.aql_lines.specs.Entry.{entry};
+ghost use Rattle.aql_answers.specs.Settings.{settings_of};
 ghost use Rattle.aql_answers.specs.Steps.{IsPrepared, Progress, Goes, Halts, IsNoFault, IsOver, Declared, NextReadsNoFile, AllAnswered, EndsEarly};
 ghost use Rattle.aql_lines.specs.Writing.{WritesFront};
 
@@ -44,9 +45,9 @@ pub fn answer_all<R: Threads + Sync, O: Sink, F: Files, G: Gate>(
     requires prepared { IsPrepared prepared.now }
     requires none { answers.old.items ≡ [] }
     requires options { AreInRange options.now }
-    ensures done { OnOk result (AllAnswered prepared.now options.now (F.holds files.old) (files.new ≡ files.old)
+    ensures done { OnOk result (AllAnswered prepared.now (settings_of options.now) (F.holds files.old) (files.new ≡ files.old)
         answers.new.items (O.holds output.old) (O.holds output.new)) }
-    ensures early { IfErr result (λ h. EndsEarly prepared.now options.now (F.holds files.old) (files.new ≡ files.old) (F.faults files.old)
+    ensures early { IfErr result (λ h. EndsEarly prepared.now (settings_of options.now) (F.holds files.old) (files.new ≡ files.old) (F.faults files.old)
         (F.faults files.new) answers.new.items (O.holds output.old) (O.holds output.new) h) }
     ensures kept { F.holds files.new ≡ F.holds files.old }
     ensures files { Blames F.quiet (IsErrOf result (Halt.Fault StepFault.Device)) (F.faults files.old) (F.faults files.new) }
@@ -158,8 +159,8 @@ pub(crate) fn answer_next<R: Threads + Sync, O: Sink, F: Files, G: Gate>(
     requires last { n ≤ length prepared.now.decls.items.items }
     requires so_far { Progress prepared.now options.now.budget (F.holds files.old) answers.old.items session.old }
     requires options { AreInRange options.now }
-    ensures goes { OnOk result (Goes prepared.now options.now (F.holds files.old) answers.old.items answers.new.items session.old session.new (O.holds output.old) (O.holds output.new)) }
-    ensures halts { IfErr result (λ h. Halts prepared.now options.now (F.holds files.old) (F.faults files.old) (F.faults files.new) answers.old.items answers.new.items (outcomes session.old) (O.holds output.old) (O.holds output.new) h) }
+    ensures goes { OnOk result (Goes prepared.now (settings_of options.now) (F.holds files.old) answers.old.items answers.new.items session.old session.new (O.holds output.old) (O.holds output.new)) }
+    ensures halts { IfErr result (λ h. Halts prepared.now (settings_of options.now) (F.holds files.old) (F.faults files.old) (F.faults files.new) answers.old.items answers.new.items (outcomes session.old) (O.holds output.old) (O.holds output.new) h) }
     ensures untouched { NextReadsNoFile prepared.now options.now.budget (length answers.old.items) (outcomes session.old) → files.new ≡ files.old }
     ensures unread { IfErr result (λ h. IsOver h → files.new ≡ files.old) }
     ensures kept { F.holds files.new ≡ F.holds files.old }

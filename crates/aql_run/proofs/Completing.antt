@@ -27,6 +27,7 @@ use Rattle.aql_session.specs.declared.answer.Answer.{Answer}
 use Rattle.aql_session.specs.declared.answer.StepFault.{StepFault}
 use Rattle.aql_session.specs.declared.answer.StepFault.TheVariants as faults
 use Rattle.aql_words.specs.Words.{options_of}
+use Rattle.aql_answers.specs.Settings.{settings_of}
 use Rattle.aql_answers.specs.Answered.{AreAnswered, reached}
 use Rattle.aql_answers.specs.AnsweredLaws.{told_at}
 use Rattle.aql_run.specs.Complete.{work_of, AreOutcomes, HaveTypings, IsWithin, IsSound, EndsWell, Lexed}
@@ -109,7 +110,7 @@ are_outcomes ds sorts budget holds answers V h = record {
 -- no declaration of a sound script has a fault but want of memory
 never_stops : (words : List (List ℕ)) (told : Told) (same : Type 0) (begun : ℕ) (taken lines given : List ℕ) (answers : List Answer) (f : StepFault) →
     IsScript (options_of words).sample told.left taken given → IsSound words given told.holds →
-    (Rose told.files_before told.files_now → ⊥) → (run : HasRun (options_of words) told same begun taken answers lines) → Stops run f → (f ≡ faults.Memory → ⊥) → ⊥
+    (Rose told.files_before told.files_now → ⊥) → (run : HasRun (settings_of (options_of words)) told same begun taken answers lines) → Stops run f → (f ≡ faults.Memory → ⊥) → ⊥
 never_stops words told same begun taken lines given answers f it h quiet run (d, there, cause) other =
     let the : run.script ≡ given = same_script (options_of words).sample told.left taken run.script given it run.is in
     let ds : h.ds ≡ run.ds = run.reads.1 h.ds (subst (λ (x : List ℕ). Reads x h.ds) (sym the) h.are) in
@@ -125,7 +126,7 @@ never_stops words told same begun taken lines given answers f it h quiet run (d,
 
 -- a script that is refused is the one of the run, with the reading that it has
 refuses_none : (words : List (List ℕ)) (told : Told) (same : Type 0) (taken given : List ℕ) (answers : List Answer) (stop : Stop) (lines line fault : List ℕ) (P : List ℕ → Type 0) →
-    IsScript (options_of words).sample told.left taken given → (h : IsSound words given told.holds) → Refuses (options_of words) told same taken answers stop lines line fault P →
+    IsScript (options_of words).sample told.left taken given → (h : IsSound words given told.holds) → Refuses (settings_of (options_of words)) told same taken answers stop lines line fault P →
     ((script : List ℕ) → Reads script h.ds → P script → ⊥) → ⊥
 refuses_none words told same taken given answers stop lines line fault P it h (script, is, p, _) never =
     let the : script ≡ given = same_script (options_of words).sample told.left taken script given it is in

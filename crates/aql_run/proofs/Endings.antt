@@ -19,6 +19,7 @@ use Rattle.aql_script.specs.declared.fault.ScriptFault.TheVariants as refused
 use Rattle.aql_session.specs.declared.answer.Answer.{Answer}
 use Rattle.aql_session.specs.declared.answer.StepFault.{StepFault}
 use Rattle.aql_session.specs.declared.answer.StepFault.TheVariants as faults
+use Rattle.aql_answers.specs.Settings.{Settings, settings_of}
 use Rattle.aql_answers.specs.Answered.{AreAnswered, IsStopped, ReadNoFile, reached}
 use Rattle.aql_answers.specs.AnsweredLaws.{are_values}
 use Rattle.aql_lines.specs.Entry.{entry, entries}
@@ -31,9 +32,9 @@ use Rattle.aql_status.specs.Codes.{code_of, status_is}
 use Rattle.aql_run.specs.Complete.{EndsWell, Lexed}
 use Rattle.aql_run.specs.Reading.{ReadsWhole, ReadFails}
 use Rattle.aql_run.specs.declared.reading.ReadFault.TheVariants as reading
-use Rattle.aql_run.specs.Outcome.{Told, told_of, IsPrefix, IsCut, IsScript, HasRun, CutsLast, stop_of, Writes, WritesAll, Serves, RunsWords, Passes}
+use Rattle.aql_run.specs.Outcome.{Told, IsPrefix, IsCut, IsScript, HasRun, CutsLast, stop_of, Writes, WritesAll, Serves, RunsWords}
 use Rattle.aql_run.proofs.Completing.{ends_well}
-use Rattle.aql_run.specs.Ending.{Answering, Answers, Asks, AsksSample, EndsWith, IsReady, Readies, Refused, Reported, Responds, Running, Samples, Serving, Stopped, refusal_line, stop_status, stop_line}
+use Rattle.aql_run.specs.Ending.{told_of, Passes, Answering, Answers, Asks, AsksSample, EndsWith, IsReady, Readies, Refused, Reported, Responds, Running, Samples, Serving, Stopped, refusal_line, stop_status, stop_line}
 use Rattle.aql_run.specs.declared.report.End.{End}
 use Rattle.aql_run.specs.declared.report.Stop.{Stop}
 use Rattle.aql_run.specs.declared.report.Stop.TheVariants as stops
@@ -67,7 +68,7 @@ pub is_prepared : (p : Prepared) → IsReady p → IsPrepared p
 unfolding IsReady
 is_prepared p h = h
 
-pub answering : (p : Prepared) (o : Options) (same : Type 0) (before now : ℕ) (holds : Option Content) (answers : List Answer) (old new : Option (List ℕ)) (r : Result (Unit {0}) Halt) →
+pub answering : (p : Prepared) (o : Settings) (same : Type 0) (before now : ℕ) (holds : Option Content) (answers : List Answer) (old new : Option (List ℕ)) (r : Result (Unit {0}) Halt) →
     OnOk r (AllAnswered p o holds same answers old new) → IfErr r (λ h. EndsEarly p o holds same before now answers old new h) → Answering p o same before now holds answers old new r
 unfolding Answering
 answering p o same before now holds answers old new r done early = (done, early)
@@ -84,7 +85,7 @@ entries_front plan (a ∷ answers) (o ∷ os) (suc k) =
     (rest, ap (λ l. entry plan a o ++ l) e ∙ sym (append_assoc (entry plan a o) (entries plan (take k answers) os) rest))
 
 -- a run with these answers
-has_run : (p : Prepared) (o : Options) (told : Told) (same : Type 0) (begun : ℕ) (taken script : List ℕ) (answers : List Answer) (V : Outcomes) → IsPrepared p →
+has_run : (p : Prepared) (o : Settings) (told : Told) (same : Type 0) (begun : ℕ) (taken script : List ℕ) (answers : List Answer) (V : Outcomes) → IsPrepared p →
     ReadsAlone script (own p) → IsScript o.sample told.left taken script → AreAnswered (own p) (sorts p) o.budget told.holds answers V →
     (ReadNoFile (own p) o.budget V begun → same) → HasRun o told same begun taken answers (entries o.plan answers (drop 24 V))
 has_run p o told same begun taken script answers V h reads is answered untouched = record {
@@ -104,7 +105,7 @@ has_run p o told same begun taken script answers V h reads is answered untouched
 }
 
 -- all the lines, and then a text of which nothing is a line
-cuts_behind : (p : Prepared) (o : Options) (told : Told) (same : Type 0) (begun : ℕ) (taken script : List ℕ) (answers : List Answer) (V : Outcomes) (more : List ℕ) → IsPrepared p →
+cuts_behind : (p : Prepared) (o : Settings) (told : Told) (same : Type 0) (begun : ℕ) (taken script : List ℕ) (answers : List Answer) (V : Outcomes) (more : List ℕ) → IsPrepared p →
     ReadsAlone script (own p) → IsScript o.sample told.left taken script → AreAnswered (own p) (sorts p) o.budget told.holds answers V →
     (ReadNoFile (own p) o.budget V begun → same) → IsPrefix more [] → CutsLast o told same begun taken answers (entries o.plan answers (drop 24 V) ++ more)
 unfolding has_run
@@ -122,7 +123,7 @@ cuts_behind p o told same begun taken script answers V more h reads is answered 
     }
 
 -- a front of the lines
-cuts : (p : Prepared) (o : Options) (told : Told) (same : Type 0) (begun : ℕ) (taken script : List ℕ) (answers : List Answer) (written : List ℕ) → IsPrepared p → ReadsAlone script (own p) →
+cuts : (p : Prepared) (o : Settings) (told : Told) (same : Type 0) (begun : ℕ) (taken script : List ℕ) (answers : List Answer) (written : List ℕ) → IsPrepared p → ReadsAlone script (own p) →
     IsScript o.sample told.left taken script → CutsLines p o told.holds same begun answers written → CutsLast o told same begun taken answers written
 unfolding has_run
 cuts p o told same begun taken script answers written h reads is c = record {
@@ -134,7 +135,7 @@ cuts p o told same begun taken script answers written h reads is c = record {
 
 -- ---- the ends of the run of the declarations
 
-ends_done : (p : Prepared) (o : Options) (same : Type 0) (before now : ℕ) (holds : Option Content) (answers : List Answer) (old new : Option (List ℕ)) → IsPrepared p →
+ends_done : (p : Prepared) (o : Settings) (same : Type 0) (before now : ℕ) (holds : Option Content) (answers : List Answer) (old new : Option (List ℕ)) → IsPrepared p →
     AllAnswered p o holds same answers old new → Answers p o same before now holds answers (record { status = status.Done; stop = stops.Done }) old new
 unfolding Answers Responds has_run
 ends_done p o same before now holds answers old new h all =
@@ -154,7 +155,7 @@ ends_done p o same before now holds answers old new h all =
       ),
     )
 
-ends_memory : (p : Prepared) (o : Options) (same : Type 0) (before now : ℕ) (holds : Option Content) (answers : List Answer) (old new : Option (List ℕ)) → IsPrepared p →
+ends_memory : (p : Prepared) (o : Settings) (same : Type 0) (before now : ℕ) (holds : Option Content) (answers : List Answer) (old new : Option (List ℕ)) → IsPrepared p →
     EndsEarly p o holds same before now answers old new halts.Memory → Answers p o same before now holds answers (record { status = status.Memory; stop = stops.Other }) old new
 unfolding Answers Responds
 ends_memory p o same before now holds answers old new h (written, appended, inl none) = λ script reads. (written, appended, λ input_before input_now left taken is. (refl, inl none))
@@ -166,7 +167,7 @@ ends_memory p o same before now holds answers old new h (written, appended, inr 
           (refl, inr (cuts p o (told_of input_before input_now left before now holds) same (length answers + 1) taken script answers written h reads is c)),
     )
 
-ends_sink : (p : Prepared) (o : Options) (same : Type 0) (before now : ℕ) (holds : Option Content) (answers : List Answer) (old new : Option (List ℕ)) → IsPrepared p →
+ends_sink : (p : Prepared) (o : Settings) (same : Type 0) (before now : ℕ) (holds : Option Content) (answers : List Answer) (old new : Option (List ℕ)) → IsPrepared p →
     EndsEarly p o holds same before now answers old new halts.Sink → Answers p o same before now holds answers (record { status = status.Output; stop = stops.Other }) old new
 unfolding Answers Responds cuts
 ends_sink p o same before now holds answers old new h (written, appended, (c, some)) =
@@ -180,12 +181,12 @@ ends_sink p o same before now holds answers old new h (written, appended, (c, so
 -- ---- the fault of a declaration
 
 -- what is written for it, or for want of memory nothing
-abbrev FaultWrites : StepFault → Options → Told → (same : Type 0) → (taken : List ℕ) → List Answer → (lines line : List ℕ) → Type 0
+abbrev FaultWrites : StepFault → Settings → Told → (same : Type 0) → (taken : List ℕ) → List Answer → (lines line : List ℕ) → Type 0
 FaultWrites f o told same taken answers lines line =
     Writes (stop_status f) o told same taken answers (stop_of f) lines line
     ⊎ ((stop_status f ≡ status.Memory) × (stop_of f ≡ stops.Other) × CutsLast o told same (length answers + 1) taken answers (lines ++ line))
 
-fault_writes : (p : Prepared) (o : Options) (told : Told) (same : Type 0) (taken script : List ℕ) (answers : List Answer) (V : Outcomes) (f : StepFault) → IsPrepared p →
+fault_writes : (p : Prepared) (o : Settings) (told : Told) (same : Type 0) (taken script : List ℕ) (answers : List Answer) (V : Outcomes) (f : StepFault) → IsPrepared p →
     ReadsAlone script (own p) → IsScript o.sample told.left taken script → AreAnswered (own p) (sorts p) o.budget told.holds answers V →
     IsStopped (own p) o.budget told.holds told.files_before told.files_now (length answers) V f → (ReadNoFile (own p) o.budget V (reached f (length answers)) → same) →
     FaultWrites f o told same taken answers (entries o.plan answers (drop 24 V)) (stop_line (length answers + 1) f)
@@ -202,7 +203,7 @@ fault_writes p o told same taken script answers V faults.Memory h reads is answe
     inr (refl, refl, cuts_behind p o told same (length answers + 1) taken script answers V [] h reads is answered untouched ([], refl))
 
 -- the statuses of faults serve what they write
-fault_serves : (f : StepFault) (o : Options) (told : Told) (same : Type 0) (taken : List ℕ) (answers : List Answer) (lines line : List ℕ) → FaultWrites f o told same taken answers lines line →
+fault_serves : (f : StepFault) (o : Settings) (told : Told) (same : Type 0) (taken : List ℕ) (answers : List Answer) (lines line : List ℕ) → FaultWrites f o told same taken answers lines line →
     Serves (stop_status f) o told same taken answers (stop_of f) (lines ++ line)
 fault_serves (faults.Query start plan trace) o told same taken answers lines line (inl w) = (lines, line, w, refl)
 fault_serves (faults.Query start plan trace) o told same taken answers lines line (inr (e, _, _)) = absurd cc
@@ -229,7 +230,7 @@ none_cut [] (rest, some, e) = some (sym e)
 none_cut (x ∷ front) (rest, some, e) = cc
 
 -- the sink failed behind a front of what is written for it
-fault_cut : (f : StepFault) (p : Prepared) (o : Options) (told : Told) (same : Type 0) (taken script : List ℕ) (answers : List Answer) (V : Outcomes) (front : List ℕ) → IsPrepared p →
+fault_cut : (f : StepFault) (p : Prepared) (o : Settings) (told : Told) (same : Type 0) (taken script : List ℕ) (answers : List Answer) (V : Outcomes) (front : List ℕ) → IsPrepared p →
     ReadsAlone script (own p) → IsScript o.sample told.left taken script → AreAnswered (own p) (sorts p) o.budget told.holds answers V →
     IsStopped (own p) o.budget told.holds told.files_before told.files_now (length answers) V f → (ReadNoFile (own p) o.budget V (reached f (length answers)) → same) →
     IsCut front (stop_line (length answers + 1) f) → Serves status.Output o told same taken answers stops.Other (entries o.plan answers (drop 24 V) ++ front)
@@ -243,7 +244,7 @@ fault_cut f p o told same taken script answers V front h reads is answered stopp
     by (inl w) = (refl, inr (stop_status f, stop_of f, lines, stop_line (length answers + 1) f, front, w, split, refl))
     by (inr (m, _, _)) = absurd (none_cut front (subst (IsCut front) (no_line f (length answers + 1) m) split))
 
-ends_fault : (p : Prepared) (o : Options) (same : Type 0) (before now : ℕ) (holds : Option Content) (answers : List Answer) (f : StepFault) (n : ℕ) (old mid new : Option (List ℕ)) (e : End) →
+ends_fault : (p : Prepared) (o : Settings) (same : Type 0) (before now : ℕ) (holds : Option Content) (answers : List Answer) (f : StepFault) (n : ℕ) (old mid new : Option (List ℕ)) (e : End) →
     IsPrepared p → EndsEarly p o holds same before now answers old mid (halts.Fault f) → n ≡ length answers + 1 → Stopped n f mid new e → Answers p o same before now holds answers e old new
 unfolding Answers Responds Stopped
 ends_fault p o same before now holds answers f n old mid new e h (V, answered, stopped, appended, untouched) is (line, more, ends) =
@@ -291,24 +292,24 @@ ends_fault p o same before now holds answers f n old mid new e h (V, answered, s
 
 -- ---- the same of what the call answered
 
-pub answers_done : (p : Prepared) (o : Options) (same : Type 0) (before now : ℕ) (holds : Option Content) (answers : List Answer) (old new : Option (List ℕ)) (u : Unit {0}) → IsReady p →
+pub answers_done : (p : Prepared) (o : Settings) (same : Type 0) (before now : ℕ) (holds : Option Content) (answers : List Answer) (old new : Option (List ℕ)) (u : Unit {0}) → IsReady p →
     Answering p o same before now holds answers old new (Ok u) → Answers p o same before now holds answers (record { status = status.Done; stop = stops.Done }) old new
 unfolding IsReady Answering
 answers_done p o same before now holds answers old new u h (all, _) = ends_done p o same before now holds answers old new h all
 
-pub answers_memory : (p : Prepared) (o : Options) (same : Type 0) (before now : ℕ) (holds : Option Content) (answers : List Answer) (old new : Option (List ℕ)) (halt : Halt) → halt ≡ halts.Memory →
+pub answers_memory : (p : Prepared) (o : Settings) (same : Type 0) (before now : ℕ) (holds : Option Content) (answers : List Answer) (old new : Option (List ℕ)) (halt : Halt) → halt ≡ halts.Memory →
     IsReady p → Answering p o same before now holds answers old new (Err halt) → Answers p o same before now holds answers (record { status = status.Memory; stop = stops.Other }) old new
 unfolding IsReady Answering
 answers_memory p o same before now holds answers old new halt is h (_, early) =
     ends_memory p o same before now holds answers old new h (subst (λ (x : Halt). EndsEarly p o holds same before now answers old new x) is early)
 
-pub answers_sink : (p : Prepared) (o : Options) (same : Type 0) (before now : ℕ) (holds : Option Content) (answers : List Answer) (old new : Option (List ℕ)) (halt : Halt) → halt ≡ halts.Sink →
+pub answers_sink : (p : Prepared) (o : Settings) (same : Type 0) (before now : ℕ) (holds : Option Content) (answers : List Answer) (old new : Option (List ℕ)) (halt : Halt) → halt ≡ halts.Sink →
     IsReady p → Answering p o same before now holds answers old new (Err halt) → Answers p o same before now holds answers (record { status = status.Output; stop = stops.Other }) old new
 unfolding IsReady Answering
 answers_sink p o same before now holds answers old new halt is h (_, early) =
     ends_sink p o same before now holds answers old new h (subst (λ (x : Halt). EndsEarly p o holds same before now answers old new x) is early)
 
-pub answers_fault : (p : Prepared) (o : Options) (same : Type 0) (before now : ℕ) (holds : Option Content) (answers : List Answer) (f : StepFault) (n : ℕ) (old mid new : Option (List ℕ)) (e : End)
+pub answers_fault : (p : Prepared) (o : Settings) (same : Type 0) (before now : ℕ) (holds : Option Content) (answers : List Answer) (f : StepFault) (n : ℕ) (old mid new : Option (List ℕ)) (e : End)
     (halt : Halt) → halt ≡ halts.Fault f → IsReady p → Answering p o same before now holds answers old mid (Err halt) → n ≡ length answers + 1 → Stopped n f mid new e →
     Answers p o same before now holds answers e old new
 unfolding IsReady Answering
@@ -330,7 +331,7 @@ stopped_as n f old new line wanted s e st ln no_output no_memory (written, appen
 -- ---- the fault of a script, and of the source
 
 -- one line was written, or a front of it, or there was no memory for it
-served : (o : Options) (told : Told) (same : Type 0) (taken : List ℕ) (answers : List Answer) (line : List ℕ) (wanted s : Status) (written : List ℕ) → answers ≡ [] → same →
+served : (o : Settings) (told : Told) (same : Type 0) (taken : List ℕ) (answers : List Answer) (line : List ℕ) (wanted s : Status) (written : List ℕ) → answers ≡ [] → same →
     Writes wanted o told same taken answers stops.Other [] line →
     ((w : List ℕ) → WritesAll wanted o told same taken answers stops.Other w → Serves wanted o told same taken answers stops.Other w) →
     (((s ≡ wanted) × (written ≡ line)) ⊎ (((s ≡ status.Output) × IsCut written line) ⊎ ((s ≡ status.Memory) × (written ≡ [])))) →
@@ -378,7 +379,7 @@ unfolding Stopped
 stopped_memory n old = ([], Appends-nil old, inl (refl, refl, refl))
 
 -- of a script with a fault
-refuses_with : (o : Options) (script : List ℕ) (same : Type 0) (before now : ℕ) (holds : Option Content) (answers : List Answer) (line : List ℕ) (wanted s : Status) (old new : Option (List ℕ)) →
+refuses_with : (o : Settings) (script : List ℕ) (same : Type 0) (before now : ℕ) (holds : Option Content) (answers : List Answer) (line : List ℕ) (wanted s : Status) (old new : Option (List ℕ)) →
     answers ≡ [] → same → ((told : Told) (taken : List ℕ) → IsScript o.sample told.left taken script → Writes wanted o told same taken answers stops.Other [] line) →
     ((told : Told) (taken w : List ℕ) → WritesAll wanted o told same taken answers stops.Other w → Serves wanted o told same taken answers stops.Other w) → EndsWith old new line wanted s →
     Responds o script same before now holds answers (record { status = s; stop = stops.Other }) old new
@@ -390,7 +391,7 @@ refuses_with o script same before now holds answers line wanted s old new none t
       (writes (told_of input_before input_now left before now holds) taken is) (serves (told_of input_before input_now left before now holds) taken) ends,
 )
 
-ends_refused : (o : Options) (script : List ℕ) (f : ScriptFault) (same : Type 0) (before now : ℕ) (holds : Option Content) (answers : List Answer) (s : Status) (old new : Option (List ℕ)) →
+ends_refused : (o : Settings) (script : List ℕ) (f : ScriptFault) (same : Type 0) (before now : ℕ) (holds : Option Content) (answers : List Answer) (s : Status) (old new : Option (List ℕ)) →
     answers ≡ [] → same → Prepares script (Err f) → Refused f old new s → Responds o script same before now holds answers (record { status = s; stop = stops.Other }) old new
 unfolding Responds Refused
 ends_refused o script (refused.Text k) same before now holds answers s old new none there h ends =
@@ -419,19 +420,19 @@ ends_refused o script refused.Memory same before now holds answers s old new non
 )
 
 -- a script that was read
-pub responds : (script : List ℕ) (p : Prepared) (o : Options) (same : Type 0) (before now : ℕ) (holds : Option Content) (answers : List Answer) (e : End) (old new : Option (List ℕ)) →
+pub responds : (script : List ℕ) (p : Prepared) (o : Settings) (same : Type 0) (before now : ℕ) (holds : Option Content) (answers : List Answer) (e : End) (old new : Option (List ℕ)) →
     Readies script (Ok p) → Answers p o same before now holds answers e old new → Responds o script same before now holds answers e old new
 unfolding Readies Answers
 responds script p o same before now holds answers e old new h answered = let (_, reads) = prepared_is script p h in answered script reads
 
 -- a script that was refused
-pub responds_refused : (script : List ℕ) (f : ScriptFault) (o : Options) (same : Type 0) (before now : ℕ) (holds : Option Content) (answers : List Answer) (s : Status) (old new : Option (List ℕ)) →
+pub responds_refused : (script : List ℕ) (f : ScriptFault) (o : Settings) (same : Type 0) (before now : ℕ) (holds : Option Content) (answers : List Answer) (s : Status) (old new : Option (List ℕ)) →
     answers ≡ [] → same → Readies script (Err f) → Refused f old new s → Responds o script same before now holds answers (record { status = s; stop = stops.Other }) old new
 unfolding Readies
 responds_refused script f o same before now holds answers s old new none there h ends = ends_refused o script f same before now holds answers s old new none there h ends
 
 -- of the source
-pub ends_long : (o : Options) (same : Type 0) (input_before input_now before now : ℕ) (content : Option Content) (left left' holds holds' : Option (List ℕ)) (answers : List Answer) (s : Status) →
+pub ends_long : (o : Settings) (same : Type 0) (input_before input_now before now : ℕ) (content : Option Content) (left left' holds holds' : Option (List ℕ)) (answers : List Answer) (s : Status) →
     o.sample ≡ None → answers ≡ [] → same → ReadFails left left' reading.Long → EndsWith holds holds' (codes "fault long\n") status.Long s →
     Serving o same input_before input_now before now content answers (record { status = s; stop = stops.Other }) left left' holds holds'
 unfolding Serving
@@ -446,7 +447,7 @@ ends_long o same input_before input_now before now content left left' holds hold
           (sample, more, (none, refl, refl, refl, there)) (λ w x. x) ends,
     )
 
-pub ends_input : (o : Options) (same : Type 0) (input_before input_now before now : ℕ) (content : Option Content) (left left' holds holds' : Option (List ℕ)) (answers : List Answer) (s : Status) →
+pub ends_input : (o : Settings) (same : Type 0) (input_before input_now before now : ℕ) (content : Option Content) (left left' holds holds' : Option (List ℕ)) (answers : List Answer) (s : Status) →
     o.sample ≡ None → answers ≡ [] → same → ReadFails left left' reading.Failed → Rose input_before input_now → EndsWith holds holds' (codes "fault input\n") status.Input s →
     Serving o same input_before input_now before now content answers (record { status = s; stop = stops.Other }) left left' holds holds'
 unfolding Serving
@@ -460,7 +461,7 @@ ends_input o same input_before input_now before now content left left' holds hol
       (sample, short, rose, (none, refl, refl, refl, there)) (λ w x. x) ends,
 )
 
-pub ends_unread : (o : Options) (same : Type 0) (input_before input_now before now : ℕ) (content : Option Content) (left left' holds : Option (List ℕ)) (answers : List Answer) → answers ≡ [] →
+pub ends_unread : (o : Settings) (same : Type 0) (input_before input_now before now : ℕ) (content : Option Content) (left left' holds : Option (List ℕ)) (answers : List Answer) → answers ≡ [] →
     same → ReadFails left left' reading.Memory → Serving o same input_before input_now before now content answers (record { status = status.Memory; stop = stops.Other }) left left' holds holds
 unfolding Serving
 ends_unread o same input_before input_now before now content left left' holds answers none there (taken, consumed, few) =
@@ -468,7 +469,7 @@ ends_unread o same input_before input_now before now content left left' holds an
 
 -- ---- a script of the source, and the built-in one
 
-pub ends_read : (o : Options) (script : List ℕ) (same : Type 0) (input_before input_now before now : ℕ) (content : Option Content) (left left' holds holds' : Option (List ℕ)) (answers : List Answer) (e : End) →
+pub ends_read : (o : Settings) (script : List ℕ) (same : Type 0) (input_before input_now before now : ℕ) (content : Option Content) (left left' holds holds' : Option (List ℕ)) (answers : List Answer) (e : End) →
     o.sample ≡ None → ReadsWhole left left' script → (text : List ℕ) → text ≡ script → Responds o text same before now content answers e holds holds' →
     Serving o same input_before input_now before now content answers e left left' holds holds'
 unfolding Serving Responds
@@ -481,17 +482,17 @@ ends_read o script same input_before input_now before now content left left' hol
   serves input_before input_now left' script (subst (λ (x : Option ℕ). IsScript x left' script text) (sym sample) (is, (few, atend))),
 )
 
-pub samples : (n : ℕ) (script : List ℕ) (o : Options) (same : Type 0) (before now : ℕ) (holds : Option Content) (answers : List Answer) (e : End) (old new : Option (List ℕ)) → script ≡ sample_text n →
+pub samples : (n : ℕ) (script : List ℕ) (o : Settings) (same : Type 0) (before now : ℕ) (holds : Option Content) (answers : List Answer) (e : End) (old new : Option (List ℕ)) → script ≡ sample_text n →
     Responds o script same before now holds answers e old new → Samples n o same before now holds answers e old new
 unfolding Samples
 samples n script o same before now holds answers e old new is h = subst (λ (x : List ℕ). Responds o x same before now holds answers e old new) is h
 
-pub ends_unmade : (n : ℕ) (o : Options) (same : Type 0) (before now : ℕ) (holds : Option Content) (answers : List Answer) (old : Option (List ℕ)) → answers ≡ [] → same →
+pub ends_unmade : (n : ℕ) (o : Settings) (same : Type 0) (before now : ℕ) (holds : Option Content) (answers : List Answer) (old : Option (List ℕ)) → answers ≡ [] → same →
     Samples n o same before now holds answers (record { status = status.Memory; stop = stops.Other }) old old
 unfolding Samples Responds
 ends_unmade n o same before now holds answers old none there = ([], Appends-nil old, λ input_before input_now left taken is. (refl, inl (none, refl, there)))
 
-pub ends_sample : (o : Options) (n : ℕ) (same : Type 0) (input_before before now : ℕ) (content : Option Content) (left holds holds' : Option (List ℕ)) (answers : List Answer) (e : End) →
+pub ends_sample : (o : Settings) (n : ℕ) (same : Type 0) (input_before before now : ℕ) (content : Option Content) (left holds holds' : Option (List ℕ)) (answers : List Answer) (e : End) →
     o.sample ≡ Some n → Samples n o same before now content answers e holds holds' → Serving o same input_before input_before before now content answers e left left holds holds'
 unfolding Serving Samples Responds
 ends_sample o n same input_before before now content left holds holds' answers e sample (written, appended, serves) = (
@@ -505,26 +506,26 @@ ends_sample o n same input_before before now content left holds holds' answers e
 
 -- ---- the words
 
-runs : (s : Status) (words : List (List ℕ)) (o : Options) (told : Told) (same : Type 0) (taken : List ℕ) (answers : List Answer) (stop : Stop) (written : List ℕ) → HasReading words → o ≡ options_of words →
+runs : (s : Status) (words : List (List ℕ)) (o : Settings) (told : Told) (same : Type 0) (taken : List ℕ) (answers : List Answer) (stop : Stop) (written : List ℕ) → HasReading words → o ≡ settings_of (options_of words) →
     Serves s o told same taken answers stop written → RunsWords s words told same taken answers stop written
 runs status.Usage words o told same taken answers stop written reads is h = absurd h
-runs status.Memory words o told same taken answers stop written reads is h = inr (reads, subst (λ (x : Options). Serves status.Memory x told same taken answers stop written) is h)
-runs status.Done words o told same taken answers stop written reads is h = (reads, subst (λ (x : Options). Serves status.Done x told same taken answers stop written) is h)
-runs status.Text words o told same taken answers stop written reads is h = (reads, subst (λ (x : Options). Serves status.Text x told same taken answers stop written) is h)
-runs status.Syntax words o told same taken answers stop written reads is h = (reads, subst (λ (x : Options). Serves status.Syntax x told same taken answers stop written) is h)
-runs status.Type words o told same taken answers stop written reads is h = (reads, subst (λ (x : Options). Serves status.Type x told same taken answers stop written) is h)
-runs status.Deep words o told same taken answers stop written reads is h = (reads, subst (λ (x : Options). Serves status.Deep x told same taken answers stop written) is h)
-runs status.Large words o told same taken answers stop written reads is h = (reads, subst (λ (x : Options). Serves status.Large x told same taken answers stop written) is h)
-runs status.Long words o told same taken answers stop written reads is h = (reads, subst (λ (x : Options). Serves status.Long x told same taken answers stop written) is h)
-runs status.File words o told same taken answers stop written reads is h = (reads, subst (λ (x : Options). Serves status.File x told same taken answers stop written) is h)
-runs status.Input words o told same taken answers stop written reads is h = (reads, subst (λ (x : Options). Serves status.Input x told same taken answers stop written) is h)
-runs status.Output words o told same taken answers stop written reads is h = (reads, subst (λ (x : Options). Serves status.Output x told same taken answers stop written) is h)
-runs status.Spent words o told same taken answers stop written reads is h = (reads, subst (λ (x : Options). Serves status.Spent x told same taken answers stop written) is h)
-runs status.Files words o told same taken answers stop written reads is h = (reads, subst (λ (x : Options). Serves status.Files x told same taken answers stop written) is h)
-runs status.Unbuilt words o told same taken answers stop written reads is h = (reads, subst (λ (x : Options). Serves status.Unbuilt x told same taken answers stop written) is h)
+runs status.Memory words o told same taken answers stop written reads is h = inr (reads, subst (λ (x : Settings). Serves status.Memory x told same taken answers stop written) is h)
+runs status.Done words o told same taken answers stop written reads is h = (reads, subst (λ (x : Settings). Serves status.Done x told same taken answers stop written) is h)
+runs status.Text words o told same taken answers stop written reads is h = (reads, subst (λ (x : Settings). Serves status.Text x told same taken answers stop written) is h)
+runs status.Syntax words o told same taken answers stop written reads is h = (reads, subst (λ (x : Settings). Serves status.Syntax x told same taken answers stop written) is h)
+runs status.Type words o told same taken answers stop written reads is h = (reads, subst (λ (x : Settings). Serves status.Type x told same taken answers stop written) is h)
+runs status.Deep words o told same taken answers stop written reads is h = (reads, subst (λ (x : Settings). Serves status.Deep x told same taken answers stop written) is h)
+runs status.Large words o told same taken answers stop written reads is h = (reads, subst (λ (x : Settings). Serves status.Large x told same taken answers stop written) is h)
+runs status.Long words o told same taken answers stop written reads is h = (reads, subst (λ (x : Settings). Serves status.Long x told same taken answers stop written) is h)
+runs status.File words o told same taken answers stop written reads is h = (reads, subst (λ (x : Settings). Serves status.File x told same taken answers stop written) is h)
+runs status.Input words o told same taken answers stop written reads is h = (reads, subst (λ (x : Settings). Serves status.Input x told same taken answers stop written) is h)
+runs status.Output words o told same taken answers stop written reads is h = (reads, subst (λ (x : Settings). Serves status.Output x told same taken answers stop written) is h)
+runs status.Spent words o told same taken answers stop written reads is h = (reads, subst (λ (x : Settings). Serves status.Spent x told same taken answers stop written) is h)
+runs status.Files words o told same taken answers stop written reads is h = (reads, subst (λ (x : Settings). Serves status.Files x told same taken answers stop written) is h)
+runs status.Unbuilt words o told same taken answers stop written reads is h = (reads, subst (λ (x : Settings). Serves status.Unbuilt x told same taken answers stop written) is h)
 
-words_run : (words : List (List ℕ)) (o : Options) (same : Type 0) (input_before input_now before now : ℕ) (content : Option Content) (answers : List Answer) (e : End) (left left' holds holds' : Option (List ℕ)) →
-    HasReading words → o ≡ options_of words → Serving o same input_before input_now before now content answers e left left' holds holds' →
+words_run : (words : List (List ℕ)) (o : Settings) (same : Type 0) (input_before input_now before now : ℕ) (content : Option Content) (answers : List Answer) (e : End) (left left' holds holds' : Option (List ℕ)) →
+    HasReading words → o ≡ settings_of (options_of words) → Serving o same input_before input_now before now content answers e left left' holds holds' →
     Running words same input_before input_now before now content answers e left left' holds holds'
 unfolding Serving Running
 words_run words o same input_before input_now before now content answers e left left' holds holds' reads is (taken, written, consumed, appended, few, h) =
@@ -551,11 +552,11 @@ unfolding Asks AsksSample
 asks_sample words o n ((reads, is), _) a = ap (λ (x : Options). x.sample) is ∙ a
 
 pub options_run : (words : List (List ℕ)) (o : Options) (same : Type 0) (input_before input_now before now : ℕ) (content : Option Content) (answers : List Answer) (e : End) (left left' holds holds' : Option (List ℕ)) →
-    Asks words (Ok o) → Serving o same input_before input_now before now content answers e left left' holds holds' →
+    Asks words (Ok o) → Serving (settings_of o) same input_before input_now before now content answers e left left' holds holds' →
     Running words same input_before input_now before now content answers e left left' holds holds'
 unfolding Asks
 options_run words o same input_before input_now before now content answers e left left' holds holds' ((reads, is), _) h =
-    words_run words o same input_before input_now before now content answers e left left' holds holds' reads is h
+    words_run words (settings_of o) same input_before input_now before now content answers e left left' holds holds' reads (ap settings_of is) h
 
 pub words_refused : (words : List (List ℕ)) (f : WordFault) (same : Type 0) (input_before before : ℕ) (content : Option Content) (answers : List Answer) (left holds : Option (List ℕ)) → f ≡ wording.Usage →
     answers ≡ [] → same → Asks words (Err f) →
@@ -565,7 +566,7 @@ words_refused words f same input_before before content answers left holds is non
     no_words words same input_before before content answers left holds none there (usage (ap Err is))
 
 -- a run whose words have a reading does not end with that fault
-pub never_usage : (o : Options) (same : Type 0) (input_before input_now before now : ℕ) (content : Option Content) (answers : List Answer) (e : End) (left left' holds holds' : Option (List ℕ)) →
+pub never_usage : (o : Settings) (same : Type 0) (input_before input_now before now : ℕ) (content : Option Content) (answers : List Answer) (e : End) (left left' holds holds' : Option (List ℕ)) →
     Serving o same input_before input_now before now content answers e left left' holds holds' → e.status ≡ status.Usage → ⊥
 unfolding Serving
 never_usage o same input_before input_now before now content answers e left left' holds holds' (taken, written, consumed, appended, few, h) is =

@@ -1,6 +1,6 @@
 -- What the functions within this crate say of the end of a run.
-use Rattle.std.specs.Prelude.{◌≡◌, ◌⊎◌, ℕ, List, [], Option, Some, Result, codes, OnOk, IfOk, IfErr, IsErrOf}
-use Rattle.std.specs.Io.KnownBytes.{Appends}
+use Rattle.std.specs.Prelude.{◌≡◌, ◌≤◌, ◌⊎◌, ℕ, List, [], Option, Some, Result, codes, length, OnOk, IfOk, IfErr, IsErrOf}
+use Rattle.std.specs.Io.KnownBytes.{Appends, Consumes}
 use Rattle.aql_outside.specs.Contents.{Content}
 use Rattle.aql_session.specs.declared.answer.Answer.{Answer}
 use Rattle.aql_session.specs.declared.answer.StepFault.{StepFault}
@@ -15,15 +15,31 @@ use Rattle.aql_script.specs.declared.fault.ScriptFault.TheVariants as refused
 use Rattle.aql_script.specs.Script.{Prepares, ReadsAlone}
 use Rattle.aql_lines.specs.Lines.{at_byte, in_declaration, of_file}
 use Rattle.aql_lines.specs.Sample.{sample_text}
+use Rattle.aql_answers.specs.Settings.{Settings}
 use Rattle.aql_answers.specs.Steps.{own, IsPrepared, AllAnswered, EndsEarly}
 use Rattle.aql_answers.specs.declared.steps.Halt.{Halt}
 use Rattle.aql_status.specs.Codes.{code_of}
-use Rattle.aql_run.specs.Outcome.{IsCut, IsScript, Passes, RunsWords, Serves, stop_of, told_of}
+use Rattle.aql_run.specs.Outcome.{Told, IsCut, IsScript, RunsWords, Serves, stop_of}
 use Rattle.aql_run.specs.declared.report.End.{End}
 use Rattle.aql_run.specs.declared.report.Stop.{Stop}
 use Rattle.aql_run.specs.declared.report.Stop.TheVariants as stops
 use Rattle.aql_status.specs.declared.status.Status.{Status}
 use Rattle.aql_status.specs.declared.status.Status.TheVariants as status
+
+abbrev pub told_of : (input_before input_now : ℕ) → (left : Option (List ℕ)) → (files_before files_now : ℕ) → Option Content → Told
+told_of input_before input_now left files_before files_now holds = record {
+  input_before = input_before;
+  input_now = input_now;
+  left = left;
+  files_before = files_before;
+  files_now = files_now;
+  holds = holds;
+}
+
+-- The bytes that a call took from the source, at most 1,048,577, and gave to the sink, by what these tell before and after it.
+-- Where a device tells nothing, they are some bytes.
+abbrev pub Passes : (List ℕ → List ℕ → Type 0) → Option (List ℕ) → Option (List ℕ) → Option (List ℕ) → Option (List ℕ) → Type 0
+Passes P left left' holds holds' = (taken written : List ℕ) × Consumes left left' taken × Appends holds holds' written × (length taken ≤ 1048577) × P taken written
 
 -- What the calls below say, each under a word that no proof opens by itself: a script's positions hold the whole prelude, and the
 -- words those of the command.
@@ -45,7 +61,7 @@ unfoldable pub IsReady : Prepared → Type 0
 IsReady p = IsPrepared p
 
 -- the declarations were answered, or the first ones
-unfoldable pub Answering : Prepared → Options → (same : Type 0) → (files_before files_now : ℕ) → Option Content → List Answer → (old new : Option (List ℕ)) →
+unfoldable pub Answering : Prepared → Settings → (same : Type 0) → (files_before files_now : ℕ) → Option Content → List Answer → (old new : Option (List ℕ)) →
     Result (Unit {0}) Halt → Type 0
 Answering p o same before now holds answers old new r =
     OnOk r (AllAnswered p o holds same answers old new) × IfErr r (λ h. EndsEarly p o holds same before now answers old new h)
@@ -99,28 +115,28 @@ Stopped n f old new e = (written : List ℕ) × Appends old new written
     ⊎ ((e.status ≡ status.Memory) × (e.stop ≡ stops.Other) × (written ≡ []))))
 
 -- what was written for a script, whatever was taken for it
-unfoldable pub Responds : Options → (script : List ℕ) → (same : Type 0) → (files_before files_now : ℕ) → Option Content → List Answer → End →
+unfoldable pub Responds : Settings → (script : List ℕ) → (same : Type 0) → (files_before files_now : ℕ) → Option Content → List Answer → End →
     Option (List ℕ) → Option (List ℕ) → Type 0
-Responds options script same files_before files_now holds answers e old new = (written : List ℕ) × Appends old new written
-    × ((input_before input_now : ℕ) (left : Option (List ℕ)) (taken : List ℕ) → IsScript options.sample left taken script →
-    Serves e.status options (told_of input_before input_now left files_before files_now holds) same taken answers e.stop written)
+Responds settings script same files_before files_now holds answers e old new = (written : List ℕ) × Appends old new written
+    × ((input_before input_now : ℕ) (left : Option (List ℕ)) (taken : List ℕ) → IsScript settings.sample left taken script →
+    Serves e.status settings (told_of input_before input_now left files_before files_now holds) same taken answers e.stop written)
 
 -- what was written for a script with these declarations
-unfoldable pub Answers : Prepared → Options → (same : Type 0) → (files_before files_now : ℕ) → Option Content → List Answer → End →
+unfoldable pub Answers : Prepared → Settings → (same : Type 0) → (files_before files_now : ℕ) → Option Content → List Answer → End →
     Option (List ℕ) → Option (List ℕ) → Type 0
-Answers p options same files_before files_now holds answers e old new =
-    (script : List ℕ) → ReadsAlone script (own p) → Responds options script same files_before files_now holds answers e old new
+Answers p settings same files_before files_now holds answers e old new =
+    (script : List ℕ) → ReadsAlone script (own p) → Responds settings script same files_before files_now holds answers e old new
 
 -- what was written for the built-in script of n cells
-unfoldable pub Samples : ℕ → Options → (same : Type 0) → (files_before files_now : ℕ) → Option Content → List Answer → End →
+unfoldable pub Samples : ℕ → Settings → (same : Type 0) → (files_before files_now : ℕ) → Option Content → List Answer → End →
     Option (List ℕ) → Option (List ℕ) → Type 0
-Samples n options same files_before files_now holds answers e old new = Responds options (sample_text n) same files_before files_now holds answers e old new
+Samples n settings same files_before files_now holds answers e old new = Responds settings (sample_text n) same files_before files_now holds answers e old new
 
--- what was taken from the source and written by a run with these options
-unfoldable pub Serving : Options → (same : Type 0) → (input_before input_now files_before files_now : ℕ) → Option Content → List Answer → End →
+-- what was taken from the source and written by a run with these settings
+unfoldable pub Serving : Settings → (same : Type 0) → (input_before input_now files_before files_now : ℕ) → Option Content → List Answer → End →
     (left left' holds holds' : Option (List ℕ)) → Type 0
-Serving options same input_before input_now files_before files_now content answers e left left' holds holds' =
-    Passes (λ taken written. Serves e.status options (told_of input_before input_now left' files_before files_now content) same taken answers e.stop written)
+Serving settings same input_before input_now files_before files_now content answers e left left' holds holds' =
+    Passes (λ taken written. Serves e.status settings (told_of input_before input_now left' files_before files_now content) same taken answers e.stop written)
     left left' holds holds'
 
 -- the same of a run with these words

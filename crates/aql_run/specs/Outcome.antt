@@ -1,6 +1,6 @@
 -- What a run did, over the words, the bytes that it took from the source and gave to the sink, and the files.
 use Rattle.std.specs.Prelude.{◌≡◌, ◌≢◌, ◌≤◌, ◌<◌, ◌+◌, ◌-◌, ◌⊎◌, ℕ, List, [], ◌++◌, Option, Some, None, length, take, drop, codes}
-use Rattle.std.specs.Io.KnownBytes.{Consumes, Appends, IsAtEnd}
+use Rattle.std.specs.Io.KnownBytes.{IsAtEnd}
 use Rattle.std.specs.Option.{ForSome}
 use Rattle.aql_outside.specs.Causes.{Rose}
 use Rattle.aql_outside.specs.Contents.{Content}
@@ -19,7 +19,7 @@ use Rattle.aql_session.specs.declared.answer.Answer.{Answer}
 use Rattle.aql_session.specs.declared.answer.StepFault.{StepFault}
 use Rattle.aql_session.specs.declared.answer.StepFault.TheVariants as faults
 use Rattle.aql_words.specs.Words.{HasReading, options_of}
-use Rattle.aql_words.specs.declared.words.Options.{Options}
+use Rattle.aql_answers.specs.Settings.{Settings, settings_of}
 use Rattle.aql_answers.specs.Answered.{AreAnswered, IsStopped, ReadNoFile, reached}
 use Rattle.aql_lines.specs.Entry.{entries}
 use Rattle.aql_lines.specs.Lines.{at_byte, in_declaration, of_file}
@@ -38,16 +38,6 @@ pub record Told : Type 0 where
   pub files_before : ℕ
   pub files_now : ℕ
   pub holds : Option Content
-
-abbrev pub told_of : (input_before input_now : ℕ) → (left : Option (List ℕ)) → (files_before files_now : ℕ) → Option Content → Told
-told_of input_before input_now left files_before files_now holds = record {
-  input_before = input_before;
-  input_now = input_now;
-  left = left;
-  files_before = files_before;
-  files_now = files_now;
-  holds = holds;
-}
 
 -- the bytes of a list are at its front
 abbrev pub IsPrefix : List ℕ → List ℕ → Type 0
@@ -70,26 +60,26 @@ IsScript (Some n) left taken script = (taken ≡ []) × (script ≡ sample_text 
 -- first declarations have these answers, which print these lines. Where the files are told, the outcomes are the script's over
 -- them, as far as the answers go. Where the declarations that were begun, so many, read no file, the files are as before, as
 -- `same` says.
-pub record HasRun (options : Options) (told : Told) (same : Type 0) (begun : ℕ) (taken : List ℕ) (answers : List Answer) (lines : List ℕ) : Type 0 where
+pub record HasRun (settings : Settings) (told : Told) (same : Type 0) (begun : ℕ) (taken : List ℕ) (answers : List Answer) (lines : List ℕ) : Type 0 where
   pub script : List ℕ
   pub ds : List Declaration
   pub sorts : List Sort
   pub outcomes : Outcomes
-  pub is : IsScript options.sample told.left taken script
+  pub is : IsScript settings.sample told.left taken script
   pub reads : ReadsAlone script ds
   pub typed : AreTyped ds sorts
   pub limits : AreWithinLimits (positions ds) (24 + length ds)
   pub built : NoneReadsRecords ds
-  pub answered : AreAnswered ds sorts options.budget told.holds answers outcomes
+  pub answered : AreAnswered ds sorts settings.budget told.holds answers outcomes
   pub script_values : ForSome told.holds (λ files. take (length outcomes) (values (reading files) (positions ds)) ≡ outcomes)
-  pub printed : lines ≡ entries options.plan answers (drop 24 outcomes)
-  pub untouched : ReadNoFile ds options.budget outcomes begun → same
+  pub printed : lines ≡ entries settings.plan answers (drop 24 outcomes)
+  pub untouched : ReadNoFile ds settings.budget outcomes begun → same
 
 -- the next declaration was not answered
-abbrev pub Stops : {options : Options} {told : Told} {same : Type 0} {begun : ℕ} {taken lines : List ℕ} {answers : List Answer} →
-    HasRun options told same begun taken answers lines → StepFault → Type 0
-Stops {options} {told} {same} {begun} {taken} {lines} {answers} run f =
-    IsStopped run.ds options.budget told.holds told.files_before told.files_now (length answers) run.outcomes f
+abbrev pub Stops : {settings : Settings} {told : Told} {same : Type 0} {begun : ℕ} {taken lines : List ℕ} {answers : List Answer} →
+    HasRun settings told same begun taken answers lines → StepFault → Type 0
+Stops {settings} {told} {same} {begun} {taken} {lines} {answers} run f =
+    IsStopped run.ds settings.budget told.holds told.files_before told.files_now (length answers) run.outcomes f
 
 -- what is kept of a fault of a step
 abbrev pub stop_of : StepFault → Stop
@@ -112,83 +102,83 @@ abbrev pub BeginsNone : (same : Type 0) → List Answer → Stop → (lines line
 BeginsNone same answers stop lines line fault = (answers ≡ []) × (stop ≡ stops.Other) × (lines ≡ []) × (line ≡ fault) × same
 
 -- the script has a fault, and no declaration was begun
-abbrev pub Refuses : Options → Told → (same : Type 0) → (taken : List ℕ) → List Answer → Stop → (lines line fault : List ℕ) → (List ℕ → Type 0) → Type 0
-Refuses options told same taken answers stop lines line fault P =
-    (script : List ℕ) × IsScript options.sample told.left taken script × P script × BeginsNone same answers stop lines line fault
+abbrev pub Refuses : Settings → Told → (same : Type 0) → (taken : List ℕ) → List Answer → Stop → (lines line fault : List ℕ) → (List ℕ → Type 0) → Type 0
+Refuses settings told same taken answers stop lines line fault P =
+    (script : List ℕ) × IsScript settings.sample told.left taken script × P script × BeginsNone same answers stop lines line fault
 
 -- The cause of a status stands, the report has these answers and this stop, and a run that ends with it writes these lines of its
 -- answers and then this line of its fault. Three statuses have no such cause.
-abbrev pub Writes : Status → Options → Told → (same : Type 0) → (taken : List ℕ) → List Answer → Stop → (lines line : List ℕ) → Type 0
-Writes status.Done options told same taken answers stop lines line =
-    (run : HasRun options told same (length answers) taken answers lines) × (length answers ≡ length run.ds) × (stop ≡ stops.Done) × (line ≡ [])
-Writes status.Text options told same taken answers stop lines line =
-    (k : ℕ) × Refuses options told same taken answers stop lines line (at_byte (codes "text") k) (λ script. TextFaultAt k script)
-Writes status.Deep options told same taken answers stop lines line =
-    (k : ℕ) × Refuses options told same taken answers stop lines line (at_byte (codes "deep") k) (λ script. IsDeepAt k script)
-Writes status.Syntax options told same taken answers stop lines line =
-    (n : ℕ) × Refuses options told same taken answers stop lines line (in_declaration (codes "syntax") n) (λ script. (ls : List Lexeme) × Spells script ls × SyntaxFaultAt n ls)
-Writes status.Type options told same taken answers stop lines line =
-    (n : ℕ) × Refuses options told same taken answers stop lines line (in_declaration (codes "type") n)
+abbrev pub Writes : Status → Settings → Told → (same : Type 0) → (taken : List ℕ) → List Answer → Stop → (lines line : List ℕ) → Type 0
+Writes status.Done settings told same taken answers stop lines line =
+    (run : HasRun settings told same (length answers) taken answers lines) × (length answers ≡ length run.ds) × (stop ≡ stops.Done) × (line ≡ [])
+Writes status.Text settings told same taken answers stop lines line =
+    (k : ℕ) × Refuses settings told same taken answers stop lines line (at_byte (codes "text") k) (λ script. TextFaultAt k script)
+Writes status.Deep settings told same taken answers stop lines line =
+    (k : ℕ) × Refuses settings told same taken answers stop lines line (at_byte (codes "deep") k) (λ script. IsDeepAt k script)
+Writes status.Syntax settings told same taken answers stop lines line =
+    (n : ℕ) × Refuses settings told same taken answers stop lines line (in_declaration (codes "syntax") n) (λ script. (ls : List Lexeme) × Spells script ls × SyntaxFaultAt n ls)
+Writes status.Type settings told same taken answers stop lines line =
+    (n : ℕ) × Refuses settings told same taken answers stop lines line (in_declaration (codes "type") n)
     (λ script. (ds : List Declaration) × ReadsAlone script ds × (1 ≤ n) × IsFirstUntyped [] (positions ds) (24 + n))
-Writes status.Large options told same taken answers stop lines line =
-    (n : ℕ) × Refuses options told same taken answers stop lines line (in_declaration (codes "large") n)
+Writes status.Large settings told same taken answers stop lines line =
+    (n : ℕ) × Refuses settings told same taken answers stop lines line (in_declaration (codes "large") n)
     (λ script. (ds : List Declaration) × ReadsAlone script ds × ((sorts : List Sort) × AreTyped ds sorts) × IsFirstLarge ds n)
-Writes status.Unbuilt options told same taken answers stop lines line =
-    (n : ℕ) × Refuses options told same taken answers stop lines line (in_declaration (codes "unbuilt") n)
+Writes status.Unbuilt settings told same taken answers stop lines line =
+    (n : ℕ) × Refuses settings told same taken answers stop lines line (in_declaration (codes "unbuilt") n)
     (λ script. (ds : List Declaration) × ReadsAlone script ds × ((sorts : List Sort) × AreTyped ds sorts) × AreWithinLimits (positions ds) (24 + length ds)
     × IsFirstOfRecords 1 ds n)
-Writes status.Long options told same taken answers stop lines line =
-    (options.sample ≡ None) × (1048576 < length taken) × BeginsNone same answers stop lines line (codes "fault long\n")
-Writes status.Input options told same taken answers stop lines line =
-    (options.sample ≡ None) × (length taken ≤ 1048576) × Rose told.input_before told.input_now
+Writes status.Long settings told same taken answers stop lines line =
+    (settings.sample ≡ None) × (1048576 < length taken) × BeginsNone same answers stop lines line (codes "fault long\n")
+Writes status.Input settings told same taken answers stop lines line =
+    (settings.sample ≡ None) × (length taken ≤ 1048576) × Rose told.input_before told.input_now
     × BeginsNone same answers stop lines line (codes "fault input\n")
-Writes status.File options told same taken answers stop lines line =
-    (run : HasRun options told same (length answers + 1) taken answers lines) × (f : CdfFault) × Stops run (faults.File f) × (stop ≡ stops.File f) × (line ≡ of_file (length answers + 1) f)
-Writes status.Spent options told same taken answers stop lines line =
-    (f : StepFault) × IsSpent f × (run : HasRun options told same (reached f (length answers)) taken answers lines) × Stops run f × (stop ≡ stop_of f)
+Writes status.File settings told same taken answers stop lines line =
+    (run : HasRun settings told same (length answers + 1) taken answers lines) × (f : CdfFault) × Stops run (faults.File f) × (stop ≡ stops.File f) × (line ≡ of_file (length answers + 1) f)
+Writes status.Spent settings told same taken answers stop lines line =
+    (f : StepFault) × IsSpent f × (run : HasRun settings told same (reached f (length answers)) taken answers lines) × Stops run f × (stop ≡ stop_of f)
     × (line ≡ in_declaration (codes "budget") (length answers + 1))
-Writes status.Files options told same taken answers stop lines line =
-    (run : HasRun options told same (length answers + 1) taken answers lines) × Stops run faults.Device × (stop ≡ stops.Other) × (line ≡ codes "fault files\n")
-Writes status.Usage options told same taken answers stop lines line = ⊥
-Writes status.Memory options told same taken answers stop lines line = ⊥
-Writes status.Output options told same taken answers stop lines line = ⊥
+Writes status.Files settings told same taken answers stop lines line =
+    (run : HasRun settings told same (length answers + 1) taken answers lines) × Stops run faults.Device × (stop ≡ stops.Other) × (line ≡ codes "fault files\n")
+Writes status.Usage settings told same taken answers stop lines line = ⊥
+Writes status.Memory settings told same taken answers stop lines line = ⊥
+Writes status.Output settings told same taken answers stop lines line = ⊥
 
 -- the whole output of a run that ends with a status: the lines of its answers, and then the line of its fault
-abbrev pub WritesAll : Status → Options → Told → (same : Type 0) → (taken : List ℕ) → List Answer → Stop → (written : List ℕ) → Type 0
-WritesAll s options told same taken answers stop written = (lines line : List ℕ) × Writes s options told same taken answers stop lines line × (written ≡ lines ++ line)
+abbrev pub WritesAll : Status → Settings → Told → (same : Type 0) → (taken : List ℕ) → List Answer → Stop → (written : List ℕ) → Type 0
+WritesAll s settings told same taken answers stop written = (lines line : List ℕ) × Writes s settings told same taken answers stop lines line × (written ≡ lines ++ line)
 
 -- the line of the fault of such a run was cut, behind all lines of its answers
-abbrev pub CutsFault : Options → Told → (same : Type 0) → (taken : List ℕ) → List Answer → (written : List ℕ) → Type 0
-CutsFault options told same taken answers written =
-    (other : Status) × (kept : Stop) × (lines line front : List ℕ) × Writes other options told same taken answers kept lines line × IsCut front line × (written ≡ lines ++ front)
+abbrev pub CutsFault : Settings → Told → (same : Type 0) → (taken : List ℕ) → List Answer → (written : List ℕ) → Type 0
+CutsFault settings told same taken answers written =
+    (other : Status) × (kept : Stop) × (lines line front : List ℕ) × Writes other settings told same taken answers kept lines line × IsCut front line × (written ≡ lines ++ front)
 
 -- the lines of all answers but the last, and a front of the last one's; so many declarations were begun
-pub record CutsLast (options : Options) (told : Told) (same : Type 0) (begun : ℕ) (taken : List ℕ) (answers : List Answer) (written : List ℕ) : Type 0 where
+pub record CutsLast (settings : Settings) (told : Told) (same : Type 0) (begun : ℕ) (taken : List ℕ) (answers : List Answer) (written : List ℕ) : Type 0 where
   pub lines : List ℕ
-  pub run : HasRun options told same begun taken answers lines
+  pub run : HasRun settings told same begun taken answers lines
   pub front : IsPrefix written lines
-  pub whole : IsPrefix (entries options.plan (take (length answers - 1) answers) (drop 24 run.outcomes)) written
+  pub whole : IsPrefix (entries settings.plan (take (length answers - 1) answers) (drop 24 run.outcomes)) written
 
 -- What a run that ended with a status has written, where the words have a reading: the whole output; for want of memory a front
 -- of the lines of the answers; for a fault of the sink that, or all lines of the answers and a front of the line of some fault.
-abbrev pub Serves : Status → Options → Told → (same : Type 0) → (taken : List ℕ) → List Answer → Stop → (written : List ℕ) → Type 0
-Serves status.Memory options told same taken answers stop written =
-    (stop ≡ stops.Other) × (((answers ≡ []) × (written ≡ []) × same) ⊎ CutsLast options told same (length answers + 1) taken answers written)
-Serves status.Output options told same taken answers stop written =
-    (stop ≡ stops.Other) × (((c : CutsLast options told same (length answers) taken answers written) × (c.front.0 ≢ [])) ⊎ CutsFault options told same taken answers written)
-Serves status.Usage options told same taken answers stop written = ⊥
-Serves status.Done options told same taken answers stop written = WritesAll status.Done options told same taken answers stop written
-Serves status.Text options told same taken answers stop written = WritesAll status.Text options told same taken answers stop written
-Serves status.Syntax options told same taken answers stop written = WritesAll status.Syntax options told same taken answers stop written
-Serves status.Type options told same taken answers stop written = WritesAll status.Type options told same taken answers stop written
-Serves status.Deep options told same taken answers stop written = WritesAll status.Deep options told same taken answers stop written
-Serves status.Large options told same taken answers stop written = WritesAll status.Large options told same taken answers stop written
-Serves status.Long options told same taken answers stop written = WritesAll status.Long options told same taken answers stop written
-Serves status.File options told same taken answers stop written = WritesAll status.File options told same taken answers stop written
-Serves status.Input options told same taken answers stop written = WritesAll status.Input options told same taken answers stop written
-Serves status.Spent options told same taken answers stop written = WritesAll status.Spent options told same taken answers stop written
-Serves status.Files options told same taken answers stop written = WritesAll status.Files options told same taken answers stop written
-Serves status.Unbuilt options told same taken answers stop written = WritesAll status.Unbuilt options told same taken answers stop written
+abbrev pub Serves : Status → Settings → Told → (same : Type 0) → (taken : List ℕ) → List Answer → Stop → (written : List ℕ) → Type 0
+Serves status.Memory settings told same taken answers stop written =
+    (stop ≡ stops.Other) × (((answers ≡ []) × (written ≡ []) × same) ⊎ CutsLast settings told same (length answers + 1) taken answers written)
+Serves status.Output settings told same taken answers stop written =
+    (stop ≡ stops.Other) × (((c : CutsLast settings told same (length answers) taken answers written) × (c.front.0 ≢ [])) ⊎ CutsFault settings told same taken answers written)
+Serves status.Usage settings told same taken answers stop written = ⊥
+Serves status.Done settings told same taken answers stop written = WritesAll status.Done settings told same taken answers stop written
+Serves status.Text settings told same taken answers stop written = WritesAll status.Text settings told same taken answers stop written
+Serves status.Syntax settings told same taken answers stop written = WritesAll status.Syntax settings told same taken answers stop written
+Serves status.Type settings told same taken answers stop written = WritesAll status.Type settings told same taken answers stop written
+Serves status.Deep settings told same taken answers stop written = WritesAll status.Deep settings told same taken answers stop written
+Serves status.Large settings told same taken answers stop written = WritesAll status.Large settings told same taken answers stop written
+Serves status.Long settings told same taken answers stop written = WritesAll status.Long settings told same taken answers stop written
+Serves status.File settings told same taken answers stop written = WritesAll status.File settings told same taken answers stop written
+Serves status.Input settings told same taken answers stop written = WritesAll status.Input settings told same taken answers stop written
+Serves status.Spent settings told same taken answers stop written = WritesAll status.Spent settings told same taken answers stop written
+Serves status.Files settings told same taken answers stop written = WritesAll status.Files settings told same taken answers stop written
+Serves status.Unbuilt settings told same taken answers stop written = WritesAll status.Unbuilt settings told same taken answers stop written
 
 -- nothing was answered, taken or written, and the files are as before
 abbrev pub DoesNothing : (same : Type 0) → (taken : List ℕ) → List Answer → Stop → (written : List ℕ) → Type 0
@@ -198,10 +188,5 @@ DoesNothing same taken answers stop written = (taken ≡ []) × (answers ≡ [])
 abbrev pub RunsWords : Status → (words : List (List ℕ)) → Told → (same : Type 0) → (taken : List ℕ) → List Answer → Stop → (written : List ℕ) → Type 0
 RunsWords status.Usage words told same taken answers stop written = (HasReading words → ⊥) × DoesNothing same taken answers stop written
 RunsWords status.Memory words told same taken answers stop written =
-    DoesNothing same taken answers stop written ⊎ (HasReading words × Serves status.Memory (options_of words) told same taken answers stop written)
-RunsWords other words told same taken answers stop written = HasReading words × Serves other (options_of words) told same taken answers stop written
-
--- The bytes that a call took from the source, at most 1,048,577, and gave to the sink, by what these tell before and after it.
--- Where a device tells nothing, they are some bytes.
-abbrev pub Passes : (List ℕ → List ℕ → Type 0) → Option (List ℕ) → Option (List ℕ) → Option (List ℕ) → Option (List ℕ) → Type 0
-Passes P left left' holds holds' = (taken written : List ℕ) × Consumes left left' taken × Appends holds holds' written × (length taken ≤ 1048577) × P taken written
+    DoesNothing same taken answers stop written ⊎ (HasReading words × Serves status.Memory (settings_of (options_of words)) told same taken answers stop written)
+RunsWords other words told same taken answers stop written = HasReading words × Serves other (settings_of (options_of words)) told same taken answers stop written

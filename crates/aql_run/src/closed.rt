@@ -4,6 +4,7 @@ ghost use Rattle.std.specs.Prelude.{◌≡◌, ◌≤◌, ℕ, [], map, IfOk, Is
 ghost use Rattle.std.specs.String.{string_bytes};
 ghost use Rattle.aql_outside.specs.Causes.{Blames};
 ghost use Rattle.aql_words.specs.Words.{AreInRange};
+ghost use Rattle.aql_answers.specs.Settings.{settings_of};
 ghost use Rattle.aql_run.specs.Ending.{Answering, Asks, IsReady, Readies};
 
 use aql_answers::{Halt, answer_all};
@@ -43,7 +44,7 @@ pub(crate) fn answer_each<R: Threads + Sync, O: Sink, F: Files, G: Gate>(
     requires prepared { IsReady prepared.now }
     requires none { answers.old.items ≡ [] }
     requires options { AreInRange options.now }
-    ensures written { Answering prepared.now options.now (files.new ≡ files.old) (F.faults files.old) (F.faults files.new) (F.holds files.old) answers.new.items (O.holds output.old) (O.holds output.new) result }
+    ensures written { Answering prepared.now (settings_of options.now) (files.new ≡ files.old) (F.faults files.old) (F.faults files.new) (F.holds files.old) answers.new.items (O.holds output.old) (O.holds output.new) result }
     ensures kept { F.holds files.new ≡ F.holds files.old }
     ensures files { Blames F.quiet (IsErrOf result (Halt.Fault StepFault.Device)) (F.faults files.old) (F.faults files.new) }
     ensures output { Blames O.quiet (IsErrOf result Halt.Sink) (O.faults output.old) (O.faults output.new) }

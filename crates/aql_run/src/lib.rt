@@ -4,19 +4,16 @@
 //! The contract that the program uses is that of `run`: which bytes are written for the bytes read, whatever the number
 //! of workers, and the cause of each status.
 //!
-//! Read `specs/Outcome` and `specs/Complete` beside `run`; then `serving`, `closed`, `reading`, `report`, `laws`. The
-//! statuses are those of `aql_status`.
+//! Read `specs/Headline` beside `run`, which has all that is promised; then `specs/Outcome` and `specs/Complete`, the
+//! cause and the output of each status; then `serving`, `closed`, `reading`, `report`, `laws`. The statuses are those
+//! of `aql_status`.
 #![tactic(auto)]
 
-ghost use Rattle.std.specs.Prelude.{◌≡◌, ◌≤◌, ◌<◌, ◌⊎◌, ℕ, Some, map};
+ghost use Rattle.std.specs.Prelude.{◌≡◌, ◌≤◌, ◌<◌, ◌⊎◌, ℕ, map};
 ghost use Rattle.std.specs.String.{string_bytes};
-ghost use Rattle.aql_outside.specs.Causes.{Blames, Rose};
-ghost use Rattle.aql_words.specs.Words.{options_of};
-ghost use Rattle.aql_run.specs.Complete.{EndsWell};
+ghost use Rattle.aql_outside.specs.Causes.{Blames};
+ghost use Rattle.aql_run.specs.Headline.{Headline};
 ghost use Rattle.aql_run.specs.Ending.{AsksSample, Reported};
-ghost use Rattle.aql_run.specs.Outcome.{Passes, RunsWords, told_of};
-ghost use Rattle.aql_status.specs.Codes.{code_of};
-ghost use Rattle.aql_status.specs.declared.status.Status.{Status};
 
 mod closed;
 mod laws;
@@ -48,33 +45,32 @@ pub fn run<R: Threads + Sync, S: Source, O: Sink, F: Files, G: Gate>(
     files: &mut F,
     gate: &G,
 ) -> Report
-    // What was written is what the script's declarations print, as far as they were answered; the status has its cause. Where the
-    // script is sound, all of it was read, and no count of faults rose, every declaration was answered, or memory is wanting.
-    ensures serves { let told = told_of (S.faults input.old) (S.faults input.new) (S.left input.new) (F.faults files.old) (F.faults files.new) (F.holds files.old) in
-        (status : Status) × (result.status ≡ code_of status)
-        × Passes (λ taken written. RunsWords status (map string_bytes words.now) told (files.new ≡ files.old) taken result.answers.items.items result.stop written
-        × EndsWell status (map string_bytes words.now) told (Rose (O.faults output.old) (O.faults output.new)) taken)
-        (S.left input.old) (S.left input.new) (O.holds output.old) (O.holds output.new) }
-
-    // Where the words have no reading nothing is touched, and with a sample the source is not.
-    ensures untouched_input { result.status ≡ 2 → input.new ≡ input.old }
-    ensures untouched_output { result.status ≡ 2 → output.new ≡ output.old }
-    ensures sample { (n : ℕ) → (options_of (map string_bytes words.now)).sample ≡ Some n → input.new ≡ input.old }
-
-    // A device is blamed only where its count of faults rose in this call, and no count falls.
-    ensures input { result.status ≡ 10 → Rose (S.faults input.old) (S.faults input.new) }
-    ensures output { result.status ≡ 11 → Rose (O.faults output.old) (O.faults output.new) }
-    ensures files { result.status ≡ 13 → Rose (F.faults files.old) (F.faults files.new) }
-    ensures kept { F.holds files.new ≡ F.holds files.old }
-    ensures later_input { S.faults input.old ≤ S.faults input.new }
-    ensures later_output { O.faults output.old ≤ O.faults output.new }
-    ensures later_files { F.faults files.old ≤ F.faults files.new }
-
-    // No failure is passed over: where calls that end well leave a device's count of faults, one that is greater than before ended the run;
-    // if not with that device's status, then as the sink failed at the line of the fault.
-    ensures noticed_input { S.quiet → S.faults input.old < S.faults input.new → (result.status ≡ 10) ⊎ (result.status ≡ 11) }
-    ensures noticed_output { O.quiet → O.faults output.old < O.faults output.new → result.status ≡ 11 }
-    ensures noticed_files { F.quiet → F.faults files.old < F.faults files.new → (result.status ≡ 13) ⊎ (result.status ≡ 11) }
+    ensures { Headline (map string_bytes words.now) (record {
+      source = record {
+        before = S.left input.old;
+        after = S.left input.new;
+        faults_before = S.faults input.old;
+        faults_after = S.faults input.new;
+        same = input.new ≡ input.old;
+        quiet = S.quiet;
+      };
+      sink = record {
+        before = O.holds output.old;
+        after = O.holds output.new;
+        faults_before = O.faults output.old;
+        faults_after = O.faults output.new;
+        same = output.new ≡ output.old;
+        quiet = O.quiet;
+      };
+      files = record {
+        before = F.holds files.old;
+        after = F.holds files.new;
+        faults_before = F.faults files.old;
+        faults_after = F.faults files.new;
+        same = files.new ≡ files.old;
+        quiet = F.quiet;
+      };
+    }) result }
 {
     lexed();
     reported(rt, alloc, words, input, output, files, gate)

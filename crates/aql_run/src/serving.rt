@@ -4,6 +4,7 @@ ghost use Rattle.std.specs.String.{string_bytes};
 ghost use Rattle.aql_outside.specs.Causes.{Blames};
 ghost use Rattle.aql_words.specs.Words.{AreInRange};
 ghost use Rattle.aql_lines.specs.Lines.{in_declaration};
+ghost use Rattle.aql_answers.specs.Settings.{settings_of};
 ghost use Rattle.aql_run.specs.Ending.{Answers, AsksSample, EndsWith, IsReady, Refused, Responds, Running, Samples, Serving, Stopped};
 
 use crate::closed::{answer_each, read_options, ready};
@@ -70,7 +71,7 @@ fn serve<R: Threads + Sync, S: Source, O: Sink, F: Files, G: Gate>(
 ) -> End
     requires none { answers.old.items ≡ [] }
     requires options { AreInRange options.now }
-    ensures serves { Serving options.now (files.new ≡ files.old) (S.faults input.old) (S.faults input.new) (F.faults files.old) (F.faults files.new) (F.holds files.old) answers.new.items result
+    ensures serves { Serving (settings_of options.now) (files.new ≡ files.old) (S.faults input.old) (S.faults input.new) (F.faults files.old) (F.faults files.new) (F.holds files.old) answers.new.items result
         (S.left input.old) (S.left input.new) (O.holds output.old) (O.holds output.new) }
     ensures sample { (n : ℕ) → options.now.sample ≡ Some n → input.new ≡ input.old }
     ensures output { Blames O.quiet (result.status ≡ Status.Output) (O.faults output.old) (O.faults output.new) }
@@ -99,7 +100,7 @@ fn serve_sample<R: Threads + Sync, O: Sink, F: Files, G: Gate>(
 ) -> End
     requires none { answers.old.items ≡ [] }
     requires options { AreInRange options.now }
-    ensures written { Samples n options.now (files.new ≡ files.old) (F.faults files.old) (F.faults files.new) (F.holds files.old) answers.new.items result (O.holds output.old) (O.holds output.new) }
+    ensures written { Samples n (settings_of options.now) (files.new ≡ files.old) (F.faults files.old) (F.faults files.new) (F.holds files.old) answers.new.items result (O.holds output.old) (O.holds output.new) }
     ensures output { Blames O.quiet (result.status ≡ Status.Output) (O.faults output.old) (O.faults output.new) }
     ensures kept { F.holds files.new ≡ F.holds files.old }
     ensures later_files { F.faults files.old ≤ F.faults files.new }
@@ -128,7 +129,7 @@ fn serve_source<R: Threads + Sync, S: Source, O: Sink, F: Files, G: Gate>(
     requires none { answers.old.items ≡ [] }
     requires options { AreInRange options.now }
     requires no_sample { options.now.sample ≡ None }
-    ensures serves { Serving options.now (files.new ≡ files.old) (S.faults input.old) (S.faults input.new) (F.faults files.old) (F.faults files.new) (F.holds files.old) answers.new.items result
+    ensures serves { Serving (settings_of options.now) (files.new ≡ files.old) (S.faults input.old) (S.faults input.new) (F.faults files.old) (F.faults files.new) (F.holds files.old) answers.new.items result
         (S.left input.old) (S.left input.new) (O.holds output.old) (O.holds output.new) }
     ensures output { Blames O.quiet (result.status ≡ Status.Output) (O.faults output.old) (O.faults output.new) }
     ensures kept { F.holds files.new ≡ F.holds files.old }
@@ -167,7 +168,7 @@ fn respond<R: Threads + Sync, O: Sink, F: Files, G: Gate>(
 ) -> End
     requires none { answers.old.items ≡ [] }
     requires options { AreInRange options.now }
-    ensures written { Responds options.now script.now (files.new ≡ files.old) (F.faults files.old) (F.faults files.new) (F.holds files.old) answers.new.items result (O.holds output.old) (O.holds output.new) }
+    ensures written { Responds (settings_of options.now) script.now (files.new ≡ files.old) (F.faults files.old) (F.faults files.new) (F.holds files.old) answers.new.items result (O.holds output.old) (O.holds output.new) }
     ensures output { Blames O.quiet (result.status ≡ Status.Output) (O.faults output.old) (O.faults output.new) }
     ensures kept { F.holds files.new ≡ F.holds files.old }
     ensures later_files { F.faults files.old ≤ F.faults files.new }
@@ -196,7 +197,7 @@ fn answer<R: Threads + Sync, O: Sink, F: Files, G: Gate>(
     requires prepared { IsReady prepared.now }
     requires none { answers.old.items ≡ [] }
     requires options { AreInRange options.now }
-    ensures written { Answers prepared.now options.now (files.new ≡ files.old) (F.faults files.old) (F.faults files.new) (F.holds files.old) answers.new.items result (O.holds output.old) (O.holds output.new) }
+    ensures written { Answers prepared.now (settings_of options.now) (files.new ≡ files.old) (F.faults files.old) (F.faults files.new) (F.holds files.old) answers.new.items result (O.holds output.old) (O.holds output.new) }
     ensures output { Blames O.quiet (result.status ≡ Status.Output) (O.faults output.old) (O.faults output.new) }
     ensures kept { F.holds files.new ≡ F.holds files.old }
     ensures later_files { F.faults files.old ≤ F.faults files.new }

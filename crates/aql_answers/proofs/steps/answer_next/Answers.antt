@@ -8,6 +8,7 @@ use Rattle.aql_session.specs.declared.answer.Answer.{Answer}
 use Rattle.aql_lines.specs.Entry.{entry}
 use Rattle.aql_lines.specs.Writing.{WritesFront}
 use Rattle.aql_outside.specs.CausesLaws.{blamed_as, none_blamed}
+use Rattle.aql_answers.specs.Settings.{settings_of}
 use Rattle.aql_answers.proofs.Answering.{next_within, next_built, has_stepped, stopped, wrote, halted, outcome_last, next_unread}
 use Rattle.aql_answers.proofs.steps.answer_next.Goals as goal
 
@@ -19,9 +20,9 @@ step-requires-clause-arrays g c κs within = λ d e. next_built c.args.prepared.
 
 pub returns-in-Ok-clause-goes : goal.returns-in-Ok-clause-goes
 returns-in-Ok-clause-goes g c =
-    let h = has_stepped c.args.prepared.now c.args.options.now (g.F.Files.holds c.args.files.now) c.args.answers.now.items c.args.session.now c.step.new.self
+    let h = has_stepped c.args.prepared.now (settings_of c.args.options.now) (g.F.Files.holds c.args.files.now) c.args.answers.now.items c.args.session.now c.step.new.self
     c.in-Ok.answer c.args.n c.requires.prepared c.requires.next c.requires.last c.requires.so_far c.in-Ok.ensures.answer c.in-Ok.ensures.answerable c.in-Ok.ensures.binds in
-    wrote c.args.prepared.now c.args.options.now (g.F.Files.holds c.args.files.now) c.args.answers.now.items c.push_reserved.new.self.items c.args.session.now
+    wrote c.args.prepared.now (settings_of c.args.options.now) (g.F.Files.holds c.args.files.now) c.args.answers.now.items c.push_reserved.new.self.items c.args.session.now
     c.step.new.self c.in-Ok.answer (outcome (outcomes c.step.new.self) c.args.n) (g.O.Sink.holds c.args.output.now) (g.O.Sink.holds c.write_entry-written.new.output) c.write_entry-written.result h
     (c.push_reserved.ensures.items ∙ ap (λ (l : List Answer). l ++ c.in-Ok.answer ∷ []) c.reserve.ensures.items)
     (ap (λ V. outcome V c.args.n) h.outcomes ∙ outcome_last (outcomes c.args.session.now) h.outcome c.args.n (length c.args.answers.now.items) c.requires.so_far.answered.many c.requires.next)
@@ -30,9 +31,9 @@ returns-in-Ok-clause-goes g c =
 
 pub returns-in-Ok-clause-halts : goal.returns-in-Ok-clause-halts
 returns-in-Ok-clause-halts g c =
-    let h = has_stepped c.args.prepared.now c.args.options.now (g.F.Files.holds c.args.files.now) c.args.answers.now.items c.args.session.now c.step.new.self
+    let h = has_stepped c.args.prepared.now (settings_of c.args.options.now) (g.F.Files.holds c.args.files.now) c.args.answers.now.items c.args.session.now c.step.new.self
     c.in-Ok.answer c.args.n c.requires.prepared c.requires.next c.requires.last c.requires.so_far c.in-Ok.ensures.answer c.in-Ok.ensures.answerable c.in-Ok.ensures.binds in
-    halted c.args.prepared.now c.args.options.now (g.F.Files.holds c.args.files.now) c.args.answers.now.items c.push_reserved.new.self.items c.args.session.now
+    halted c.args.prepared.now (settings_of c.args.options.now) (g.F.Files.holds c.args.files.now) c.args.answers.now.items c.push_reserved.new.self.items c.args.session.now
     c.step.new.self c.in-Ok.answer (outcome (outcomes c.step.new.self) c.args.n) (g.O.Sink.holds c.args.output.now) (g.O.Sink.holds c.write_entry-written.new.output) c.write_entry-written.result
     (g.F.Files.faults c.args.files.now) (g.F.Files.faults c.step.new.files) h
     (c.push_reserved.ensures.items ∙ ap (λ (l : List Answer). l ++ c.in-Ok.answer ∷ []) c.reserve.ensures.items)

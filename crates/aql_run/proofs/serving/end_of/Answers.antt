@@ -1,6 +1,7 @@
 use Rattle.std.proofs.Common.{refl, ◌≡◌}
 use Rattle.std.specs.Prelude.{map}
 use Rattle.std.specs.String.{string_bytes}
+use Rattle.aql_answers.specs.Settings.{settings_of}
 use Rattle.aql_run.proofs.Endings.{asks_sample, never_usage, no_memory, options_run, words_refused}
 use Rattle.aql_run.proofs.serving.end_of.Goals as goal
 
@@ -13,13 +14,13 @@ returns-in-Ok-clause-serves g c =
 
 pub returns-in-Ok-clause-untouched_input : goal.returns-in-Ok-clause-untouched_input
 returns-in-Ok-clause-untouched_input g c is =
-    absurd (never_usage c.in-Ok.options (c.serve.new.files ≡ c.args.files.now) (g.S.Source.faults c.args.input.now) (g.S.Source.faults c.serve.new.input)
+    absurd (never_usage (settings_of c.in-Ok.options) (c.serve.new.files ≡ c.args.files.now) (g.S.Source.faults c.args.input.now) (g.S.Source.faults c.serve.new.input)
     (g.F.Files.faults c.args.files.now) (g.F.Files.faults c.serve.new.files) (g.F.Files.holds c.args.files.now) c.serve.new.answers.items c.serve.result
     (g.S.Source.left c.args.input.now) (g.S.Source.left c.serve.new.input) (g.O.Sink.holds c.args.output.now) (g.O.Sink.holds c.serve.new.output) c.serve.ensures.serves is)
 
 pub returns-in-Ok-clause-untouched_output : goal.returns-in-Ok-clause-untouched_output
 returns-in-Ok-clause-untouched_output g c is =
-    absurd (never_usage c.in-Ok.options (c.serve.new.files ≡ c.args.files.now) (g.S.Source.faults c.args.input.now) (g.S.Source.faults c.serve.new.input)
+    absurd (never_usage (settings_of c.in-Ok.options) (c.serve.new.files ≡ c.args.files.now) (g.S.Source.faults c.args.input.now) (g.S.Source.faults c.serve.new.input)
     (g.F.Files.faults c.args.files.now) (g.F.Files.faults c.serve.new.files) (g.F.Files.holds c.args.files.now) c.serve.new.answers.items c.serve.result
     (g.S.Source.left c.args.input.now) (g.S.Source.left c.serve.new.input) (g.O.Sink.holds c.args.output.now) (g.O.Sink.holds c.serve.new.output) c.serve.ensures.serves is)
 

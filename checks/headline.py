@@ -1,0 +1,241 @@
+#!/usr/bin/env python3
+"""Prints docs/HEADLINE.md: what the contract of `run` says, and each definition that it rests on.
+
+Reads the sources alone: the specs of each crate, and the Rust types that these name. A definition is taken where another one that is
+taken names it. The modules stand in the order in which they are reached, beginning with the headline; the definitions of a module stand
+as in its source.
+"""
+import os
+import re
+import sys
+from collections import OrderedDict
+
+ROOT = os.path.join(os.path.dirname(os.path.abspath(__file__)), "..")
+START = ("aql_run.specs.Headline", "Headline")
+OPENS = re.compile(r"^(?:pub )?(?:record|data|ruleset) (\S+)|^(?:(?:abbrev|unfoldable) )?(?:pub )?(\S+) :(?: |$)")
+USE = re.compile(r"^use Rattle\.([A-Za-z_0-9.]+?)(?:\.\{(.*)\}| as ([A-Za-z_]+))$")
+WORD = re.compile(r"[^\s(){}\[\],;.]+")
+
+
+def lines_of(path):
+    with open(os.path.join(ROOT, path), encoding="utf-8") as file:
+        return file.read().split("\n")
+
+
+class Item:
+    """A definition: its name, the comment above it, its lines, and the names of its constructors or fields."""
+
+    def __init__(self, name, head, line):
+        self.name, self.head, self.line, self.text = name, head, line, []
+
+    def inner(self):
+        found = []
+        for text in self.text[1:]:
+            match = re.match(r"^\s+(?:pub )?(\S+) :", text)
+            if match:
+                found.append(match.group(1))
+        return found
+
+
+class Module:
+    """A module of definitions: what it uses, and its items by name, in the order of the source."""
+
+    def __init__(self, name):
+        crate, rest = name.split(".", 1)
+        self.name = name
+        self.path = "crates/%s/%s.antt" % (crate, rest.replace(".", "/"))
+        self.uses, self.aliases, self.items, self.about = {}, {}, OrderedDict(), ""
+        head, item = [], None
+        for number, text in self.unwrapped():
+            if text.startswith("use "):
+                self.use(text)
+                self.about = self.about or " ".join(head)
+                head = []
+            elif text.startswith("--"):
+                head.append(text[2:].strip())
+                item = None
+            elif not text.strip():
+                head = []
+            elif OPENS.match(text):
+                name = next(group for group in OPENS.match(text).groups() if group)
+                item = self.items.setdefault(name, Item(name, " ".join(head), number))
+                item.text.append(text)
+                head = []
+            else:
+                # a clause behind a comment of its own belongs to the definition that it names
+                item = item or self.items.get(text.split()[0]) or (list(self.items.values())[-1] if self.items else None)
+                if item:
+                    item.text.append(text)
+                head = []
+        self.within = {}
+        for name, item in self.items.items():
+            self.within[name] = name
+            if re.match(r"^(pub )?data", item.text[0]):
+                for inner in item.inner():
+                    self.within.setdefault(inner, name)
+
+    def unwrapped(self):
+        """The lines with their numbers, those of definitions that call each other brought to the margin."""
+        within = False
+        for number, text in enumerate(lines_of(self.path), 1):
+            if re.match(r"^(\w+ )?mutual$", text):
+                within = True
+                yield number, ""
+                continue
+            within = within and (not text or text.startswith("  "))
+            yield number, text[2:] if within else text
+
+    def use(self, text):
+        match = USE.match(text)
+        if not match:
+            return
+        target, names, alias = match.groups()
+        if alias:
+            self.aliases[alias] = target
+        else:
+            for name in re.split(r",\s*", names):
+                name = re.sub(r" as .*", "", name.strip())
+                self.uses[name] = target
+
+
+MODULES = {}
+
+
+def module(name):
+    if name not in MODULES:
+        MODULES[name] = Module(name)
+    return MODULES[name]
+
+
+def declared(target):
+    """The crate, the file and the name of a Rust type that the specs name."""
+    target = re.sub(r"\.The\w+$", "", target)
+    match = re.match(r"^(\w+)\.specs\.declared\.(.+)\.(\w+)$", target)
+    if not match:
+        return None
+    crate, rest, name = match.groups()
+    return crate, "crates/%s/src/%s.rt" % (crate, rest.replace(".", "/")), name
+
+
+def rust_type(path, name):
+    """The doc comment, the line and the text of a Rust type."""
+    source = lines_of(path)
+    for number, text in enumerate(source):
+        if re.match(r"^(pub )?(struct|enum|trait) %s\b" % name, text):
+            end = number
+            if not text.rstrip().endswith((";", "}")):
+                while not source[end].startswith("}") and not source[end].rstrip().endswith(";") or source[end].startswith(" "):
+                    end += 1
+            top, doc = number, []
+            while top and (source[top - 1].startswith("///") or source[top - 1].startswith("#[")):
+                top -= 1
+                if source[top].startswith("///"):
+                    doc.insert(0, source[top][3:].strip())
+            return " ".join(doc), number + 1, source[number : end + 1]
+    return None
+
+
+def reach():
+    """The definitions that the start rests on, the Rust types, and the names of the standard library, each in the order of reaching."""
+    taken, types, library = OrderedDict(), OrderedDict(), OrderedDict()
+    waiting = [START]
+    while waiting:
+        where, name = waiting.pop(0)
+        if name in taken.setdefault(where, OrderedDict()):
+            continue
+        taken[where][name] = True
+        here = module(where)
+        body = "\n".join(here.items[name].text)
+        body = re.sub(r"--.*", "", body)
+        words = set(WORD.findall(body)) | set(re.findall(r"[A-Za-z_0-9'-]+", body))
+
+        def follow(target, used):
+            if not os.path.isdir(os.path.join(ROOT, "crates", target.split(".")[0])):
+                library.setdefault(target, set()).add(used)
+            elif ".specs.declared." in target:
+                types.setdefault(declared(target), True)
+            else:
+                within = module(target).within.get(used)
+                if within:
+                    waiting.append((target, within))
+
+        for used, target in here.uses.items():
+            parts = [part for part in used.split("◌") if part]
+            if all(part in words for part in parts):
+                follow(target, used)
+        for alias, target in here.aliases.items():
+            for used in sorted(set(re.findall(r"(?<![A-Za-z_0-9.])%s\.([A-Za-z_0-9'-]+)" % alias, body))):
+                follow(target, used)
+        for used, within in here.within.items():
+            if within != name and all(part in words for part in used.split("◌") if part):
+                waiting.append((where, within))
+    return taken, types, library
+
+
+def call():
+    """The contract of `run`, as it stands in the source."""
+    source = lines_of("crates/aql_run/src/lib.rt")
+    first = next(n for n, text in enumerate(source) if text.startswith("pub fn run<"))
+    top = first
+    while source[top - 1].startswith("///"):
+        top -= 1
+    end = next(n for n in range(first, len(source)) if source[n] == "{")
+    return source[top:end]
+
+
+def page():
+    taken, types, library = reach()
+    counts = {where: sum(len(module(where).items[n].text) for n in names) for where, names in taken.items()}
+    shapes = [(where, rust_type(where[1], where[2])) for where in types if where]
+    shapes = [(where, shape) for where, shape in shapes if shape]
+    out = []
+    say = out.append
+    say("# What the headline rests on")
+    say("")
+    say("Made by `checks/headline.py` from the sources; `checks/run` refuses a page that differs from them.")
+    say("")
+    say("The program makes one call, `run`, and its contract is one clause:")
+    say("")
+    say("```rust")
+    out.extend(call())
+    say("```")
+    say("")
+    say("`S`, `O` and `F` are the traits `Source`, `Sink` and `Files` of aql_outside (`crates/aql_outside/src`): what a device tells of itself "
+        "(`left`, `holds`), the count of its calls that failed (`faults`), and whether its calls that end well leave that count (`quiet`).")
+    say("")
+    say("What the clause says is fixed by %d definitions in %d modules, %d lines, and by %d types of the code. Who has read them knows what is "
+        "promised; no other text of this repository has to be trusted for it. They stand here in the order in which they are reached from "
+        "`Headline`, the modules first, and in a module as in its source. The number behind a name is the count of its lines."
+        % (sum(len(names) for names in taken.values()), len(taken), sum(counts.values()), len(shapes)))
+    say("")
+    say("## What is trusted")
+    say("")
+    say("- The toolchain: its check of proofs, its logic, its compiler, and the statements of its libraries. Of these the definitions name: "
+        + "; ".join("`%s` (%s)" % (target.replace(".specs.", "::").replace("std::", "std::"), ", ".join("`%s`" % n.replace("◌", "") for n in sorted(names)))
+                    for target, names in sorted(library.items())) + ".")
+    say("- Of the system: that its streams and files do what the library says of them. The system's streams tell nothing, so that for the built "
+        "program the clause speaks of some bytes that were taken and written.")
+    say("- That the reader takes the definitions below for what the words of the language mean.")
+    say("")
+    say("## The definitions")
+    for where, names in taken.items():
+        here = module(where)
+        say("")
+        say("### %s, `%s`" % (where.split(".")[0], here.path.split("/", 2)[2]))
+        say("")
+        if here.about:
+            say(here.about)
+            say("")
+        for name, item in here.items.items():
+            if name in names:
+                say("- `%s` (%d)%s" % (name, len(item.text), ": " + item.head if item.head else ""))
+    say("")
+    say("## The types of the code")
+    say("")
+    for (crate, path, name), (doc, number, text) in shapes:
+        say("- `%s` of %s (%d, `%s`)%s" % (name, crate, len(text), path.split("/", 2)[2], ": " + doc if doc else ""))
+    return "\n".join(out) + "\n"
+
+
+if __name__ == "__main__":
+    sys.stdout.write(page())
