@@ -236,12 +236,12 @@ constants-place [] t s h e = let z : t ≡ s = cc in subst HasConstants z h
 constants-place (i ∷ path) (node f ps) s h e = let r = through ps i path s e in constants-place path r.0 s (constants-child ps i r.0 h.1 r.1) r.2
 
 -- the parts with another one
-child-constants : (ps : Parts) (i : ℕ) (r : Term) (g : Term → Term) → child_of ps i ≡ Some r → PartsHaveConstants ps → (HasConstants r → HasConstants (g r)) → PartsHaveConstants (on_child ps i g)
-child-constants none i r g e h k = tt
-child-constants (part n t ps) zero r g e h k = let z : r ≡ t = cc in (subst (λ x. HasConstants x → HasConstants (g x)) z k h.0, h.1)
-child-constants (part n t ps) (suc i) r g e h k = (h.0, child-constants ps i r g e h.1 k)
+constants-on_child : (ps : Parts) (i : ℕ) (r : Term) (g : Term → Term) → child_of ps i ≡ Some r → PartsHaveConstants ps → (HasConstants r → HasConstants (g r)) → PartsHaveConstants (on_child ps i g)
+constants-on_child none i r g e h k = tt
+constants-on_child (part n t ps) zero r g e h k = let z : r ≡ t = cc in (subst (λ x. HasConstants x → HasConstants (g x)) z k h.0, h.1)
+constants-on_child (part n t ps) (suc i) r g e h k = (h.0, constants-on_child ps i r g e h.1 k)
 
 -- the constants of a term with another part at a place
 pub constants-put_at : (path : List ℕ) (t s u : Term) → place_of t path ≡ Some s → HasConstants t → HasConstants u → HasConstants (put_at t path u)
 constants-put_at [] t s u e h k = k
-constants-put_at (i ∷ path) (node f ps) s u e h k = let r = through ps i path s e in (h.0, child-constants ps i r.0 (λ q. put_at q path u) r.1 h.1 (λ m. constants-put_at path r.0 s u r.2 m k))
+constants-put_at (i ∷ path) (node f ps) s u e h k = let r = through ps i path s e in (h.0, constants-on_child ps i r.0 (λ q. put_at q path u) r.1 h.1 (λ m. constants-put_at path r.0 s u r.2 m k))

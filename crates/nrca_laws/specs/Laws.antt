@@ -1,5 +1,5 @@
 -- What is claimed of the rules, of their conditions, of steps, of chains of steps and of the search for the next step.
-use Rattle.std.specs.Prelude.{◌≡◌, ℕ, ◌+◌, ◌*◌, ◌≤◌, true, List, [], length, Some}
+use Rattle.std.specs.Prelude.{◌≡◌, ℕ, ◌+◌, ◌^◌, ◌≤◌, true, List, [], length, Some}
 use Rattle.aql_value.specs.Datum.{Datum}
 use Rattle.aql_value.specs.Lists.{Every}
 use Rattle.aql_types.specs.Types.{Ty}
@@ -22,19 +22,20 @@ use Rattle.nrca_laws.specs.Spans.{Within}
 use Rattle.nrca_laws.specs.Search.{AllBefore}
 use Rattle.nrca_laws.specs.Fitting.{HasMeaning}
 
--- the right side is worth what the left side is, wherever the condition holds, at outcomes and variables of their types
+-- The right side of a rule is worth what the left side is wherever the condition holds: at outcomes and variables that are values of
+-- their types and of the language, where the facts of the place hold.
 abbrev pub RulesKeepMeaning : Type 0
 RulesKeepMeaning = (R : Rule) (l r : Term) (ws : List Way) → Redex R l r ws → HasMeaning R l r
 
--- it has every type of the left side
+-- the right side has every type of the left side
 abbrev pub RulesKeepTypes : Type 0
 RulesKeepTypes = (R : Rule) (l r : Term) (ws : List Way) → Redex R l r ws → (given : List Ty) → Keeps (instances given) l r
 
--- its constants are values of the language where those of the left side are
+-- the constants of the right side are values of the language where those of the left side are
 abbrev pub RulesKeepConstants : Type 0
 RulesKeepConstants = (R : Rule) (l r : Term) (ws : List Way) → Redex R l r ws → HasConstants l → HasConstants r
 
--- it weighs less than a typed left side, or has its weight and nodes and fewer pairs
+-- the right side weighs less than a typed left side, or has its weight and nodes and fewer pairs
 abbrev pub RulesLower : Type 0
 RulesLower = (R : Rule) (l r : Term) (ws : List Way) → Redex R l r ws →
     (given : List Ty) (env : List Ty) (T : Ty) → ctyped (instances given) env l T → Lowers l r
@@ -66,34 +67,34 @@ StepsKeepMeaning = (given : List Ty) (V : Outcomes) → OutcomesHave (instances 
     (R : Rule) (path : List ℕ) (t u : Term) (T : Ty) → ctyped (instances given) [] t T → HasConstants t →
     Step V R path t u → cden V [] t ≡ cden V [] u
 
--- it keeps every type
+-- a step keeps every type
 abbrev pub StepsKeepTypes : Type 0
 StepsKeepTypes = (given : List Ty) (V : Outcomes) (R : Rule) (path : List ℕ) (t u : Term) → Step V R path t u → Keeps (instances given) t u
 
--- it keeps valid constants
+-- a step keeps valid constants
 abbrev pub StepsKeepConstants : Type 0
 StepsKeepConstants = (V : Outcomes) (R : Rule) (path : List ℕ) (t u : Term) → Step V R path t u → HasConstants t → HasConstants u
 
--- it lowers the measure of a closed typed term
+-- a step lowers the measure of a closed typed term
 abbrev pub StepsLower : Type 0
 StepsLower = (given : List Ty) (V : Outcomes) (R : Rule) (path : List ℕ) (t u : Term) (T : Ty) → ctyped (instances given) [] t T →
     Step V R path t u → Below u t
 
--- a chain of steps keeps the meaning
+-- a chain of steps keeps the meaning, as a step does
 abbrev pub ChainsKeepMeaning : Type 0
 ChainsKeepMeaning = (given : List Ty) (V : Outcomes) → OutcomesHave (instances given) V → AreOutcomes V →
     (trace : List code.Step) (t u : Term) (T : Ty) → ctyped (instances given) [] t T → HasConstants t →
     Replay V trace t u → cden V [] t ≡ cden V [] u
 
--- it keeps the type
+-- a chain keeps the type
 abbrev pub ChainsKeepTypes : Type 0
 ChainsKeepTypes = (given : List Ty) (V : Outcomes) (trace : List code.Step) (t u : Term) (T : Ty) → ctyped (instances given) [] t T →
     Replay V trace t u → ctyped (instances given) [] u T
 
--- it has at most (W + 1)^3 steps, W being the weight of its first term
+-- a chain has at most (W + 1)^3 steps, W being the weight of its first term
 abbrev pub ChainsAreShort : Type 0
 ChainsAreShort = (given : List Ty) (V : Outcomes) (trace : List code.Step) (t u : Term) (T : Ty) → ctyped (instances given) [] t T →
-    Replay V trace t u → length trace ≤ (weight_of t + 1) * ((weight_of t + 1) * (weight_of t + 1))
+    Replay V trace t u → length trace ≤ (weight_of t + 1) ^ 3
 
 -- places that come before a place and are not above it stay normal where that place is rewritten
 abbrev pub SearchKeeps : Type 0

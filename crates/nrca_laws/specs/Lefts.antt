@@ -6,7 +6,7 @@ use Rattle.nrca_term.specs.declared.trace.Rule.TheVariants.{B1, K1, I1, I2, L1, 
 use Rattle.nrca_term.specs.Term.{Term, Form, form_of}
 use Rattle.nrca_term.specs.Rules.{Way, Redex, Folds, arithmetic, numbers, truths, texts, generated, member, misshapen, Subscript, inside, outside, LoopOf}
 
--- the forms by name
+-- whether a form is a let, an if, a default, a big union, a sum, a loop of either kind, a tabulation
 abbrev pub is_bind : Form → Bool
 is_bind Form.bind = true
 is_bind _ = false
@@ -36,7 +36,7 @@ abbrev pub is_tab : Form → Bool
 is_tab (Form.tab rank) = true
 is_tab _ = false
 
--- an operation with the property
+-- whether a form is an operation of this kind
 abbrev pub is_strict_by : (Strict → Bool) → Form → Bool
 is_strict_by p (Form.strict s) = p s
 is_strict_by p _ = false
@@ -50,7 +50,7 @@ folds Strict.get = true
 folds (Strict.literal rank) = true
 folds _ = false
 
--- the operations by name
+-- whether an operation is a component, a union, the member of a set, a subscript, a dimension
 abbrev pub is_proj : Strict → Bool
 is_proj (Strict.proj at of) = true
 is_proj _ = false
@@ -71,7 +71,7 @@ abbrev pub is_dim : Strict → Bool
 is_dim (Strict.dim rank) = true
 is_dim _ = false
 
--- a subscript or a dimension
+-- whether it is a subscript or a dimension, or a comparison
 abbrev pub reads_array : Strict → Bool
 reads_array Strict.sub = true
 reads_array (Strict.dim rank) = true

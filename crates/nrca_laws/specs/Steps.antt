@@ -1,5 +1,6 @@
 -- A step keeps the meaning, the types and the valid constants of a closed typed term and lowers its measure, and so does a chain of steps.
-use Rattle.std.proofs.Common.{◌≡◌, ℕ, ◌+◌, List, [], ◌∷◌, length, sym, ap, subst, ◌∙◌, arith, ◌*◌, ◌≤◌}
+use Rattle.std.proofs.Math.Nat.{pow-zero, pow-succ'}
+use Rattle.std.proofs.Common.{◌^◌, ◌≡◌, ℕ, ◌+◌, List, [], ◌∷◌, length, sym, ap, subst, ◌∙◌, arith, ◌*◌, ◌≤◌}
 use Rattle.aql_value.specs.Lists.{Every, Every-join}
 use Rattle.aql_value.specs.Valid.{IsValue}
 use Rattle.aql_types.specs.Types.{Ty}
@@ -72,6 +73,10 @@ replay-falls G V w (s ∷ trace) t u T ty l h =
     let m : weight_of h.0 ≤ w = omega (arith, l, below-weight h.0 t b) in
     omega (arith, replay-falls G V w trace h.0 u T (step-types G V s.rule s.path t h.0 [] T ty h.1) m h.2, left-falls (w * w) h.0 t (omega (arith, pairs-weight h.0, mul-le (weight_of h.0) (weight_of h.0) w w m m)) b)
 
--- a chain has at most (W+1)^3 steps, W being the weight of its first term
-pub replay-few : (G : ℕ → Ty → Type 0) (V : Outcomes) (trace : List code.Step) (t u : Term) (T : Ty) → ctyped G [] t T → Replay V trace t u → length trace ≤ (weight_of t + 1) * ((weight_of t + 1) * (weight_of t + 1))
-replay-few G V trace t u T ty h = omega (arith, replay-falls G V (weight_of t) trace t u T ty (omega arith) h, left-bound t)
+-- a third power
+cube : (n : ℕ) → n ^ 3 ≡ n * (n * n)
+cube n = pow-succ' n 2 ∙ ap (λ m. n * m) (pow-succ' n 1 ∙ ap (λ m. n * m) (pow-succ' n 0 ∙ ap (λ m. n * m) (pow-zero n) ∙ omega arith))
+
+-- a chain has at most (W + 1)^3 steps, W being the weight of its first term
+pub replay-few : (G : ℕ → Ty → Type 0) (V : Outcomes) (trace : List code.Step) (t u : Term) (T : Ty) → ctyped G [] t T → Replay V trace t u → length trace ≤ (weight_of t + 1) ^ 3
+replay-few G V trace t u T ty h = omega (arith, replay-falls G V (weight_of t) trace t u T ty (omega arith) h, left-bound t, cube (weight_of t + 1))

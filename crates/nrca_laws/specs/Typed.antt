@@ -136,6 +136,7 @@ naturals-arg : (n : ℕ) → replicate n (arg [] natural) ≡ map (arg []) (repl
 naturals-arg zero = refl
 naturals-arg (suc n) = ap (λ l. arg [] natural ∷ l) (naturals-arg n)
 
+-- the bounds and the body of a tabulation
 pub tab-typed : (G : ℕ → Ty → Type 0) (env : List Ty) (ds : List Term) (b : Term) (T : Ty) → ctyped G env (tab_term ds b) T →
     (A : Ty) × IsRank (length ds) × (T ≡ types.array_of (length ds) A) × TermsTyped G env ds (replicate (length ds) natural) × ctyped G (replicate (length ds) natural ++ env) b A
 tab-typed G env ds b T h =
@@ -181,7 +182,7 @@ dim-rank G env at n k A T g ty = one ty.1 ty.3 (ty.2.1 ∙ ap (map (arg [])) ty.
         rank-same X Y q = let z : X ≡ Y = cc in ap rank_of z
 
 -- equal set types have equal member types
-set_inj : (A B : Ty) → types.set_of A ≡ types.set_of B → A ≡ B
+pub set_inj : (A B : Ty) → types.set_of A ≡ types.set_of B → A ≡ B
 set_inj A B e = cc
 
 -- the parts of the types of an operation

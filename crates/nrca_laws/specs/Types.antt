@@ -1,7 +1,7 @@
 -- The right side of each rule has every type of its left side (`rule-types`).
 use Rattle.std.proofs.Common.{◌≡◌, ℕ, zero, suc, ◌+◌, ◌<◌, ◌≤◌, Bool, true, false, List, [], ◌∷◌, ◌++◌, length, map, replicate, Option, Some, None, refl, sym, ap, subst, ◌∙◌, arith, if◌then◌else◌, inl, inr, append_assoc}
 use Rattle.std.specs.List.{slice_get}
-use Rattle.std.proofs.lemmas.List.{length-map, length-append, length-replicate}
+use Rattle.std.proofs.lemmas.List.{length-map, length-replicate}
 use Rattle.aql_value.specs.Strict.{Strict}
 use Rattle.aql_value.specs.Datum as datum
 use Rattle.aql_value.specs.Order.{datum_cmp}
@@ -15,14 +15,14 @@ use Rattle.nrca_term.specs.declared.trace.Rule.TheVariants.{B1, K1, I1, I2, L1, 
 use Rattle.nrca_term.specs.Term.{Term, Parts, node, none, part, plain, Form}
 use Rattle.nrca_term.specs.Nodes.{variable, number, truth_term, bottom_term, let_term, if_term, less_term, tuple_term, proj_term, big_union_term, sum_term, single_term, empty_term, get_term, loop_term, compare_term, arith_term, gen_term, tab_term, sub_term, dim_term}
 use Rattle.nrca_term.specs.Subst.{shift_form, shift_term, shift_parts, subst_term}
-use Rattle.nrca_term.specs.Shifting.{slice_get-shift}
+use Rattle.nrca_term.specs.Shifting.{under, slice_get-shift}
 use Rattle.nrca_term.specs.Typing.{Arg, form_rule, ctyped, parts_typed}
 use Rattle.nrca_term.specs.TypingShift.{ctyped-shift_term}
 use Rattle.nrca_term.specs.TypingSubst.{ctyped-subst_term, ctyped-type}
 use Rattle.nrca_term.specs.Variants.{literal-parts}
 use Rattle.nrca_term.specs.Rules.{Way, Redex, IsComparison, Folds, arithmetic, numbers, truths, texts, generated, member, misshapen, Subscript, inside, outside, LoopOf, lets, guarded, beta, sizes_term, is_dim_of, replace_dims, replace_dims_parts, number_or_bottom, constant_literal, dimension_terms, index_variables}
 use Rattle.nrca_laws.specs.Keeping.{dimension_terms-length, index_variables-length}
-use Rattle.nrca_laws.specs.Typed.{TermsTyped, terms-length, strict-typed, typed-strict, let-typed, typed-let, if-typed, typed-if, default-typed, union-typed, typed-union, sum-typed, typed-sum, tab-typed, one-typed, single-typed, sub-typed, dim-typed, dim-is, dim-rank, get-past}
+use Rattle.nrca_laws.specs.Typed.{set_inj, TermsTyped, terms-length, strict-typed, typed-strict, let-typed, typed-let, if-typed, typed-if, default-typed, union-typed, typed-union, sum-typed, typed-sum, tab-typed, one-typed, single-typed, sub-typed, dim-typed, dim-is, dim-rank, get-past}
 
 -- bottom, numbers, truth values and the empty set
 bottom-typed : (G : ℕ → Ty → Type 0) (env : List Ty) (T : Ty) → IsType T → ctyped G env bottom_term T
@@ -56,10 +56,6 @@ form_rule-unshift G pre new post Form.sum args T h = h
 form_rule-unshift G pre new post (Form.tab rank) args T h = h
 form_rule-unshift G pre new post (Form.strict s) args T h = h
 
--- the number of types under more variables
-under_types : (own pre : List Ty) (k : ℕ) → length own ≡ k → length (own ++ pre) ≡ length pre + k
-under_types own pre k e = omega (arith, length-append own pre)
-
 mutual
   -- a term has the types of its shift, without the variables that the shift made room for
   pub ctyped-unshift : (G : ℕ → Ty → Type 0) (pre new post : List Ty) (t : Term) (T : Ty) → ctyped G (pre ++ (new ++ post)) (shift_term (length pre) (length new) t) T → ctyped G (pre ++ post) t T
@@ -74,7 +70,7 @@ mutual
     h.3,
     subst (λ env. ctyped G env t h.0.has) (append_assoc h.0.own pre post)
         (ctyped-unshift G (h.0.own ++ pre) new post t h.0.has
-        (subst (λ n. ctyped G ((h.0.own ++ pre) ++ (new ++ post)) (shift_term n (length new) t) h.0.has) (sym (under_types h.0.own pre k h.3))
+        (subst (λ n. ctyped G ((h.0.own ++ pre) ++ (new ++ post)) (shift_term n (length new) t) h.0.has) (under h.0.own pre k h.3)
         (subst (λ env. ctyped G env (shift_term (length pre + k) (length new) t) h.0.has) (sym (append_assoc h.0.own pre (new ++ post))) h.4))),
     parts-unshift G pre new post ps h.1 h.5,
   )
@@ -117,10 +113,6 @@ term-typed G env [] As i t A h e k = cc
 term-typed G env (u ∷ ts) [] i t A h e k = absurd h
 term-typed G env (u ∷ ts) (B ∷ As) zero t A h e k = let x : u ≡ t = cc in let y : B ≡ A = cc in subst (λ z. ctyped G env z A) x (subst (ctyped G env u) y h.0)
 term-typed G env (u ∷ ts) (B ∷ As) (suc i) t A h e k = term-typed G env ts As i t A h.1 e k
-
--- equal set types have equal member types
-set_inj : (A B : Ty) → types.set_of A ≡ types.set_of B → A ≡ B
-set_inj A B e = cc
 
 -- a variable of an index
 replicate-get : (k i : ℕ) (env : List Ty) → i < k → slice_get (replicate k natural ++ env) i ≡ Some natural
@@ -181,7 +173,6 @@ one-typed-replaced G n A f ps env at size T g w ty true e h =
     as-typed G env size (index_type n) T (s.1.3 ∙ ap index_type r) w
 one-typed-replaced G n A f ps env at size T g w ty false e h = h
 
--- replaced dimensions
 mutual
   -- the replacement of dimensions keeps the type
   typed-replaced : (G : ℕ → Ty → Type 0) (n : ℕ) (A : Ty) (t : Term) (env : List Ty) (at : ℕ) (size : Term) (T : Ty) → slice_get env at ≡ Some (types.array_of n A) → ctyped G env size (index_type n) → ctyped G env t T → ctyped G env (replace_dims at size t) T

@@ -91,18 +91,15 @@ record Same (ns ms : List ℕ) (cs ds : List Term) (is js : List ℕ) : Type 0 w
   at : is ≡ js
 
 same-subscript : (ns ms : List ℕ) (cs ds : List Term) (is js : List ℕ) → sub_term (constant_literal ns cs) (map number is) ≡ sub_term (constant_literal ms ds) (map number js) → Same ns ms cs ds is js
+unfolding first_of
 same-subscript ns ms cs ds is js e =
-    let f : constant_literal ns cs ≡ constant_literal ms ds = ap first e in
+    let f : constant_literal ns cs ≡ constant_literal ms ds = ap first_of e in
     let d : ns ≡ ms = sym (dims-read ns cs) ∙ ap literal_dims f ∙ dims-read ms ds in
     record {
       dims = d;
       cells = sym (cells-read ns cs) ∙ ap (λ t. parts_count t - length (literal_dims t)) f ∙ cells-read ms ds;
       at = sym (indices-read (constant_literal ns cs) is) ∙ ap (λ t. numbers_in (rest_of t)) e ∙ indices-read (constant_literal ms ds) js;
     }
-  where
-    first : Term → Term
-    first (node f none) = node f none
-    first (node f (part k t ps)) = t
 
 -- a constant subscript's ways
 subscript-ways : (l r s : Term) (ws us : List Way) → Subscript l r ws → Subscript l s us → ws ≡ us
