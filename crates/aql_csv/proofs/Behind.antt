@@ -1,4 +1,4 @@
--- The records behind a place of a text: one more record, and those behind it.
+-- The records behind a place of a text are one record and those behind it, and each record takes some of the text.
 use Rattle.std.proofs.Common.{◌≡◌, ◌≤◌, ◌<◌, ◌+◌, ℕ, zero, suc, List, [], ◌∷◌, ◌++◌, length, Option, Some, None, Bool, true, false, cond, refl, sym, ap, arith, if◌then◌else◌, add-one}
 use Rattle.std.specs.Prelude.{◌==◌, ◌&&◌}
 use Rattle.csv.specs.Machine.{Read, after_end, ends_at_end, ends_with, field_after, fields_after, in_field, is_byte, is_end, next_record, start_field, start_record, step}
@@ -11,7 +11,7 @@ use Rattle.csv.specs.declared.parser.State.TheVariants as st
 use Rattle.csv.specs.declared.parser.Action.{Action}
 use Rattle.csv.specs.declared.parser.Action.TheVariants as act
 
--- the state behind the end of a record would end none
+-- in the state after a terminator no record is open, that the end of the text would end
 end_behind : (t : Terminator) (c : ℕ) → ends_at_end (after_end t c) ≡ false
 end_behind term.CRLF c = go (c == 13)
   where
@@ -20,9 +20,11 @@ end_behind term.CRLF c = go (c == 13)
     go false = refl
 end_behind (term.Any t) c = refl
 
+-- where a step ends a record, no record is open after it
 abbrev RestsAt : State × Action → Type 0
 RestsAt p = is_end p.1 ≡ true → ends_at_end p.0 ≡ false
 
+-- so it is of a step inside an unquoted field
 field_rests : (cfg : Config) (c : ℕ) → RestsAt (in_field cfg c)
 field_rests cfg c = go (c == cfg.delimiter) (ends_with cfg.terminator c)
   where
@@ -31,6 +33,7 @@ field_rests cfg c = go (c == cfg.delimiter) (ends_with cfg.terminator c)
     go false true = λ e. end_behind cfg.terminator c
     go false false = λ e. cc e
 
+-- of a step at the start of a field
 start_rests : (cfg : Config) (c : ℕ) → RestsAt (start_field cfg c)
 start_rests cfg c = go (cfg.quoting && (c == cfg.quote))
   where
@@ -38,6 +41,7 @@ start_rests cfg c = go (cfg.quoting && (c == cfg.quote))
     go true = λ e. cc e
     go false = field_rests cfg c
 
+-- of a step at the start of a record
 record_rests : (cfg : Config) (c : ℕ) → RestsAt (start_record cfg c)
 record_rests cfg c = go (ends_with cfg.terminator c) (is_byte cfg.comment c)
   where
@@ -46,6 +50,7 @@ record_rests cfg c = go (ends_with cfg.terminator c) (is_byte cfg.comment c)
     go false true = λ e. cc e
     go false false = start_rests cfg c
 
+-- of every step
 step_rests : (cfg : Config) (s : State) (c : ℕ) → RestsAt (step cfg s c)
 step_rests cfg st.StartRecord c = record_rests cfg c
 step_rests cfg st.StartField c = start_rests cfg c
@@ -77,6 +82,11 @@ step_rests cfg st.AfterCr c = go (c == 10)
 abbrev pub left : State → List ℕ → ℕ
 left s xs = length xs + cond (ends_at_end s) 1 0
 
+-- the end of the text counts for one at most
+at_most : (b : Bool) → cond b 1 0 ≤ 1
+at_most true = omega arith
+at_most false = omega arith
+
 -- a record takes some of what is left
 pub next_falls : (cfg : Config) (s : State) (fields : List (List ℕ)) (field xs : List ℕ) (p : Read) → next_record cfg s fields field xs ≡ Some p → left p.1 p.2 < left s xs
 unfolding next_record
@@ -87,10 +97,6 @@ next_falls cfg s fields field [] p e = go (ends_at_end s) refl e
     go false t h = cc h
 next_falls cfg s fields field (c ∷ rest) p e = go (is_end (step cfg s c).1) refl e (λ h. next_falls cfg (step cfg s c).0 (fields_after (step cfg s c).1 fields field) (field_after (step cfg s c).1 c field) rest p h)
   where
-    at_most : (b : Bool) → cond b 1 0 ≤ 1
-    at_most true = omega arith
-    at_most false = omega arith
-
     go : (b : Bool) → is_end (step cfg s c).1 ≡ b
         → (if b then Some (fields_after (step cfg s c).1 fields field, (step cfg s c).0, rest)
         else next_record cfg (step cfg s c).0 (fields_after (step cfg s c).1 fields field) (field_after (step cfg s c).1 c field) rest) ≡ Some p
@@ -104,7 +110,7 @@ next_falls cfg s fields field (c ∷ rest) p e = go (is_end (step cfg s c).1) re
         let one : cond (ends_at_end (step cfg s c).0) 1 0 ≤ 1 = at_most (ends_at_end (step cfg s c).0) in
         omega arith
 
--- at most `left` more records
+-- where nothing is left there is no record
 none_left : (cfg : Config) (s : State) (xs : List ℕ) (more : State → List ℕ → List (List (List ℕ))) → left s xs ≤ 0 → [] ≡ records_next more (next_record cfg s [] [] xs)
 none_left cfg s xs more none = go (next_record cfg s [] [] xs) refl
   where
@@ -112,7 +118,7 @@ none_left cfg s xs more none = go (next_record cfg s [] [] xs) refl
     go None e = refl
     go (Some p) e = let k = next_falls cfg s [] [] xs p e in absurd (omega arith)
 
--- how many records are asked for makes no difference, where it is enough
+-- how many records are asked for makes no difference, where they are as many as what is left
 pub enough : (cfg : Config) (n m : ℕ) (s : State) (xs : List ℕ) → left s xs ≤ n → left s xs ≤ m → records_from cfg n s xs ≡ records_from cfg m s xs
 unfolding records_from
 enough cfg zero zero s xs a b = refl
@@ -128,11 +134,11 @@ enough cfg (suc n) (suc m) s xs a b = go (next_record cfg s [] [] xs) refl (λ t
         let k = next_falls cfg s [] [] xs p e in
         ap (λ (rs : List (List (List ℕ))). p.0 ∷ rs) (same p.1 p.2 (omega arith) (omega arith))
 
--- all the records behind a place of a text, in a state
+-- all records of the rest of a text, in a state
 abbrev pub behind : State → List ℕ → List (List (List ℕ))
 behind s xs = records_from default_config (length xs + 1) s xs
 
--- one record, and those behind it
+-- where there is a next record, they are it and those of the rest behind it
 pub behind_some : (s : State) (xs : List ℕ) (p : Read) → next_record default_config s [] [] xs ≡ Some p → behind s xs ≡ p.0 ∷ behind p.1 p.2
 unfolding records_from
 behind_some s xs p e =
@@ -140,12 +146,8 @@ behind_some s xs p e =
     let one : cond (ends_at_end s) 1 0 ≤ 1 = at_most (ends_at_end s) in
     let also : cond (ends_at_end p.1) 1 0 ≤ 1 = at_most (ends_at_end p.1) in
     rw (add-one) (rw e (ap (λ (rs : List (List (List ℕ))). p.0 ∷ rs) (enough default_config (length xs) (length p.2 + 1) p.1 p.2 (omega arith) (omega arith))))
-  where
-    at_most : (b : Bool) → cond b 1 0 ≤ 1
-    at_most true = omega arith
-    at_most false = omega arith
 
--- none
+-- where there is no next record they are none
 pub behind_none : (s : State) (xs : List ℕ) → next_record default_config s [] [] xs ≡ None → behind s xs ≡ []
 unfolding records_from
 behind_none s xs e = rw (add-one) (rw e refl)

@@ -2,13 +2,12 @@
 use Rattle.std.proofs.Common.{◌≡◌, ◌≤◌, ◌<◌, ◌+◌, ℕ, zero, suc, List, [], ◌∷◌, ◌++◌, length, drop, Some, None, Ok, Err, Result, Bool, true, false, refl, sym, ap, ◌∙◌, arith, append_assoc, if◌then◌else◌, add-one, get_or, drop-cons}
 use Rattle.std.specs.Prelude.{nat_eq, ◌&&◌}
 use Rattle.std.proofs.lemmas.List.{append-nil}
-use Rattle.std.proofs.lemmas.Bool.{ne_eqb}
 use Rattle.csv.specs.Records.{field_at}
 use Rattle.aql_value.specs.Canon.{canon}
 use Rattle.aql_value.specs.Datum.{Datum}
 use Rattle.aql_value.specs.SetLaws.{canon_append_left}
 use Rattle.aql_csv.specs.Records.{Record}
-use Rattle.aql_csv.specs.Rows.{in_front, all_in_front, field_value, field_values, or_fault, row, rows_from, rows_behind, result_map, StopsAt}
+use Rattle.aql_csv.specs.Rows.{in_front, all_in_front, field_value, field_values, or_fault, rows_from, rows_behind, result_map, StopsAt}
 use Rattle.aql_syntax.specs.declared.ast.Kind.{Kind}
 use Rattle.aql_csv.specs.declared.fault.CsvFault.{CsvFault}
 use Rattle.aql_csv.specs.declared.fault.CsvFault.TheVariants as faults
@@ -18,6 +17,7 @@ pub front_more : {A E : Type 0} (front : List A) (a : A) (rest : Result (List A)
 front_more front a (Err e) = refl
 front_more front a (Ok rest) = ap Ok (sym (append_assoc front (a ∷ []) rest))
 
+-- none in front
 pub front_none : {A E : Type 0} (rest : Result (List A) E) → all_in_front [] rest ≡ rest
 front_none (Err e) = refl
 front_none (Ok rest) = refl
@@ -31,23 +31,28 @@ field_at_there [] i x e = cc e
 field_at_there (y ∷ xs) zero x e = let k : y ≡ x = cc e in rw k refl
 field_at_there (y ∷ xs) (suc i) x e = field_at_there xs i x e
 
+-- the same by the word of the call
 pub field_there : (xs : List (List ℕ)) (i : ℕ) (x : List ℕ) → Some x ≡ field_at xs i → drop i xs ≡ x ∷ drop (i + 1) xs
 field_there xs i x e = rw (add-one) (field_at_there xs i x (sym e))
 
+-- the kinds from a place on
 pub kind_there : (ks : List Kind) (i : ℕ) (k : Kind) → i < length ks → drop i ks ≡ get_or ks i k ∷ drop (i + 1) ks
 kind_there ks i k h = rw (add-one) (drop-cons ks i k h)
 
+-- where there is no field at a place, the place is past the last
 pub field_past : (xs : List (List ℕ)) (i : ℕ) → field_at xs i ≡ None → length xs ≤ i
 unfolding field_at
 field_past [] i e = omega arith
 field_past (y ∷ xs) zero e = cc e
 field_past (y ∷ xs) (suc i) e = omega (arith, field_past xs i e)
 
+-- a field with a value: one more value in front of those of the later fields
 pub field_good : (r i : ℕ) (ks : List Kind) (xs : Record) (k : Kind) (x : List ℕ) (front : List Datum) (v : Datum)
     → drop i ks ≡ k ∷ drop (i + 1) ks → drop i xs ≡ x ∷ drop (i + 1) xs → or_fault (faults.Number r (i + 1)) (field_value k x) ≡ Ok v
     → all_in_front front (field_values r (i + 1) (drop i ks) (drop i xs)) ≡ all_in_front (front ++ (v ∷ [])) (field_values r (i + 1 + 1) (drop (i + 1) ks) (drop (i + 1) xs))
 field_good r i ks xs k x front v a b e = rw (a, b, e) (front_more front v (field_values r (i + 1 + 1) (drop (i + 1) ks) (drop (i + 1) xs)))
 
+-- a field with a fault: the fault, whatever the later fields are
 pub field_wrong : (r i : ℕ) (ks : List Kind) (xs : Record) (k : Kind) (x : List ℕ) (front : List Datum) (e : CsvFault)
     → drop i ks ≡ k ∷ drop (i + 1) ks → drop i xs ≡ x ∷ drop (i + 1) xs → or_fault (faults.Number r (i + 1)) (field_value k x) ≡ Err e
     → all_in_front front (field_values r (i + 1) (drop i ks) (drop i xs)) ≡ Err e
@@ -55,30 +60,13 @@ field_wrong r i ks xs k x front e a b f = rw (a, b, f) refl
 
 -- ---- records
 
--- no record behind the first names the fields
-pub later : (header : Bool) (ks : List Kind) (r : ℕ) (more : List Record) → 1 ≤ r → rows_behind header ks (r + 1) more ≡ rows_from ks (r + 1) more
-later false ks r more h = refl
-later true ks r more h = ap (λ (b : Bool). if b then rows_from ks (r + 1 + 1) (drop 1 more) else rows_from ks (r + 1) more) (ne_eqb (r + 1) 1 (λ e. omega arith))
-
-pub passed : (header : Bool) (ks : List Kind) (r : ℕ) (x : Record) (more : List Record) (front : List Datum) → header ≡ true → r ≡ 1
-    → all_in_front front (rows_behind header ks r (x ∷ more)) ≡ all_in_front front (rows_behind header ks (r + 1) more)
-passed header ks r x more front h one = rw (h, one) refl
-
-pub row_good : (header : Bool) (ks : List Kind) (r : ℕ) (x : Record) (more : List Record) (front : List Datum) (v : Datum) → (header && nat_eq r 1) ≡ false → 1 ≤ r → row ks r x ≡ Ok v
-    → all_in_front front (rows_behind header ks r (x ∷ more)) ≡ all_in_front (front ++ (v ∷ [])) (rows_behind header ks (r + 1) more)
-row_good header ks r x more front v kept one e = rw (kept, e, later header ks r more one) (front_more front v (rows_from ks (r + 1) more))
-
-pub row_wrong : (header : Bool) (ks : List Kind) (r : ℕ) (x : Record) (more : List Record) (front : List Datum) (e : CsvFault) → (header && nat_eq r 1) ≡ false → row ks r x ≡ Err e
-    → all_in_front front (rows_behind header ks r (x ∷ more)) ≡ Err e
-row_wrong header ks r x more front e kept f = rw (kept, f) refl
-
--- at the start of a file
+-- before the first record no value is in front
 pub started : (header : Bool) (ks : List Kind) (records : List Record)
     → (if header then rows_from ks 2 (drop 1 records) else rows_from ks 1 records) ≡ all_in_front [] (rows_behind header ks 1 records)
 started true ks records = sym (front_none (rows_from ks 2 (drop 1 records)))
 started false ks records = sym (front_none (rows_from ks 1 records))
 
--- at its end
+-- behind the last record the values in front are all
 pub ended : (header : Bool) (ks : List Kind) (r : ℕ) (front : List Datum) → all_in_front front (rows_behind header ks r []) ≡ Ok front
 ended header ks r front = go (header && nat_eq r 1)
   where
@@ -86,7 +74,7 @@ ended header ks r front = go (header && nat_eq r 1)
     go true = ap Ok (append-nil front)
     go false = ap Ok (append-nil front)
 
--- a fault below is this fault, unless it is want of memory
+-- a fault of a part is that of the whole, unless it is want of memory
 pub stops_as : {A B : Type 0} (e : CsvFault) (meant : Result A CsvFault) (whole : Result B CsvFault) → (meant ≡ Err e → whole ≡ Err e) → StopsAt e meant → StopsAt e whole
 stops_as faults.Absent meant whole f h = f h
 stops_as (faults.Long n) meant whole f h = f h
@@ -96,7 +84,7 @@ stops_as (faults.Number r n) meant whole f h = f h
 stops_as faults.Device meant whole f h = f h
 stops_as faults.Memory meant whole f h = tt
 
--- values in front of others can be exchanged for those that make the same set
+-- values in front may be exchanged for others that make the same set
 pub swap_front : {E : Type 0} (one other : List Datum) (more : Result (List Datum) E) → canon one ≡ canon other
     → result_map canon (all_in_front one more) ≡ result_map canon (all_in_front other more)
 swap_front one other (Err e) same = refl
