@@ -1,11 +1,8 @@
 // Reading a file of records.
-ghost use Rattle.std.specs.Prelude.{◌≡◌, ◌<◌, ◌≤◌, ◌^◌, Some, Err, length, IfOk, IfErr, IsErrOf};
+ghost use Rattle.std.specs.Prelude.{◌≡◌, ◌≤◌, Some, Err, length, IfOk, IfErr, IsErrOf};
 ghost use Rattle.std.specs.Str.{IsUtf8};
 ghost use Rattle.aql_outside.specs.Causes.{Blames};
-ghost use Rattle.aql_types.specs.Types as types;
-ghost use Rattle.aql_types.specs.ValueTypes.{HasType};
 ghost use Rattle.aql_value.specs.Meaning.{datum};
-ghost use Rattle.aql_syntax.specs.Typing.{record_type};
 ghost use Rattle.aql_csv.specs.Rows.{Gives, IsOfRecords, result_map};
 ghost use Rattle.aql_csv.specs.File.{Answers, IsGiven, IsOfReading, IsTold, IsToldWhole, read_by, set_of};
 ghost use Rattle.aql_csv.specs.Typed.{IsOfReader};

@@ -1,11 +1,11 @@
 // The values of the records of bytes.
-ghost use Rattle.std.specs.Prelude.{◌≡◌, ◌+◌, ◌∷◌, ◌++◌, [], List, map, IfOk, OnOk, IfErr, ◌<◌, ◌≤◌, ◌^◌, length};
+ghost use Rattle.std.specs.Prelude.{◌≡◌, ◌≤◌, ◌∷◌, ◌++◌, [], map, length, IfOk, OnOk, IfErr};
 ghost use Rattle.csv.specs.Reading.{error_kind};
 ghost use Rattle.csv.specs.Records.{fields_of};
 ghost use Rattle.aql_value.specs.Canon.{canon};
 ghost use Rattle.aql_value.specs.Meaning.{datum};
-ghost use Rattle.aql_csv.specs.Records.{IsOutside, Record};
-ghost use Rattle.aql_csv.specs.Rows.{Gives, IsOfRecords, Adds, Stops, field_value, field_values, or_fault, record_value, result_map, row, rows};
+ghost use Rattle.aql_csv.specs.Records.{IsOutside};
+ghost use Rattle.aql_csv.specs.Rows.{Adds, Gives, IsOfRecords, Stops, field_value, field_values, or_fault, record_value, result_map, row, rows};
 ghost use Rattle.aql_csv.specs.declared.fault.CsvFault.TheVariants as faults;
 
 use crate::fault::CsvFault;
