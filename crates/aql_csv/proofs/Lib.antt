@@ -1,0 +1,4 @@
+pub mod Digits
+pub mod Behind
+pub mod Rowed
+pub mod OneRead

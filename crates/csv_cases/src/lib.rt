@@ -1,0 +1,5 @@
+//! Tests of files of records.
+#![tactic(auto)]
+
+#[cfg(test)]
+mod tests;
