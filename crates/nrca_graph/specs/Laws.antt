@@ -1,0 +1,34 @@
+-- What is claimed of encoding and of the array-free form.
+use Rattle.std.specs.Prelude.{◌≡◌, ℕ, ◌≤◌, List, length, map, Option, Some}
+use Rattle.aql_value.specs.Datum.{Datum, natural}
+use Rattle.aql_value.specs.Indices.{indices}
+use Rattle.aql_value.specs.Lists.{Every}
+use Rattle.aql_value.specs.Operations.{walked}
+use Rattle.aql_value.specs.Partial.{each}
+use Rattle.aql_types.specs.Types.{Ty}
+use Rattle.aql_types.specs.ValueTypes.{HaveTypes}
+use Rattle.nrca_term.specs.Term.{Term}
+use Rattle.nrca_term.specs.Meaning.{Outcomes, cden}
+use Rattle.nrca_term.specs.Typing.{ctyped, instances, OutcomesHave}
+use Rattle.nrca_graph.specs.Encoding.{encoding, encoded}
+use Rattle.nrca_graph.specs.EncodingOrder.{KeepsOrder}
+use Rattle.nrca_graph.specs.Tabulation.{tabulation_graph}
+use Rattle.nrca_graph.specs.Tabulated.{tabulated}
+use Rattle.nrca_graph.specs.ArrayFree.{array_free}
+use Rattle.nrca_graph.specs.Means.{AllSimple}
+
+-- two values of one type are in the order of their encodings
+abbrev pub EncodingKeepsOrder : Type 0
+EncodingKeepsOrder = (T : Ty) → KeepsOrder T
+
+-- a typed term without the five forms of arrays: its array-free form means the encoded value, over encoded outcomes and variables
+abbrev pub PlainFormsMean : Type 0
+PlainFormsMean = (Ts : List Ty) (V : Outcomes) → OutcomesHave (instances Ts) V → (t : Term) → AllSimple t → (env : List Ty) (vals : List Datum) (T : Ty) →
+    HaveTypes env vals → ctyped (instances Ts) env t T → cden (map encoded V) (map encoding vals) (array_free t) ≡ encoded (cden V vals t)
+
+-- a tabulation whose bounds have these numbers, and whose body means the encoded outcome at each index, means the encoded array
+abbrev pub TabulationsMean : Type 0
+TabulationsMean = (W : Outcomes) (around : List Datum) (ds : List Term) (b : Term) (ns : List ℕ) (f : List ℕ → Option Datum) →
+    1 ≤ length ns → length ns ≤ 8 → length ds ≡ length ns → each (cden W around) ds ≡ Some (map natural ns) →
+    Every (λ at. cden W (walked at around) b ≡ encoded (f at)) (indices ns) →
+    cden W around (tabulation_graph ds b) ≡ encoded (tabulated ns f)

@@ -1,0 +1,15 @@
+pub mod Encoding
+pub mod Tabulation
+pub mod ArrayFree
+pub mod GraphTurns
+pub mod IndexOrder
+pub mod Lets
+pub mod EncodingOrder
+pub mod EncodedSets
+pub mod Nests
+pub mod Tabulated
+pub mod NestTurns
+pub mod KeptForms
+pub mod StrictForms
+pub mod Means
+pub mod Laws
