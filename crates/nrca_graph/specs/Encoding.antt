@@ -1,12 +1,13 @@
 -- Values and types without arrays: an array is the pair of its dimensions and its graph, the set of its pairs of an index and a cell.
-use Rattle.std.specs.Prelude.{ℕ, List, [], ◌∷◌, Option, Some}
+use Rattle.std.specs.Prelude.{◌≡◌, ℕ, List, [], ◌∷◌, replicate, Option, Some}
+use Rattle.std.specs.List.{slice_get}
 use Rattle.aql_value.specs.Datum as datum
 use Rattle.aql_value.specs.Datum.{Datum, tuple, set, array, Data, nil, cons, data_of}
 use Rattle.aql_value.specs.Indices.{indices}
 use Rattle.aql_value.specs.Operations.{index_value, set_of}
 use Rattle.aql_value.specs.Partial.{◌>>=◌}
 use Rattle.aql_types.specs.Types as types
-use Rattle.aql_types.specs.Types.{Ty, Tys, no_type, type, index_type}
+use Rattle.aql_types.specs.Types.{Ty, Tys, no_type, type, tys_of, index_type}
 
 -- two values as a tuple
 abbrev pub pair : Datum → Datum → Datum
@@ -17,6 +18,10 @@ abbrev pub graph : List (List ℕ) → List Datum → List Datum
 graph [] cs = []
 graph (at ∷ ats) [] = []
 graph (at ∷ ats) (c ∷ cs) = pair (index_value at) c ∷ graph ats cs
+
+-- the pair of a cell and the index that stands at a place in row-major order
+abbrev pub IsPairAt : List ℕ → (place : ℕ) → (cell made : Datum) → Type 0
+IsPairAt ds place cell made = (at : List ℕ) × (slice_get (indices ds) place ≡ Some at) × (made ≡ pair (index_value at) cell)
 
 abbrev mutual
   -- the value without arrays: an array is the pair of its dimensions and its graph, any other value keeps its kind
@@ -41,6 +46,14 @@ encoded o = o >>= λ v. Some (encoding v)
 abbrev pub pair_type : Ty → Ty → Ty
 pair_type S T = types.product (type S (type T no_type))
 
+-- the type of the pairs of dimensions and of a set of pairs of an index and a cell
+abbrev pub array_type : (rank : ℕ) → Ty → Ty
+array_type rank cell = pair_type (index_type rank) (types.set_of (pair_type (index_type rank) cell))
+
+-- so many numbers
+abbrev pub natural_types : ℕ → Tys
+natural_types n = tys_of (replicate n types.natural)
+
 abbrev mutual
   -- the type of the encoded values of a type
   pub encoding_type : Ty → Ty
@@ -50,7 +63,7 @@ abbrev mutual
   encoding_type (types.var x) = types.var x
   encoding_type (types.product Ts) = types.product (encoding_types Ts)
   encoding_type (types.set_of T) = types.set_of (encoding_type T)
-  encoding_type (types.array_of rank T) = pair_type (index_type rank) (types.set_of (pair_type (index_type rank) (encoding_type T)))
+  encoding_type (types.array_of rank T) = array_type rank (encoding_type T)
 
   -- those of some types, one by one
   pub encoding_types : Tys → Tys

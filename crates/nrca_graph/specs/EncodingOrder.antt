@@ -80,6 +80,10 @@ graphs-order (at ∷ ats) (c ∷ cs) (e ∷ es) m n =
 abbrev pub KeepsOrder : Ty → Type 0
 KeepsOrder T = (v w : Datum) → HasType T v → HasType T w → datum_cmp (encoding v) (encoding w) ≡ datum_cmp v w
 
+-- what the order of an encoded value gives: it stands to each encoded value of its types as the value itself does
+abbrev pub IsOrderedAs : Datum → Datum → Type 0
+IsOrderedAs v w = (T : Ty) (y : Datum) → HasType T v → HasType T y → datum_cmp w (encoding y) ≡ datum_cmp v y
+
 -- lists of values of a type keep their order
 lists-order : (T : Ty) → KeepsOrder T → (vs ws : List Datum) → Every (HasType T) vs → Every (HasType T) ws → data_cmp (data_of (map encoding vs)) (data_of (map encoding ws)) ≡ data_cmp (data_of vs) (data_of ws)
 lists-order T k [] [] h g = refl
@@ -145,3 +149,7 @@ mutual
   parts-order (type T Ts) (v ∷ vs) [] h k = absurd k
   parts-order (type T Ts) (v ∷ vs) (w ∷ ws) h k =
       ap (λ o. ordering_then o (data_cmp (data_of (map encoding vs)) (data_of (map encoding ws)))) (encoding-order T v w h.0 k.0) ∙ ap (ordering_then (datum_cmp v w)) (parts-order Ts vs ws h.1 k.1)
+
+-- an encoded value is ordered as the value is
+pub encoded-order : (v w : Datum) → w ≡ encoding v → IsOrderedAs v w
+encoded-order v w e T y h k = ap (λ x. datum_cmp x (encoding y)) e ∙ encoding-order T v y h k

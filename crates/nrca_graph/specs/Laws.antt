@@ -5,12 +5,12 @@ use Rattle.aql_value.specs.Indices.{indices}
 use Rattle.aql_value.specs.Lists.{Every}
 use Rattle.aql_value.specs.Operations.{walked}
 use Rattle.aql_value.specs.Partial.{each}
-use Rattle.aql_types.specs.Types.{Ty}
-use Rattle.aql_types.specs.ValueTypes.{HaveTypes}
+use Rattle.aql_types.specs.Types.{Ty, Subst, apply, IsType}
+use Rattle.aql_types.specs.ValueTypes.{HasType, HaveTypes}
 use Rattle.nrca_term.specs.Term.{Term}
 use Rattle.nrca_term.specs.Meaning.{Outcomes, cden}
 use Rattle.nrca_term.specs.Typing.{ctyped, instances, OutcomesHave}
-use Rattle.nrca_graph.specs.Encoding.{encoding, encoded}
+use Rattle.nrca_graph.specs.Encoding.{encoding, encoded, encoding_type}
 use Rattle.nrca_graph.specs.EncodingOrder.{KeepsOrder}
 use Rattle.nrca_graph.specs.Tabulation.{tabulation_graph}
 use Rattle.nrca_graph.specs.Tabulated.{tabulated}
@@ -20,6 +20,18 @@ use Rattle.nrca_graph.specs.Means.{AllSimple}
 -- two values of one type are in the order of their encodings
 abbrev pub EncodingKeepsOrder : Type 0
 EncodingKeepsOrder = (T : Ty) → KeepsOrder T
+
+-- an encoded value has each encoded type of the value
+abbrev pub EncodingKeepsTypes : Type 0
+EncodingKeepsTypes = (T : Ty) (v : Datum) → HasType T v → HasType (encoding_type T) (encoding v)
+
+-- an encoded type is a type of the language
+abbrev pub EncodedTypesAreTypes : Type 0
+EncodedTypesAreTypes = (T : Ty) → IsType T → IsType (encoding_type T)
+
+-- an instance of a type is encoded as the instance by encoded types
+abbrev pub EncodingKeepsInstances : Type 0
+EncodingKeepsInstances = (u : Subst) (T : Ty) → encoding_type (apply u T) ≡ apply (λ x. encoding_type (u x)) (encoding_type T)
 
 -- a typed term without the five forms of arrays: its array-free form means the encoded value, over encoded outcomes and variables
 abbrev pub PlainFormsMean : Type 0

@@ -6,6 +6,7 @@ pub mod IndexOrder
 pub mod Lets
 pub mod EncodingOrder
 pub mod EncodedSets
+pub mod EncodedTypes
 pub mod Nests
 pub mod Tabulated
 pub mod NestTurns
