@@ -15,7 +15,7 @@ use Rattle.nrca_graph.specs.EncodingOrder.{KeepsOrder}
 use Rattle.nrca_graph.specs.Tabulation.{tabulation_graph}
 use Rattle.nrca_graph.specs.Tabulated.{tabulated}
 use Rattle.nrca_graph.specs.ArrayFree.{array_free}
-use Rattle.nrca_graph.specs.Means.{AllSimple}
+use Rattle.nrca_graph.specs.Means.{AllCovered}
 
 -- two values of one type are in the order of their encodings
 abbrev pub EncodingKeepsOrder : Type 0
@@ -33,9 +33,10 @@ EncodedTypesAreTypes = (T : Ty) → IsType T → IsType (encoding_type T)
 abbrev pub EncodingKeepsInstances : Type 0
 EncodingKeepsInstances = (u : Subst) (T : Ty) → encoding_type (apply u T) ≡ apply (λ x. encoding_type (u x)) (encoding_type T)
 
--- a typed term without the five forms of arrays: its array-free form means the encoded value, over encoded outcomes and variables
-abbrev pub PlainFormsMean : Type 0
-PlainFormsMean = (Ts : List Ty) (V : Outcomes) → OutcomesHave (instances Ts) V → (t : Term) → AllSimple t → (env : List Ty) (vals : List Datum) (T : Ty) →
+-- The array-free form of a typed term means the encoded value, over encoded outcomes and variables, and is undefined where the term
+-- is. An index and a literal are not covered yet.
+abbrev pub ArrayFreeMeans : Type 0
+ArrayFreeMeans = (Ts : List Ty) (V : Outcomes) → OutcomesHave (instances Ts) V → (t : Term) → AllCovered t → (env : List Ty) (vals : List Datum) (T : Ty) →
     HaveTypes env vals → ctyped (instances Ts) env t T → cden (map encoded V) (map encoding vals) (array_free t) ≡ encoded (cden V vals t)
 
 -- a tabulation whose bounds have these numbers, and whose body means the encoded outcome at each index, means the encoded array

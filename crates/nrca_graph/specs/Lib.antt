@@ -12,5 +12,9 @@ pub mod Tabulated
 pub mod NestTurns
 pub mod KeptForms
 pub mod StrictForms
+pub mod TranslatedParts
+pub mod TabulationNode
+pub mod Paired
+pub mod SubscriptNode
 pub mod Means
 pub mod Laws

@@ -1,37 +1,47 @@
 -- The induction on a term: its array-free form means the encoded value.
-use Rattle.std.proofs.Common.{◌≡◌, ℕ, Bool, true, false, nat_eq, List, [], ◌∷◌, ◌++◌, length, map, Option, Some, None, refl, sym, ap, subst, ◌∙◌, if◌then◌else◌}
+use Rattle.std.proofs.Common.{◌≡◌, ℕ, Bool, true, false, nat_eq, List, [], ◌∷◌, ◌++◌, length, map, replicate, Option, Some, None, refl, sym, ap, subst, ◌∙◌, if◌then◌else◌}
 use Rattle.std.proofs.lemmas.List.{map-append}
 use Rattle.aql_value.specs.Datum.{Datum}
 use Rattle.aql_value.specs.Partial.{◌>>=◌, each}
 use Rattle.aql_value.specs.Strict.{Strict, strict_value}
+use Rattle.aql_types.specs.Types as types
 use Rattle.aql_types.specs.Types.{Ty}
-use Rattle.aql_types.specs.OperationLaws.{has-append, some-list}
+use Rattle.aql_types.specs.OperationLaws.{has-append}
 use Rattle.aql_types.specs.OperationTypes.{strict_rule}
 use Rattle.aql_types.specs.ValueTypes.{HaveTypes}
-use Rattle.aql_value.specs.PartialLaws.{then-is}
 use Rattle.nrca_term.specs.Term.{Term, Parts, node, none, part, Form}
 use Rattle.nrca_term.specs.Typing.{Arg, arg, form_rule, ctyped, parts_typed, OutcomesHave}
 use Rattle.nrca_term.specs.Meaning.{Outcomes, Part, here, form_value, cden, part_values}
 use Rattle.nrca_term.specs.Sound.{AllSound, parts-sound, sounds}
 use Rattle.nrca_graph.specs.Encoding.{encoding, encoded}
 use Rattle.nrca_graph.specs.EncodingOrder.{length-encoded}
+use Rattle.nrca_graph.specs.TranslatedParts.{BindersFit, here-mirror, here-types, typed-binders}
+use Rattle.nrca_graph.specs.TabulationNode.{tab_args, tabulation-node}
+use Rattle.nrca_graph.specs.SubscriptNode.{subscript-node, dimension-node}
 use Rattle.nrca_graph.specs.ArrayFree.{array_free, array_free_parts, array_free_node}
 use Rattle.nrca_graph.specs.KeptForms.{AllMirror, form-mirror}
 use Rattle.nrca_graph.specs.StrictForms.{IsPlain, strict-mirror}
 
--- the forms that this law is about
+-- the forms that are kept
 abbrev pub IsSimple : Form → Type 0
 IsSimple (Form.tab rank) = ⊥
 IsSimple (Form.strict s) = IsPlain s
 IsSimple _ = Unit {0}
 
-abbrev mutual
-  pub AllSimple : Term → Type 0
-  AllSimple (node f ps) = IsSimple f × PartsSimple ps
+-- the forms that this law is about: all but the index and the literal
+abbrev pub IsCovered : Form → Type 0
+IsCovered (Form.strict (Strict.index rank)) = ⊥
+IsCovered (Form.strict (Strict.literal rank)) = ⊥
+IsCovered _ = Unit {0}
 
-  pub PartsSimple : Parts → Type 0
-  PartsSimple none = Unit {0}
-  PartsSimple (part k t ps) = AllSimple t × PartsSimple ps
+abbrev mutual
+  -- every node of the term has such a form
+  pub AllCovered : Term → Type 0
+  AllCovered (node f ps) = IsCovered f × PartsCovered ps
+
+  pub PartsCovered : Parts → Type 0
+  PartsCovered none = Unit {0}
+  PartsCovered (part k t ps) = AllCovered t × PartsCovered ps
 
 -- a kept form is kept
 kept-node : (f : Form) (ps : Parts) → IsSimple f → array_free_node f ps ≡ node f ps
@@ -61,32 +71,6 @@ kept-node (Form.strict (Strict.dim rank)) ps h = absurd h
 kept-node (Form.strict (Strict.index rank)) ps h = absurd h
 kept-node (Form.strict (Strict.literal rank)) ps h = absurd h
 
--- parts that bind nothing give the encoded values
-here-mirror : (Ts : List Ty) (ps qs : List Part) → AllMirror (map (arg []) Ts) ps qs → each here qs ≡ (each here ps >>= λ vs. Some (map encoding vs))
-here-mirror [] [] [] m = refl
-here-mirror [] [] (q ∷ qs) m = absurd m
-here-mirror [] (p ∷ ps) qs m = absurd m
-here-mirror (T ∷ Ts) [] qs m = absurd m
-here-mirror (T ∷ Ts) (p ∷ ps) [] m = absurd m
-here-mirror (T ∷ Ts) (p ∷ ps) (q ∷ qs) m =
-    ap (λ o. o >>= λ y. each here qs >>= λ ys. Some (y ∷ ys)) (m.0 [] tt) ∙ ap (λ r. encoded (p []) >>= λ y. r >>= λ ys. Some (y ∷ ys)) (here-mirror Ts ps qs m.1) ∙ of (p []) (each here ps)
-  where
-    of : (o : Option Datum) (r : Option (List Datum)) → (encoded o >>= λ y. (r >>= λ vs. Some (map encoding vs)) >>= λ ys. Some (y ∷ ys)) ≡ ((o >>= λ y. r >>= λ ys. Some (y ∷ ys)) >>= λ vs. Some (map encoding vs))
-    of None r = refl
-    of (Some v) None = refl
-    of (Some v) (Some vs) = refl
-
--- the values of sound parts that bind nothing have the types
-here-types : (Ts : List Ty) (ps : List Part) (vs : List Datum) → AllSound (map (arg []) Ts) ps → each here ps ≡ Some vs → HaveTypes Ts vs
-here-types [] [] vs s e = let z : [] ≡ vs = cc in subst (HaveTypes []) z tt
-here-types [] (p ∷ ps) vs s e = absurd s
-here-types (T ∷ Ts) [] vs s e = absurd s
-here-types (T ∷ Ts) (p ∷ ps) vs s e =
-    let a = then-is (p []) (λ y. each here ps >>= λ ys. Some (y ∷ ys)) vs e in
-    let b = then-is (each here ps) (λ ys. Some (a.0 ∷ ys)) vs a.2 in
-    let z : a.0 ∷ b.0 ≡ vs = some-list (a.0 ∷ b.0) vs b.2 in
-    subst (HaveTypes (T ∷ Ts)) z (s.0 [] a.0 tt a.1, here-types Ts ps b.0 s.1 b.1)
-
 -- a node of a kept form that evaluates every part means its encoded value
 strict-node : (V : Outcomes) (vals : List Datum) (s : Strict) (Ts : List Ty) (T : Ty) (ps qs : List Part) → IsPlain s → strict_rule s Ts T → AllSound (map (arg []) Ts) ps → AllMirror (map (arg []) Ts) ps qs →
     form_value (map encoded V) (map encoding vals) (Form.strict s) qs ≡ encoded (form_value V vals (Form.strict s) ps)
@@ -113,22 +97,74 @@ simple-node G V env vals (Form.strict s) args T ps qs h r a m = strict-node V va
 mirrors : (args bs : List Arg) (ps qs : List Part) → args ≡ bs → AllMirror args ps qs → AllMirror bs ps qs
 mirrors args bs ps qs e m = subst (λ x. AllMirror x ps qs) e m
 
-mutual
-  -- a term that speaks of no arrays means its encoded value
-  pub simple-means : (G : ℕ → Ty → Type 0) (V : Outcomes) → OutcomesHave G V → (t : Term) → AllSimple t → (env : List Ty) (vals : List Datum) (T : Ty) → HaveTypes env vals → ctyped G env t T →
-      cden (map encoded V) (map encoding vals) (array_free t) ≡ encoded (cden V vals t)
-  simple-means G V g (node f ps) s env vals T h t =
-      ap (cden (map encoded V) (map encoding vals)) (kept-node f (array_free_parts ps) s.0)
-      ∙ simple-node G V env vals f t.1 T (part_values V vals ps) (part_values (map encoded V) (map encoding vals) (array_free_parts ps)) s.0 t.2 (parts-sound G V g ps env vals t.1 h t.3) (parts-mean G V g ps s.1 env vals t.1 h t.3)
+-- arguments that are equal
+binders : (args bs : List Arg) (qs : Parts) → args ≡ bs → BindersFit args qs → BindersFit bs qs
+binders args bs qs e b = subst (λ x. BindersFit x qs) e b
 
-  parts-mean : (G : ℕ → Ty → Type 0) (V : Outcomes) → OutcomesHave G V → (ps : Parts) → PartsSimple ps → (env : List Ty) (vals : List Datum) (args : List Arg) → HaveTypes env vals → parts_typed G env ps args →
+-- a node of a kept form, translated
+kept-means : (G : ℕ → Ty → Type 0) (V : Outcomes) (env : List Ty) (vals : List Datum) (f : Form) (args : List Arg) (T : Ty) (ps : List Part) (qs : Parts) → IsSimple f → form_rule G env f args T →
+    AllSound args ps → AllMirror args ps (part_values (map encoded V) (map encoding vals) qs) →
+    cden (map encoded V) (map encoding vals) (array_free_node f qs) ≡ encoded (form_value V vals f ps)
+kept-means G V env vals f args T ps qs h r s m =
+    ap (cden (map encoded V) (map encoding vals)) (kept-node f qs h) ∙ simple-node G V env vals f args T ps (part_values (map encoded V) (map encoding vals) qs) h r s m
+
+-- a node of a form that evaluates every part, translated
+strict-means : (G : ℕ → Ty → Type 0) (V : Outcomes) (env : List Ty) (vals : List Datum) (c : Strict) (args : List Arg) (T : Ty) (ps : List Part) (qs : Parts) → IsCovered (Form.strict c) →
+    form_rule G env (Form.strict c) args T → AllSound args ps → AllMirror args ps (part_values (map encoded V) (map encoding vals) qs) → BindersFit args qs →
+    cden (map encoded V) (map encoding vals) (array_free_node (Form.strict c) qs) ≡ encoded (form_value V vals (Form.strict c) ps)
+strict-means G V env vals Strict.sub args T ps qs h r s m b =
+    let e : args ≡ map (arg []) (types.array_of r.2.0 T ∷ replicate r.2.0 types.natural) = r.1 ∙ ap (map (arg [])) r.2.2 in
+    subscript-node (map encoded V) (map encoding vals) r.2.0 T ps qs r.2.1 (sounds args _ ps e s) (mirrors args _ ps _ e m) (binders args _ qs e b)
+strict-means G V env vals (Strict.dim rank) args T ps qs h r s m b =
+    let e : args ≡ map (arg []) (types.array_of rank r.2.0 ∷ []) = r.1 ∙ ap (map (arg [])) r.2.2 in
+    dimension-node (map encoded V) (map encoding vals) rank r.2.0 ps qs (sounds args _ ps e s) (mirrors args _ ps _ e m) (binders args _ qs e b)
+strict-means G V env vals (Strict.index rank) args T ps qs h r s m b = absurd h
+strict-means G V env vals (Strict.literal rank) args T ps qs h r s m b = absurd h
+strict-means G V env vals (Strict.nat n) args T ps qs h r s m b = kept-means G V env vals (Form.strict (Strict.nat n)) args T ps qs tt r s m
+strict-means G V env vals (Strict.bool n) args T ps qs h r s m b = kept-means G V env vals (Form.strict (Strict.bool n)) args T ps qs tt r s m
+strict-means G V env vals (Strict.text n) args T ps qs h r s m b = kept-means G V env vals (Form.strict (Strict.text n)) args T ps qs tt r s m
+strict-means G V env vals Strict.bottom args T ps qs h r s m b = kept-means G V env vals (Form.strict Strict.bottom) args T ps qs tt r s m
+strict-means G V env vals Strict.tuple args T ps qs h r s m b = kept-means G V env vals (Form.strict Strict.tuple) args T ps qs tt r s m
+strict-means G V env vals (Strict.proj at of) args T ps qs h r s m b = kept-means G V env vals (Form.strict (Strict.proj at of)) args T ps qs tt r s m
+strict-means G V env vals (Strict.arith op) args T ps qs h r s m b = kept-means G V env vals (Form.strict (Strict.arith op)) args T ps qs tt r s m
+strict-means G V env vals (Strict.compare op) args T ps qs h r s m b = kept-means G V env vals (Form.strict (Strict.compare op)) args T ps qs tt r s m
+strict-means G V env vals Strict.empty args T ps qs h r s m b = kept-means G V env vals (Form.strict Strict.empty) args T ps qs tt r s m
+strict-means G V env vals Strict.single args T ps qs h r s m b = kept-means G V env vals (Form.strict Strict.single) args T ps qs tt r s m
+strict-means G V env vals Strict.union args T ps qs h r s m b = kept-means G V env vals (Form.strict Strict.union) args T ps qs tt r s m
+strict-means G V env vals Strict.gen args T ps qs h r s m b = kept-means G V env vals (Form.strict Strict.gen) args T ps qs tt r s m
+strict-means G V env vals Strict.get args T ps qs h r s m b = kept-means G V env vals (Form.strict Strict.get) args T ps qs tt r s m
+
+-- a node, translated
+node-means : (G : ℕ → Ty → Type 0) (V : Outcomes) (env : List Ty) (vals : List Datum) (f : Form) (args : List Arg) (T : Ty) (ps : List Part) (qs : Parts) → IsCovered f → form_rule G env f args T →
+    AllSound args ps → AllMirror args ps (part_values (map encoded V) (map encoding vals) qs) → BindersFit args qs →
+    cden (map encoded V) (map encoding vals) (array_free_node f qs) ≡ encoded (form_value V vals f ps)
+node-means G V env vals (Form.var n) args T ps qs h r s m b = kept-means G V env vals (Form.var n) args T ps qs tt r s m
+node-means G V env vals (Form.global n) args T ps qs h r s m b = kept-means G V env vals (Form.global n) args T ps qs tt r s m
+node-means G V env vals Form.bind args T ps qs h r s m b = kept-means G V env vals Form.bind args T ps qs tt r s m
+node-means G V env vals Form.choose args T ps qs h r s m b = kept-means G V env vals Form.choose args T ps qs tt r s m
+node-means G V env vals Form.default args T ps qs h r s m b = kept-means G V env vals Form.default args T ps qs tt r s m
+node-means G V env vals Form.big_union args T ps qs h r s m b = kept-means G V env vals Form.big_union args T ps qs tt r s m
+node-means G V env vals Form.sum args T ps qs h r s m b = kept-means G V env vals Form.sum args T ps qs tt r s m
+node-means G V env vals (Form.tab rank) args T ps qs h r s m b =
+    tabulation-node (map encoded V) (map encoding vals) rank r.0 ps qs r.1 (sounds args (tab_args rank r.0) ps r.2 s) (mirrors args (tab_args rank r.0) ps _ r.2 m) (binders args (tab_args rank r.0) qs r.2 b)
+node-means G V env vals (Form.strict c) args T ps qs h r s m b = strict-means G V env vals c args T ps qs h r s m b
+
+mutual
+  -- the array-free form of a typed term means its encoded value
+  pub array_free-means : (G : ℕ → Ty → Type 0) (V : Outcomes) → OutcomesHave G V → (t : Term) → AllCovered t → (env : List Ty) (vals : List Datum) (T : Ty) → HaveTypes env vals → ctyped G env t T →
+      cden (map encoded V) (map encoding vals) (array_free t) ≡ encoded (cden V vals t)
+  array_free-means G V g (node f ps) s env vals T h t =
+      node-means G V env vals f t.1 T (part_values V vals ps) (array_free_parts ps) s.0 t.2 (parts-sound G V g ps env vals t.1 h t.3) (parts-mean G V g ps s.1 env vals t.1 h t.3)
+      (typed-binders G env ps t.1 t.3)
+
+  parts-mean : (G : ℕ → Ty → Type 0) (V : Outcomes) → OutcomesHave G V → (ps : Parts) → PartsCovered ps → (env : List Ty) (vals : List Datum) (args : List Arg) → HaveTypes env vals → parts_typed G env ps args →
       AllMirror args (part_values V vals ps) (part_values (map encoded V) (map encoding vals) (array_free_parts ps))
   parts-mean G V g none s env vals args h t = mirrors [] args [] [] (sym t) tt
   parts-mean G V g (part k u ps) s env vals args h t =
       mirrors (t.0 ∷ t.1) args (part_values V vals (part k u ps)) (part_values (map encoded V) (map encoding vals) (array_free_parts (part k u ps))) (sym t.2) (
         (λ new n. ap (λ m. if nat_eq m k then cden (map encoded V) (map encoding new ++ map encoding vals) (array_free u) else None) (length-encoded new)
             ∙ ap (λ x. if nat_eq (length new) k then cden (map encoded V) x (array_free u) else None) (sym (map-append encoding new vals))
-            ∙ ap (λ o. if nat_eq (length new) k then o else None) (simple-means G V g u s.0 (t.0.own ++ env) (new ++ vals) t.0.has (has-append t.0.own env new vals n h) t.4)
+            ∙ ap (λ o. if nat_eq (length new) k then o else None) (array_free-means G V g u s.0 (t.0.own ++ env) (new ++ vals) t.0.has (has-append t.0.own env new vals n h) t.4)
             ∙ both (nat_eq (length new) k) (cden V (new ++ vals) u)),
         parts-mean G V g ps s.1 env vals t.1 h t.5,
       )

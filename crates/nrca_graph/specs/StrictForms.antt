@@ -106,7 +106,7 @@ get-mirror : (A : Ty) (v : Datum) → HasType (types.set_of A) v → get_of (enc
 get-mirror A v h = ap (λ o. o >>= only) (coded-members A v h) ∙ only-mirror h.0 ∙ sym (ap (λ o. encoded (o >>= only)) (plain-members A v h))
 
 -- numbers are their own encodings
-numbers-kept : (ns : List ℕ) → map encoding (map natural ns) ≡ map natural ns
+pub numbers-kept : (ns : List ℕ) → map encoding (map natural ns) ≡ map natural ns
 numbers-kept [] = refl
 numbers-kept (n ∷ ns) = ap (λ l. natural n ∷ l) (numbers-kept ns)
 

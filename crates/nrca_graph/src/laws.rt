@@ -1,6 +1,6 @@
 //! What is proved of encoding and of the array-free form, each law the contract of a function that does nothing.
 
-ghost use Rattle.nrca_graph.specs.Laws.{EncodingKeepsOrder, EncodingKeepsTypes, EncodedTypesAreTypes, EncodingKeepsInstances, PlainFormsMean, TabulationsMean};
+ghost use Rattle.nrca_graph.specs.Laws.{EncodingKeepsOrder, EncodingKeepsTypes, EncodedTypesAreTypes, EncodingKeepsInstances, ArrayFreeMeans, TabulationsMean};
 
 /// Encoding keeps the order of two values of one type.
 pub fn order()
@@ -14,8 +14,8 @@ pub fn types()
     ensures instances { EncodingKeepsInstances }
 {}
 
-/// The array-free form of a term that has a type and speaks of no arrays means the encoded value of the term.
+/// The array-free form of a typed term that has no index and no literal means the encoded value of the term.
 pub fn meaning()
-    ensures plain { PlainFormsMean }
+    ensures terms { ArrayFreeMeans }
     ensures tabulations { TabulationsMean }
 {}
