@@ -34,7 +34,7 @@ abbrev pub EncodingKeepsInstances : Type 0
 EncodingKeepsInstances = (u : Subst) (T : Ty) → encoding_type (apply u T) ≡ apply (λ x. encoding_type (u x)) (encoding_type T)
 
 -- The array-free form of a typed term means the encoded value, over encoded outcomes and variables, and is undefined where the term
--- is. An index and a literal are not covered yet.
+-- is. A literal array is not covered yet.
 abbrev pub ArrayFreeMeans : Type 0
 ArrayFreeMeans = (Ts : List Ty) (V : Outcomes) → OutcomesHave (instances Ts) V → (t : Term) → AllCovered t → (env : List Ty) (vals : List Datum) (T : Ty) →
     HaveTypes env vals → ctyped (instances Ts) env t T → cden (map encoded V) (map encoding vals) (array_free t) ≡ encoded (cden V vals t)

@@ -16,5 +16,8 @@ pub mod TranslatedParts
 pub mod TabulationNode
 pub mod Paired
 pub mod SubscriptNode
+pub mod Greatest
+pub mod Dimensions
+pub mod IndexNode
 pub mod Means
 pub mod Laws

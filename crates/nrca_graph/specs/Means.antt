@@ -5,7 +5,7 @@ use Rattle.aql_value.specs.Datum.{Datum}
 use Rattle.aql_value.specs.Partial.{◌>>=◌, each}
 use Rattle.aql_value.specs.Strict.{Strict, strict_value}
 use Rattle.aql_types.specs.Types as types
-use Rattle.aql_types.specs.Types.{Ty}
+use Rattle.aql_types.specs.Types.{Ty, index_type}
 use Rattle.aql_types.specs.OperationLaws.{has-append}
 use Rattle.aql_types.specs.OperationTypes.{strict_rule}
 use Rattle.aql_types.specs.ValueTypes.{HaveTypes}
@@ -13,10 +13,11 @@ use Rattle.nrca_term.specs.Term.{Term, Parts, node, none, part, Form}
 use Rattle.nrca_term.specs.Typing.{Arg, arg, form_rule, ctyped, parts_typed, OutcomesHave}
 use Rattle.nrca_term.specs.Meaning.{Outcomes, Part, here, form_value, cden, part_values}
 use Rattle.nrca_term.specs.Sound.{AllSound, parts-sound, sounds}
-use Rattle.nrca_graph.specs.Encoding.{encoding, encoded}
+use Rattle.nrca_graph.specs.Encoding.{encoding, encoded, pair_type}
 use Rattle.nrca_graph.specs.EncodingOrder.{length-encoded}
 use Rattle.nrca_graph.specs.TranslatedParts.{BindersFit, here-mirror, here-types, typed-binders}
 use Rattle.nrca_graph.specs.TabulationNode.{tab_args, tabulation-node}
+use Rattle.nrca_graph.specs.IndexNode.{index-node}
 use Rattle.nrca_graph.specs.SubscriptNode.{subscript-node, dimension-node}
 use Rattle.nrca_graph.specs.ArrayFree.{array_free, array_free_parts, array_free_node}
 use Rattle.nrca_graph.specs.KeptForms.{AllMirror, form-mirror}
@@ -28,9 +29,8 @@ IsSimple (Form.tab rank) = ⊥
 IsSimple (Form.strict s) = IsPlain s
 IsSimple _ = Unit {0}
 
--- the forms that this law is about: all but the index and the literal
+-- the forms that this law is about: all but the literal
 abbrev pub IsCovered : Form → Type 0
-IsCovered (Form.strict (Strict.index rank)) = ⊥
 IsCovered (Form.strict (Strict.literal rank)) = ⊥
 IsCovered _ = Unit {0}
 
@@ -118,7 +118,9 @@ strict-means G V env vals Strict.sub args T ps qs h r s m b =
 strict-means G V env vals (Strict.dim rank) args T ps qs h r s m b =
     let e : args ≡ map (arg []) (types.array_of rank r.2.0 ∷ []) = r.1 ∙ ap (map (arg [])) r.2.2 in
     dimension-node (map encoded V) (map encoding vals) rank r.2.0 ps qs (sounds args _ ps e s) (mirrors args _ ps _ e m) (binders args _ qs e b)
-strict-means G V env vals (Strict.index rank) args T ps qs h r s m b = absurd h
+strict-means G V env vals (Strict.index rank) args T ps qs h r s m b =
+    let e : args ≡ map (arg []) (types.set_of (pair_type (index_type rank) r.2.0) ∷ []) = r.1 ∙ ap (map (arg [])) r.2.2 in
+    index-node (map encoded V) (map encoding vals) rank r.2.0 ps qs r.2.1 (sounds args _ ps e s) (mirrors args _ ps _ e m) (binders args _ qs e b)
 strict-means G V env vals (Strict.literal rank) args T ps qs h r s m b = absurd h
 strict-means G V env vals (Strict.nat n) args T ps qs h r s m b = kept-means G V env vals (Form.strict (Strict.nat n)) args T ps qs tt r s m
 strict-means G V env vals (Strict.bool n) args T ps qs h r s m b = kept-means G V env vals (Form.strict (Strict.bool n)) args T ps qs tt r s m

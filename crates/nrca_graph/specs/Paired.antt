@@ -39,6 +39,7 @@ chosen x p = if compare_by compare_op.Equal (datum_cmp p.0 x) then p.1 ∷ [] el
 abbrev pub selection : Term → Term
 selection index = if_term (equal_term (proj_term 1 2 (variable 0)) (shift_term 0 1 index)) (single_term (proj_term 2 2 (variable 0))) empty_term
 
+-- it is the set of what is chosen
 selection-value : (W : Outcomes) (env : List Datum) (i : Term) (x : Datum) (p : Datum × Datum) → cden W env i ≡ Some x →
     cden W (pair_of p ∷ env) (selection i) ≡ Some (set_of (chosen x p))
 selection-value W env i x p e =
@@ -77,6 +78,7 @@ keyed [] cs = []
 keyed (at ∷ ats) [] = []
 keyed (at ∷ ats) (c ∷ cs) = (index_value at, c) ∷ keyed ats cs
 
+-- both are one list
 pub graph-keyed : (ats : List (List ℕ)) (cs : List Datum) → graph ats cs ≡ map pair_of (keyed ats cs)
 graph-keyed [] cs = refl
 graph-keyed (at ∷ ats) [] = refl

@@ -14,7 +14,7 @@ pub fn types()
     ensures instances { EncodingKeepsInstances }
 {}
 
-/// The array-free form of a typed term that has no index and no literal means the encoded value of the term.
+/// The array-free form of a typed term that has no literal array means the encoded value of the term.
 pub fn meaning()
     ensures terms { ArrayFreeMeans }
     ensures tabulations { TabulationsMean }
