@@ -1,0 +1,21 @@
+//! What is proved of encoding and of the array-free form, each law the contract of a function that does nothing.
+
+ghost use Rattle.nrca_graph.specs.Laws.{EncodingKeepsOrder, EncodingKeepsTypes, EncodedTypesAreTypes, EncodingKeepsInstances, ArrayFreeMeans, TabulationsMean};
+
+/// Encoding keeps the order of two values of one type.
+pub fn order()
+    ensures { EncodingKeepsOrder }
+{}
+
+/// An encoded value has the encoded types of the value; an encoded type is a type; and encoding commutes with instances.
+pub fn types()
+    ensures values { EncodingKeepsTypes }
+    ensures types { EncodedTypesAreTypes }
+    ensures instances { EncodingKeepsInstances }
+{}
+
+/// The array-free form of a typed term that has no literal array means the encoded value of the term.
+pub fn meaning()
+    ensures terms { ArrayFreeMeans }
+    ensures tabulations { TabulationsMean }
+{}

@@ -1,0 +1,95 @@
+//! The types of encoded values.
+
+ghost use Rattle.std.specs.Prelude.{◌≡◌, [], ◌∷◌, IfOk, IsOkAnd};
+ghost use Rattle.aql_types.specs.Types as types;
+ghost use Rattle.aql_types.specs.View.{type_of, types_of};
+ghost use Rattle.nrca_graph.specs.Encoding.{encoding_type, encoding_types, pair_type, array_type, natural_types};
+
+use aql_made::{boxed, listed_both};
+use aql_types::ty::{Ty, row};
+use aql_value::Memory;
+use std::alloc::Global;
+
+/// The type of the encoded values of a type: an array's is that of the pairs of its dimensions and its graph.
+#[cycle(encode_type)]
+#[tactic(auto, using(aql_types::specs::ViewLaws::type_of_row))]
+pub fn encode_type(alloc: Global, t: &Ty) -> Result<Ty, Memory>
+    ensures { IfOk result (λ made. type_of made ≡ encoding_type (type_of t.now)) }
+{
+    match t {
+        Ty::Nat => Ok(Ty::Nat),
+        Ty::Bool => Ok(Ty::Bool),
+        Ty::Text => Ok(Ty::Text),
+        Ty::Var(x) => Ok(Ty::Var(*x)),
+        Ty::Tuple(ts) => {
+            let items = encode_types(alloc, &ts.items)?;
+            Ok(row(items))
+        }
+        Ty::SetOf(t) => {
+            let t = encode_type(alloc, t);
+            Ok(Ty::SetOf(boxed(alloc, t)?))
+        }
+        Ty::ArrayOf { rank, cell } => {
+            let cell = encode_type(alloc, cell);
+            array_type(alloc, *rank, cell)
+        }
+    }
+}
+
+#[cycle(encode_type)]
+#[tactic(auto, using(aql_types::specs::ViewLaws::list_steps))]
+fn encode_types(alloc: Global, ts: &[Ty]) -> Result<Vec<Ty>, Memory>
+    ensures { IfOk result (λ made. types_of made.items ≡ encoding_types (types_of ts.now)) }
+{
+    let mut made = Vec::new(alloc);
+    for t in ts {
+        let encoded = encode_type(alloc, t)?;
+        made.push(encoded)?;
+    }
+    Ok(made)
+}
+
+// The pairs of dimensions and of a set of pairs of an index and a cell.
+fn array_type(alloc: Global, rank: u64, cell: Result<Ty, Memory>) -> Result<Ty, Memory>
+    ensures { IfOk result (λ made. IsOkAnd cell (λ c. type_of made ≡ array_type rank (type_of c))) }
+{
+    let pair = pair_type(alloc, index_type(alloc, rank), cell);
+    let graph = set_type(alloc, pair);
+    pair_type(alloc, index_type(alloc, rank), graph)
+}
+
+fn set_type(alloc: Global, member: Result<Ty, Memory>) -> Result<Ty, Memory>
+    ensures { IfOk result (λ made. IsOkAnd member (λ m. type_of made ≡ types.set_of (type_of m))) }
+{
+    Ok(Ty::SetOf(boxed(alloc, member)?))
+}
+
+fn pair_type(alloc: Global, s: Result<Ty, Memory>, t: Result<Ty, Memory>) -> Result<Ty, Memory>
+    ensures { IfOk result (λ made. IsOkAnd s (λ a. IsOkAnd t (λ b. type_of made ≡ pair_type (type_of a) (type_of b)))) }
+{
+    let items = listed_both(alloc, s, t)?;
+    Ok(row(items))
+}
+
+// The type of an index: a number, or a tuple of numbers.
+#[tactic(auto, using(crate::proofs::TypeSteps::index_type_many))]
+fn index_type(alloc: Global, rank: u64) -> Result<Ty, Memory>
+    ensures { IfOk result (λ made. type_of made ≡ types.index_type rank) }
+{
+    if rank == 1 {
+        return Ok(Ty::Nat);
+    }
+    let items = naturals(alloc, rank)?;
+    Ok(row(items))
+}
+
+#[tactic(auto, using(crate::proofs::TypeSteps::naturals))]
+fn naturals(alloc: Global, count: u64) -> Result<Vec<Ty>, Memory>
+    ensures { IfOk result (λ made. types_of made.items ≡ natural_types count) }
+{
+    let mut items = Vec::new(alloc);
+    for _i in 0..count {
+        items.push(Ty::Nat)?;
+    }
+    Ok(items)
+}
