@@ -114,20 +114,20 @@ united_neighbours [] = []
 united_neighbours (s ∷ []) = s ∷ []
 united_neighbours (s ∷ t ∷ ts) = union_term s t ∷ united_neighbours ts
 
--- the union of at most 2^depth sets
-abbrev pub united : (depth : ℕ) → List Term → Term
+-- The union of sets, in so many rounds of neighbours; a round leaves one set as it is.
+abbrev pub united : (rounds : ℕ) → List Term → Term
 united zero [] = empty_term
 united zero (t ∷ ts) = t
-united (suc d) ts = united d (united_neighbours ts)
+united (suc n) ts = united n (united_neighbours ts)
 
--- A literal array: lets of the dimensions, and the cells in their places. A small term has fewer than 2^21 cells.
+-- A literal array: lets of the dimensions, and the cells in their places. As many rounds as cells are more than enough.
 abbrev pub literal_graph : List Term → List Term → Term
 literal_graph ds cs =
     lets 0 ds
     (if_term (is_filled (index_variables (length ds)) (length cs))
     (tuple_term
     (sizes_term (index_variables (length ds))
-    ∷ united 21 (cell_pairs 0 (index_variables (length ds)) (map (shift_term 0 (length ds)) cs)) ∷ []))
+    ∷ united (length cs) (cell_pairs 0 (index_variables (length ds)) (map (shift_term 0 (length ds)) cs)) ∷ []))
     bottom_term)
 
 -- the array-free form of a node whose parts are translated

@@ -19,5 +19,8 @@ pub mod SubscriptNode
 pub mod Greatest
 pub mod Dimensions
 pub mod IndexNode
+pub mod Unions
+pub mod Filled
+pub mod LiteralNode
 pub mod Means
 pub mod Laws

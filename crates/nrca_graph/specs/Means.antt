@@ -1,5 +1,5 @@
 -- The induction on a term: its array-free form means the encoded value.
-use Rattle.std.proofs.Common.{◌≡◌, ℕ, Bool, true, false, nat_eq, List, [], ◌∷◌, ◌++◌, length, map, replicate, Option, Some, None, refl, sym, ap, subst, ◌∙◌, if◌then◌else◌}
+use Rattle.std.proofs.Common.{◌≡◌, ℕ, ◌<◌, ◌≤◌, ◌^◌, arith, Bool, true, false, nat_eq, List, [], ◌∷◌, ◌++◌, length, map, replicate, Option, Some, None, refl, sym, ap, subst, ◌∙◌, if◌then◌else◌}
 use Rattle.std.proofs.lemmas.List.{map-append}
 use Rattle.aql_value.specs.Datum.{Datum}
 use Rattle.aql_value.specs.Partial.{◌>>=◌, each}
@@ -9,17 +9,19 @@ use Rattle.aql_types.specs.Types.{Ty, index_type}
 use Rattle.aql_types.specs.OperationLaws.{has-append}
 use Rattle.aql_types.specs.OperationTypes.{strict_rule}
 use Rattle.aql_types.specs.ValueTypes.{HaveTypes}
-use Rattle.nrca_term.specs.Term.{Term, Parts, node, none, part, Form}
+use Rattle.nrca_term.specs.Term.{Term, Parts, node, none, part, Form, count, weight_of, parts_weight}
+use Rattle.nrca_term.specs.MeasureLaws.{form-positive}
 use Rattle.nrca_term.specs.Typing.{Arg, arg, form_rule, ctyped, parts_typed, OutcomesHave}
 use Rattle.nrca_term.specs.Meaning.{Outcomes, Part, here, form_value, cden, part_values}
 use Rattle.nrca_term.specs.Sound.{AllSound, parts-sound, sounds}
 use Rattle.nrca_graph.specs.Encoding.{encoding, encoded, pair_type}
 use Rattle.nrca_graph.specs.EncodingOrder.{length-encoded}
-use Rattle.nrca_graph.specs.TranslatedParts.{BindersFit, here-mirror, here-types, typed-binders}
+use Rattle.nrca_graph.specs.TranslatedParts.{BindersFit, here-mirror, here-types, typed-binders, length-terms}
 use Rattle.nrca_graph.specs.TabulationNode.{tab_args, tabulation-node}
+use Rattle.nrca_graph.specs.LiteralNode.{literal_args, literal-args, literal-node}
 use Rattle.nrca_graph.specs.IndexNode.{index-node}
 use Rattle.nrca_graph.specs.SubscriptNode.{subscript-node, dimension-node}
-use Rattle.nrca_graph.specs.ArrayFree.{array_free, array_free_parts, array_free_node}
+use Rattle.nrca_graph.specs.ArrayFree.{terms_in, array_free, array_free_parts, array_free_node}
 use Rattle.nrca_graph.specs.KeptForms.{AllMirror, form-mirror}
 use Rattle.nrca_graph.specs.StrictForms.{IsPlain, strict-mirror}
 
@@ -28,20 +30,6 @@ abbrev pub IsSimple : Form → Type 0
 IsSimple (Form.tab rank) = ⊥
 IsSimple (Form.strict s) = IsPlain s
 IsSimple _ = Unit {0}
-
--- the forms that this law is about: all but the literal
-abbrev pub IsCovered : Form → Type 0
-IsCovered (Form.strict (Strict.literal rank)) = ⊥
-IsCovered _ = Unit {0}
-
-abbrev mutual
-  -- every node of the term has such a form
-  pub AllCovered : Term → Type 0
-  AllCovered (node f ps) = IsCovered f × PartsCovered ps
-
-  pub PartsCovered : Parts → Type 0
-  PartsCovered none = Unit {0}
-  PartsCovered (part k t ps) = AllCovered t × PartsCovered ps
 
 -- a kept form is kept
 kept-node : (f : Form) (ps : Parts) → IsSimple f → array_free_node f ps ≡ node f ps
@@ -109,7 +97,7 @@ kept-means G V env vals f args T ps qs h r s m =
     ap (cden (map encoded V) (map encoding vals)) (kept-node f qs h) ∙ simple-node G V env vals f args T ps (part_values (map encoded V) (map encoding vals) qs) h r s m
 
 -- a node of a form that evaluates every part, translated
-strict-means : (G : ℕ → Ty → Type 0) (V : Outcomes) (env : List Ty) (vals : List Datum) (c : Strict) (args : List Arg) (T : Ty) (ps : List Part) (qs : Parts) → IsCovered (Form.strict c) →
+strict-means : (G : ℕ → Ty → Type 0) (V : Outcomes) (env : List Ty) (vals : List Datum) (c : Strict) (args : List Arg) (T : Ty) (ps : List Part) (qs : Parts) → length (terms_in qs) < 2 ^ 128 →
     form_rule G env (Form.strict c) args T → AllSound args ps → AllMirror args ps (part_values (map encoded V) (map encoding vals) qs) → BindersFit args qs →
     cden (map encoded V) (map encoding vals) (array_free_node (Form.strict c) qs) ≡ encoded (form_value V vals (Form.strict c) ps)
 strict-means G V env vals Strict.sub args T ps qs h r s m b =
@@ -121,7 +109,9 @@ strict-means G V env vals (Strict.dim rank) args T ps qs h r s m b =
 strict-means G V env vals (Strict.index rank) args T ps qs h r s m b =
     let e : args ≡ map (arg []) (types.set_of (pair_type (index_type rank) r.2.0) ∷ []) = r.1 ∙ ap (map (arg [])) r.2.2 in
     index-node (map encoded V) (map encoding vals) rank r.2.0 ps qs r.2.1 (sounds args _ ps e s) (mirrors args _ ps _ e m) (binders args _ qs e b)
-strict-means G V env vals (Strict.literal rank) args T ps qs h r s m b = absurd h
+strict-means G V env vals (Strict.literal rank) args T ps qs h r s m b =
+    let e : args ≡ literal_args rank r.2.1 r.2.0 = r.1 ∙ ap (map (arg [])) r.2.3 ∙ literal-args rank r.2.1 r.2.0 in
+    literal-node (map encoded V) (map encoding vals) rank r.2.1 r.2.0 ps qs r.2.2 h (sounds args _ ps e s) (mirrors args _ ps _ e m) (binders args _ qs e b)
 strict-means G V env vals (Strict.nat n) args T ps qs h r s m b = kept-means G V env vals (Form.strict (Strict.nat n)) args T ps qs tt r s m
 strict-means G V env vals (Strict.bool n) args T ps qs h r s m b = kept-means G V env vals (Form.strict (Strict.bool n)) args T ps qs tt r s m
 strict-means G V env vals (Strict.text n) args T ps qs h r s m b = kept-means G V env vals (Form.strict (Strict.text n)) args T ps qs tt r s m
@@ -137,7 +127,7 @@ strict-means G V env vals Strict.gen args T ps qs h r s m b = kept-means G V env
 strict-means G V env vals Strict.get args T ps qs h r s m b = kept-means G V env vals (Form.strict Strict.get) args T ps qs tt r s m
 
 -- a node, translated
-node-means : (G : ℕ → Ty → Type 0) (V : Outcomes) (env : List Ty) (vals : List Datum) (f : Form) (args : List Arg) (T : Ty) (ps : List Part) (qs : Parts) → IsCovered f → form_rule G env f args T →
+node-means : (G : ℕ → Ty → Type 0) (V : Outcomes) (env : List Ty) (vals : List Datum) (f : Form) (args : List Arg) (T : Ty) (ps : List Part) (qs : Parts) → length (terms_in qs) < 2 ^ 128 → form_rule G env f args T →
     AllSound args ps → AllMirror args ps (part_values (map encoded V) (map encoding vals) qs) → BindersFit args qs →
     cden (map encoded V) (map encoding vals) (array_free_node f qs) ≡ encoded (form_value V vals f ps)
 node-means G V env vals (Form.var n) args T ps qs h r s m b = kept-means G V env vals (Form.var n) args T ps qs tt r s m
@@ -151,24 +141,29 @@ node-means G V env vals (Form.tab rank) args T ps qs h r s m b =
     tabulation-node (map encoded V) (map encoding vals) rank r.0 ps qs r.1 (sounds args (tab_args rank r.0) ps r.2 s) (mirrors args (tab_args rank r.0) ps _ r.2 m) (binders args (tab_args rank r.0) qs r.2 b)
 node-means G V env vals (Form.strict c) args T ps qs h r s m b = strict-means G V env vals c args T ps qs h r s m b
 
+-- each part weighs something
+count-weight : (ps : Parts) → count ps ≤ parts_weight ps
+count-weight none = omega arith
+count-weight (part k (node f us) ps) = omega (arith, form-positive f, count-weight ps)
+
 mutual
   -- the array-free form of a typed term means its encoded value
-  pub array_free-means : (G : ℕ → Ty → Type 0) (V : Outcomes) → OutcomesHave G V → (t : Term) → AllCovered t → (env : List Ty) (vals : List Datum) (T : Ty) → HaveTypes env vals → ctyped G env t T →
+  pub array_free-means : (G : ℕ → Ty → Type 0) (V : Outcomes) → OutcomesHave G V → (t : Term) → weight_of t < 2 ^ 128 → (env : List Ty) (vals : List Datum) (T : Ty) → HaveTypes env vals → ctyped G env t T →
       cden (map encoded V) (map encoding vals) (array_free t) ≡ encoded (cden V vals t)
   array_free-means G V g (node f ps) s env vals T h t =
-      node-means G V env vals f t.1 T (part_values V vals ps) (array_free_parts ps) s.0 t.2 (parts-sound G V g ps env vals t.1 h t.3) (parts-mean G V g ps s.1 env vals t.1 h t.3)
+      node-means G V env vals f t.1 T (part_values V vals ps) (array_free_parts ps) (omega (arith, s, length-terms ps, count-weight ps)) t.2 (parts-sound G V g ps env vals t.1 h t.3) (parts-mean G V g ps (omega (arith, s)) env vals t.1 h t.3)
       (typed-binders G env ps t.1 t.3)
 
-  parts-mean : (G : ℕ → Ty → Type 0) (V : Outcomes) → OutcomesHave G V → (ps : Parts) → PartsCovered ps → (env : List Ty) (vals : List Datum) (args : List Arg) → HaveTypes env vals → parts_typed G env ps args →
+  parts-mean : (G : ℕ → Ty → Type 0) (V : Outcomes) → OutcomesHave G V → (ps : Parts) → parts_weight ps < 2 ^ 128 → (env : List Ty) (vals : List Datum) (args : List Arg) → HaveTypes env vals → parts_typed G env ps args →
       AllMirror args (part_values V vals ps) (part_values (map encoded V) (map encoding vals) (array_free_parts ps))
   parts-mean G V g none s env vals args h t = mirrors [] args [] [] (sym t) tt
   parts-mean G V g (part k u ps) s env vals args h t =
       mirrors (t.0 ∷ t.1) args (part_values V vals (part k u ps)) (part_values (map encoded V) (map encoding vals) (array_free_parts (part k u ps))) (sym t.2) (
         (λ new n. ap (λ m. if nat_eq m k then cden (map encoded V) (map encoding new ++ map encoding vals) (array_free u) else None) (length-encoded new)
             ∙ ap (λ x. if nat_eq (length new) k then cden (map encoded V) x (array_free u) else None) (sym (map-append encoding new vals))
-            ∙ ap (λ o. if nat_eq (length new) k then o else None) (array_free-means G V g u s.0 (t.0.own ++ env) (new ++ vals) t.0.has (has-append t.0.own env new vals n h) t.4)
+            ∙ ap (λ o. if nat_eq (length new) k then o else None) (array_free-means G V g u (omega (arith, s)) (t.0.own ++ env) (new ++ vals) t.0.has (has-append t.0.own env new vals n h) t.4)
             ∙ both (nat_eq (length new) k) (cden V (new ++ vals) u)),
-        parts-mean G V g ps s.1 env vals t.1 h t.5,
+        parts-mean G V g ps (omega (arith, s)) env vals t.1 h t.5,
       )
     where
       both : (b : Bool) (o : Option Datum) → (if b then encoded o else None) ≡ encoded (if b then o else None)

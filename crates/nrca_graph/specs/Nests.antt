@@ -30,7 +30,7 @@ pair-value V vals i b x e =
     of (Some w) = refl
 
 -- the set of one pair
-single-value : (V : Outcomes) (vals : List Datum) (i b : Term) (x : Datum) → cden V vals i ≡ Some x →
+pub single-value : (V : Outcomes) (vals : List Datum) (i b : Term) (x : Datum) → cden V vals i ≡ Some x →
     cden V vals (single_term (tuple_term (i ∷ b ∷ []))) ≡ (cden V vals b >>= λ w. Some (set_of (pair x w ∷ [])))
 single-value V vals i b x e =
     ap (λ p. (((p >>= λ y. (cden V vals b >>= λ z. Some (z ∷ [])) >>= λ ys. Some (y ∷ ys)) >>= tuple_of) >>= λ v. Some (v ∷ [])) >>= strict_value Strict.single) e

@@ -1,5 +1,5 @@
 -- The terms of parts that are translated, beside what the parts are worth.
-use Rattle.std.proofs.Common.{◌≡◌, ℕ, zero, suc, true, nat_eq, List, [], ◌∷◌, ◌++◌, length, map, take, replicate, Option, Some, None, refl, sym, ap, subst, ◌∙◌, if◌then◌else◌, arith}
+use Rattle.std.proofs.Common.{◌≡◌, ℕ, zero, suc, true, nat_eq, List, [], ◌∷◌, ◌++◌, length, map, take, drop, replicate, Option, Some, None, refl, sym, ap, subst, ◌∙◌, if◌then◌else◌, arith}
 use Rattle.aql_value.specs.Datum as datum
 use Rattle.aql_value.specs.Datum.{Datum}
 use Rattle.aql_value.specs.Operations.{walked}
@@ -9,7 +9,7 @@ use Rattle.aql_types.specs.Types as types
 use Rattle.aql_types.specs.Types.{Ty}
 use Rattle.aql_types.specs.OperationLaws.{some-list}
 use Rattle.aql_types.specs.ValueTypes.{HaveTypes}
-use Rattle.nrca_term.specs.Term.{Term, Parts, none, part}
+use Rattle.nrca_term.specs.Term.{Term, Parts, none, part, count}
 use Rattle.nrca_term.specs.Typing.{Arg, arg, parts_typed}
 use Rattle.nrca_term.specs.Meaning.{Outcomes, Part, here, worth, cden, part_values}
 use Rattle.nrca_term.specs.Sound.{AllSound}
@@ -125,3 +125,23 @@ here-types (T ∷ Ts) (p ∷ ps) vs s e =
     let b = then-is (each here ps) (λ ys. Some (a.0 ∷ ys)) vs a.2 in
     let z : a.0 ∷ b.0 ≡ vs = some-list (a.0 ∷ b.0) vs b.2 in
     subst (HaveTypes (T ∷ Ts)) z (s.0 [] a.0 tt a.1, here-types Ts ps b.0 s.1 b.1)
+
+-- the parts behind the first ones, where none binds a variable, as terms
+pub rest-terms : (W : Outcomes) (env : List Datum) (n : ℕ) (x : Arg) (Ts : List Ty) (qs : Parts) → BindersFit (replicate n x ++ map (arg []) Ts) qs →
+    each here (drop n (part_values W env qs)) ≡ each (cden W env) (drop n (terms_in qs))
+rest-terms W env zero x Ts qs b = all-terms W env Ts qs b
+rest-terms W env (suc n) x Ts none b = absurd b
+rest-terms W env (suc n) x Ts (part k t qs) b = rest-terms W env n x Ts qs b.1
+
+-- they mean the encoded values
+pub rest-mirror : (n : ℕ) (x : Arg) (Ts : List Ty) (ps qs : List Part) → AllMirror (replicate n x ++ map (arg []) Ts) ps qs →
+    each here (drop n qs) ≡ (each here (drop n ps) >>= λ vs. Some (map encoding vs))
+rest-mirror zero x Ts ps qs m = here-mirror Ts ps qs m
+rest-mirror (suc n) x Ts [] qs m = absurd m
+rest-mirror (suc n) x Ts (p ∷ ps) [] m = absurd m
+rest-mirror (suc n) x Ts (p ∷ ps) (q ∷ qs) m = rest-mirror n x Ts ps qs m.1
+
+-- as many terms as parts
+pub length-terms : (ps : Parts) → length (terms_in (array_free_parts ps)) ≡ count ps
+length-terms none = refl
+length-terms (part k t ps) = ap suc (length-terms ps)

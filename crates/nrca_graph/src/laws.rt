@@ -1,6 +1,6 @@
 //! What is proved of encoding and of the array-free form, each law the contract of a function that does nothing.
 
-ghost use Rattle.nrca_graph.specs.Laws.{EncodingKeepsOrder, EncodingKeepsTypes, EncodedTypesAreTypes, EncodingKeepsInstances, ArrayFreeMeans, TabulationsMean};
+ghost use Rattle.nrca_graph.specs.Laws.{EncodingKeepsOrder, EncodingKeepsTypes, EncodedTypesAreTypes, EncodingKeepsInstances, ArrayFreeMeans};
 
 /// Encoding keeps the order of two values of one type.
 pub fn order()
@@ -14,8 +14,7 @@ pub fn types()
     ensures instances { EncodingKeepsInstances }
 {}
 
-/// The array-free form of a typed term that has no literal array means the encoded value of the term.
+/// The array-free form of a typed term means the encoded value of the term, and is undefined exactly where the term is.
 pub fn meaning()
-    ensures terms { ArrayFreeMeans }
-    ensures tabulations { TabulationsMean }
+    ensures { ArrayFreeMeans }
 {}
