@@ -22,5 +22,6 @@ pub mod IndexNode
 pub mod Unions
 pub mod Filled
 pub mod LiteralNode
+pub mod NoArrays
 pub mod Means
 pub mod Laws
