@@ -73,7 +73,7 @@ numbers-types zero = tt
 numbers-types (suc n) = (tt, numbers-types n)
 
 -- the type of an index of rank 1 or more
-index-is : (k : ℕ) → 1 ≤ k → IsType (index_type k)
+pub index-is : (k : ℕ) → 1 ≤ k → IsType (index_type k)
 index-is zero h = absurd (omega (arith, h))
 index-is (suc zero) h = tt
 index-is (suc (suc k)) h = (omega arith, (tt, (tt, numbers-types k)))

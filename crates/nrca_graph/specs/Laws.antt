@@ -36,3 +36,8 @@ ArrayFreeMeans = (Ts : List Ty) (V : Outcomes) → OutcomesHave (instances Ts) V
 -- an array-free form has no tabulation, subscript, dimensions, index or literal
 abbrev pub ArrayFreeHasNone : Type 0
 ArrayFreeHasNone = (t : Term) → HasNoArrays (array_free t)
+
+-- each type of a term, encoded, is a type of its array-free form, over the encoded types of positions and variables
+abbrev pub ArrayFreeTyped : Type 0
+ArrayFreeTyped = (Ts env : List Ty) (t : Term) (T : Ty) → ctyped (instances Ts) env t T →
+    ctyped (instances (map encoding_type Ts)) (map encoding_type env) (array_free t) (encoding_type T)
