@@ -14,7 +14,8 @@ pub fn types()
     ensures instances { EncodingKeepsInstances }
 {}
 
-/// The array-free form of a typed term means the encoded value of the term, and is undefined exactly where the term is.
+/// The array-free form of a typed term that weighs less than 2^128 means the encoded value of the term, and is undefined
+/// exactly where the term is.
 pub fn meaning()
     ensures { ArrayFreeMeans }
 {}
