@@ -8,21 +8,11 @@ use Rattle.aql_value.specs.RowMajorLaws.{indices_lengths}
 use Rattle.aql_value.specs.Operations.{index_value}
 use Rattle.aql_types.specs.Types as types
 use Rattle.aql_types.specs.Types.{Ty, Tys, no_type, type, truth, text, IsType, AreTypes, Subst, apply, apply_all, count, tys_of, index_type}
+use Rattle.aql_types.specs.OperationLaws.{index_value-has}
 use Rattle.aql_types.specs.ValueTypes.{HasType, AllHaveTypes}
 use Rattle.nrca_graph.specs.Encoding.{pair, graph, encoding, pair_type, array_type, encoding_type, encoding_types}
 use Rattle.nrca_graph.specs.IndexOrder.{indices-ascend}
 use Rattle.nrca_graph.specs.EncodingOrder.{encoding-order, encoding-set, encoding-array, encodings-ascend, encodings-list, graph-ascends}
-
--- numbers have the type of numbers
-numbers-typed : (ns : List ℕ) → AllHaveTypes (tys_of (replicate (length ns) types.natural)) (map datum.natural ns)
-numbers-typed [] = tt
-numbers-typed (n ∷ ns) = ((n, refl), numbers-typed ns)
-
--- an index has the type of the indices of its rank
-pub index-typed : (at : List ℕ) → HasType (index_type (length at)) (index_value at)
-index-typed [] = ([], refl, tt)
-index-typed (n ∷ []) = (n, refl)
-index-typed (m ∷ n ∷ ns) = (map datum.natural (m ∷ n ∷ ns), refl, numbers-typed (m ∷ n ∷ ns))
 
 -- a pair has the type of its two parts
 pub pair-typed : (A B : Ty) (v w : Datum) → HasType A v → HasType B w → HasType (pair_type A B) (pair v w)
@@ -34,7 +24,7 @@ graph-typed : (k : ℕ) (S : Ty) (ats : List (List ℕ)) (cs : List Datum) → E
 graph-typed k S [] cs n h = tt
 graph-typed k S (at ∷ ats) [] n h = tt
 graph-typed k S (at ∷ ats) (c ∷ cs) n h =
-    (pair-typed (index_type k) S (index_value at) c (subst (λ m. HasType (index_type m) (index_value at)) n.0 (index-typed at)) h.0, graph-typed k S ats cs n.1 h.1)
+    (pair-typed (index_type k) S (index_value at) c (subst (λ m. HasType (index_type m) (index_value at)) n.0 (index_value-has at)) h.0, graph-typed k S ats cs n.1 h.1)
 
 -- values that are encoded one by one
 each-typed : (T S : Ty) → ((v : Datum) → HasType T v → HasType S (encoding v)) → (vs : List Datum) → Every (HasType T) vs → Every (HasType S) (map encoding vs)
@@ -45,7 +35,7 @@ each-typed T S f (v ∷ vs) h = (f v h.0, each-typed T S f vs h.1)
 array-typed : (S : Ty) (ds : List ℕ) (vs : List Datum) → Every (HasType S) (map encoding vs) → HasType (array_type (length ds) S) (encoding (datum.array ds (data_of vs)))
 array-typed S ds vs h =
     subst (HasType (array_type (length ds) S)) (sym (encoding-array ds vs))
-    (pair-typed (index_type (length ds)) (types.set_of (pair_type (index_type (length ds)) S)) (index_value ds) (datum.set (data_of (graph (indices ds) (map encoding vs)))) (index-typed ds) (
+    (pair-typed (index_type (length ds)) (types.set_of (pair_type (index_type (length ds)) S)) (index_value ds) (datum.set (data_of (graph (indices ds) (map encoding vs)))) (index_value-has ds) (
       graph (indices ds) (map encoding vs),
       refl,
       graph-ascends (length ds) (indices ds) (map encoding vs) (indices_lengths ds) (indices-ascend ds),
@@ -83,7 +73,7 @@ numbers-types zero = tt
 numbers-types (suc n) = (tt, numbers-types n)
 
 -- the type of an index of rank 1 or more
-index-is : (k : ℕ) → 1 ≤ k → IsType (index_type k)
+pub index-is : (k : ℕ) → 1 ≤ k → IsType (index_type k)
 index-is zero h = absurd (omega (arith, h))
 index-is (suc zero) h = tt
 index-is (suc (suc k)) h = (omega arith, (tt, (tt, numbers-types k)))

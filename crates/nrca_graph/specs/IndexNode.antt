@@ -51,8 +51,11 @@ index-of-type (suc (suc k)) x l h = let n = numbers-of (suc (suc k)) h.0 h.2 in 
 
 -- what is said of the entries of a typed set of pairs
 pub record AreEntries (rank : ℕ) (A : Ty) (ms : List Datum) (es : List (List ℕ × Datum)) : Type 0 where
+  -- they are the members
   pub listed : ms ≡ map entry es
+  -- each index has the rank
   pub ranks : Every (λ e. length e.0 ≡ rank) es
+  -- each value has the type
   pub values : Every (λ e. HasType A e.1) es
 
 -- pairs of a type of indices and another are entries

@@ -9,6 +9,7 @@ use Rattle.nrca_term.specs.Typing.{ctyped, instances, OutcomesHave}
 use Rattle.nrca_graph.specs.Encoding.{encoding, encoded, encoding_type}
 use Rattle.nrca_graph.specs.EncodingOrder.{KeepsOrder}
 use Rattle.nrca_graph.specs.ArrayFree.{array_free}
+use Rattle.nrca_graph.specs.NoArrays.{HasNoArrays}
 
 -- two values of one type are in the order of their encodings
 abbrev pub EncodingKeepsOrder : Type 0
@@ -31,3 +32,12 @@ EncodingKeepsInstances = (u : Subst) (T : Ty) → encoding_type (apply u T) ≡ 
 abbrev pub ArrayFreeMeans : Type 0
 ArrayFreeMeans = (Ts : List Ty) (V : Outcomes) → OutcomesHave (instances Ts) V → (t : Term) → weight_of t < 2 ^ 128 → (env : List Ty) (vals : List Datum) (T : Ty) →
     HaveTypes env vals → ctyped (instances Ts) env t T → cden (map encoded V) (map encoding vals) (array_free t) ≡ encoded (cden V vals t)
+
+-- an array-free form has no tabulation, subscript, dimensions, index or literal
+abbrev pub ArrayFreeHasNone : Type 0
+ArrayFreeHasNone = (t : Term) → HasNoArrays (array_free t)
+
+-- each type of a term, encoded, is a type of its array-free form, over the encoded types of positions and variables
+abbrev pub ArrayFreeTyped : Type 0
+ArrayFreeTyped = (Ts env : List Ty) (t : Term) (T : Ty) → ctyped (instances Ts) env t T →
+    ctyped (instances (map encoding_type Ts)) (map encoding_type env) (array_free t) (encoding_type T)

@@ -22,5 +22,9 @@ pub mod IndexNode
 pub mod Unions
 pub mod Filled
 pub mod LiteralNode
+pub mod NoArrays
+pub mod TypedTerms
+pub mod TypedForms
+pub mod ArrayFreeTypes
 pub mod Means
 pub mod Laws

@@ -19,20 +19,15 @@ use Rattle.nrca_graph.specs.EncodingOrder.{length-encoded}
 use Rattle.nrca_graph.specs.TranslatedParts.{BindersFit, here-mirror, here-types, typed-binders, length-terms}
 use Rattle.nrca_graph.specs.TabulationNode.{tab_args, tabulation-node}
 use Rattle.nrca_graph.specs.LiteralNode.{literal_args, literal-args, literal-node}
+use Rattle.nrca_graph.specs.NoArrays.{IsKeptForm}
 use Rattle.nrca_graph.specs.IndexNode.{index-node}
 use Rattle.nrca_graph.specs.SubscriptNode.{subscript-node, dimension-node}
 use Rattle.nrca_graph.specs.ArrayFree.{terms_in, array_free, array_free_parts, array_free_node}
 use Rattle.nrca_graph.specs.KeptForms.{AllMirror, form-mirror}
 use Rattle.nrca_graph.specs.StrictForms.{IsPlain, strict-mirror}
 
--- the forms that are kept
-abbrev pub IsSimple : Form → Type 0
-IsSimple (Form.tab rank) = ⊥
-IsSimple (Form.strict s) = IsPlain s
-IsSimple _ = Unit {0}
-
 -- a kept form is kept
-kept-node : (f : Form) (ps : Parts) → IsSimple f → array_free_node f ps ≡ node f ps
+kept-node : (f : Form) (ps : Parts) → IsKeptForm f → array_free_node f ps ≡ node f ps
 kept-node (Form.var n) ps h = refl
 kept-node (Form.global n) ps h = refl
 kept-node Form.bind ps h = refl
@@ -69,7 +64,7 @@ strict-node V vals s Ts T ps qs p r a m = ap (λ o. o >>= strict_value s) (here-
     of (Some vs) e = strict-mirror s Ts T vs p r (here-types Ts ps vs a e)
 
 -- a node of a kept form means its encoded value
-simple-node : (G : ℕ → Ty → Type 0) (V : Outcomes) (env : List Ty) (vals : List Datum) (f : Form) (args : List Arg) (T : Ty) (ps qs : List Part) → IsSimple f → form_rule G env f args T → AllSound args ps → AllMirror args ps qs →
+simple-node : (G : ℕ → Ty → Type 0) (V : Outcomes) (env : List Ty) (vals : List Datum) (f : Form) (args : List Arg) (T : Ty) (ps qs : List Part) → IsKeptForm f → form_rule G env f args T → AllSound args ps → AllMirror args ps qs →
     form_value (map encoded V) (map encoding vals) f qs ≡ encoded (form_value V vals f ps)
 simple-node G V env vals (Form.var n) args T ps qs h r a m = form-mirror G V env vals (Form.var n) args T ps qs tt r a m
 simple-node G V env vals (Form.global n) args T ps qs h r a m = form-mirror G V env vals (Form.global n) args T ps qs tt r a m
@@ -90,7 +85,7 @@ binders : (args bs : List Arg) (qs : Parts) → args ≡ bs → BindersFit args 
 binders args bs qs e b = subst (λ x. BindersFit x qs) e b
 
 -- a node of a kept form, translated
-kept-means : (G : ℕ → Ty → Type 0) (V : Outcomes) (env : List Ty) (vals : List Datum) (f : Form) (args : List Arg) (T : Ty) (ps : List Part) (qs : Parts) → IsSimple f → form_rule G env f args T →
+kept-means : (G : ℕ → Ty → Type 0) (V : Outcomes) (env : List Ty) (vals : List Datum) (f : Form) (args : List Arg) (T : Ty) (ps : List Part) (qs : Parts) → IsKeptForm f → form_rule G env f args T →
     AllSound args ps → AllMirror args ps (part_values (map encoded V) (map encoding vals) qs) →
     cden (map encoded V) (map encoding vals) (array_free_node f qs) ≡ encoded (form_value V vals f ps)
 kept-means G V env vals f args T ps qs h r s m =

@@ -1,0 +1,5 @@
+//! Tests of values and types without arrays: printed encodings.
+#![tactic(auto)]
+
+#[cfg(test)]
+mod tests;
