@@ -1,0 +1,106 @@
+-- Terms inside a tabulation of an index below a number: spans, firm terms, and one that is not sure to have a value.
+use Rattle.std.proofs.Common.{arith}
+use Rattle.std.specs.Prelude.{◌≡◌, ◌^◌, ◌+◌, ℕ, zero, suc, Bool, true, false, [], ◌∷◌, Some, refl}
+use Rattle.aql_value.specs.declared.ops.ArithOp.TheVariants.{Add, Mul, Quotient}
+use Rattle.aql_value.specs.Datum as datum
+use Rattle.aql_value.specs.Datum.{Datum}
+use Rattle.aql_types.specs.Types.{natural}
+use Rattle.nrca_term.specs.Term.{Term}
+use Rattle.nrca_term.specs.Meaning.{outcome, cden}
+use Rattle.nrca_term.specs.Typing.{arg, ctyped, instances, OutcomesHave}
+use Rattle.nrca_term.specs.Nodes.{variable, number, arith_term, tab_term}
+use Rattle.nrca_term.specs.Facts.{Facts, facts_at}
+use Rattle.nrca_term.specs.Firm.{span, firm, is_defined}
+use Rattle.nrca_ranges.specs.declared.shape.Shape.{Shape}
+use Rattle.nrca_ranges.specs.Entered.{is_shaped}
+use Rattle.nrca_ranges.specs.Shapes.{HasShape, Tells}
+use Rattle.nrca_defined.specs.Defined.{IsDefinedAt}
+
+-- no position has a value
+abbrev none_defined : ℕ → Bool
+none_defined n = false
+
+-- the facts of the body of `[[b | \i<n]]`
+abbrev below : ℕ → Term → Facts
+below n b = facts_at (tab_term (number n ∷ []) b) (1 ∷ [])
+
+abbrev sum : Term
+sum = arith_term Add (variable 0) (variable 0)
+
+abbrev square : Term
+square = arith_term Mul (variable 0) (variable 0)
+
+abbrev by_index : Term
+by_index = arith_term Quotient (number 10) (variable 0)
+
+abbrev by_seven : Term
+by_seven = arith_term Quotient (variable 0) (number 7)
+
+-- `i+i` below 1000 is from 0 to 1998
+sum_below_1000 : span (below 1000 sum) sum ≡ Some (0, 1998)
+sum_below_1000 = refl
+
+-- `10/i` below 3 has no span and is not firm
+quotient_by_index : firm none_defined (below 3 by_index) by_index ≡ false
+quotient_by_index = refl
+
+-- `i/7` below 3 is firm
+quotient_by_seven : firm none_defined (below 3 by_seven) by_seven ≡ true
+quotient_by_seven = refl
+
+-- `i*i` below 2^64 is firm, and below 2^64+1 it is not: there its greatest number is 2^128
+square_below : firm none_defined (below (2 ^ 64) square) square ≡ true
+square_below = refl
+
+square_past : firm none_defined (below (2 ^ 64 + 1) square) square ≡ false
+square_past = refl
+
+-- the type of a number, among variables that are one number
+number_typed : (n : ℕ) → ctyped (instances []) (natural ∷ []) (number n) natural
+number_typed n = (tt, [], ([], refl, (refl, refl)), refl)
+
+variable_typed : ctyped (instances []) (natural ∷ []) (variable 0) natural
+variable_typed = (tt, [], (refl, refl), refl)
+
+by_index_typed : ctyped (instances []) (natural ∷ []) by_index natural
+by_index_typed = (tt, arg [] natural ∷ arg [] natural ∷ [], (natural ∷ natural ∷ [], refl, (refl, refl)), (arg [] natural, arg [] natural ∷ [], refl, refl, number_typed 10, (arg [] natural, [], refl, refl, variable_typed, refl)))
+
+-- no position has a shape, and none has a value
+no_shapes : Tells [] []
+no_shapes = (λ n s v e k. no_outcome n s v k, none_there)
+  where
+    no_outcome : (n : ℕ) (s : Shape) (v : Datum) → outcome [] n ≡ Some v → HasShape s v
+    no_outcome zero s v k = cc
+    no_outcome (suc n) s v k = cc
+
+    none_there : (n : ℕ) → is_shaped [] n ≡ is_defined [] n
+    none_there zero = refl
+    none_there (suc n) = refl
+
+-- no position has a value that is not of its types
+no_outcomes : OutcomesHave (instances []) []
+no_outcomes zero T v g e = cc
+no_outcomes (suc n) T v g e = cc
+
+-- `10/i` below 3 is not sure to have a value: it has none at 0
+quotient_may_fail : IsDefinedAt [] (below 3 by_index) by_index → ⊥
+unfolding IsDefinedAt
+quotient_may_fail h =
+    let v = h [] [] (natural ∷ []) (datum.natural 0 ∷ []) natural no_outcomes ((0, refl), tt) no_shapes (refl, ((omega arith, refl), tt)) by_index_typed in
+    none_is v.0 v.1
+  where
+    none_is : (d : Datum) → cden [] (datum.natural 0 ∷ []) by_index ≡ Some d → ⊥
+    none_is d e = cc
+
+square_typed : ctyped (instances []) (natural ∷ []) square natural
+square_typed = (tt, arg [] natural ∷ arg [] natural ∷ [], (natural ∷ natural ∷ [], refl, (refl, refl)), (arg [] natural, arg [] natural ∷ [], refl, refl, variable_typed, (arg [] natural, [], refl, refl, variable_typed, refl)))
+
+-- `i*i` below 2^64+1 is not sure to have a value: it has none at 2^64
+square_may_fail : IsDefinedAt [] (below (2 ^ 64 + 1) square) square → ⊥
+unfolding IsDefinedAt
+square_may_fail h =
+    let v = h [] [] (natural ∷ []) (datum.natural (2 ^ 64) ∷ []) natural no_outcomes ((2 ^ 64, refl), tt) no_shapes (refl, ((omega arith, refl), tt)) square_typed in
+    none_is v.0 v.1
+  where
+    none_is : (d : Datum) → cden [] (datum.natural (2 ^ 64) ∷ []) square ≡ Some d → ⊥
+    none_is d e = cc
