@@ -1,0 +1,82 @@
+-- The context of a place: the facts that it keeps, and how they grow from a node to a part of it.
+use Rattle.std.specs.Prelude.{◌≡◌, ◌++◌, ℕ, zero, suc, ◌+◌, ◌<◌, ◌≤◌, ◌^◌, List, [], ◌∷◌, map, take}
+use Rattle.nrca_term.specs.Term.{Term, none, part, form_of, parts_of, Closed, weight_of}
+use Rattle.nrca_term.specs.View.{term_of}
+use Rattle.nrca_term.specs.Nodes.{variable, less_term}
+use Rattle.nrca_term.specs.Subst.{top_var, shift_term}
+use Rattle.nrca_term.specs.Facts as facts
+use Rattle.nrca_term.specs.Facts.{Facts, fact}
+use Rattle.nrca_ranges.specs.declared.context.Known.{Known}
+use Rattle.nrca_ranges.specs.declared.context.Known.TheVariants.{Domain, Test, Denied}
+use Rattle.nrca_ranges.specs.declared.context.Fact.{Fact}
+use Rattle.nrca_ranges.specs.declared.context.Ctx.{Ctx}
+use Rattle.nrca_ranges.specs.declared.context.Mark.{Mark}
+
+-- how a comparison is known
+abbrev pub known_of : Known → facts.Known
+known_of Domain = facts.domain
+known_of Test = facts.test
+known_of Denied = facts.denied
+
+-- a kept fact
+abbrev pub fact_of : Fact → facts.Fact
+fact_of f = fact (term_of f.comparison) (known_of f.known) f.depth
+
+-- the kept facts of a list
+abbrev pub facts_in : List Fact → List facts.Fact
+facts_in = map fact_of
+
+-- the facts of a context, and its number of variables
+abbrev pub context_of : Ctx → Facts
+context_of c = record { facts = map fact_of c.facts.items; depth = c.depth }
+
+-- what the context was at the mark
+abbrev pub at_mark : Mark → Facts → Facts
+at_mark m c = record { facts = take m.facts c.facts; depth = m.depth }
+
+-- the context of a part of the term that stands at the place of a context
+abbrev pub entered : Ctx → Term → ℕ → Facts
+entered c t i = facts.enter_facts (context_of c) t i
+
+-- a term whose variables are among n, and which with them weighs at most 1,280,000
+abbrev pub Inside : ℕ → Term → Type 0
+Inside n t = Closed n t × (n + weight_of t ≤ 1280000)
+
+-- the numbers of the term's variables stay below 2^64 where `by` is added
+abbrev pub HasRoom : ℕ → Term → Type 0
+HasRoom by t = top_var t + by < 2 ^ 64
+
+-- the same of each term of a list
+abbrev pub HaveRoom : ℕ → List Term → Type 0
+HaveRoom by [] = Unit {0}
+HaveRoom by (t ∷ ts) = HasRoom by t × HaveRoom by ts
+
+-- the second list of kept facts is the first with these facts behind it
+abbrev pub Adds : List Fact → List Fact → List facts.Fact → Type 0
+Adds old new fs = facts_in new ≡ facts_in old ++ fs
+
+-- the facts that hold in a part of a term beside those that hold around the term
+abbrev pub facts_inside : ℕ → Term → ℕ → List facts.Fact
+facts_inside d t i = facts.added d (form_of t) (parts_of t) i
+
+-- what the test of an if tells in a branch
+abbrev pub facts_by_test : Term → facts.Known → ℕ → List facts.Fact
+facts_by_test t k d = facts.test_fact (part 0 t none) k d
+
+-- what the operand of a loop tells in its body
+abbrev pub facts_by_loop : Term → ℕ → List facts.Fact
+facts_by_loop t d = facts.loop_fact (part 0 t none) d
+
+-- the variable is below the bound, which stands outside of `rank` variables; `d` variables are there
+abbrev pub below_bound : (i rank : ℕ) → Term → ℕ → facts.Fact
+below_bound i rank t d = fact (less_term (variable i) (shift_term 0 rank t)) facts.domain d
+
+-- variables left - 1, left - 2, .. are below the bounds, which stand outside of `rank` variables
+abbrev pub below_bounds : (left rank : ℕ) → List Term → ℕ → List facts.Fact
+below_bounds zero rank ts d = []
+below_bounds (suc left) rank [] d = []
+below_bounds (suc left) rank (t ∷ ts) d = below_bound left rank t (d + rank) ∷ below_bounds left rank ts d
+
+-- what the n bounds of a tabulation tell in its body
+abbrev pub facts_by_bounds : ℕ → List Term → ℕ → List facts.Fact
+facts_by_bounds n ts d = below_bounds n n ts d

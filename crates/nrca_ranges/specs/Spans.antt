@@ -1,0 +1,14 @@
+-- Intervals as spans.
+use Rattle.std.specs.Prelude.{◌≤◌, Option, Some, None}
+use Rattle.nrca_term.specs.Firm.{Span}
+use Rattle.nrca_ranges.specs.declared.interval.Interval.{Interval}
+
+-- the least and the greatest number of an interval, where there is one
+abbrev pub span_of : Option Interval → Span
+span_of None = None
+span_of (Some i) = Some (i.low, i.high)
+
+-- the least number is not above the greatest
+abbrev pub IsOrdered : Option Interval → Type 0
+IsOrdered None = Unit {0}
+IsOrdered (Some i) = i.low ≤ i.high

@@ -1,0 +1,209 @@
+//! The context of a place: the comparisons known there, the number of variables, the shapes of positions.
+
+ghost use Rattle.std.specs.Prelude.{◌≡◌, ◌<◌, ◌≤◌, ◌+◌, ◌++◌, ◌∷◌, [], IfOk, OnOk, length, vec_len};
+ghost use Rattle.nrca_term.specs.Term.{parts_of, count};
+ghost use Rattle.nrca_term.specs.View.{term_of, terms_of};
+ghost use Rattle.nrca_term.specs.Facts.{no_facts};
+ghost use Rattle.nrca_ranges.specs.Context.{known_of, context_of, at_mark, entered, Inside, HasRoom, HaveRoom, Adds, facts_inside, facts_by_test, facts_by_loop, facts_by_bounds, below_bound};
+
+use crate::shape::Shape;
+use aql_value::{CompareOp, Memory};
+use nrca_subst::shift;
+use nrca_term::{Core, Terms};
+use std::alloc::Global;
+
+/// How a comparison is known: from a tabulation or a loop over a generated set, from the test of an
+/// if in its first branch, or in its second, where the test is false.
+#[derive(Clone, Copy, PartialEq, Eq)]
+pub enum Known {
+    Domain,
+    Test,
+    Denied,
+}
+
+/// A comparison, as it is written among `depth` variables.
+#[derive(Drop)]
+pub struct Fact {
+    pub comparison: Core,
+    pub known: Known,
+    pub depth: u64,
+}
+
+/// The facts of a place, those of the outermost node first; its number of variables; and for each
+/// position, counted from 1, the shape of its value, or none where it has no value.
+#[derive(Drop)]
+pub struct Ctx {
+    pub facts: Vec<Fact>,
+    pub depth: u64,
+    pub globals: Vec<Option<Shape>>,
+}
+
+/// How many facts and variables a context had before a part was entered.
+#[derive(Drop)]
+pub struct Mark {
+    pub facts: usize,
+    pub depth: u64,
+}
+
+impl Ctx {
+    /// The context of the root of a closed term. It takes no memory.
+    pub fn new(alloc: Global, globals: Vec<Option<Shape>>) -> Ctx
+        ensures context { context_of result ≡ no_facts }
+        ensures globals { result.globals ≡ globals }
+    {
+        Ctx {
+            facts: Vec::new(alloc),
+            depth: 0,
+            globals,
+        }
+    }
+
+    /// Enters a part of the node that stands at the place, counted from 0. Of the facts that it adds
+    /// it keeps copies. Where memory is wanting, some of them may have been added.
+    pub fn push(&mut self, alloc: Global, parent: &Core, part: u64) -> Result<Mark, Memory>
+        requires has { part < count (parts_of (term_of parent.now)) }
+        requires inside { Inside self.old.depth (term_of parent.now) }
+        ensures entered { OnOk result (context_of self.new ≡ entered self.old (term_of parent.now) part) }
+        ensures back { IfOk result (λ m. at_mark m (context_of self.new) ≡ context_of self.old) }
+        ensures globals { self.new.globals ≡ self.old.globals }
+    {
+        let mark = Mark {
+            facts: self.facts.len(),
+            depth: self.depth,
+        };
+        add_facts(alloc, &mut self.facts, self.depth, parent, part)?;
+        self.depth += parent.binders(part);
+        Ok(mark)
+    }
+
+    /// Leaves the part that was entered at the mark, with all parts inside it.
+    pub fn take_back(&mut self, mark: Mark)
+        ensures back { context_of self.new ≡ at_mark mark (context_of self.old) }
+        ensures globals { self.new.globals ≡ self.old.globals }
+    {
+        self.facts.truncate(mark.facts);
+        self.depth = mark.depth;
+    }
+}
+
+// The facts that a part of a node has beside those around the node.
+#[inline(never)]
+fn add_facts(
+    alloc: Global,
+    facts: &mut Vec<Fact>,
+    depth: u64,
+    parent: &Core,
+    part: u64,
+) -> Result<(), Memory>
+    requires { Inside depth (term_of parent.now) }
+    ensures { OnOk result (Adds facts.old.items facts.new.items (facts_inside depth (term_of parent.now) part)) }
+{
+    match parent {
+        Core::If(test, _, _) => {
+            if part == 1 {
+                return add_test(alloc, facts, depth, test, Known::Test);
+            }
+            if part == 2 {
+                return add_test(alloc, facts, depth, test, Known::Denied);
+            }
+            Ok(())
+        }
+        Core::BigUnion { over, body: _ } => {
+            if part == 1 {
+                return add_loop(alloc, facts, depth, over);
+            }
+            Ok(())
+        }
+        Core::Sum { over, body: _ } => {
+            if part == 1 {
+                return add_loop(alloc, facts, depth, over);
+            }
+            Ok(())
+        }
+        Core::Tab { bounds, body: _ } => {
+            if part >= bounds.0.len() as u64 {
+                return add_bounds(alloc, facts, depth, bounds);
+            }
+            Ok(())
+        }
+        _ => Ok(()),
+    }
+}
+
+// The test of an if, where it is a comparison.
+fn add_test(
+    alloc: Global,
+    facts: &mut Vec<Fact>,
+    depth: u64,
+    test: &Core,
+    known: Known,
+) -> Result<(), Memory>
+    ensures { OnOk result (Adds facts.old.items facts.new.items (facts_by_test (term_of test.now) (known_of known) depth)) }
+{
+    match test {
+        Core::Compare(_, _, _) => {
+            let comparison = test.copy(alloc)?;
+            facts.push(Fact {
+                comparison,
+                known,
+                depth,
+            })?;
+            Ok(())
+        }
+        _ => Ok(()),
+    }
+}
+
+// A member of a generated set is below the number that generates it.
+fn add_loop(alloc: Global, facts: &mut Vec<Fact>, depth: u64, over: &Core) -> Result<(), Memory>
+    requires { (depth < 2000000) × HasRoom 1 (term_of over.now) }
+    ensures { OnOk result (Adds facts.old.items facts.new.items (facts_by_loop (term_of over.now) depth)) }
+{
+    match over {
+        Core::Gen(bound) => add_below(alloc, facts, depth + 1, 0, bound, 1),
+        _ => Ok(()),
+    }
+}
+
+// Variable `index` is below the bound, which stands outside of `rank` variables.
+fn add_below(
+    alloc: Global,
+    facts: &mut Vec<Fact>,
+    depth: u64,
+    index: u64,
+    bound: &Core,
+    rank: u64,
+) -> Result<(), Memory>
+    requires { HasRoom rank (term_of bound.now) }
+    ensures { OnOk result (Adds facts.old.items facts.new.items (below_bound index rank (term_of bound.now) depth ∷ [])) }
+{
+    let copied = bound.copy(alloc)?;
+    let shifted = shift(copied, 0, rank);
+    let left = Box::new(alloc, Core::Var(index))?;
+    let right = Box::new(alloc, shifted)?;
+    facts.push(Fact {
+        comparison: Core::Compare(CompareOp::Less, left, right),
+        known: Known::Domain,
+        depth,
+    })?;
+    Ok(())
+}
+
+// Each index of a tabulation is below its bound.
+fn add_bounds(
+    alloc: Global,
+    facts: &mut Vec<Fact>,
+    depth: u64,
+    bounds: &Terms,
+) -> Result<(), Memory>
+    requires { (depth + vec_len bounds.now.0 < 2000000) × HaveRoom (vec_len bounds.now.0) (terms_of bounds.now) }
+    ensures { OnOk result (Adds facts.old.items facts.new.items (facts_by_bounds (vec_len bounds.now.0) (terms_of bounds.now) depth)) }
+{
+    let rank = bounds.0.len() as u64;
+    let mut index = rank;
+    for bound in &bounds.0 {
+        index -= 1;
+        add_below(alloc, facts, depth + rank, index, bound, rank)?;
+    }
+    Ok(())
+}
