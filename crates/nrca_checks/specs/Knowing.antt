@@ -1,0 +1,27 @@
+-- How a comparison is known among the facts of a place.
+use Rattle.std.specs.Prelude.{◌≡◌, ℕ, ◌-◌, List, Option, Some, None}
+use Rattle.nrca_term.specs.Term.{Term}
+use Rattle.nrca_term.specs.Subst.{shift_term}
+use Rattle.nrca_term.specs.Facts as facts
+use Rattle.nrca_term.specs.Facts.{Facts, SomeFact, LiterallyKnown}
+use Rattle.nrca_ranges.specs.declared.context.Known.{Known}
+use Rattle.nrca_ranges.specs.declared.context.Known.TheVariants.{Domain, Test, Denied}
+
+-- the term is a fact of this kind, shifted to a place with d variables
+abbrev pub IsFactOf : facts.Known → ℕ → Term → facts.Fact → Type 0
+IsFactOf k d t f = (f.known ≡ k) × (t ≡ shift_term 0 (d - f.depth) f.comparison)
+
+-- one of the facts is the term
+abbrev pub IsAmong : facts.Known → ℕ → Term → List facts.Fact → Type 0
+IsAmong k d t fs = SomeFact fs (IsFactOf k d t)
+
+-- the term is no fact of this kind
+abbrev pub IsUnknown : facts.Known → Facts → Term → Type 0
+IsUnknown k c t = LiterallyKnown k c t → ⊥
+
+-- how the term is known, the first of the three kinds
+abbrev pub IsKnown : Facts → Term → Option Known → Type 0
+IsKnown c t (Some Domain) = LiterallyKnown facts.domain c t
+IsKnown c t (Some Test) = IsUnknown facts.domain c t × LiterallyKnown facts.test c t
+IsKnown c t (Some Denied) = IsUnknown facts.domain c t × IsUnknown facts.test c t × LiterallyKnown facts.denied c t
+IsKnown c t None = IsUnknown facts.domain c t × IsUnknown facts.test c t × IsUnknown facts.denied c t
