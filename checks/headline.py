@@ -2,7 +2,7 @@
 """Prints docs/HEADLINE.md: what the contract of `run` says, and each definition that it rests on.
 
 Reads the sources alone: the specs of each crate, and the Rust types that these name. A definition is taken where another one that is
-taken names it. The modules stand in the order in which they are reached, beginning with the headline; the definitions of a module stand
+taken names it, beginning with those that the clause of `run` names. The modules stand in the order in which they are reached, beginning with the headline; the definitions of a module stand
 as in its source.
 """
 import os
@@ -11,6 +11,7 @@ import sys
 from collections import OrderedDict
 
 ROOT = os.path.join(os.path.dirname(os.path.abspath(__file__)), "..")
+RUN = "crates/aql_run/src/lib.rt"
 START = ("aql_run.specs.Headline", "Headline")
 OPENS = re.compile(r"^(?:pub )?(?:record|data|ruleset) (\S+)|^(?:(?:abbrev|unfoldable) )?(?:pub )?(\S+) :(?: |$)")
 USE = re.compile(r"^use Rattle\.([A-Za-z_0-9.]+?)(?:\.\{(.*)\}| as ([A-Za-z_]+))$")
@@ -138,7 +139,7 @@ def rust_type(path, name):
 def reach():
     """The definitions that the start rests on, the Rust types, and the names of the standard library, each in the order of reaching."""
     taken, types, library = OrderedDict(), OrderedDict(), OrderedDict()
-    waiting = [START]
+    waiting = [START, *cited()]
     while waiting:
         where, name = waiting.pop(0)
         if name in taken.setdefault(where, OrderedDict()):
@@ -172,9 +173,20 @@ def reach():
     return taken, types, library
 
 
+def cited():
+    """The other definitions that the clause of `run` names, by the lines that bring them into its file."""
+    words = set(WORD.findall("\n".join(call())))
+    found = []
+    for text in lines_of(RUN):
+        match = re.match(r"^ghost use Rattle\.([A-Za-z_0-9.]+)\.\{(.*)\};$", text)
+        if match and os.path.isdir(os.path.join(ROOT, "crates", match.group(1).split(".")[0])):
+            found += [(match.group(1), name) for name in re.split(r",\s*", match.group(2)) if name in words]
+    return [it for it in found if it != START]
+
+
 def call():
     """The contract of `run`, as it stands in the source."""
-    source = lines_of("crates/aql_run/src/lib.rt")
+    source = lines_of(RUN)
     first = next(n for n, text in enumerate(source) if text.startswith("pub fn run<"))
     top = first
     while source[top - 1].startswith("///"):

@@ -13,7 +13,7 @@ use Rattle.aql_value.specs.Datum.{Datum}
 use Rattle.aql_value.specs.Lists.{slice_get-append_left, slice_get-append_right}
 use Rattle.aql_types.specs.Types.{Sort}
 use Rattle.aql_syntax.specs.Script.{Earlier, globals_of, outcome_after}
-use Rattle.aql_syntax.specs.Size.{expanded_size, expanded_levels}
+use Rattle.aql_syntax.specs.Size.{IsWithinLimits, AreWithinLimits}
 use Rattle.aql_syntax.specs.Sound.{OutcomesHave}
 use Rattle.aql_syntax.specs.Tree.{Declaration, val, mac, read, bare, declared, plain, signed, strided, records}
 use Rattle.aql_syntax.specs.View.{decls_of}
@@ -21,13 +21,13 @@ use Rattle.aql_syntax.specs.declared.ast.Decl.{Decl}
 use Rattle.aql_answers.specs.Settings.{Settings}
 use Rattle.aql_value.specs.Partial.{◌>>=◌}
 use Rattle.nrca_term.specs.Meaning.{Outcomes, outcome}
-use Rattle.aql_prelude.specs.Prelude.{prelude_decls}
+use Rattle.aql_prelude.specs.Prelude.{prelude_decls, prelude_count}
 use Rattle.aql_script.specs.PositionLaws.{positions_are, length_positions, none_at}
 use Rattle.aql_script.specs.Script.{positions, reads_records}
 use Rattle.aql_script.specs.declared.preparing.Prepared.{Prepared}
 use Rattle.aql_session.specs.Bound.{Bound, names, outcomes, AreBound, onto, earlier_of}
 use Rattle.aql_session.specs.Reading.{reading}
-use Rattle.aql_session.specs.Step.{AreWithinLimits, ReadsNoRecords, IsAnswer, IsAnswerable, IsOutcome, IsCause, Binds, ReadsNoFile}
+use Rattle.aql_session.specs.Step.{ReadsNoRecords, IsAnswer, IsAnswerable, IsOutcome, IsCause, Binds, ReadsNoFile}
 use Rattle.aql_session.specs.declared.answer.StepFault.{StepFault}
 use Rattle.aql_session.specs.declared.answer.Answer.{Answer}
 use Rattle.aql_answers.specs.Answered.{IsAnswered, AreAnswered, IsStopped}
@@ -68,39 +68,39 @@ behind xs x y i le e = at (i - length xs) (sym (slice_get-append_right xs (x ∷
 
 -- the answers with one more
 pub answered_more : (ds : List Declaration) (sorts : List Sort) (budget : ℕ) (holds : Option Content) (answers : List Answer) (V : Outcomes) (d : Declaration) (a : Answer) (o : Option Datum) →
-    AreAnswered ds sorts budget holds answers V → slice_get (positions ds) (24 + length answers) ≡ Some d →
-    IsAnswered d (earlier_of (positions ds) V) (slice_get sorts (24 + length answers)) budget holds a o →
+    AreAnswered ds sorts budget holds answers V → slice_get (positions ds) (prelude_count + length answers) ≡ Some d →
+    IsAnswered d (earlier_of (positions ds) V) (slice_get sorts (prelude_count + length answers)) budget holds a o →
     AreAnswered ds sorts budget holds (answers ++ a ∷ []) (V ++ o ∷ [])
 answered_more ds sorts budget holds answers V d a o h there own = record {
-  few = omega (arith, inside (positions ds) (24 + length answers) d there, length_positions ds, length-append answers (a ∷ []));
+  few = omega (arith, inside (positions ds) (prelude_count + length answers) d there, length_positions ds, length-append answers (a ∷ []));
   many = length-append V (o ∷ []) ∙ (ap (λ n. n + 1) h.many ∙ (omega (arith, length-append answers (a ∷ []))));
-  prelude = let n = h.many in take-append-le 24 V (o ∷ []) (omega (arith, n)) ∙ h.prelude;
+  prelude = let n = h.many in take-append-le prelude_count V (o ∷ []) (omega (arith, n)) ∙ h.prelude;
   each = λ i e b p f g k. at i e b p f g k (cases_lt i (length answers));
 }
   where
     Answers : (i : ℕ) (e : Declaration) (b : Answer) (p : Option Datum) → Outcomes → Type 0
-    Answers i e b p W = IsAnswered e (earlier_of (positions ds) W) (slice_get sorts (24 + i)) budget holds b p
+    Answers i e b p W = IsAnswered e (earlier_of (positions ds) W) (slice_get sorts (prelude_count + i)) budget holds b p
 
-    last : (i : ℕ) (e : Declaration) (b : Answer) (p : Option Datum) → i ≡ length answers → a ≡ b → o ≡ p → d ≡ e → Answers i e b p (take (24 + i) (V ++ o ∷ []))
+    last : (i : ℕ) (e : Declaration) (b : Answer) (p : Option Datum) → i ≡ length answers → a ≡ b → o ≡ p → d ≡ e → Answers i e b p (take (prelude_count + i) (V ++ o ∷ []))
     last i e b p is same result decl =
-        subst (λ n. Answers n e b p (take (24 + n) (V ++ o ∷ []))) (sym is)
-        (subst (λ (x : Answer). Answers (length answers) e x p (take (24 + length answers) (V ++ o ∷ []))) same
-        (subst (λ (x : Option Datum). Answers (length answers) e a x (take (24 + length answers) (V ++ o ∷ []))) result
-        (subst (λ (x : Declaration). Answers (length answers) x a o (take (24 + length answers) (V ++ o ∷ []))) decl
+        subst (λ n. Answers n e b p (take (prelude_count + n) (V ++ o ∷ []))) (sym is)
+        (subst (λ (x : Answer). Answers (length answers) e x p (take (prelude_count + length answers) (V ++ o ∷ []))) same
+        (subst (λ (x : Option Datum). Answers (length answers) e a x (take (prelude_count + length answers) (V ++ o ∷ []))) result
+        (subst (λ (x : Declaration). Answers (length answers) x a o (take (prelude_count + length answers) (V ++ o ∷ []))) decl
         (subst (λ (W : Outcomes). Answers (length answers) d a o W) (sym (ap (λ n. take n (V ++ o ∷ [])) (sym h.many) ∙ take-append_seam V (o ∷ []))) own))))
 
-    at : (i : ℕ) (e : Declaration) (b : Answer) (p : Option Datum) → slice_get (positions ds) (24 + i) ≡ Some e → slice_get (answers ++ a ∷ []) i ≡ Some b →
-        slice_get (V ++ o ∷ []) (24 + i) ≡ Some p → (i < length answers) ⊎ (length answers ≤ i) → Answers i e b p (take (24 + i) (V ++ o ∷ []))
+    at : (i : ℕ) (e : Declaration) (b : Answer) (p : Option Datum) → slice_get (positions ds) (prelude_count + i) ≡ Some e → slice_get (answers ++ a ∷ []) i ≡ Some b →
+        slice_get (V ++ o ∷ []) (prelude_count + i) ≡ Some p → (i < length answers) ⊎ (length answers ≤ i) → Answers i e b p (take (prelude_count + i) (V ++ o ∷ []))
     at i e b p f g k (inl lt) =
         let n = h.many in
-        let below : 24 + i < length V = omega (arith, lt, n) in
-        subst (λ (W : Outcomes). Answers i e b p W) (sym (take-append-le (24 + i) V (o ∷ []) (omega (arith, below))))
-        (h.each i e b p f (sym (slice_get-append_left answers (a ∷ []) i lt) ∙ g) (sym (slice_get-append_left V (o ∷ []) (24 + i) below) ∙ k))
+        let below : prelude_count + i < length V = omega (arith, lt, n) in
+        subst (λ (W : Outcomes). Answers i e b p W) (sym (take-append-le (prelude_count + i) V (o ∷ []) (omega (arith, below))))
+        (h.each i e b p f (sym (slice_get-append_left answers (a ∷ []) i lt) ∙ g) (sym (slice_get-append_left V (o ∷ []) (prelude_count + i) below) ∙ k))
     at i e b p f g k (inr le) =
         let n = h.many in
         let x = behind answers a b i le g in
-        let y = behind V o p (24 + i) (omega (arith, le, n)) k in
-        last i e b p x.0 x.1 y.1 (some_is d e (sym there ∙ (ap (λ m. slice_get (positions ds) (24 + m)) (sym x.0) ∙ f)))
+        let y = behind V o p (prelude_count + i) (omega (arith, le, n)) k in
+        last i e b p x.0 x.1 y.1 (some_is d e (sym there ∙ (ap (λ m. slice_get (positions ds) (prelude_count + m)) (sym x.0) ∙ f)))
 
 pub decls_length : (ds : List Decl) → length (decls_of ds) ≡ length ds
 decls_length [] = refl
@@ -113,21 +113,21 @@ pub record HasStepped (p : Prepared) (o : Settings) (holds : Option Content) (an
   pub progress : Progress p o.budget holds (answers ++ a ∷ []) s'
 
 -- declaration n of the positions
-pub next_there : (p : Prepared) (n : ℕ) (d : Declaration) (k : ℕ) → IsPrepared p → n ≡ 25 + k → slice_get (decls_of p.decls.items.items) (n - 1) ≡ Some d →
-    slice_get (positions (own p)) (24 + k) ≡ Some d
+pub next_there : (p : Prepared) (n : ℕ) (d : Declaration) (k : ℕ) → IsPrepared p → n ≡ prelude_count + 1 + k → slice_get (decls_of p.decls.items.items) (n - 1) ≡ Some d →
+    slice_get (positions (own p)) (prelude_count + k) ≡ Some d
 next_there p n d k h is e =
-    let at : n - 1 ≡ 24 + k = omega (arith, is) in
-    ap (λ (l : List Declaration). slice_get l (24 + k)) (sym h.all) ∙ (ap (slice_get (decls_of p.decls.items.items)) (sym at) ∙ e)
+    let at : n - 1 ≡ prelude_count + k = omega (arith, is) in
+    ap (λ (l : List Declaration). slice_get l (prelude_count + k)) (sym h.all) ∙ (ap (slice_get (decls_of p.decls.items.items)) (sym at) ∙ e)
 
 pub stepped : (p : Prepared) (o : Settings) (holds : Option Content) (answers : List Answer) (s s' : Bound) (a : Answer) (n : ℕ) (d : Declaration) → IsPrepared p →
-    n ≡ 25 + length answers → Progress p o.budget holds answers s → slice_get (decls_of p.decls.items.items) (n - 1) ≡ Some d →
+    n ≡ prelude_count + 1 + length answers → Progress p o.budget holds answers s → slice_get (decls_of p.decls.items.items) (n - 1) ≡ Some d →
     IsAnswer d (earlier_of (decls_of p.decls.items.items) (outcomes s)) (slice_get (sorts p) (n - 1)) a →
     IsAnswerable d (earlier_of (decls_of p.decls.items.items) (outcomes s)) o.budget holds →
     Binds d (earlier_of (decls_of p.decls.items.items) (outcomes s)) holds s s' → HasStepped p o holds answers s s' a
 stepped p o holds answers s s' a n d h is so_far e answer answerable binds =
     let there = next_there p n d (length answers) h is e in
     let count = so_far.answered.many in
-    let at : n - 1 ≡ 24 + length answers = omega (arith, is) in
+    let at : n - 1 ≡ prelude_count + length answers = omega (arith, is) in
     let has : OutcomesHave (earlier_of (positions (own p)) (outcomes s ++ binds.outcome ∷ [])) =
     subst OutcomesHave (sym (onto_next (positions (own p)) (outcomes s) [] d binds.outcome (ap (slice_get (positions (own p))) count ∙ there)))
     (subst (λ (ds : List Declaration). OutcomesHave ((d, binds.outcome) ∷ earlier_of ds (outcomes s))) h.all binds.typed) in
@@ -149,15 +149,15 @@ stepped p o holds answers s s' a n d h is so_far e answer answerable binds =
       };
     }
   where
-    named : slice_get (positions (own p)) (24 + length answers) ≡ Some d → AreBound (positions (own p)) (25 + length (answers ++ a ∷ [])) s'
+    named : slice_get (positions (own p)) (prelude_count + length answers) ≡ Some d → AreBound (positions (own p)) (prelude_count + 1 + length (answers ++ a ∷ [])) s'
     named there =
         let long = length-append answers (a ∷ []) in
-        let last : 25 + length (answers ++ a ∷ []) - 1 ≡ suc (24 + length answers) = omega (arith, long) in
-        let first : 25 + length answers - 1 ≡ 24 + length answers = omega arith in
+        let last : prelude_count + 1 + length (answers ++ a ∷ []) - 1 ≡ suc (prelude_count + length answers) = omega (arith, long) in
+        let first : prelude_count + 1 + length answers - 1 ≡ prelude_count + length answers = omega arith in
         ap names binds.bound
         ∙ (map-append (λ b. b.0) s ((declared d, binds.outcome) ∷ [])
         ∙ (ap (λ l. l ++ declared d ∷ []) (so_far.bound ∙ ap (λ k. map declared (take k (positions (own p)))) first)
-        ∙ (sym (map_take_next declared (positions (own p)) (24 + length answers) d there)
+        ∙ (sym (map_take_next declared (positions (own p)) (prelude_count + length answers) d there)
         ∙ ap (λ k. map declared (take k (positions (own p)))) (sym last))))
 
 -- the limits on the declarations up to the next one
@@ -167,7 +167,7 @@ next_within p n h last m one le =
     let all = ap length h.all in
     let many = length_positions (own p) in
     let k = h.limits m one (omega (arith, le, last, count, all, many)) in
-    subst (λ (ds : List Declaration). (expanded_size ds m ≤ 20000) × (expanded_levels ds m ≤ 1000)) (sym h.all) k
+    subst (λ (ds : List Declaration). IsWithinLimits ds m) (sym h.all) k
 
 no_records : (d : Declaration) → reads_records d ≡ false → ReadsNoRecords d
 no_records (val x e) h = tt
@@ -179,13 +179,13 @@ no_records (read x (records header ks) e) h = absurd cc
 no_records (bare e) h = tt
 
 -- the next declaration reads no records
-pub next_built : (p : Prepared) (n k : ℕ) (d : Declaration) → IsPrepared p → n ≡ 25 + k → slice_get (decls_of p.decls.items.items) (n - 1) ≡ Some d → ReadsNoRecords d
+pub next_built : (p : Prepared) (n k : ℕ) (d : Declaration) → IsPrepared p → n ≡ prelude_count + 1 + k → slice_get (decls_of p.decls.items.items) (n - 1) ≡ Some d → ReadsNoRecords d
 next_built p n k d h is e =
     let there = next_there p n d k h is e in
-    no_records d (none_at (own p) k d h.built (sym (slice_get-append_at k) ∙ (ap (λ (l : List Declaration). slice_get l (24 + k)) (sym (positions_are (own p))) ∙ there)))
+    no_records d (none_at (own p) k d h.built (sym (slice_get-append_at k) ∙ (ap (λ (l : List Declaration). slice_get l (prelude_count + k)) (sym (positions_are (own p))) ∙ there)))
   where
-    slice_get-append_at : (k : ℕ) → slice_get (prelude_decls ++ own p) (24 + k) ≡ slice_get (own p) k
-    slice_get-append_at k = slice_get-append_right prelude_decls (own p) (24 + k) (omega arith) ∙ ap (slice_get (own p)) (omega arith)
+    slice_get-append_at : (k : ℕ) → slice_get (prelude_decls ++ own p) (prelude_count + k) ≡ slice_get (own p) k
+    slice_get-append_at k = slice_get-append_right prelude_decls (own p) (prelude_count + k) (omega arith) ∙ ap (slice_get (own p)) (omega arith)
 
 -- there is a next declaration
 pub next_is : (p : Prepared) (n : ℕ) → 1 ≤ n → n ≤ length p.decls.items.items → (d : Declaration) × (slice_get (decls_of p.decls.items.items) (n - 1) ≡ Some d)
@@ -199,7 +199,7 @@ next_is p n one le = get (slice_get_cases (decls_of p.decls.items.items) (n - 1)
     get (inr (past, e)) = let count = decls_length p.decls.items.items in absurd (omega (arith, one, le, past, count))
 
 pub stopped : (p : Prepared) (budget : ℕ) (holds : Option Content) (before now : ℕ) (answers : List Answer) (V : Outcomes) (n : ℕ) (f : StepFault) → IsPrepared p →
-    n ≡ 25 + length answers → n ≤ length p.decls.items.items →
+    n ≡ prelude_count + 1 + length answers → n ≤ length p.decls.items.items →
     ((d : Declaration) → slice_get (decls_of p.decls.items.items) (n - 1) ≡ Some d → IsCause d (earlier_of (decls_of p.decls.items.items) V) budget holds before now f) →
     IsStopped (own p) budget holds before now (length answers) V f
 stopped p budget holds before now answers V n f h is le cause =
@@ -209,7 +209,7 @@ stopped p budget holds before now answers V n f h is le cause =
       subst (λ (ds : List Declaration). IsCause x.0 (earlier_of ds V) budget holds before now f) h.all (cause x.0 x.1),
     )
 
-next : (V : Outcomes) (n k : ℕ) → length V ≡ 24 + k → n ≡ 25 + k → n ≡ suc (length V)
+next : (V : Outcomes) (n k : ℕ) → length V ≡ prelude_count + k → n ≡ prelude_count + 1 + k → n ≡ suc (length V)
 next V n k many is = omega (arith, many, is)
 
 last_is : (V : Outcomes) (o : Option Datum) → slice_get (V ++ o ∷ []) (length V) ≡ Some o
@@ -217,12 +217,12 @@ last_is [] o = refl
 last_is (v ∷ V) o = last_is V o
 
 -- the outcome of the last position
-pub outcome_last : (V : Outcomes) (o : Option Datum) (n k : ℕ) → length V ≡ 24 + k → n ≡ 25 + k → outcome (V ++ o ∷ []) n ≡ o
+pub outcome_last : (V : Outcomes) (o : Option Datum) (n k : ℕ) → length V ≡ prelude_count + k → n ≡ prelude_count + 1 + k → outcome (V ++ o ∷ []) n ≡ o
 outcome_last V o n k many is =
     subst (λ m. outcome (V ++ o ∷ []) m ≡ o) (sym (next V n k many is)) (ap (λ (x : Option (Option Datum)). x >>= λ z. z) (last_is V o))
 
 pub has_stepped : (p : Prepared) (o : Settings) (holds : Option Content) (answers : List Answer) (s s' : Bound) (a : Answer) (n : ℕ) → IsPrepared p →
-    n ≡ 25 + length answers → n ≤ length p.decls.items.items → Progress p o.budget holds answers s →
+    n ≡ prelude_count + 1 + length answers → n ≤ length p.decls.items.items → Progress p o.budget holds answers s →
     ((d : Declaration) → slice_get (decls_of p.decls.items.items) (n - 1) ≡ Some d → IsAnswer d (earlier_of (decls_of p.decls.items.items) (outcomes s)) (slice_get (sorts p) (n - 1)) a) →
     ((d : Declaration) → slice_get (decls_of p.decls.items.items) (n - 1) ≡ Some d → IsAnswerable d (earlier_of (decls_of p.decls.items.items) (outcomes s)) o.budget holds) →
     ((d : Declaration) → slice_get (decls_of p.decls.items.items) (n - 1) ≡ Some d → Binds d (earlier_of (decls_of p.decls.items.items) (outcomes s)) holds s s') →
@@ -268,7 +268,7 @@ module _ (p : Prepared) (o : Settings) (holds : Option Content) (answers answers
   halted (Err halts.Sink) before now h longer is (front, rest, split, appended, all, some) c = (cut h longer is front rest split appended, some)
 
 -- where the next declaration reads no file
-pub next_unread : (p : Prepared) (budget : ℕ) (V : Outcomes) (n k : ℕ) → IsPrepared p → n ≡ 25 + k → n ≤ length p.decls.items.items → NextReadsNoFile p budget k V →
+pub next_unread : (p : Prepared) (budget : ℕ) (V : Outcomes) (n k : ℕ) → IsPrepared p → n ≡ prelude_count + 1 + k → n ≤ length p.decls.items.items → NextReadsNoFile p budget k V →
     (d : Declaration) × (slice_get (decls_of p.decls.items.items) (n - 1) ≡ Some d) × ReadsNoFile d (earlier_of (decls_of p.decls.items.items) V) budget
 next_unread p budget V n k h is le none =
     let x = next_is p n (omega (arith, is)) le in

@@ -21,6 +21,7 @@ use Rattle.aql_session.specs.Step.{IsCause, ReadsNoFile}
 use Rattle.aql_session.specs.declared.answer.Answer.{Answer}
 use Rattle.aql_session.specs.declared.answer.StepFault.{StepFault}
 use Rattle.aql_session.specs.declared.answer.StepFault.TheVariants as faults
+use Rattle.aql_prelude.specs.Prelude.{prelude_count}
 use Rattle.aql_answers.specs.Settings.{Settings}
 use Rattle.aql_answers.specs.Answered.{AreAnswered, IsStopped, ReadNoFile, reached}
 use Rattle.aql_lines.specs.Entry.{entry, entries}
@@ -79,24 +80,24 @@ read_fewer : (ds : List Declaration) (budget : ℕ) (V : Outcomes) (k m : ℕ) �
 read_fewer ds budget V k m le h i d lt = h i d (omega (arith, le, lt))
 
 -- where one outcome more is known, the same of those before it
-read_before : (ds : List Declaration) (budget : ℕ) (V W : Outcomes) (o : Option Datum) (k : ℕ) → length V ≡ 24 + k → W ≡ V ++ o ∷ [] →
+read_before : (ds : List Declaration) (budget : ℕ) (V W : Outcomes) (o : Option Datum) (k : ℕ) → length V ≡ prelude_count + k → W ≡ V ++ o ∷ [] →
     ReadNoFile ds budget W k → ReadNoFile ds budget V k
 read_before ds budget V W o k many is h i d lt there =
     subst (λ (X : Outcomes). ReadsNoFile d (earlier_of (positions ds) X) budget)
-    (ap (take (24 + i)) is ∙ take-append-le (24 + i) V (o ∷ []) (omega (arith, many, lt))) (h i d lt there)
+    (ap (take (prelude_count + i)) is ∙ take-append-le (prelude_count + i) V (o ∷ []) (omega (arith, many, lt))) (h i d lt there)
 
 -- and of the one of which it is
-read_last : (ds : List Declaration) (budget : ℕ) (V W : Outcomes) (after : Outcomes) (k m : ℕ) (d : Declaration) → length V ≡ 24 + k → W ≡ V ++ after → k < m →
-    ReadNoFile ds budget W m → slice_get (positions ds) (24 + k) ≡ Some d → ReadsNoFile d (earlier_of (positions ds) V) budget
+read_last : (ds : List Declaration) (budget : ℕ) (V W : Outcomes) (after : Outcomes) (k m : ℕ) (d : Declaration) → length V ≡ prelude_count + k → W ≡ V ++ after → k < m →
+    ReadNoFile ds budget W m → slice_get (positions ds) (prelude_count + k) ≡ Some d → ReadsNoFile d (earlier_of (positions ds) V) budget
 read_last ds budget V W after k m d many is lt h there =
     subst (λ (X : Outcomes). ReadsNoFile d (earlier_of (positions ds) X) budget)
-    (ap (take (24 + k)) is ∙ (ap (λ n. take n (V ++ after)) (sym many) ∙ take-append_seam V after)) (h k d lt there)
+    (ap (take (prelude_count + k)) is ∙ (ap (λ n. take n (V ++ after)) (sym many) ∙ take-append_seam V after)) (h k d lt there)
 
 -- a run with no answer yet
-pub going_first : (p : Prepared) (o : Settings) (holds : Option Content) (same : Type 0) (answers : List Answer) (s : Bound) (old : Option (List ℕ)) → Declared p 24 s →
-    answers ≡ [] → same → Going p o holds same answers s 25 old old
+pub going_first : (p : Prepared) (o : Settings) (holds : Option Content) (same : Type 0) (answers : List Answer) (s : Bound) (old : Option (List ℕ)) → Declared p prelude_count s →
+    answers ≡ [] → same → Going p o holds same answers s (prelude_count + 1) old old
 going_first p o holds same answers s old h none there =
-    subst (λ (l : List Answer). Going p o holds same l s 25 old old) (sym none)
+    subst (λ (l : List Answer). Going p o holds same l s (prelude_count + 1) old old) (sym none)
     (record { progress = at_first p o.budget holds s h; next = refl; written = Appends-nil old; untouched = λ reads. there })
 
 -- one answer more
@@ -110,21 +111,21 @@ going_next p o holds same same' answers answers' s s' n old mid new h g more =
     record {
       progress = g.progress;
       next = omega (arith, is, longer);
-      written = subst (Appends old new) (sym (lines (length-drop 24 (outcomes s) ∙ omega (arith, count)) (omega (arith, count))))
-          (Appends-trans old mid new (entries o.plan answers (drop 24 (outcomes s))) (entry o.plan g.answer g.outcome) h.written g.written);
+      written = subst (Appends old new) (sym (lines (length-drop prelude_count (outcomes s) ∙ omega (arith, count)) (omega (arith, count))))
+          (Appends-trans old mid new (entries o.plan answers (drop prelude_count (outcomes s))) (entry o.plan g.answer g.outcome) h.written g.written);
       untouched = λ reads. more
           (h.untouched (read_before (own p) o.budget (outcomes s) (outcomes s') g.outcome (length answers) count g.outcomes
           (read_fewer (own p) o.budget (outcomes s') (length answers) (length answers') (omega (arith, longer)) reads)))
           (λ d there. read_last (own p) o.budget (outcomes s) (outcomes s') (g.outcome ∷ []) (length answers) (length answers') d count g.outcomes (omega (arith, longer)) reads there);
     }
   where
-    lines : length (drop 24 (outcomes s)) ≡ length answers → 24 ≤ length (outcomes s) →
-        entries o.plan answers' (drop 24 (outcomes s')) ≡ entries o.plan answers (drop 24 (outcomes s)) ++ entry o.plan g.answer g.outcome
+    lines : length (drop prelude_count (outcomes s)) ≡ length answers → prelude_count ≤ length (outcomes s) →
+        entries o.plan answers' (drop prelude_count (outcomes s')) ≡ entries o.plan answers (drop prelude_count (outcomes s)) ++ entry o.plan g.answer g.outcome
     lines same le =
-        ap (λ (l : List Answer). entries o.plan l (drop 24 (outcomes s'))) g.longer
-        ∙ (ap (λ (V : Outcomes). entries o.plan (answers ++ g.answer ∷ []) (drop 24 V)) g.outcomes
-        ∙ (ap (entries o.plan (answers ++ g.answer ∷ [])) (drop_more (outcomes s) g.outcome 24 le)
-        ∙ entries_more o.plan answers (drop 24 (outcomes s)) g.answer g.outcome same))
+        ap (λ (l : List Answer). entries o.plan l (drop prelude_count (outcomes s'))) g.longer
+        ∙ (ap (λ (V : Outcomes). entries o.plan (answers ++ g.answer ∷ []) (drop prelude_count V)) g.outcomes
+        ∙ (ap (entries o.plan (answers ++ g.answer ∷ [])) (drop_more (outcomes s) g.outcome prelude_count le)
+        ∙ entries_more o.plan answers (drop prelude_count (outcomes s)) g.answer g.outcome same))
 
 -- every position was gone over
 pub all_answered : (p : Prepared) (o : Settings) (holds : Option Content) (same : Type 0) (answers : List Answer) (s : Bound) (n : ℕ) (old new : Option (List ℕ)) → IsPrepared p →
@@ -152,21 +153,21 @@ cause_wider d earlier budget holds before now before' now' faults.Memory a b h =
 -- the lines so far are those of the answers, all of them
 none_cut : (p : Prepared) (o : Settings) (holds : Option Content) (same : Type 0) (begun : ℕ) (answers : List Answer) (V : Outcomes) →
     AreAnswered (own p) (sorts p) o.budget holds answers V → (ReadNoFile (own p) o.budget V begun → same) →
-    CutsLines p o holds same begun answers (entries o.plan answers (drop 24 V))
+    CutsLines p o holds same begun answers (entries o.plan answers (drop prelude_count V))
 none_cut p o holds same begun answers V h untouched =
-    let x = entries_last o.plan answers (drop 24 V) in
-    record { outcomes = V; answered = h; back = []; front = sym (append-nil (entries o.plan answers (drop 24 V))); last = x.0; whole = x.1; untouched = untouched }
+    let x = entries_last o.plan answers (drop prelude_count V) in
+    record { outcomes = V; answered = h; back = []; front = sym (append-nil (entries o.plan answers (drop prelude_count V))); last = x.0; whole = x.1; untouched = untouched }
 
 -- a front of the last answer's lines
 one_cut : (p : Prepared) (o : Settings) (holds : Option Content) (same : Type 0) (begun : ℕ) (answers answers' : List Answer) (V : Outcomes) (mid new : Option (List ℕ)) →
     AreAnswered (own p) (sorts p) o.budget holds answers V → (c : CutsEntry p o holds answers answers' V mid new) → (ReadNoFile (own p) o.budget (V ++ c.outcome ∷ []) begun → same) →
-    (d : CutsLines p o holds same begun answers' (entries o.plan answers (drop 24 V) ++ c.front)) × (d.back ≡ c.rest)
+    (d : CutsLines p o holds same begun answers' (entries o.plan answers (drop prelude_count V) ++ c.front)) × (d.back ≡ c.rest)
 one_cut p o holds same begun answers answers' V mid new h c untouched =
     let count = h.many in
-    made (length-drop 24 V ∙ omega (arith, count)) (omega (arith, count))
+    made (length-drop prelude_count V ∙ omega (arith, count)) (omega (arith, count))
   where
     shown : Outcomes → List ℕ
-    shown W = entries o.plan answers (drop 24 W)
+    shown W = entries o.plan answers (drop prelude_count W)
 
     short : take (length answers' - 1) answers' ≡ answers
     short =
@@ -174,20 +175,20 @@ one_cut p o holds same begun answers answers' V mid new h c untouched =
         let at : length answers' - 1 ≡ length answers = omega (arith, long) in
         ap (λ k. take k answers') at ∙ (ap (take (length answers)) c.longer ∙ take-append_seam answers (c.answer ∷ []))
 
-    made : length (drop 24 V) ≡ length answers → 24 ≤ length V → (d : CutsLines p o holds same begun answers' (shown V ++ c.front)) × (d.back ≡ c.rest)
+    made : length (drop prelude_count V) ≡ length answers → prelude_count ≤ length V → (d : CutsLines p o holds same begun answers' (shown V ++ c.front)) × (d.back ≡ c.rest)
     made many le = (
       record {
         outcomes = V ++ c.outcome ∷ [];
         answered = c.answered;
         back = c.rest;
-        front = ap (λ (l : List Answer). entries o.plan l (drop 24 (V ++ c.outcome ∷ []))) c.longer
-            ∙ (ap (entries o.plan (answers ++ c.answer ∷ [])) (drop_more V c.outcome 24 le)
-            ∙ (entries_more o.plan answers (drop 24 V) c.answer c.outcome many
+        front = ap (λ (l : List Answer). entries o.plan l (drop prelude_count (V ++ c.outcome ∷ []))) c.longer
+            ∙ (ap (entries o.plan (answers ++ c.answer ∷ [])) (drop_more V c.outcome prelude_count le)
+            ∙ (entries_more o.plan answers (drop prelude_count V) c.answer c.outcome many
             ∙ (ap (λ l. shown V ++ l) c.split ∙ sym (append_assoc (shown V) c.front c.rest))));
         last = c.front;
         whole = ap (λ l. l ++ c.front)
-            (sym (ap (λ (l : List Answer). entries o.plan l (drop 24 (V ++ c.outcome ∷ []))) short
-            ∙ (ap (entries o.plan answers) (drop_more V c.outcome 24 le) ∙ entries_ignore o.plan answers (drop 24 V) c.outcome many)));
+            (sym (ap (λ (l : List Answer). entries o.plan l (drop prelude_count (V ++ c.outcome ∷ []))) short
+            ∙ (ap (entries o.plan answers) (drop_more V c.outcome prelude_count le) ∙ entries_ignore o.plan answers (drop prelude_count V) c.outcome many)));
         untouched = untouched;
       },
       refl,
@@ -200,7 +201,7 @@ module _ (p : Prepared) (o : Settings) (holds : Option Content) (same same' : Ty
   abbrev V : Outcomes
   V = outcomes s
 
-  count : length V ≡ 24 + length answers
+  count : length V ≡ prelude_count + length answers
   count = g.progress.answered.many
 
   -- nothing more was answered
@@ -217,8 +218,8 @@ module _ (p : Prepared) (o : Settings) (holds : Option Content) (same same' : Ty
       (read_fewer (own p) o.budget (V ++ c.outcome ∷ []) (length answers) m (omega (arith, le, longer)) reads)))
       (λ d there. read_last (own p) o.budget V (V ++ c.outcome ∷ []) (c.outcome ∷ []) (length answers) m d count refl (omega (arith, le, longer)) reads there)
 
-  lines : Appends mid new [] → Appends old new (entries o.plan answers (drop 24 V))
-  lines w = subst (Appends old new) (append-nil _) (Appends-trans old mid new (entries o.plan answers (drop 24 V)) [] g.written w)
+  lines : Appends mid new [] → Appends old new (entries o.plan answers (drop prelude_count V))
+  lines w = subst (Appends old new) (append-nil _) (Appends-trans old mid new (entries o.plan answers (drop prelude_count V)) [] g.written w)
 
   came : (f : StepFault) → (same → IsOver (halts.Fault f) → same') → ReadNoFile (own p) o.budget V (reached f (length answers)) → same'
   came (faults.Query start plan trace) over reads = over (g.untouched reads) tt
@@ -234,23 +235,23 @@ module _ (p : Prepared) (o : Settings) (holds : Option Content) (same same' : Ty
     subst (λ (l : List Answer). AreAnswered (own p) (sorts p) o.budget holds l V) (sym stays.same) g.progress.answered,
     subst (λ (l : List Answer). IsStopped (own p) o.budget holds before' now' (length l) V f) (sym stays.same)
         (d, there, cause_wider d _ o.budget holds before now before' now' f a b cause),
-    subst (λ (l : List Answer). Appends old new (entries o.plan l (drop 24 V))) (sym stays.same) (lines stays.written),
+    subst (λ (l : List Answer). Appends old new (entries o.plan l (drop prelude_count V))) (sym stays.same) (lines stays.written),
     subst (λ (l : List Answer). ReadNoFile (own p) o.budget V (reached f (length l)) → same') (sym stays.same) (came f over),
   )
   ends_early before now before' now' halts.Memory a b over (inl stays) = (
-    entries o.plan answers (drop 24 V),
+    entries o.plan answers (drop prelude_count V),
     lines stays.written,
-    inr (subst (λ (l : List Answer). CutsLines p o holds same' (length l + 1) l (entries o.plan answers (drop 24 V))) (sym stays.same)
+    inr (subst (λ (l : List Answer). CutsLines p o holds same' (length l + 1) l (entries o.plan answers (drop prelude_count V))) (sym stays.same)
         (none_cut p o holds same' (length answers + 1) answers V g.progress.answered (stayed (length answers + 1) (omega arith)))),
   )
   ends_early before now before' now' halts.Memory a b over (inr cut) = (
-    entries o.plan answers (drop 24 V) ++ cut.front,
-    Appends-trans old mid new (entries o.plan answers (drop 24 V)) cut.front g.written cut.written,
+    entries o.plan answers (drop prelude_count V) ++ cut.front,
+    Appends-trans old mid new (entries o.plan answers (drop prelude_count V)) cut.front g.written cut.written,
     inr (one_cut p o holds same' (length answers' + 1) answers answers' V mid new g.progress.answered cut (went cut (length answers' + 1) (omega arith))).0,
   )
   ends_early before now before' now' halts.Sink a b over (cut, some) = (
-    entries o.plan answers (drop 24 V) ++ cut.front,
-    Appends-trans old mid new (entries o.plan answers (drop 24 V)) cut.front g.written cut.written,
+    entries o.plan answers (drop prelude_count V) ++ cut.front,
+    Appends-trans old mid new (entries o.plan answers (drop prelude_count V)) cut.front g.written cut.written,
     (let (d, is) = one_cut p o holds same' (length answers') answers answers' V mid new g.progress.answered cut (went cut (length answers') (omega arith)) in
         (d, λ none. some (sym is ∙ none))),
   )
@@ -269,10 +270,10 @@ pub record Before (p : Prepared) (o : Settings) (h0 h : Option Content) (same : 
   pub output : Blames loud ⊥ k0 k
 
 pub begins : (p : Prepared) (o : Settings) (h0 h : Option Content) (same : Type 0) (answers : List Answer) (s : Bound) (count : ℕ) (old : Option (List ℕ)) (quiet loud : Type 0) (f0 f k0 : ℕ) →
-    IsPrepared p → Declared p 24 s → answers ≡ [] → count ≡ length p.decls.items.items → h ≡ h0 → f ≡ f0 → same →
-    Before p o h0 h same answers s 25 count old old quiet loud f0 f k0 k0
+    IsPrepared p → Declared p prelude_count s → answers ≡ [] → count ≡ length p.decls.items.items → h ≡ h0 → f ≡ f0 → same →
+    Before p o h0 h same answers s (prelude_count + 1) count old old quiet loud f0 f k0 k0
 begins p o h0 h same answers s count old quiet loud f0 f k0 prepared made none is kept count_is there =
-    let long = prelude_last p 24 prepared (omega arith) in
+    let long = prelude_last p prelude_count prepared (omega arith) in
     record {
       within = omega (arith, long, is);
       going = going_first p o h same answers s old made none there;

@@ -14,13 +14,14 @@ use Rattle.aql_script.specs.Script.{positions}
 use Rattle.aql_script.specs.declared.preparing.Prepared.{Prepared}
 use Rattle.aql_session.specs.Bound.{Bound, names, outcomes, AreBound, earlier_of}
 use Rattle.aql_session.specs.Step.{IsOutcome, Binds, ReadsNoFile, ReadsNoRecords}
+use Rattle.aql_prelude.specs.Prelude.{prelude_count}
 use Rattle.aql_answers.specs.Answered.{AreAnswered}
 use Rattle.aql_answers.specs.AnsweredLaws.{is_macro, macro_at}
 use Rattle.aql_answers.specs.Steps.{own, sorts, IsPrepared, Declared, Progress}
 use Rattle.aql_answers.proofs.Answering.{map_take_next, onto_next, onto_none, next_is, decls_length}
 
--- each of the first 24 positions is a macro
-prelude_macro : (p : Prepared) (k : ℕ) (d : Declaration) → IsPrepared p → k < 24 → slice_get (decls_of p.decls.items.items) k ≡ Some d → is_macro d ≡ true
+-- each position of the prelude is a macro
+prelude_macro : (p : Prepared) (k : ℕ) (d : Declaration) → IsPrepared p → k < prelude_count → slice_get (decls_of p.decls.items.items) k ≡ Some d → is_macro d ≡ true
 prelude_macro p k d h lt e = macro_at (own p) k d lt (ap (λ (l : List Declaration). slice_get l k) (sym h.all) ∙ e)
 
 -- a macro has no value
@@ -38,7 +39,7 @@ length_nones : (k : ℕ) (V : List (Option Datum)) → V ≡ replicate k None �
 length_nones k V e = ap length e ∙ length-replicate k None
 
 -- the prelude's positions are there
-there_is : (p : Prepared) (k : ℕ) → IsPrepared p → k < 24 → (d : Declaration) × (slice_get (decls_of p.decls.items.items) k ≡ Some d)
+there_is : (p : Prepared) (k : ℕ) → IsPrepared p → k < prelude_count → (d : Declaration) × (slice_get (decls_of p.decls.items.items) k ≡ Some d)
 there_is p k h lt =
     let n = length_positions (own p) in
     let e = ap length h.all in
@@ -53,7 +54,7 @@ none_declared p s e =
     subst (Declared p 0) (sym e) (record { bound = refl; none = refl; types = subst OutcomesHave (sym (onto_none (positions (own p)) [])) tt })
 
 -- one position of the prelude more
-pub one_declared : (p : Prepared) (holds : Option Content) (s s' : Bound) (k : ℕ) → IsPrepared p → k < 24 → Declared p k s →
+pub one_declared : (p : Prepared) (holds : Option Content) (s s' : Bound) (k : ℕ) → IsPrepared p → k < prelude_count → Declared p k s →
     ((d : Declaration) → slice_get (decls_of p.decls.items.items) k ≡ Some d → Binds d (earlier_of (decls_of p.decls.items.items) (outcomes s)) holds s s') →
     Declared p (suc k) s'
 one_declared p holds s s' k h lt so_far binds = let x = there_is p k h lt in made x.0 x.1 (binds x.0 x.1)
@@ -78,7 +79,7 @@ one_declared p holds s s' k h lt so_far binds = let x = there_is p k h lt in mad
         }
 
 -- after the prelude no declaration of the script was answered
-pub at_first : (p : Prepared) (budget : ℕ) (holds : Option Content) (s : Bound) → Declared p 24 s → Progress p budget holds [] s
+pub at_first : (p : Prepared) (budget : ℕ) (holds : Option Content) (s : Bound) → Declared p prelude_count s → Progress p budget holds [] s
 at_first p budget holds s h = record {
   bound = h.bound;
   types = h.types;
@@ -91,14 +92,14 @@ at_first p budget holds s h = record {
 }
 
 -- What a step asks of a session with the first positions, n being the next one.
-prelude_long : (p : Prepared) → IsPrepared p → 24 ≤ length p.decls.items.items
+prelude_long : (p : Prepared) → IsPrepared p → prelude_count ≤ length p.decls.items.items
 prelude_long p h =
     let n = length_positions (own p) in
     let e = ap length h.all in
     let c = decls_length p.decls.items.items in
     omega (arith, n, e, c)
 
-pub prelude_last : (p : Prepared) (n : ℕ) → IsPrepared p → n < 25 → n ≤ length p.decls.items.items
+pub prelude_last : (p : Prepared) (n : ℕ) → IsPrepared p → n < prelude_count + 1 → n ≤ length p.decls.items.items
 prelude_last p n h lt = let long = prelude_long p h in omega (arith, long, lt)
 
 pub prelude_bound : (p : Prepared) (n : ℕ) (s : Bound) → IsPrepared p → 1 ≤ n → Declared p (n - 1) s → AreBound (decls_of p.decls.items.items) n s
@@ -116,11 +117,11 @@ macro_reads_none (mac f p body) m = tt
 macro_reads_none (read x r e) m = absurd cc
 macro_reads_none (bare e) m = absurd cc
 
-pub prelude_arrays : (p : Prepared) (n : ℕ) (d : Declaration) → IsPrepared p → 1 ≤ n → n < 25 → slice_get (decls_of p.decls.items.items) (n - 1) ≡ Some d → ReadsNoRecords d
+pub prelude_arrays : (p : Prepared) (n : ℕ) (d : Declaration) → IsPrepared p → 1 ≤ n → n < prelude_count + 1 → slice_get (decls_of p.decls.items.items) (n - 1) ≡ Some d → ReadsNoRecords d
 prelude_arrays p n d h one lt e = macro_reads_none d (prelude_macro p (n - 1) d h (omega (arith, one, lt)) e)
 
 -- the next position was bound
-pub next_declared : (p : Prepared) (holds : Option Content) (s s' : Bound) (n : ℕ) → IsPrepared p → 1 ≤ n → n < 25 → Declared p (n - 1) s →
+pub next_declared : (p : Prepared) (holds : Option Content) (s s' : Bound) (n : ℕ) → IsPrepared p → 1 ≤ n → n < prelude_count + 1 → Declared p (n - 1) s →
     ((d : Declaration) → slice_get (decls_of p.decls.items.items) (n - 1) ≡ Some d → Binds d (earlier_of (decls_of p.decls.items.items) (outcomes s)) holds s s') →
     Declared p (n + 1 - 1) s'
 next_declared p holds s s' n h one lt so_far binds =
@@ -134,7 +135,7 @@ macro_unread (read x r e) earlier budget m = absurd cc
 macro_unread (bare e) earlier budget m = absurd cc
 
 -- the declarations of the prelude read no file
-pub prelude_unread : (p : Prepared) (budget : ℕ) (V : List (Option Datum)) (n : ℕ) → IsPrepared p → 1 ≤ n → n < 25 →
+pub prelude_unread : (p : Prepared) (budget : ℕ) (V : List (Option Datum)) (n : ℕ) → IsPrepared p → 1 ≤ n → n < prelude_count + 1 →
     (d : Declaration) × (slice_get (decls_of p.decls.items.items) (n - 1) ≡ Some d) × ReadsNoFile d (earlier_of (decls_of p.decls.items.items) V) budget
 prelude_unread p budget V n h one lt =
     let x = there_is p (n - 1) h (omega (arith, one, lt)) in

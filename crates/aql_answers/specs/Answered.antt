@@ -8,6 +8,7 @@ use Rattle.aql_types.specs.Types.{Sort}
 use Rattle.aql_syntax.specs.Script.{Earlier, globals_of, outcome_after}
 use Rattle.aql_syntax.specs.Tree.{Declaration}
 use Rattle.nrca_term.specs.Meaning.{Outcomes}
+use Rattle.aql_prelude.specs.Prelude.{prelude_count}
 use Rattle.aql_session.specs.Bound.{earlier_of}
 use Rattle.aql_session.specs.Reading.{reading}
 use Rattle.aql_session.specs.Step.{IsAnswer, IsAnswerable, IsOutcome, IsCause, ReadsNoFile}
@@ -28,20 +29,20 @@ pub record IsAnswered (d : Declaration) (earlier : Earlier) (sort : Option Sort)
 -- none, these outcomes.
 pub record AreAnswered (ds : List Declaration) (sorts : List Sort) (budget : ℕ) (holds : Option Content) (answers : List Answer) (V : Outcomes) : Type 0 where
   pub few : length answers ≤ length ds
-  pub many : length V ≡ 24 + length answers
-  pub prelude : take 24 V ≡ replicate 24 None
-  pub each : (i : ℕ) (d : Declaration) (a : Answer) (o : Option Datum) → slice_get (positions ds) (24 + i) ≡ Some d → slice_get answers i ≡ Some a →
-      slice_get V (24 + i) ≡ Some o → IsAnswered d (earlier_of (positions ds) (take (24 + i) V)) (slice_get sorts (24 + i)) budget holds a o
+  pub many : length V ≡ prelude_count + length answers
+  pub prelude : take prelude_count V ≡ replicate prelude_count None
+  pub each : (i : ℕ) (d : Declaration) (a : Answer) (o : Option Datum) → slice_get (positions ds) (prelude_count + i) ≡ Some d → slice_get answers i ≡ Some a →
+      slice_get V (prelude_count + i) ≡ Some o → IsAnswered d (earlier_of (positions ds) (take (prelude_count + i) V)) (slice_get sorts (prelude_count + i)) budget holds a o
 
 -- the next declaration has none, and why; the counts of faults are those of the files before and after the run
 abbrev pub IsStopped : List Declaration → (budget : ℕ) → Option Content → (before now : ℕ) → (answered : ℕ) → Outcomes → StepFault → Type 0
 IsStopped ds budget holds before now answered V f =
-    (d : Declaration) × (slice_get (positions ds) (24 + answered) ≡ Some d) × IsCause d (earlier_of (positions ds) V) budget holds before now f
+    (d : Declaration) × (slice_get (positions ds) (prelude_count + answered) ≡ Some d) × IsCause d (earlier_of (positions ds) V) budget holds before now f
 
 -- the first so many declarations of a script read no file
 abbrev pub ReadNoFile : List Declaration → (budget : ℕ) → Outcomes → (begun : ℕ) → Type 0
-ReadNoFile ds budget V begun = (i : ℕ) (d : Declaration) → i < begun → slice_get (positions ds) (24 + i) ≡ Some d →
-    ReadsNoFile d (earlier_of (positions ds) (take (24 + i) V)) budget
+ReadNoFile ds budget V begun = (i : ℕ) (d : Declaration) → i < begun → slice_get (positions ds) (prelude_count + i) ≡ Some d →
+    ReadsNoFile d (earlier_of (positions ds) (take (prelude_count + i) V)) budget
 
 -- how many declarations may have come to the files, where the one behind those that were answered has this fault: it did not where its
 -- turns passed the budget

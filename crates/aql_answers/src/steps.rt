@@ -1,17 +1,17 @@
 //! The declarations of a script, one after another.
 ghost use Rattle.std.specs.Prelude.{◌≡◌, ◌≤◌, ◌<◌, ◌+◌, ◌-◌, ◌∷◌, [], length, vec_len, OnOk, IfOk, IfErr, IsOk, IsErrOf, Some};
-ghost use Rattle.std.specs.Option.{option_map};
-ghost use Rattle.nrca_array.specs.Held.{held_datum};
-ghost use Rattle.aql_outside.specs.Causes.{Blames};
 ghost use Rattle.aql_words.specs.Words.{AreInRange};
+ghost use Rattle.aql_prelude.specs.Prelude.{prelude_count};
 ghost use Rattle.aql_session.specs.Bound.{outcomes};
-ghost use Rattle.aql_lines.specs.Entry.{entry};
+ghost use Rattle.aql_session.specs.Device.{sink_of, files_of, BlamesSink, BlamesFiles};
+ghost use Rattle.aql_lines.specs.Entry.{entry, lent};
 ghost use Rattle.aql_answers.specs.Settings.{settings_of};
-ghost use Rattle.aql_answers.specs.Steps.{IsPrepared, Progress, Goes, Halts, IsNoFault, IsOver, Declared, NextReadsNoFile, AllAnswered, EndsEarly};
+ghost use Rattle.aql_answers.specs.Steps.{IsPrepared, Progress, Goes, Halts, IsNoFault, IsOver, Declared, NextReadsNoFile, AnswersAll, EndsAt, IsOfDevice};
 ghost use Rattle.aql_lines.specs.Writing.{WritesFront};
 
 use aql_lines::{entry_text, write_all};
 use aql_outside::{Files, Gate, Sink};
+use aql_prelude::COUNT;
 use aql_script::Prepared;
 use aql_session::{Answer, Options, Session, StepFault};
 use aql_value::Memory;
@@ -30,8 +30,18 @@ pub enum Halt {
     Sink,
 }
 
-/// Answers every declaration of a script, and writes the lines of each before the next one is run. The
-/// prelude's declarations come first and print nothing.
+// A script, and what its declarations are answered with.
+#[derive(Drop)]
+struct Script<'a, R, G> {
+    rt: &'a R,
+    alloc: Global,
+    prepared: &'a Prepared,
+    options: &'a Options,
+    gate: &'a G,
+}
+
+/// Answers every declaration of a script, and writes the lines of each before the next one is run.
+/// The prelude's declarations come first and print nothing.
 pub fn answer_all<R: Threads + Sync, O: Sink, F: Files, G: Gate>(
     rt: &R,
     alloc: Global,
@@ -45,31 +55,27 @@ pub fn answer_all<R: Threads + Sync, O: Sink, F: Files, G: Gate>(
     requires prepared { IsPrepared prepared.now }
     requires none { answers.old.items ≡ [] }
     requires options { AreInRange options.now }
-    ensures done { OnOk result (AllAnswered prepared.now (settings_of options.now) (F.holds files.old) (files.new ≡ files.old)
-        answers.new.items (O.holds output.old) (O.holds output.new)) }
-    ensures early { IfErr result (λ h. EndsEarly prepared.now (settings_of options.now) (F.holds files.old) (files.new ≡ files.old) (F.faults files.old)
-        (F.faults files.new) answers.new.items (O.holds output.old) (O.holds output.new) h) }
+    ensures done { OnOk result (AnswersAll prepared.now (settings_of options.now) answers.new.items
+        (sink_of O.Sink output.old output.new) (files_of F.Files files.old files.new)) }
+    ensures early { IfErr result (EndsAt prepared.now (settings_of options.now) answers.new.items
+        (sink_of O.Sink output.old output.new) (files_of F.Files files.old files.new)) }
     ensures kept { F.holds files.new ≡ F.holds files.old }
-    ensures files { Blames F.quiet (IsErrOf result (Halt.Fault StepFault.Device)) (F.faults files.old) (F.faults files.new) }
-    ensures output { Blames O.quiet (IsErrOf result Halt.Sink) (O.faults output.old) (O.faults output.new) }
+    ensures files { BlamesFiles F.Files files.old files.new (IsOfDevice result) }
+    ensures output { BlamesSink O.Sink output.old output.new (IsErrOf result Halt.Sink) }
 {
-    let Ok(mut session) = declared(rt, alloc, prepared, options, files, gate) else {
+    let script = Script {
+        rt,
+        alloc,
+        prepared,
+        options,
+        gate,
+    };
+    let Ok(mut session) = declared(&script, files) else {
         return Err(Halt::Memory);
     };
     let count = prepared.decls.items.len() as u64;
-    'positions: for n in 25..count + 1 {
-        match answer_next(
-            rt,
-            alloc,
-            &mut session,
-            prepared,
-            n,
-            options,
-            output,
-            files,
-            gate,
-            answers,
-        ) {
+    'positions: for n in COUNT + 1..count + 1 {
+        match answer_next(&script, &mut session, n, output, files, answers) {
             Ok(()) => {}
             Err(halt) => return Err(halt),
         }
@@ -79,53 +85,45 @@ pub fn answer_all<R: Threads + Sync, O: Sink, F: Files, G: Gate>(
 
 // A session with the positions of the prelude.
 fn declared<R: Threads + Sync, F: Files, G: Gate>(
-    rt: &R,
-    alloc: Global,
-    prepared: &Prepared,
-    options: &Options,
+    script: &Script<R, G>,
     files: &mut F,
-    gate: &G,
 ) -> Result<Session, Memory>
-    requires prepared { IsPrepared prepared.now }
-    requires options { AreInRange options.now }
-    ensures made { IfOk result (λ s. Declared prepared.now 24 s) }
+    requires prepared { IsPrepared script.now.prepared.now }
+    requires options { AreInRange script.now.options.now }
+    ensures made { IfOk result (λ s. Declared script.now.prepared.now prelude_count s) }
     ensures untouched { files.new ≡ files.old }
 {
-    let mut session = Session::new(alloc)?;
-    'prelude: for n in 1..25 {
-        declare_next(rt, alloc, &mut session, prepared, n, options, files, gate)?;
+    let mut session = Session::new(script.alloc)?;
+    'prelude: for n in 1..COUNT + 1 {
+        declare_next(script, &mut session, n, files)?;
     }
     Ok(session)
 }
 
 // Binds declaration n of the prelude.
 fn declare_next<R: Threads + Sync, F: Files, G: Gate>(
-    rt: &R,
-    alloc: Global,
+    script: &Script<R, G>,
     session: &mut Session,
-    prepared: &Prepared,
     n: u64,
-    options: &Options,
     files: &mut F,
-    gate: &G,
 ) -> Result<(), Memory>
-    requires prepared { IsPrepared prepared.now }
+    requires prepared { IsPrepared script.now.prepared.now }
     requires first { 1 ≤ n }
-    requires last { n < 25 }
-    requires so_far { Declared prepared.now (n - 1) session.old }
-    requires options { AreInRange options.now }
-    ensures made { OnOk result (Declared prepared.now (n + 1 - 1) session.new) }
+    requires last { n < prelude_count + 1 }
+    requires so_far { Declared script.now.prepared.now (n - 1) session.old }
+    requires options { AreInRange script.now.options.now }
+    ensures made { OnOk result (Declared script.now.prepared.now (n + 1 - 1) session.new) }
     ensures untouched { files.new ≡ files.old }
 {
     let stepped = session.step(
-        rt,
-        alloc,
-        &prepared.decls,
-        &prepared.typed,
+        script.rt,
+        script.alloc,
+        &script.prepared.decls,
+        &script.prepared.typed,
         n,
-        options,
+        script.options,
         files,
-        gate,
+        script.gate,
     );
     // A macro has no fault but want of memory.
     done(stepped)
@@ -141,47 +139,56 @@ fn done<T: Drop, E: Drop>(made: Result<T, E>) -> Result<(), Memory>
     }
 }
 
-/// Answers declaration n of the positions, counted from 1, and writes its lines.
-pub(crate) fn answer_next<R: Threads + Sync, O: Sink, F: Files, G: Gate>(
-    rt: &R,
-    alloc: Global,
+// Answers declaration n of the positions, counted from 1, and writes its lines.
+fn answer_next<R: Threads + Sync, O: Sink, F: Files, G: Gate>(
+    script: &Script<R, G>,
     session: &mut Session,
-    prepared: &Prepared,
     n: u64,
-    options: &Options,
     output: &mut O,
     files: &mut F,
-    gate: &G,
     answers: &mut Vec<Answer>,
 ) -> Result<(), Halt>
-    requires prepared { IsPrepared prepared.now }
-    requires next { n ≡ 25 + length answers.old.items }
-    requires last { n ≤ length prepared.now.decls.items.items }
-    requires so_far { Progress prepared.now options.now.budget (F.holds files.old) answers.old.items session.old }
-    requires options { AreInRange options.now }
-    ensures goes { OnOk result (Goes prepared.now (settings_of options.now) (F.holds files.old) answers.old.items answers.new.items session.old session.new (O.holds output.old) (O.holds output.new)) }
-    ensures halts { IfErr result (λ h. Halts prepared.now (settings_of options.now) (F.holds files.old) (F.faults files.old) (F.faults files.new) answers.old.items answers.new.items (outcomes session.old) (O.holds output.old) (O.holds output.new) h) }
-    ensures untouched { NextReadsNoFile prepared.now options.now.budget (length answers.old.items) (outcomes session.old) → files.new ≡ files.old }
+    requires prepared { IsPrepared script.now.prepared.now }
+    requires next { n ≡ prelude_count + 1 + length answers.old.items }
+    requires last { n ≤ length script.now.prepared.now.decls.items.items }
+    requires so_far { Progress script.now.prepared.now script.now.options.now.budget
+        (F.holds files.old) answers.old.items session.old }
+    requires options { AreInRange script.now.options.now }
+    ensures goes { OnOk result (Goes script.now.prepared.now (settings_of script.now.options.now)
+        (F.holds files.old) answers.old.items answers.new.items session.old session.new
+        (O.holds output.old) (O.holds output.new)) }
+    ensures halts { IfErr result (Halts script.now.prepared.now
+        (settings_of script.now.options.now) (F.holds files.old) (F.faults files.old)
+        (F.faults files.new) answers.old.items answers.new.items (outcomes session.old)
+        (O.holds output.old) (O.holds output.new)) }
+    ensures untouched { NextReadsNoFile script.now.prepared.now script.now.options.now.budget
+        (length answers.old.items) (outcomes session.old) → files.new ≡ files.old }
     ensures unread { IfErr result (λ h. IsOver h → files.new ≡ files.old) }
     ensures kept { F.holds files.new ≡ F.holds files.old }
-    ensures files { Blames F.quiet (IsErrOf result (Halt.Fault StepFault.Device)) (F.faults files.old) (F.faults files.new) }
-    ensures output { Blames O.quiet (IsErrOf result Halt.Sink) (O.faults output.old) (O.faults output.new) }
+    ensures files { BlamesFiles F.Files files.old files.new (IsOfDevice result) }
+    ensures output { BlamesSink O.Sink output.old output.new (IsErrOf result Halt.Sink) }
 {
     if answers.reserve(1).is_err() {
         return Err(Halt::Memory);
     }
     match session.step(
-        rt,
-        alloc,
-        &prepared.decls,
-        &prepared.typed,
+        script.rt,
+        script.alloc,
+        &script.prepared.decls,
+        &script.prepared.typed,
         n,
-        options,
+        script.options,
         files,
-        gate,
+        script.gate,
     ) {
         Ok(answer) => {
-            let written = write_entry(alloc, output, options.plan, &answer, session.value(n));
+            let written = write_entry(
+                script.alloc,
+                output,
+                script.options.plan,
+                &answer,
+                session.value(n),
+            );
             answers.push_reserved(answer);
             written
         }
@@ -198,8 +205,9 @@ fn write_entry<O: Sink>(
     answer: &Answer,
     outcome: Option<&Held>,
 ) -> Result<(), Halt>
-    ensures written { WritesFront (O.holds output.old) (O.holds output.new) (entry plan answer.now (option_map (λ h. held_datum h.now) outcome.entry)) result }
-    ensures output { Blames O.quiet (IsErrOf result Halt.Sink) (O.faults output.old) (O.faults output.new) }
+    ensures written { WritesFront (O.holds output.old) (O.holds output.new)
+        (entry plan answer.now (lent outcome.entry)) result }
+    ensures output { BlamesSink O.Sink output.old output.new (IsErrOf result Halt.Sink) }
     ensures causes { IfErr result IsNoFault }
 {
     let Ok(text) = entry_text(alloc, plan, answer, outcome) else {

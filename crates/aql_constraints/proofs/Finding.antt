@@ -1,6 +1,5 @@
 -- The last entry of a list of names is the first that is found.
-use Rattle.std.proofs.Common.{ℕ, ◌≡◌, ◌&&◌, Bool, true, false, List, [], ◌∷◌, ◌++◌, Some, None, refl, arith, length, if◌then◌else◌, nat_eq}
-use Rattle.std.specs.Cmp.Lexicographic.{pointwise}
+use Rattle.std.proofs.Common.{◌≡◌, true, false, List, [], ◌∷◌, ◌++◌, Some, None, refl, arith, length}
 use Rattle.aql_types.specs.View.{type_of}
 use Rattle.aql_syntax.specs.Tree.{Name}
 use Rattle.aql_syntax.specs.Names.{names_equal, find}
@@ -9,17 +8,6 @@ use Rattle.aql_constraints.specs.Constraints.{Schemes}
 use Rattle.aql_constraints.specs.View.{locals_onto, locals_of, scheme_of, schemes_onto, schemes_of}
 use Rattle.aql_constraints.specs.declared.names.Local.{Local}
 use Rattle.aql_constraints.specs.declared.names.Position.{Position}
-
-both_equal : (c p q : Bool) → p ≡ q → (c && p) ≡ (if c then q else false)
-both_equal true p q e = e
-both_equal false p q e = refl
-
--- names are equal where their bytes are
-pub names_equal_pointwise : (a b : List ℕ) → pointwise nat_eq a b ≡ names_equal a b
-names_equal_pointwise [] [] = refl
-names_equal_pointwise [] (y ∷ b) = refl
-names_equal_pointwise (x ∷ a) [] = refl
-names_equal_pointwise (x ∷ a) (y ∷ b) = both_equal (nat_eq x y) _ _ (names_equal_pointwise a b)
 
 locals_onto_last : (ls : List Local) (l : Local) (env : Locals) → locals_onto (ls ++ l ∷ []) env ≡ (l.name, type_of l.ty) ∷ locals_onto ls env
 locals_onto_last [] l env = refl

@@ -1,4 +1,3 @@
 pub mod Finding
 pub mod Growing
 pub mod Lists
-pub mod Places

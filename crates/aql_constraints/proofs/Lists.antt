@@ -10,7 +10,6 @@ use Rattle.aql_types.specs.declared.ty.Ty as code
 use Rattle.aql_syntax.specs.Typing.{field_type, field_types, record_type}
 use Rattle.aql_syntax.specs.declared.ast.Kind.{Kind}
 use Rattle.aql_constraints.specs.Constraints.{State, Made, after, equate, equate_each, literal_parts}
-use Rattle.aql_constraints.specs.Numbering.{variables, variables_all}
 use Rattle.aql_constraints.specs.View.{types_in}
 use Rattle.aql_constraints.specs.Rows.{numbers}
 
@@ -127,10 +126,3 @@ fields_more made new one ks i d all h e f total =
     ap (λ (l : List code.Ty). append (types_of l) rest) f ∙ ap (λ (x : Tys). append x rest) (types_last made one)
     ∙ append_assoc_types (types_of made) (type (type_of one) no_type) rest ∙ ap (λ (y : Ty). append (types_of made) (type y rest)) e
     ∙ sym (ap (λ (l : Tys). append (types_of made) l) (fields_from ks i d h)) ∙ total
-
--- the variables of one type more
-pub variables_more : (ts : List code.Ty) (i : ℕ) (d : code.Ty) (seen new all : List ℕ) → i < length ts → d ≡ get_or ts i d →
-    new ≡ variables (type_of d) seen → variables_all (types_of (drop i ts)) seen ≡ all → variables_all (types_of (drop (i + 1) ts)) new ≡ all
-variables_more ts i d seen new all h e k total =
-    ap (λ (l : List ℕ). variables_all (types_of (drop (i + 1) ts)) l) k
-    ∙ sym (ap (λ (x : Tys). variables_all x seen) (types_from ts i d h ∙ ap (λ (d : code.Ty). type (type_of d) (types_of (drop (i + 1) ts))) (sym e))) ∙ total

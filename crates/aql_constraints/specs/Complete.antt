@@ -1,15 +1,16 @@
 -- Each typing of a declaration comes from a solution of what it asks.
 use Rattle.std.proofs.Common.{ℕ, ◌≡◌, ◌<◌, true, List, [], ◌∷◌, Option, Some, None, refl, sym, ap, ◌∙◌, subst}
 use Rattle.aql_types.specs.Types as types
-use Rattle.aql_types.specs.Types.{Ty, natural, Tys, no_type, type, Subst, apply, apply_all, IsWithin, Sort, value, macro, apply_sort}
-use Rattle.aql_types.specs.TypeLaws.{apply-apply, natural_within, truth_within, member_within, cell_within}
+use Rattle.aql_types.specs.Types.{Ty, natural, Tys, type, Subst, apply, apply_all, IsWithin, Sort, value, macro, apply_sort}
+use Rattle.aql_types.specs.TypeLaws.{row_is, apply-apply, natural_within, truth_within, member_within, cell_within}
 use Rattle.aql_syntax.specs.Tree.{Name, Pat, bind, any, equals, refers, tuple, Pats, no_pat, pat, Tree, name, op, members, comp, tab, bindings, choice, conjunction, disjunction, negation, default, function, summap, Trees, no_tree, tree, Axes, no_axis, axis, Quals, no_qual, from, cells, same, test, Defs, no_def, def, Reader, plain, signed, strided, records, Declaration, val, mac, read, bare, count_pats, count_axes, axes}
 use Rattle.aql_syntax.specs.Tree as trees
 use Rattle.aql_syntax.specs.Names.{find}
 use Rattle.aql_syntax.specs.Typing.{Scope, Locals, NameHas, Takes, Fits, FitsAll, FitsAxes, with_indices, Has, HasAll, HasEach, BoundsHave, Rows, Binds, reader_type, argument_type, DeclHas}
 use Rattle.aql_constraints.specs.Constraints.{Scheme, Schemes, State, is_rank, make_value, make_global, make_name, make_macro, make_call, Matched, MatchedAll, make_pat, make_pats, matched, matched_member, matched_index, matched_cell, make, make_all, make_each, make_bounds, make_rows, make_binds, reader_fits, make_decl}
 use Rattle.aql_constraints.specs.Steps.{Agrees, later_later, Stays, on, Found, found_after, found_made, found_equate, found_within, found_guard, found_fresh, found_opened}
-use Rattle.aql_constraints.specs.Describes.{at, at_some, find_at, SortHas, SortTakes, SchemeHas, SchemeTakes, IsClosed, SchemeClosed, Describes, IsWritten, AreWritten, AxesWritten, QualsWritten, DefsWritten, DeclWritten}
+use Rattle.aql_constraints.specs.Describes.{at, at_some, find_at, SortHas, SortTakes, SchemeHas, SchemeTakes, IsClosed, SchemeClosed, Describes}
+use Rattle.aql_syntax.specs.Written.{IsWritten, AreWritten, AxesWritten, QualsWritten, DefsWritten, DeclWritten}
 use Rattle.aql_constraints.specs.Operations.{IsTy, IsEach, EachWithin, op_found, op_parts, true_rank}
 use Rattle.aql_constraints.specs.Sound.{constant_apply, indices_at, reader_apply, argument_apply}
 
@@ -39,9 +40,6 @@ right_is a b c d e = cc
 
 not_some : {A : Type 0} (a : Ty) → Some a ≡ None → A
 not_some a e = cc
-
-row_is : {a c : Ty} {b d : Tys} → a ≡ c → b ≡ d → type a b ≡ type c d
-row_is e f = cc
 
 conses : {a b : Ty} {p q : List Ty} → a ≡ b → p ≡ q → ◌≡◌ {A = List Ty} (a ∷ p) (b ∷ q)
 conses e f = cc

@@ -1,8 +1,7 @@
 -- When a list of schemes says what the earlier positions have; local names under a substitution.
 use Rattle.std.proofs.Common.{ℕ, ◌≡◌, ◌<◌, List, [], ◌∷◌, Bool, true, false, Option, Some, None, refl, if◌then◌else◌}
-use Rattle.aql_value.specs.Strict.{Strict}
 use Rattle.aql_types.specs.Types.{Ty, Subst, apply, IsWithin, Sort, value, macro, apply_sort}
-use Rattle.aql_syntax.specs.Tree.{Name, Tree, name, op, members, comp, tab, bindings, choice, conjunction, disjunction, negation, default, function, summap, Trees, no_tree, tree, Axes, no_axis, axis, Quals, no_qual, from, cells, same, test, Defs, no_def, def, Declaration, val, mac, read, bare}
+use Rattle.aql_syntax.specs.Tree.{Name}
 use Rattle.aql_syntax.specs.Tree as trees
 use Rattle.aql_syntax.specs.Names.{names_equal, find}
 use Rattle.aql_syntax.specs.Typing.{Scope, Locals}
@@ -64,53 +63,3 @@ pub record Describes (g : Scope) (ss : Schemes) : Type 0 where
   pub takes : (x : Name) (s t : Ty) → SchemeTakes (find x ss) s t → g.takes x s t
   pub taken : (x : Name) (s t : Ty) → g.takes x s t → SchemeTakes (find x ss) s t
   pub closed : (x : Name) → SchemeClosed (find x ss)
-
--- The surface has no form that takes a tuple's part by its number: of such a form, which only terms have, the operand's type
--- would be held by no other.
-
-abbrev pub IsForm : Strict → Type 0
-IsForm (Strict.proj at of) = ⊥
-IsForm _ = Unit {0}
-
-abbrev mutual
-  -- no such form stands in it
-  pub IsWritten : Tree → Type 0
-  IsWritten (name x) = Unit {0}
-  IsWritten (op o es) = IsForm o × AreWritten es
-  IsWritten (members es) = AreWritten es
-  IsWritten (comp head quals) = QualsWritten quals × IsWritten head
-  IsWritten (tab xs body) = AxesWritten xs × IsWritten body
-  IsWritten (bindings ds body) = DefsWritten ds × IsWritten body
-  IsWritten (choice c a b) = IsWritten c × IsWritten a × IsWritten b
-  IsWritten (conjunction a b) = IsWritten a × IsWritten b
-  IsWritten (disjunction a b) = IsWritten a × IsWritten b
-  IsWritten (negation a) = IsWritten a
-  IsWritten (default a b) = IsWritten a × IsWritten b
-  IsWritten (trees.apply f a) = IsWritten a
-  IsWritten (function p body a) = IsWritten body × IsWritten a
-  IsWritten (summap p body e) = IsWritten body × IsWritten e
-
-  pub AreWritten : Trees → Type 0
-  AreWritten no_tree = Unit {0}
-  AreWritten (tree e es) = IsWritten e × AreWritten es
-
-  pub AxesWritten : Axes → Type 0
-  AxesWritten no_axis = Unit {0}
-  AxesWritten (axis x e rest) = IsWritten e × AxesWritten rest
-
-  pub QualsWritten : Quals → Type 0
-  QualsWritten no_qual = Unit {0}
-  QualsWritten (from p e rest) = IsWritten e × QualsWritten rest
-  QualsWritten (cells p q e rest) = IsWritten e × QualsWritten rest
-  QualsWritten (same p e rest) = IsWritten e × QualsWritten rest
-  QualsWritten (test e rest) = IsWritten e × QualsWritten rest
-
-  pub DefsWritten : Defs → Type 0
-  DefsWritten no_def = Unit {0}
-  DefsWritten (def p e rest) = IsWritten e × DefsWritten rest
-
-abbrev pub DeclWritten : Declaration → Type 0
-DeclWritten (val x e) = IsWritten e
-DeclWritten (mac f p body) = IsWritten body
-DeclWritten (read x reader e) = IsWritten e
-DeclWritten (bare e) = IsWritten e

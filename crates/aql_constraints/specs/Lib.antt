@@ -9,4 +9,3 @@ pub mod Sound
 pub mod Steps
 pub mod Typed
 pub mod View
-pub mod Written

@@ -1,45 +1,16 @@
--- The variables of what a declaration has, by first appearance, and their numbering.
+-- The numbering of the variables of what a declaration has, by first appearance.
 use Rattle.std.proofs.Common.{ℕ, zero, suc, ◌≡◌, ◌<◌, ◌==◌, ◌||◌, ◌++◌, Bool, true, false, List, [], ◌∷◌, refl, sym, ap, ◌∙◌, arith, if◌then◌else◌, length}
 use Rattle.std.proofs.lemmas.Bool.{eqb-true, eq-eqb}
 use Rattle.aql_types.specs.Types as types
 use Rattle.aql_types.specs.Types.{Ty, natural, truth, var, product, set_of, array_of, Tys, no_type, type, Subst, apply, apply_all, nodes, nodes_all, levels, levels_all, IsType, AreTypes, IsWithin, Sort, value, macro, apply_sort}
-use Rattle.aql_types.specs.TypeLaws.{apply-apply, apply_var, count_apply}
-
--- whether a variable is one of some
-abbrev pub is_one_of : ℕ → List ℕ → Bool
-is_one_of x [] = false
-is_one_of x (y ∷ ys) = y == x || is_one_of x ys
-
--- the place of a variable among some; their number where it is none of them
-abbrev pub place : ℕ → List ℕ → ℕ
-place x [] = 0
-place x (y ∷ ys) = if y == x then 0 else suc (place x ys)
+use Rattle.aql_types.specs.TypeLaws.{row_is, apply-apply, apply_var, count_apply}
+use Rattle.aql_types.specs.Variables.{is_one_of, place, variables, variables_all, sort_variables}
 
 -- the variable at a place
 pub at_place : ℕ → List ℕ → ℕ
 at_place i [] = 0
 at_place zero (y ∷ ys) = y
 at_place (suc i) (y ∷ ys) = at_place i ys
-
-abbrev mutual
-  -- the variables seen before, and behind them those of a type that are new, by first appearance from the left
-  pub variables : Ty → List ℕ → List ℕ
-  variables natural seen = seen
-  variables truth seen = seen
-  variables types.text seen = seen
-  variables (var x) seen = if is_one_of x seen then seen else seen ++ (x ∷ [])
-  variables (product ts) seen = variables_all ts seen
-  variables (set_of t) seen = variables t seen
-  variables (array_of k t) seen = variables t seen
-
-  pub variables_all : Tys → List ℕ → List ℕ
-  variables_all no_type seen = seen
-  variables_all (type t ts) seen = variables_all ts (variables t seen)
-
--- a macro's argument before its result
-abbrev pub sort_variables : Sort → List ℕ
-sort_variables (value t) = variables t []
-sort_variables (macro a b) = variables b (variables a [])
 
 -- each variable by its place
 abbrev pub numbered : List ℕ → Subst
@@ -87,9 +58,6 @@ mutual
   pub AllAmong : List ℕ → Tys → Type 0
   AllAmong vs no_type = Unit {0}
   AllAmong vs (type t ts) = Among vs t × AllAmong vs ts
-
-row_is : {a c : Ty} {b d : Tys} → a ≡ c → b ≡ d → type a b ≡ type c d
-row_is e f = cc
 
 mutual
   unfolding Among AllAmong

@@ -1,6 +1,8 @@
 -- The types of operations: by what is asked of their parts, and as the table has them.
-use Rattle.std.proofs.Common.{ℕ, zero, suc, ◌≡◌, ◌&&◌, Bool, true, false, List, [], ◌∷◌, ◌++◌, length, refl, sym, ap, ◌∙◌, arith, subst}
+use Rattle.std.proofs.Common.{ℕ, zero, suc, ◌≡◌, true, List, [], ◌∷◌, ◌++◌, length, refl, sym, ap, ◌∙◌, arith, subst}
 use Rattle.std.specs.Prelude.{replicate, nat_le}
+use Rattle.std.specs.Cmp.{first_so, second_so}
+use Rattle.std.specs.Cmp.Derive.{both_true}
 use Rattle.std.proofs.Math.Dec.{leb}
 use Rattle.std.proofs.lemmas.Bool.{leb-true, le-leb}
 use Rattle.aql_value.specs.Strict.{Strict}
@@ -11,27 +13,16 @@ use Rattle.aql_types.specs.TypeLaws.{natural_within, member_within, cell_within,
 use Rattle.aql_syntax.specs.Typing.{OperandWithin, FirstWithin}
 use Rattle.aql_constraints.specs.Constraints.{State, Making, made, fresh, is_rank, equate_each, with_none, with_one, with_two, with_first, literal_parts, pair_type, made_arith, made_compare, made_empty, made_single, made_union, made_gen, made_get, made_sub, made_dim, made_index, make_op}
 use Rattle.aql_constraints.specs.Steps.{Sound, sound_after, sound_made, sound_none, weaker, sound_fresh, sound_equate, sound_within, sound_guard, Agrees, later_later, Stays, on, Found, found_after, found_made, found_equate, found_within, found_guard, found_fresh}
-use Rattle.aql_constraints.specs.Describes.{instances, IsForm}
+use Rattle.aql_constraints.specs.Describes.{instances}
+use Rattle.aql_syntax.specs.Written.{IsWrittenForm}
 
 -- Ranks, indices and lists.
 
-and_left : (a b : Bool) → (a && b) ≡ true → a ≡ true
-and_left true b e = refl
-and_left false b e = cc
-
-and_right : (a b : Bool) → (a && b) ≡ true → b ≡ true
-and_right true b e = e
-and_right false b e = cc
-
-both : (a b : Bool) → a ≡ true → b ≡ true → (a && b) ≡ true
-both true b e f = f
-both false b e f = cc
-
 pub rank_true : (k : ℕ) → is_rank k ≡ true → IsRank k
-rank_true k e = (leb-true _ _ (and_left (leb 1 k) (leb k 8) e), leb-true _ _ (and_right (leb 1 k) (leb k 8) e))
+rank_true k e = (leb-true _ _ (first_so (leb 1 k) (leb k 8) e), leb-true _ _ (second_so (leb 1 k) (leb k 8) e))
 
 pub true_rank : (k : ℕ) → IsRank k → is_rank k ≡ true
-true_rank k h = both (leb 1 k) (leb k 8) (le-leb _ _ h.0) (le-leb _ _ h.1)
+true_rank k h = both_true (le-leb _ _ h.0) (le-leb _ _ h.1)
 
 naturals_apply : (u : Subst) (k : ℕ) → apply_all u (tys_of (replicate k natural)) ≡ tys_of (replicate k natural)
 naturals_apply u zero = refl
@@ -261,7 +252,7 @@ sub_found k t a at e w sa st =
     found_after (each_found k natural at natural natural_within (on (later_later l (later_later m m')) st) naturally) (λ _ n u m'' _.
     found_made (λ v g. (on (later_later m (later_later m' m'')) ss).holds v g)))))
 
-pub op_found : (o : Strict) → IsForm o → (ts : List Ty) (t : Ty) → IsWithin t → strict_rule o ts t → OperandWithin o ts → (bs : List Ty) → {n : State} {u : Subst} →
+pub op_found : (o : Strict) → IsWrittenForm o → (ts : List Ty) (t : Ty) → IsWithin t → strict_rule o ts t → OperandWithin o ts → (bs : List Ty) → {n : State} {u : Subst} →
     Stays n u (IsEach ts) bs → Found n u (IsTy t) (make_op o bs n)
 op_found (Strict.nat k) f ts t w h q bs st = none_found bs (made natural) (each_at h.0 st) (found_made (λ v g. sym h.1))
 op_found (Strict.bool b) f ts t w h q bs st = none_found bs (made types.truth) (each_at h.0 st) (found_made (λ v g. sym h.1))
@@ -354,7 +345,7 @@ each_append (t ∷ a) b h k = (h.0, each_append a b h.1 k)
 along : {ts ss : List Ty} → ts ≡ ss → EachWithin ss → EachWithin ts
 along e h = subst EachWithin (sym e) h
 
-pub op_parts : (o : Strict) → IsForm o → (ts : List Ty) (t : Ty) → IsWithin t → strict_rule o ts t → OperandWithin o ts → EachWithin ts
+pub op_parts : (o : Strict) → IsWrittenForm o → (ts : List Ty) (t : Ty) → IsWithin t → strict_rule o ts t → OperandWithin o ts → EachWithin ts
 op_parts (Strict.nat k) f ts t w h q = along h.0 tt
 op_parts (Strict.bool b) f ts t w h q = along h.0 tt
 op_parts (Strict.text s) f ts t w h q = along h.0 tt

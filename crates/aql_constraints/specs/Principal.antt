@@ -8,10 +8,12 @@ use Rattle.aql_syntax.specs.Names.{names_equal, find}
 use Rattle.aql_syntax.specs.Typing.{Scope, DeclHas, Gives, if_name, extended, scope_of, IsPrincipal}
 use Rattle.aql_constraints.specs.Constraints.{Scheme, Schemes, start, Made, make_decl}
 use Rattle.aql_constraints.specs.Steps.{Alive, SoundIn, FoundIn, Kept}
-use Rattle.aql_constraints.specs.Describes.{SortHas, SortTakes, SchemeHas, SchemeTakes, IsClosed, SchemeClosed, Describes, DeclWritten}
+use Rattle.aql_constraints.specs.Describes.{SortHas, SortTakes, SchemeHas, SchemeTakes, IsClosed, SchemeClosed, Describes}
+use Rattle.aql_syntax.specs.Written.{DeclWritten}
 use Rattle.aql_constraints.specs.Sound.{decl_sound}
 use Rattle.aql_constraints.specs.Complete.{IsSort, decl_found, macros, value_is, left_is, right_is}
-use Rattle.aql_constraints.specs.Numbering.{sort_variables, place, number, names_back, number_undone, number_closed, named_within, IsNumbered, number_numbered}
+use Rattle.aql_types.specs.Variables.{sort_variables, place}
+use Rattle.aql_constraints.specs.Numbering.{number, names_back, number_undone, number_closed, named_within, IsNumbered, number_numbered}
 
 -- what inference gives a declaration: the sort that the walk makes, under a most general solution, with its variables numbered
 pub record IsInferred (d : Declaration) (ss : Schemes) (s : Scheme) : Type 0 where

@@ -1,8 +1,8 @@
 -- Whatever solves what a declaration asks gives it a typing.
 use Rattle.std.proofs.Common.{ℕ, ◌≡◌, List, [], ◌∷◌, Option, Some, None, refl, sym, ap, ◌∙◌, subst}
 use Rattle.aql_types.specs.Types as types
-use Rattle.aql_types.specs.Types.{Ty, natural, Tys, no_type, type, Subst, apply, apply_all, index_type, IsRank, IsWithin, Sort, value, macro, apply_sort}
-use Rattle.aql_types.specs.TypeLaws.{apply-apply}
+use Rattle.aql_types.specs.Types.{Ty, natural, no_type, type, Subst, apply, apply_all, index_type, IsWithin, Sort, value, macro, apply_sort}
+use Rattle.aql_types.specs.TypeLaws.{row_is, apply-apply}
 use Rattle.aql_syntax.specs.Tree.{Name, Constant, number, bytes, Pat, bind, any, equals, refers, tuple, Pats, no_pat, pat, Tree, name, op, members, comp, tab, bindings, choice, conjunction, disjunction, negation, default, function, summap, Trees, no_tree, tree, Axes, no_axis, axis, Quals, no_qual, from, cells, same, test, Defs, no_def, def, Reader, plain, signed, strided, records, Declaration, val, mac, read, bare, count_pats, count_axes, axes}
 use Rattle.aql_syntax.specs.Tree as trees
 use Rattle.aql_syntax.specs.Names.{find}
@@ -214,9 +214,6 @@ mutual
 field_apply : (u : Subst) (k : Kind) → apply u (field_type k) ≡ field_type k
 field_apply u kinds.Number = refl
 field_apply u kinds.Bytes = refl
-
-row_is : {a c : Ty} {b d : Tys} → a ≡ c → b ≡ d → type a b ≡ type c d
-row_is e f = cc
 
 fields_apply : (u : Subst) (ks : List Kind) → apply_all u (field_types ks) ≡ field_types ks
 fields_apply u [] = refl

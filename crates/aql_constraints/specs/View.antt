@@ -1,8 +1,9 @@
 -- What the code keeps is a state of the walk, local names and schemes, and what it answers an answer of the walk.
-use Rattle.std.specs.Prelude.{◌≡◌, List, [], ◌∷◌, take, length, Option, Some, None, Result, Ok, Err}
-use Rattle.aql_types.specs.Types.{Ty}
+use Rattle.std.specs.Prelude.{◌≡◌, List, [], ◌∷◌, take, length, Option, Some, None, Result, Ok, Err, IfOk}
+use Rattle.aql_types.specs.Types.{Ty, Sort}
 use Rattle.aql_types.specs.View.{type_of, types_of, sort_of, equations_of}
 use Rattle.aql_types.specs.declared.ty.Ty as code_ty
+use Rattle.aql_types.specs.declared.ty.Scheme as code_scheme
 use Rattle.aql_syntax.specs.Typing.{Locals}
 use Rattle.aql_constraints.specs.Constraints.{State, Made, Scheme, Schemes}
 use Rattle.aql_constraints.specs.declared.store.Store.{Store}
@@ -52,3 +53,27 @@ Fails faults.NoType o = o ≡ None
 abbrev pub Makes : {X Y : Type 0} → (X → Made Y) → Result X NoTyping → Option (Made Y) → Type 0
 Makes view (Ok x) o = o ≡ Some (view x)
 Makes view (Err e) o = Fails e o
+
+-- a type and a state
+abbrev pub MakesType : Result (code_ty.Ty × Store) NoTyping → Option (Made Ty) → Type 0
+MakesType answer o = Makes (λ r. record { result = type_of r.0; state = state_of r.1 }) answer o
+
+-- what a declaration has, and a state
+abbrev pub MakesSort : Result (code_scheme.Scheme × Store) NoTyping → Option (Made Sort) → Type 0
+MakesSort answer o = Makes (λ r. record { result = sort_of r.0; state = state_of r.1 }) answer o
+
+-- a state alone
+abbrev pub MakesState : Result Store NoTyping → Option (Made (Unit {0})) → Type 0
+MakesState answer o = Makes (λ s. record { result = tt; state = state_of s }) answer o
+
+-- these local names, and a state
+abbrev pub MakesLocals : List Local → Result Store NoTyping → Option (Made Locals) → Type 0
+MakesLocals env answer o = Makes (λ s. record { result = locals_of env; state = state_of s }) answer o
+
+-- where there is an answer, it is a type and a state that are made
+abbrev pub GivesType : {E : Type 0} → Result (code_ty.Ty × Store) E → Option (Made Ty) → Type 0
+GivesType answer o = IfOk answer (λ r. o ≡ Some (record { result = type_of r.0; state = state_of r.1 }))
+
+-- where there is an answer, it is a state that is made
+abbrev pub GivesState : {E : Type 0} → Result Store E → Option (Made (Unit {0})) → Type 0
+GivesState answer o = IfOk answer (λ s. o ≡ Some (record { result = tt; state = state_of s }))

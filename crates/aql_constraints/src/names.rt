@@ -6,7 +6,7 @@ ghost use Rattle.aql_types.specs.View.{type_of, types_of, sort_of};
 ghost use Rattle.aql_types.specs.Answers.{type_in};
 ghost use Rattle.aql_syntax.specs.Names.{names_equal, find};
 ghost use Rattle.aql_constraints.specs.Constraints.{raised, opened, make_value, make_global, make_name, make_macro, make_call};
-ghost use Rattle.aql_constraints.specs.View.{state_of, locals_of, scheme_of, schemes_of, Makes, Extends};
+ghost use Rattle.aql_constraints.specs.View.{state_of, locals_of, scheme_of, schemes_of, Extends, MakesType};
 
 use crate::fault::NoTyping;
 use crate::store::{Store, equal_types, used};
@@ -39,7 +39,7 @@ pub fn named(
     env: &[Local],
     s: Store,
 ) -> Result<(Ty, Store), NoTyping>
-    ensures { Makes (λ r. record { result = type_of r.0; state = state_of r.1 }) result (make_name (schemes_of positions.now) (find x.now (locals_of env.now)) x.now (state_of s)) }
+    ensures { MakesType result (make_name (schemes_of positions.now) (find x.now (locals_of env.now)) x.now (state_of s)) }
 {
     match find_local(alloc, x, env)? {
         Some(t) => Ok((t, s)),
@@ -48,7 +48,7 @@ pub fn named(
 }
 
 fn global(alloc: Global, x: &Str, positions: &[Position], s: Store) -> Result<(Ty, Store), NoTyping>
-    ensures { Makes (λ r. record { result = type_of r.0; state = state_of r.1 }) result (make_global (find x.now (schemes_of positions.now)) (state_of s)) }
+    ensures { MakesType result (make_global (find x.now (schemes_of positions.now)) (state_of s)) }
 {
     match find_position(x, positions) {
         Some(p) => instance(alloc, p, s),
@@ -66,7 +66,7 @@ pub fn headed(
     env: &[Local],
     s: Store,
 ) -> Result<(Ty, Store), NoTyping>
-    ensures { Makes (λ r. record { result = type_of r.0; state = state_of r.1 }) result (make_call (find f.now (locals_of env.now)) (find f.now (schemes_of positions.now)) (type_of argument.now) (state_of s)) }
+    ensures { MakesType result (make_call (find f.now (locals_of env.now)) (find f.now (schemes_of positions.now)) (type_of argument.now) (state_of s)) }
 {
     match find_local(alloc, f, env)? {
         Some(_) => Err(NoTyping::NoType),
@@ -109,14 +109,7 @@ fn find_position<'a>(x: &Str, positions: &'a [Position]) -> Option<&'a Position>
 fn same_name(a: &Str, b: &Str) -> bool
     ensures { result ≡ names_equal a.now b.now }
 {
-    same_bytes(&a.bytes, &b.bytes)
-}
-
-#[tactic(auto, using(crate::proofs::Finding::names_equal_pointwise))]
-fn same_bytes(a: &[u8], b: &[u8]) -> bool
-    ensures { result ≡ names_equal a.now b.now }
-{
-    a == b
+    a.is(&b.bytes)
 }
 
 /// A local name more, the innermost.
@@ -133,7 +126,7 @@ pub fn push_local(alloc: Global, name: &Str, ty: &Ty, env: &mut Vec<Local>) -> R
 // An instance, with new variables, of what a position has.
 #[tactic(auto, unfolding(crate::specs::Constraints::after))]
 fn instance(alloc: Global, p: &Position, s: Store) -> Result<(Ty, Store), NoTyping>
-    ensures { Makes (λ r. record { result = type_of r.0; state = state_of r.1 }) result (make_value (sort_of p.now.scheme) p.now.variables (state_of s)) }
+    ensures { MakesType result (make_value (sort_of p.now.scheme) p.now.variables (state_of s)) }
 {
     match &p.scheme {
         Scheme::Value(t) => {
@@ -152,7 +145,7 @@ fn instance(alloc: Global, p: &Position, s: Store) -> Result<(Ty, Store), NoTypi
 // An application of a macro to an argument of that type.
 #[tactic(auto, unfolding(crate::specs::Constraints::after))]
 fn applied(alloc: Global, p: &Position, given: &Ty, s: Store) -> Result<(Ty, Store), NoTyping>
-    ensures { Makes (λ r. record { result = type_of r.0; state = state_of r.1 }) result (make_macro (sort_of p.now.scheme) p.now.variables (type_of given.now) (state_of s)) }
+    ensures { MakesType result (make_macro (sort_of p.now.scheme) p.now.variables (type_of given.now) (state_of s)) }
 {
     match &p.scheme {
         Scheme::Value(_) => Err(NoTyping::NoType),

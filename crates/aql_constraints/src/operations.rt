@@ -1,13 +1,13 @@
 //! What an operation asks of the types of its parts, and its own type.
 
-ghost use Rattle.std.specs.Prelude.{◌≡◌, ◌≤◌, ◌++◌, IfOk, Some, length};
+ghost use Rattle.std.specs.Prelude.{◌≡◌, ◌++◌, IfOk, length};
 ghost use Rattle.aql_types.specs.Types as types;
 ghost use Rattle.aql_types.specs.Types.{index_type};
 ghost use Rattle.aql_types.specs.View.{type_of, types_of};
 ghost use Rattle.aql_constraints.specs.Constraints as constraints;
 ghost use Rattle.aql_constraints.specs.Constraints.{equate_each, pair_type, made_truth, made_truths, made_either, made_choice, made_empty, made_arith, made_compare, made_union, made_gen, made_get, made_sub, made_dim, made_index, made_literal, made_tuple};
 ghost use Rattle.aql_constraints.specs.Rows.{numbers};
-ghost use Rattle.aql_constraints.specs.View.{state_of, types_in, Makes};
+ghost use Rattle.aql_constraints.specs.View.{state_of, types_in, MakesType, GivesState};
 
 use crate::fault::NoTyping;
 use crate::store::{Store, becomes, equal_types, new_variable, tested, used};
@@ -19,7 +19,7 @@ use std::alloc::Global;
 /// A number, of two numbers.
 #[tactic(auto, unfolding(crate::specs::Constraints::after))]
 pub fn arith(alloc: Global, a: &Ty, b: &Ty, s: Store) -> Result<(Ty, Store), NoTyping>
-    ensures { Makes (λ r. record { result = type_of r.0; state = state_of r.1 }) result (made_arith (type_of a.now) (type_of b.now) (state_of s)) }
+    ensures { MakesType result (made_arith (type_of a.now) (type_of b.now) (state_of s)) }
 {
     let s = equal_types(alloc, a, &Ty::Nat, s)?;
     let s = equal_types(alloc, b, &Ty::Nat, s)?;
@@ -29,7 +29,7 @@ pub fn arith(alloc: Global, a: &Ty, b: &Ty, s: Store) -> Result<(Ty, Store), NoT
 /// A truth value, of a truth value.
 #[tactic(auto, unfolding(crate::specs::Constraints::after))]
 pub fn truth(alloc: Global, a: &Ty, s: Store) -> Result<(Ty, Store), NoTyping>
-    ensures { Makes (λ r. record { result = type_of r.0; state = state_of r.1 }) result (made_truth (type_of a.now) (state_of s)) }
+    ensures { MakesType result (made_truth (type_of a.now) (state_of s)) }
 {
     let s = equal_types(alloc, a, &Ty::Bool, s)?;
     Ok((Ty::Bool, s))
@@ -38,7 +38,7 @@ pub fn truth(alloc: Global, a: &Ty, s: Store) -> Result<(Ty, Store), NoTyping>
 /// A truth value, of two truth values.
 #[tactic(auto, unfolding(crate::specs::Constraints::after))]
 pub fn truths(alloc: Global, a: &Ty, b: &Ty, s: Store) -> Result<(Ty, Store), NoTyping>
-    ensures { Makes (λ r. record { result = type_of r.0; state = state_of r.1 }) result (made_truths (type_of a.now) (type_of b.now) (state_of s)) }
+    ensures { MakesType result (made_truths (type_of a.now) (type_of b.now) (state_of s)) }
 {
     let s = equal_types(alloc, a, &Ty::Bool, s)?;
     let s = equal_types(alloc, b, &Ty::Bool, s)?;
@@ -48,7 +48,7 @@ pub fn truths(alloc: Global, a: &Ty, b: &Ty, s: Store) -> Result<(Ty, Store), No
 /// The type of two of one type.
 #[tactic(auto, unfolding(crate::specs::Constraints::after))]
 pub fn either(alloc: Global, a: Ty, b: &Ty, s: Store) -> Result<(Ty, Store), NoTyping>
-    ensures { Makes (λ r. record { result = type_of r.0; state = state_of r.1 }) result (made_either (type_of a) (type_of b.now) (state_of s)) }
+    ensures { MakesType result (made_either (type_of a) (type_of b.now) (state_of s)) }
 {
     let s = equal_types(alloc, b, &a, s)?;
     Ok((a, s))
@@ -57,7 +57,7 @@ pub fn either(alloc: Global, a: Ty, b: &Ty, s: Store) -> Result<(Ty, Store), NoT
 /// The type of two of one type, under a truth value.
 #[tactic(auto, unfolding(crate::specs::Constraints::after))]
 pub fn choice(alloc: Global, c: &Ty, a: Ty, b: &Ty, s: Store) -> Result<(Ty, Store), NoTyping>
-    ensures { Makes (λ r. record { result = type_of r.0; state = state_of r.1 }) result (made_choice (type_of c.now) (type_of a) (type_of b.now) (state_of s)) }
+    ensures { MakesType result (made_choice (type_of c.now) (type_of a) (type_of b.now) (state_of s)) }
 {
     let s = equal_types(alloc, c, &Ty::Bool, s)?;
     either(alloc, a, b, s)
@@ -66,7 +66,7 @@ pub fn choice(alloc: Global, c: &Ty, a: Ty, b: &Ty, s: Store) -> Result<(Ty, Sto
 /// The empty set.
 #[tactic(auto, unfolding(crate::specs::Constraints::after))]
 pub fn empty_set(alloc: Global, s: Store) -> Result<(Ty, Store), NoTyping>
-    ensures { Makes (λ r. record { result = type_of r.0; state = state_of r.1 }) result (made_empty (state_of s)) }
+    ensures { MakesType result (made_empty (state_of s)) }
 {
     let (t, s) = new_variable(s)?;
     Ok((set_of(alloc, t)?, s))
@@ -75,7 +75,7 @@ pub fn empty_set(alloc: Global, s: Store) -> Result<(Ty, Store), NoTyping>
 /// A truth value, of two of one type.
 #[tactic(auto, unfolding(crate::specs::Constraints::after))]
 pub fn comparison(alloc: Global, a: &Ty, b: &Ty, s: Store) -> Result<(Ty, Store), NoTyping>
-    ensures { Makes (λ r. record { result = type_of r.0; state = state_of r.1 }) result (made_compare (type_of a.now) (type_of b.now) (state_of s)) }
+    ensures { MakesType result (made_compare (type_of a.now) (type_of b.now) (state_of s)) }
 {
     let s = equal_types(alloc, b, a, s)?;
     let s = used(alloc, a, s)?;
@@ -85,7 +85,7 @@ pub fn comparison(alloc: Global, a: &Ty, b: &Ty, s: Store) -> Result<(Ty, Store)
 /// A set, of two of its type.
 #[tactic(auto, unfolding(crate::specs::Constraints::after))]
 pub fn union(alloc: Global, a: &Ty, b: &Ty, s: Store) -> Result<(Ty, Store), NoTyping>
-    ensures { Makes (λ r. record { result = type_of r.0; state = state_of r.1 }) result (made_union (type_of a.now) (type_of b.now) (state_of s)) }
+    ensures { MakesType result (made_union (type_of a.now) (type_of b.now) (state_of s)) }
 {
     let (t, s) = new_variable(s)?;
     let set = set_of(alloc, t)?;
@@ -97,7 +97,7 @@ pub fn union(alloc: Global, a: &Ty, b: &Ty, s: Store) -> Result<(Ty, Store), NoT
 /// A set of numbers, of a number.
 #[tactic(auto, unfolding(crate::specs::Constraints::after))]
 pub fn generated(alloc: Global, a: &Ty, s: Store) -> Result<(Ty, Store), NoTyping>
-    ensures { Makes (λ r. record { result = type_of r.0; state = state_of r.1 }) result (made_gen (type_of a.now) (state_of s)) }
+    ensures { MakesType result (made_gen (type_of a.now) (state_of s)) }
 {
     let s = equal_types(alloc, a, &Ty::Nat, s)?;
     Ok((set_of(alloc, Ty::Nat)?, s))
@@ -106,7 +106,7 @@ pub fn generated(alloc: Global, a: &Ty, s: Store) -> Result<(Ty, Store), NoTypin
 /// A member, of a set.
 #[tactic(auto, unfolding(crate::specs::Constraints::after, crate::specs::Constraints::equate, crate::specs::Constraints::within))]
 pub fn member(alloc: Global, a: &Ty, s: Store) -> Result<(Ty, Store), NoTyping>
-    ensures { Makes (λ r. record { result = type_of r.0; state = state_of r.1 }) result (made_get (type_of a.now) (state_of s)) }
+    ensures { MakesType result (made_get (type_of a.now) (state_of s)) }
 {
     let (t, s) = new_variable(s)?;
     let member = t.copy(alloc)?;
@@ -117,7 +117,7 @@ pub fn member(alloc: Global, a: &Ty, s: Store) -> Result<(Ty, Store), NoTyping>
 /// A cell, of an array and the numbers of an index.
 #[tactic(auto, unfolding(crate::specs::Constraints::after, crate::specs::Constraints::equate, crate::specs::Constraints::within), using(crate::proofs::Lists::length_types_in))]
 pub fn subscript(alloc: Global, a: &Ty, at: &[Ty], s: Store) -> Result<(Ty, Store), NoTyping>
-    ensures { Makes (λ r. record { result = type_of r.0; state = state_of r.1 }) result (made_sub (type_of a.now) (types_in at.now) (state_of s)) }
+    ensures { MakesType result (made_sub (type_of a.now) (types_in at.now) (state_of s)) }
 {
     let (t, s) = new_variable(s)?;
     let cell = t.copy(alloc)?;
@@ -129,7 +129,7 @@ pub fn subscript(alloc: Global, a: &Ty, at: &[Ty], s: Store) -> Result<(Ty, Stor
 /// The dimensions, of an array of that rank. A rank that is none has no type.
 #[tactic(auto, unfolding(crate::specs::Constraints::after, crate::specs::Constraints::equate, crate::specs::Constraints::within))]
 pub fn dimensions(alloc: Global, rank: u64, a: &Ty, s: Store) -> Result<(Ty, Store), NoTyping>
-    ensures { Makes (λ r. record { result = type_of r.0; state = state_of r.1 }) result (made_dim rank (type_of a.now) (state_of s)) }
+    ensures { MakesType result (made_dim rank (type_of a.now) (state_of s)) }
 {
     let s = tested(1 <= rank && rank <= 8, s)?;
     let (t, s) = new_variable(s)?;
@@ -140,7 +140,7 @@ pub fn dimensions(alloc: Global, rank: u64, a: &Ty, s: Store) -> Result<(Ty, Sto
 /// An array of sets, of a set of pairs of an index of that rank and a value. A rank that is none has no type.
 #[tactic(auto, unfolding(crate::specs::Constraints::after, crate::specs::Constraints::equate, crate::specs::Constraints::within))]
 pub fn grouped(alloc: Global, rank: u64, a: &Ty, s: Store) -> Result<(Ty, Store), NoTyping>
-    ensures { Makes (λ r. record { result = type_of r.0; state = state_of r.1 }) result (made_index rank (type_of a.now) (state_of s)) }
+    ensures { MakesType result (made_index rank (type_of a.now) (state_of s)) }
 {
     let s = tested(1 <= rank && rank <= 8, s)?;
     let (t, s) = new_variable(s)?;
@@ -153,7 +153,7 @@ pub fn grouped(alloc: Global, rank: u64, a: &Ty, s: Store) -> Result<(Ty, Store)
 /// A literal array, of its dimensions, which are numbers, and its cells. A rank that is none has no type.
 #[tactic(auto, unfolding(crate::specs::Constraints::after))]
 pub fn literal(alloc: Global, dims: &[Ty], cells: &[Ty], s: Store) -> Result<(Ty, Store), NoTyping>
-    ensures { Makes (λ r. record { result = type_of r.0; state = state_of r.1 }) result (made_literal (length dims.now) (types_in dims.now ++ types_in cells.now) (state_of s)) }
+    ensures { MakesType result (made_literal (length dims.now) (types_in dims.now ++ types_in cells.now) (state_of s)) }
 {
     let rank = dims.len() as u64;
     let s = tested(1 <= rank && rank <= 8, s)?;
@@ -171,7 +171,7 @@ fn literal_parts(
     t: &Ty,
     s: Store,
 ) -> Result<Store, Memory>
-    ensures { IfOk result (λ r. constraints.literal_parts (length dims.now) (type_of t.now) (types_in dims.now ++ types_in cells.now) (state_of s) ≡ Some (record { result = tt; state = state_of r })) }
+    ensures { GivesState result (constraints.literal_parts (length dims.now) (type_of t.now) (types_in dims.now ++ types_in cells.now) (state_of s)) }
 {
     let s = equal_each(alloc, dims, &Ty::Nat, s)?;
     equal_each(alloc, cells, t, s)
@@ -180,7 +180,7 @@ fn literal_parts(
 /// A tuple of these parts. Fewer than two have no type.
 #[tactic(auto, unfolding(crate::specs::Constraints::after), using(crate::proofs::Lists::tuple_steps))]
 pub fn tuple(parts: Vec<Ty>, s: Store) -> Result<(Ty, Store), NoTyping>
-    ensures { Makes (λ r. record { result = type_of r.0; state = state_of r.1 }) result (made_tuple (types_in parts.items) (state_of s)) }
+    ensures { MakesType result (made_tuple (types_in parts.items) (state_of s)) }
 {
     let s = tested(2 <= parts.len(), s)?;
     Ok((row(parts), s))
@@ -189,7 +189,7 @@ pub fn tuple(parts: Vec<Ty>, s: Store) -> Result<(Ty, Store), NoTyping>
 /// Each of these is to become that type.
 #[tactic(auto, unfolding(crate::specs::Constraints::after), using(crate::proofs::Lists::types_in_steps))]
 pub fn equal_each(alloc: Global, ts: &[Ty], t: &Ty, s: Store) -> Result<Store, Memory>
-    ensures { IfOk result (λ r. equate_each (types_in ts.now) (type_of t.now) (state_of s) ≡ Some (record { result = tt; state = state_of r })) }
+    ensures { GivesState result (equate_each (types_in ts.now) (type_of t.now) (state_of s)) }
 {
     let mut s = s;
     for one in ts {

@@ -6,7 +6,7 @@ ghost use Rattle.aql_syntax.specs.Tree.{pat, no_pat, axes, count_pats};
 ghost use Rattle.aql_syntax.specs.View.{pat_of, pats_of};
 ghost use Rattle.aql_constraints.specs.Constraints as constraints;
 ghost use Rattle.aql_constraints.specs.Constraints.{make_pat, make_pats};
-ghost use Rattle.aql_constraints.specs.View.{state_of, locals_of, schemes_of, Makes, Extends};
+ghost use Rattle.aql_constraints.specs.View.{state_of, locals_of, schemes_of, Makes, Extends, MakesLocals};
 
 use crate::fault::NoTyping;
 use crate::names::{Local, Position, named, push_local};
@@ -85,7 +85,7 @@ pub fn matched(
     env: &mut Vec<Local>,
     s: Store,
 ) -> Result<Store, NoTyping>
-    ensures made { Makes (λ r. record { result = locals_of env.new.items; state = state_of r }) result (constraints.matched (pat_of p.now) (schemes_of positions.now) (locals_of env.old.items) (type_of t.now) (state_of s)) }
+    ensures made { MakesLocals env.new.items result (constraints.matched (pat_of p.now) (schemes_of positions.now) (locals_of env.old.items) (type_of t.now) (state_of s)) }
     ensures extends { OnOk result (Extends env.old.items env.new.items) }
 {
     let (of, s) = pattern(alloc, p, positions, env, s)?;
@@ -103,7 +103,7 @@ pub fn matched_member(
     env: &mut Vec<Local>,
     s: Store,
 ) -> Result<Store, NoTyping>
-    ensures made { Makes (λ r. record { result = locals_of env.new.items; state = state_of r }) result (constraints.matched_member (pat_of p.now) (schemes_of positions.now) (locals_of env.old.items) (type_of t.now) (state_of s)) }
+    ensures made { MakesLocals env.new.items result (constraints.matched_member (pat_of p.now) (schemes_of positions.now) (locals_of env.old.items) (type_of t.now) (state_of s)) }
     ensures extends { OnOk result (Extends env.old.items env.new.items) }
 {
     let (of, s) = pattern(alloc, p, positions, env, s)?;
@@ -123,7 +123,7 @@ pub fn matched_cell(
     env: &mut Vec<Local>,
     s: Store,
 ) -> Result<Store, NoTyping>
-    ensures made { Makes (λ r. record { result = locals_of env.new.items; state = state_of r }) result (constraints.matched_cell (pat_of q.now) rank (schemes_of positions.now) (locals_of env.old.items) (type_of t.now) (state_of s)) }
+    ensures made { MakesLocals env.new.items result (constraints.matched_cell (pat_of q.now) rank (schemes_of positions.now) (locals_of env.old.items) (type_of t.now) (state_of s)) }
     ensures extends { OnOk result (Extends env.old.items env.new.items) }
 {
     let (of, s) = pattern(alloc, q, positions, env, s)?;
@@ -156,7 +156,7 @@ pub fn matched_index(
     env: &mut Vec<Local>,
     s: Store,
 ) -> Result<Store, NoTyping>
-    ensures made { Makes (λ r. record { result = locals_of env.new.items; state = state_of r }) result (constraints.matched_index (axes (pat_of p.now)) (schemes_of positions.now) (locals_of env.old.items) (state_of s)) }
+    ensures made { MakesLocals env.new.items result (constraints.matched_index (axes (pat_of p.now)) (schemes_of positions.now) (locals_of env.old.items) (state_of s)) }
     ensures extends { OnOk result (Extends env.old.items env.new.items) }
 {
     match p {
@@ -178,7 +178,7 @@ fn index_part(
     env: &mut Vec<Local>,
     s: Store,
 ) -> Result<Store, NoTyping>
-    ensures made { Makes (λ r. record { result = locals_of env.new.items; state = state_of r }) result (constraints.matched_index (pat (pat_of p.now) no_pat) (schemes_of positions.now) (locals_of env.old.items) (state_of s)) }
+    ensures made { MakesLocals env.new.items result (constraints.matched_index (pat (pat_of p.now) no_pat) (schemes_of positions.now) (locals_of env.old.items) (state_of s)) }
     ensures extends { OnOk result (Extends env.old.items env.new.items) }
 {
     let (of, s) = pattern(alloc, p, positions, env, s)?;
@@ -194,7 +194,7 @@ fn index_parts(
     env: &mut Vec<Local>,
     s: Store,
 ) -> Result<Store, NoTyping>
-    ensures made { Makes (λ r. record { result = locals_of env.new.items; state = state_of r }) result (constraints.matched_index (pats_of ps.now) (schemes_of positions.now) (locals_of env.old.items) (state_of s)) }
+    ensures made { MakesLocals env.new.items result (constraints.matched_index (pats_of ps.now) (schemes_of positions.now) (locals_of env.old.items) (state_of s)) }
     ensures extends { OnOk result (Extends env.old.items env.new.items) }
 {
     let mut s = s;

@@ -1,9 +1,9 @@
 //! Equations as they are written.
 
 ghost use Rattle.std.specs.Prelude.{◌≡◌, IfOk, IsOkAnd, Some};
-ghost use Rattle.aql_types.specs.View.{type_of, types_of};
+ghost use Rattle.aql_types.specs.View.{type_of};
 ghost use Rattle.aql_constraints.specs.Constraints.{fresh, equate, within, tied, guard};
-ghost use Rattle.aql_constraints.specs.View.{state_of, Makes};
+ghost use Rattle.aql_constraints.specs.View.{state_of, MakesState, GivesType, GivesState};
 
 use crate::fault::NoTyping;
 use aql_made::both;
@@ -23,7 +23,7 @@ pub struct Store {
 /// A new variable.
 #[tactic(auto, unfolding(crate::specs::Constraints::fresh))]
 pub fn new_variable(s: Store) -> Result<(Ty, Store), Memory>
-    ensures { IfOk result (λ x. fresh (state_of s) ≡ Some (record { result = type_of x.0; state = state_of x.1 })) }
+    ensures { GivesType result (fresh (state_of s)) }
 {
     let mut s = s;
     let x = s.next;
@@ -39,7 +39,7 @@ pub fn new_variable(s: Store) -> Result<(Ty, Store), Memory>
 /// Two types are to become one.
 #[tactic(auto, unfolding(crate::specs::Constraints::equate), using(aql_types::specs::ViewLaws::equations_last))]
 pub fn equal_types(alloc: Global, a: &Ty, b: &Ty, s: Store) -> Result<Store, Memory>
-    ensures { IfOk result (λ x. equate (type_of a.now) (type_of b.now) (state_of s) ≡ Some (record { result = tt; state = state_of x })) }
+    ensures { GivesState result (equate (type_of a.now) (type_of b.now) (state_of s)) }
 {
     let mut s = s;
     let (left, right) = both(a.copy(alloc), b.copy(alloc))?;
@@ -50,7 +50,7 @@ pub fn equal_types(alloc: Global, a: &Ty, b: &Ty, s: Store) -> Result<Store, Mem
 /// A type is to be within the limits.
 #[tactic(auto, unfolding(crate::specs::Constraints::within), using(aql_types::specs::ViewLaws::types_last))]
 pub fn used(alloc: Global, t: &Ty, s: Store) -> Result<Store, Memory>
-    ensures { IfOk result (λ x. within (type_of t.now) (state_of s) ≡ Some (record { result = tt; state = state_of x })) }
+    ensures { GivesState result (within (type_of t.now) (state_of s)) }
 {
     let mut s = s;
     let t = t.copy(alloc)?;
@@ -76,7 +76,7 @@ pub(crate) fn becomes(
 /// No type where the test fails.
 #[tactic(auto, unfolding(crate::specs::Constraints::guard))]
 pub fn tested(holds: bool, s: Store) -> Result<Store, NoTyping>
-    ensures { Makes (λ x. record { result = tt; state = state_of x }) result (guard holds (state_of s)) }
+    ensures { MakesState result (guard holds (state_of s)) }
 {
     if holds { Ok(s) } else { Err(NoTyping::NoType) }
 }

@@ -1,6 +1,6 @@
 -- What a file of records gives.
-use Rattle.std.specs.Prelude.{◌≡◌, ℕ, ◌<◌, List, length, Bool, Option, Some, None, Result, Ok, Err, nat_lt, if◌then◌else◌}
-use Rattle.aql_outside.specs.Contents.{Content, bytes_in}
+use Rattle.std.specs.Prelude.{◌≡◌, ℕ, ◌<◌, List, length, Bool, Option, Some, None, Result, Ok, Err, IsErrOf, nat_lt, if◌then◌else◌}
+use Rattle.aql_outside.specs.Contents.{Content}
 use Rattle.aql_value.specs.Datum.{Datum, set, data_of}
 use Rattle.aql_value.specs.Canon.{canon}
 use Rattle.aql_value.specs.Meaning.{datum}
@@ -57,18 +57,18 @@ IsGiven reader budget (Err (faults.Long n)) = budget < n
 IsGiven reader budget (Err (faults.Cut k)) = k < budget
 IsGiven reader budget (Err e) = Unit {0}
 
+-- the device is answered to have failed
+abbrev pub IsDevice : {T : Type 0} → Result T CsvFault → Type 0
+IsDevice result = IsErrOf result faults.Device
+
 -- ---- words within the crate
 
--- the bytes of a file are read whole, unless the device failed or memory was wanting
-abbrev pub IsWhole : List ℕ → Result (List ℕ) CsvFault → Type 0
-IsWhole bytes (Ok found) = found ≡ bytes
-IsWhole bytes (Err faults.Device) = Unit {0}
-IsWhole bytes (Err faults.Memory) = Unit {0}
-IsWhole bytes (Err e) = ⊥
-
--- the same of the bytes under a name, where the files tell them and are so many
-abbrev pub IsToldWhole : Option Content → (name : List ℕ) → (size : ℕ) → Result (List ℕ) CsvFault → Type 0
-IsToldWhole holds name size result = (bytes : List ℕ) → bytes_in holds name ≡ Some bytes → size ≡ length bytes → IsWhole bytes result
+-- where there are so many bytes they are read whole, unless the device failed or memory was wanting
+abbrev pub IsWhole : List ℕ → (size : ℕ) → Result (List ℕ) CsvFault → Type 0
+IsWhole bytes size (Ok found) = size ≡ length bytes → found ≡ bytes
+IsWhole bytes size (Err faults.Device) = Unit {0}
+IsWhole bytes size (Err faults.Memory) = Unit {0}
+IsWhole bytes size (Err e) = size ≡ length bytes → ⊥
 
 -- a fault of a read of so many bytes
 abbrev pub IsOfReading : ℕ → CsvFault → Type 0

@@ -5,8 +5,9 @@ ghost use Rattle.aql_csv.specs.declared.fault.CsvFault.TheVariants as faults;
 use aql_value::Memory;
 use std::alloc::{AllocError, AllocFailed};
 
-/// Why a file of records gives no value. The faults of a file stand in the order in which they are tested; those of
-/// records are tested record by record. Records and fields are counted from 1, a record that names the fields too.
+/// Why a file of records gives no value. The faults of a file stand in the order in which they are
+/// tested; those of records are tested record by record. Records and fields are counted from 1, a
+/// record that names the fields too.
 #[derive(Clone, Copy, Debug, PartialEq, Eq)]
 pub enum CsvFault {
     /// The name is not UTF-8, or no file has it.
@@ -17,8 +18,8 @@ pub enum CsvFault {
     Cut { at: u64 },
     /// The first record with a fault has so many fields, and not as many as there are kinds.
     Fields { row: u64, found: u64 },
-    /// The first record with a fault has as many fields as there are kinds, and this is its first field that should
-    /// be a number and is none.
+    /// The first record with a fault has as many fields as there are kinds, and this is its first
+    /// field that should be a number and is none.
     Number { row: u64, field: u64 },
     /// The device failed.
     Device,

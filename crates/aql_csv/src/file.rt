@@ -1,10 +1,11 @@
 // Reading a file of records.
-ghost use Rattle.std.specs.Prelude.{◌≡◌, ◌≤◌, Some, Err, length, IfOk, IfErr, IsErrOf};
+ghost use Rattle.std.specs.Prelude.{◌≡◌, ◌≤◌, Some, Err, length, IfOk, IfErr};
 ghost use Rattle.std.specs.Str.{IsUtf8};
-ghost use Rattle.aql_outside.specs.Causes.{Blames};
+ghost use Rattle.aql_outside.specs.Contents.{WhereTold};
+ghost use Rattle.aql_outside.specs.Frames.{Leaves};
 ghost use Rattle.aql_value.specs.Meaning.{datum};
 ghost use Rattle.aql_csv.specs.Rows.{Gives, IsOfRecords, result_map};
-ghost use Rattle.aql_csv.specs.File.{Answers, IsGiven, IsOfReading, IsTold, IsToldWhole, read_by, set_of};
+ghost use Rattle.aql_csv.specs.File.{Answers, IsDevice, IsGiven, IsOfReading, IsTold, IsWhole, read_by, set_of};
 ghost use Rattle.aql_csv.specs.Typed.{IsOfReader};
 
 use crate::fault::CsvFault;
@@ -15,17 +16,18 @@ use aql_value::{Str, Value, canon};
 use std::alloc::Global;
 use std::str;
 
-/// What was read of a file of records: the set of its records' values, and the file's size in bytes.
+/// What was read of a file of records: the set of its records' values, and the file's size in
+/// bytes.
 #[derive(Drop)]
 pub struct Csv {
     pub value: Value,
     pub bytes: u64,
 }
 
-/// The set of the values of a file's records: of a single kind the fields themselves, else tuples. Where the reader
-/// says so the first record names the fields, and is passed over untested. The faults are tested in the order in
-/// which they stand in `CsvFault`. A file within the budget of bytes is asked for by one call, and kept until its
-/// records are read.
+/// The set of the values of a file's records: of a single kind the fields themselves, else tuples.
+/// Where the reader says so the first record names the fields, and is passed over untested. The
+/// faults are tested in the order in which they stand in `CsvFault`. A file within the budget of
+/// bytes is asked for by one call, and kept until its records are read.
 pub fn read_csv<F: Files>(
     alloc: Global,
     files: &mut F,
@@ -34,9 +36,9 @@ pub fn read_csv<F: Files>(
     budget: u64,
 ) -> Result<Csv, CsvFault>
     requires some { 1 ≤ length reader.now.kinds.items.items }
-    ensures kept { F.holds files.new ≡ F.holds files.old }
-    // Where `Device` is answered the count of faults rose; of quiet files it is greater only there.
-    ensures blamed { Blames F.quiet (IsErrOf result CsvFault.Device) (F.faults files.old) (F.faults files.new) }
+    // The files hold what they held. Where `Device` is answered the count of faults rose; of quiet
+    // files it is greater only there.
+    ensures frame { Leaves F.holds F.faults F.quiet (IsDevice result) files.old files.new }
     // Where the files tell their bytes: the set and the size, or the first fault.
     ensures told { IsUtf8 name.now → IsTold (F.holds files.old) name.now reader.now budget result }
     // Whatever they tell: what some bytes give.
@@ -62,8 +64,7 @@ fn read_named<F: Files>(
     budget: u64,
 ) -> Result<Csv, CsvFault>
     requires some { 1 ≤ length reader.now.kinds.items.items }
-    ensures kept { F.holds files.new ≡ F.holds files.old }
-    ensures blamed { Blames F.quiet (IsErrOf result CsvFault.Device) (F.faults files.old) (F.faults files.new) }
+    ensures frame { Leaves F.holds F.faults F.quiet (IsDevice result) files.old files.new }
     ensures told { IsTold (F.holds files.old) name.now reader.now budget result }
     ensures given { IsGiven reader.now budget result }
     ensures typed { IfOk result (λ csv. IsOfReader reader.now (datum csv.value)) }
@@ -87,11 +88,11 @@ fn read_whole<F: Files>(
     name: &str,
     size: usize,
 ) -> Result<Vec<u8>, CsvFault>
-    ensures kept { F.holds files.new ≡ F.holds files.old }
-    ensures blamed { Blames F.quiet (IsErrOf result CsvFault.Device) (F.faults files.old) (F.faults files.new) }
+    ensures frame { Leaves F.holds F.faults F.quiet (IsDevice result) files.old files.new }
     ensures causes { IfErr result (IsOfReading size) }
     ensures many { IfOk result (λ bytes. length bytes.items ≡ size) }
-    ensures told { IsToldWhole (F.holds files.old) name.now size (result_map (λ v. v.items) result) }
+    ensures told { WhereTold (F.holds files.old) name.now
+        (λ bytes. IsWhole bytes size (result_map (λ v. v.items) result)) }
 {
     let mut bytes = vec![in alloc; 0u8; size]?;
     match files.read_at(name, 0, &mut bytes) {
@@ -124,7 +125,8 @@ fn found_in(alloc: Global, bytes: &[u8], reader: &CsvReader, budget: u64) -> Res
 fn set_in(alloc: Global, bytes: &[u8], reader: &CsvReader) -> Result<Value, CsvFault>
     requires some { 1 ≤ length reader.now.kinds.items.items }
     ensures causes { IfErr result IsOfRecords }
-    ensures meant { Gives datum (set_of reader.now.header reader.now.kinds.items.items bytes.now) result }
+    ensures meant { Gives datum
+        (set_of reader.now.header reader.now.kinds.items.items bytes.now) result }
     ensures typed { IfOk result (λ value. IsOfReader reader.now (datum value)) }
 {
     let values = read_members(alloc, bytes, reader.header, &reader.kinds.items)?;

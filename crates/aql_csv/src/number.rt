@@ -2,7 +2,8 @@
 ghost use Rattle.std.specs.Prelude.{◌≡◌};
 ghost use Rattle.aql_csv.specs.Number.{number_of};
 
-/// The number that a field spells, `None` where it is not one or more decimal digits of a number of 128 bits.
+/// The number that a field spells, `None` where it is not one or more decimal digits of a number of
+/// 128 bits.
 #[tactic(auto, using(crate::proofs::Digits::decimal_grows))]
 pub(crate) fn number(field: &[u8]) -> Option<u128>
     ensures { result ≡ number_of field.now }

@@ -18,8 +18,9 @@ use std::alloc::Global;
 // The least number of values that are made a set before the last record is read.
 const FEW: usize = 65536;
 
-/// Values that make the same set as those of the records of the bytes, or the fault of the first record that has one.
-/// They are made a set now and then, so that many records with few different values take little memory.
+/// Values that make the same set as those of the records of the bytes, or the fault of the first
+/// record that has one. They are made a set now and then, so that many records with few different
+/// values take little memory.
 pub(crate) fn read_members(
     alloc: Global,
     bytes: &[u8],
@@ -50,8 +51,9 @@ pub(crate) fn read_members(
     }
 }
 
-// The fault for an error of the reader, over bytes in memory and where records may have any length: memory was
-// wanting. The reader's contract does not rule out that reading the bytes fails; that counts as the same.
+// The fault for an error of the reader, over bytes in memory and where records may have any length:
+// memory was wanting. The reader's contract does not rule out that reading the bytes fails; that
+// counts as the same.
 fn wanting(error: &Error) -> CsvFault
     requires { IsOutside (error_kind error.now) }
     ensures { result ≡ faults.Memory }
@@ -63,11 +65,13 @@ fn wanting(error: &Error) -> CsvFault
     }
 }
 
-// The members of the values, each once, where there are as many values as `most`, which then becomes twice as many as
-// are left; else the values as they are. `most` grows only here: if it grew with each record, no set would be made.
+// The members of the values, each once, where there are as many values as `most`, which then
+// becomes twice as many as are left; else the values as they are. `most` grows only here: if it
+// grew with each record, no set would be made.
 #[tactic(auto, using(aql_value::specs::SetLaws::canon_canon))]
 fn kept_small(alloc: Global, values: Vec<Value>, most: &mut usize) -> Result<Vec<Value>, CsvFault>
-    ensures same { IfOk result (λ kept. canon (map datum kept.items) ≡ canon (map datum values.items)) }
+    ensures same { IfOk result
+        (λ kept. canon (map datum kept.items) ≡ canon (map datum values.items)) }
     ensures cause { IfErr result (λ e. e ≡ faults.Memory) }
 {
     if values.len() < *most {
@@ -91,8 +95,10 @@ fn add_row(
     requires some { 1 ≤ length kinds.now }
     requires counted { 1 ≤ place }
     ensures causes { IfErr result IsOfRecords }
-    ensures added { OnOk result (Adds header kinds.now place (fields_of entry.now) values.old.items values.new.items) }
-    ensures stopped { IfErr result (Stops header kinds.now place (fields_of entry.now) values.old.items) }
+    ensures added { OnOk result
+        (Adds header kinds.now place (fields_of entry.now) values.old.items values.new.items) }
+    ensures stopped { IfErr result
+        (Stops header kinds.now place (fields_of entry.now) values.old.items) }
 {
     if header && place == 1 {
         return Ok(());
@@ -103,7 +109,8 @@ fn add_row(
 
 // Adds a value.
 fn keep(values: &mut Vec<Value>, value: Value) -> Result<(), CsvFault>
-    ensures kept { OnOk result (map datum values.new.items ≡ map datum values.old.items ++ (datum value ∷ [])) }
+    ensures kept { OnOk result
+        (map datum values.new.items ≡ map datum values.old.items ++ (datum value ∷ [])) }
     ensures cause { IfErr result (λ e. e ≡ faults.Memory) }
 {
     values.push(value)?;
@@ -158,7 +165,8 @@ fn field_values(
     kinds: &[Kind],
 ) -> Result<Items, CsvFault>
     requires same { length (fields_of entry.now) ≡ length kinds.now }
-    ensures meant { Gives (λ items. items) (field_values place 1 kinds.now (fields_of entry.now)) result }
+    ensures meant { Gives (λ items. items)
+        (field_values place 1 kinds.now (fields_of entry.now)) result }
     ensures causes { IfErr result IsOfRecords }
     ensures many { IfOk result (λ items. length items ≡ length kinds.now) }
 {
@@ -182,7 +190,8 @@ fn field_value(
     column: u64,
 ) -> Result<Value, CsvFault>
     ensures causes { IfErr result IsOfRecords }
-    ensures meant { Gives datum (or_fault (faults.Number row column) (field_value kind field.now)) result }
+    ensures meant { Gives datum
+        (or_fault (faults.Number row column) (field_value kind field.now)) result }
 {
     match kind {
         Kind::Number => match number(field) {

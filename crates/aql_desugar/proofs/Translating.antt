@@ -10,7 +10,7 @@ use Rattle.aql_syntax.specs.View.{tree_of, decl_of, decls_of}
 use Rattle.aql_syntax.specs.Measured.{onto, latest}
 use Rattle.aql_syntax.specs.Typing.{Scope, Has, DeclHas, scope_of, argument_type}
 use Rattle.aql_syntax.specs.Size as sizes
-use Rattle.aql_syntax.specs.Size.{before, expanded_size, expanded_levels, size_at, levels_at, decl_size, decl_levels, size, levels, extents_of}
+use Rattle.aql_syntax.specs.Size.{before, expanded_size, expanded_levels, size_at, levels_at, size, levels, extents_of, most_nodes, most_levels, AreWithin, IsWithinLimits}
 use Rattle.aql_syntax.specs.declared.ast.Decl.{Decl}
 use Rattle.aql_syntax.specs.declared.ast.Decl.TheVariants.{Bare}
 use Rattle.aql_syntax.specs.declared.ast.Expr.{Expr}
@@ -20,16 +20,17 @@ use Rattle.nrca_term.specs.Meaning.{cden}
 use Rattle.nrca_term.specs.Turns.{settle}
 use Rattle.nrca_term.specs.Typing.{instances, ctyped}
 use Rattle.aql_start.specs.Start.{start, knowns_of, query}
-use Rattle.aql_start.specs.Laws.{outcomes_of, value_type, types_of, EachHas, EachPrincipal, IsWritten}
+use Rattle.aql_start.specs.Laws.{outcomes_of, value_type, types_of, EachHas, EachPrincipal}
+use Rattle.aql_syntax.specs.Written.{IsWritten}
+use Rattle.aql_syntax.specs.WrittenLaws.{written, decl_written}
 use Rattle.aql_start.specs.Positions.{start-means, start-turns}
 use Rattle.aql_start.specs.Closed.{start-closes}
 use Rattle.aql_start.specs.WellFormed.{start-formed}
 use Rattle.aql_start.specs.Weight.{start-weighs}
 use Rattle.aql_start.specs.TypedPositions.{start-typed}
 use Rattle.aql_desugar.specs.Positions.{query_here}
-use Rattle.aql_desugar.specs.Translation.{query_at, query_of, types_before, IsTranslated, AreWithin, IsFaultAt, IsWithinLimits, IsFaultOf}
+use Rattle.aql_desugar.specs.Translation.{query_at, query_of, types_before, IsTranslated, IsFaultAt, IsFaultOf}
 use Rattle.aql_desugar.specs.declared.fault.Fault.{Fault}
-use Rattle.aql_desugar.proofs.Writing.{written, decl_written}
 
 -- Lists of declarations.
 
@@ -182,7 +183,7 @@ levels_here-code ds before n x h =
 pub within_here : (ds before : List Decl) (n : ℕ) (x : Expr) → Chosen ds before n x →
     AreWithin (size (tree_of x) (extents_of (latest before))) (levels (tree_of x) (extents_of (latest before))) → IsWithinLimits (decls_of ds) n
 within_here ds before n x h w =
-    (subst (λ k. k ≤ 20000) (sym (size_here-code ds before n x h)) w.0, subst (λ k. k ≤ 1000) (sym (levels_here-code ds before n x h)) w.1)
+    (subst (λ k. k ≤ most_nodes) (sym (size_here-code ds before n x h)) w.0, subst (λ k. k ≤ most_levels) (sym (levels_here-code ds before n x h)) w.1)
 
 pub fault_here : (ds before : List Decl) (n : ℕ) (x : Expr) → Chosen ds before n x → (f : Fault) →
     IsFaultAt (size (tree_of x) (extents_of (latest before))) (levels (tree_of x) (extents_of (latest before))) f → IsFaultOf (decls_of ds) n f

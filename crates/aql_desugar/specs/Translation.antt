@@ -1,16 +1,19 @@
 -- What translation answers for a declaration.
-use Rattle.std.specs.Prelude.{◌≡◌, ℕ, ◌-◌, ◌*◌, ◌^◌, ◌<◌, ◌≤◌, ◌⊎◌, ◌++◌, min, List, [], map, take, Option, Some, None}
+use Rattle.std.specs.Prelude.{◌≡◌, ℕ, ◌-◌, ◌*◌, ◌^◌, ◌≤◌, ◌++◌, min, List, [], map, take, Option, Some, None}
 use Rattle.std.specs.List.{slice_get}
 use Rattle.aql_types.specs.Types.{Ty, Sort, IsType}
 use Rattle.aql_syntax.specs.Tree.{Tree, Declaration}
-use Rattle.aql_syntax.specs.View.{decls_of}
+use Rattle.aql_syntax.specs.View.{tree_of, decls_of}
+use Rattle.aql_syntax.specs.declared.ast.Expr.{Expr}
+use Rattle.aql_syntax.specs.declared.ast.Decl.{Decl}
 use Rattle.aql_syntax.specs.declared.ast.Decls.{Decls}
 use Rattle.aql_syntax.specs.Denotation.{den}
 use Rattle.aql_syntax.specs.Work.{work}
 use Rattle.aql_syntax.specs.Script.{Earlier, globals_of}
 use Rattle.aql_syntax.specs.Sound.{declarations_of}
 use Rattle.aql_syntax.specs.Typing.{Has, scope_of}
-use Rattle.aql_syntax.specs.Size.{before, expanded_size, expanded_levels}
+use Rattle.aql_syntax.specs.Size.{before, size, levels, extents_of, expanded_size, expanded_levels, PassLimits}
+use Rattle.aql_syntax.specs.Measured.{latest}
 use Rattle.aql_constraints.specs.Typed.{ArePrincipal, sorts_of}
 use Rattle.aql_constraints.specs.declared.typed.Typed.{Typed}
 use Rattle.nrca_term.specs.Term.{Term, Closed, WellFormed, weight_of, IsSmall}
@@ -55,22 +58,27 @@ pub record IsTranslated (ds : List Declaration) (sorts : List Sort) (n : ℕ) (e
   pub types : ArePrincipal [] ds sorts → (later : List Ty) (T : Ty) → IsType T → Has e (scope_of (before ds n)) [] T →
       ctyped (instances (types_before sorts n ++ later)) [] t T
 
+-- the term translates declaration n of the code's, where that has an expression
+abbrev pub Translates : Decls → Typed → ℕ → Term → Type 0
+Translates decls typed n t =
+    (e : Tree) → query_of (decls_of decls.items.items) n ≡ Some e → IsTranslated (decls_of decls.items.items) (sorts_of typed.items.items) n e t
+
 -- The term, which has no variable around it, is small where the schemes are the answer of inference.
 abbrev pub IsSmallWherePrincipal : Decls → Typed → Term → Type 0
 IsSmallWherePrincipal decls typed t = ArePrincipal [] (decls_of decls.items.items) (sorts_of typed.items.items) → IsSmall 0 t
 
--- at most 20,000 nodes and 1,000 levels
-abbrev pub AreWithin : (size levels : ℕ) → Type 0
-AreWithin size levels = (size ≤ 20000) × (levels ≤ 1000)
+-- the size of an expression of the code after these declarations, every macro in its place
+abbrev pub size_in : Expr → List Decl → ℕ
+size_in e earlier = size (tree_of e) (extents_of (latest earlier))
+
+-- and its levels
+abbrev pub levels_in : Expr → List Decl → ℕ
+levels_in e earlier = levels (tree_of e) (extents_of (latest earlier))
 
 -- the fault of what passes a limit, with both numbers up to the greatest of 64 bits; nothing is said of want of memory
 abbrev pub IsFaultAt : (size levels : ℕ) → Fault → Type 0
-IsFaultAt size levels (faults.Large s l) = ((20000 < size) ⊎ (1000 < levels)) × (s ≡ min size (2 ^ 64 - 1)) × (l ≡ min levels (2 ^ 64 - 1))
+IsFaultAt size levels (faults.Large s l) = PassLimits size levels × (s ≡ min size (2 ^ 64 - 1)) × (l ≡ min levels (2 ^ 64 - 1))
 IsFaultAt size levels faults.Memory = Unit {0}
-
--- declaration n is within the limits, every macro in its place
-abbrev pub IsWithinLimits : List Declaration → ℕ → Type 0
-IsWithinLimits ds n = AreWithin (expanded_size ds n) (expanded_levels ds n)
 
 -- the fault is that of declaration n
 abbrev pub IsFaultOf : List Declaration → ℕ → Fault → Type 0

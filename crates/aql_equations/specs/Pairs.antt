@@ -1,10 +1,14 @@
 -- Two expressions, and forms of several, by the types of their parts.
-use Rattle.std.specs.Prelude.{ℕ, ◌≡◌, ◌++◌, Result, Ok, Err}
+use Rattle.std.specs.Prelude.{ℕ, ◌≡◌, ◌++◌, List, Option, Result, Ok, Err}
 use Rattle.aql_types.specs.Types.{Ty}
 use Rattle.aql_syntax.specs.Tree.{Tree, Trees}
 use Rattle.aql_syntax.specs.Typing.{Locals}
 use Rattle.aql_constraints.specs.declared.fault.NoTyping.{NoTyping}
-use Rattle.aql_constraints.specs.Constraints.{Schemes, Making, made, after, make, make_all, made_choice, made_sub, made_literal}
+use Rattle.aql_constraints.specs.declared.names.Local.{Local}
+use Rattle.aql_constraints.specs.declared.names.Position.{Position}
+use Rattle.aql_constraints.specs.declared.store.Store.{Store}
+use Rattle.aql_constraints.specs.View.{state_of, locals_of, schemes_of}
+use Rattle.aql_constraints.specs.Constraints.{Schemes, Made, Making, made, after, make, make_all, made_choice, made_sub, made_literal}
 
 -- the types of two expressions
 abbrev pub make_two : Tree → Tree → Schemes → Locals → Making (Ty × Ty)
@@ -26,3 +30,7 @@ literal_of k ds cs ss env n = after (make_all ds ss env n) (λ ds n. after (make
 abbrev pub Follows : {X Y : Type 0} → Result X NoTyping → Result Y NoTyping → (X → Type 0) → Type 0
 Follows (Ok x) r P = P x
 Follows (Err e) r P = r ≡ Err e
+
+-- a walk over what the code keeps: its positions, its local names and its store
+abbrev pub walked : {Y : Type 0} → (Schemes → Locals → Making Y) → List Position → List Local → Store → Option (Made Y)
+walked walk ps env s = walk (schemes_of ps) (locals_of env) (state_of s)

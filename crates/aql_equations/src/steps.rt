@@ -3,7 +3,7 @@
 ghost use Rattle.aql_types.specs.View.{type_of};
 ghost use Rattle.aql_syntax.specs.Names.{find};
 ghost use Rattle.aql_constraints.specs.Constraints.{make_call, made_arith, made_choice, made_compare, made_dim, made_either, made_gen, made_get, made_index, made_truth, made_truths, made_tuple, made_union};
-ghost use Rattle.aql_constraints.specs.View.{state_of, locals_of, schemes_of, types_in, Makes};
+ghost use Rattle.aql_constraints.specs.View.{state_of, locals_of, schemes_of, types_in, MakesType};
 ghost use Rattle.aql_equations.specs.Pairs.{Follows};
 
 use aql_constraints::fault::NoTyping;
@@ -19,7 +19,7 @@ use std::alloc::Global;
 
 /// A tuple of parts.
 pub(crate) fn tuple_of(parts: Result<(Vec<Ty>, Store), NoTyping>) -> Result<(Ty, Store), NoTyping>
-    ensures { Follows parts result (λ p. Makes (λ r. record { result = type_of r.0; state = state_of r.1 }) result (made_tuple (types_in p.0.items) (state_of p.1))) }
+    ensures { Follows parts result (λ p. MakesType result (made_tuple (types_in p.0.items) (state_of p.1))) }
 {
     let (ts, s) = parts?;
     tuple(ts, s)
@@ -30,7 +30,7 @@ pub(crate) fn truth_of(
     alloc: Global,
     part: Result<(Ty, Store), NoTyping>,
 ) -> Result<(Ty, Store), NoTyping>
-    ensures { Follows part result (λ p. Makes (λ r. record { result = type_of r.0; state = state_of r.1 }) result (made_truth (type_of p.0) (state_of p.1))) }
+    ensures { Follows part result (λ p. MakesType result (made_truth (type_of p.0) (state_of p.1))) }
 {
     let (a, s) = part?;
     truth(alloc, &a, s)
@@ -41,7 +41,7 @@ pub(crate) fn generated_of(
     alloc: Global,
     part: Result<(Ty, Store), NoTyping>,
 ) -> Result<(Ty, Store), NoTyping>
-    ensures { Follows part result (λ p. Makes (λ r. record { result = type_of r.0; state = state_of r.1 }) result (made_gen (type_of p.0) (state_of p.1))) }
+    ensures { Follows part result (λ p. MakesType result (made_gen (type_of p.0) (state_of p.1))) }
 {
     let (a, s) = part?;
     generated(alloc, &a, s)
@@ -52,7 +52,7 @@ pub(crate) fn member_of(
     alloc: Global,
     part: Result<(Ty, Store), NoTyping>,
 ) -> Result<(Ty, Store), NoTyping>
-    ensures { Follows part result (λ p. Makes (λ r. record { result = type_of r.0; state = state_of r.1 }) result (made_get (type_of p.0) (state_of p.1))) }
+    ensures { Follows part result (λ p. MakesType result (made_get (type_of p.0) (state_of p.1))) }
 {
     let (a, s) = part?;
     member(alloc, &a, s)
@@ -64,7 +64,7 @@ pub(crate) fn dimensions_of(
     rank: u64,
     part: Result<(Ty, Store), NoTyping>,
 ) -> Result<(Ty, Store), NoTyping>
-    ensures { Follows part result (λ p. Makes (λ r. record { result = type_of r.0; state = state_of r.1 }) result (made_dim rank (type_of p.0) (state_of p.1))) }
+    ensures { Follows part result (λ p. MakesType result (made_dim rank (type_of p.0) (state_of p.1))) }
 {
     let (a, s) = part?;
     dimensions(alloc, rank, &a, s)
@@ -76,7 +76,7 @@ pub(crate) fn grouped_of(
     rank: u64,
     part: Result<(Ty, Store), NoTyping>,
 ) -> Result<(Ty, Store), NoTyping>
-    ensures { Follows part result (λ p. Makes (λ r. record { result = type_of r.0; state = state_of r.1 }) result (made_index rank (type_of p.0) (state_of p.1))) }
+    ensures { Follows part result (λ p. MakesType result (made_index rank (type_of p.0) (state_of p.1))) }
 {
     let (a, s) = part?;
     grouped(alloc, rank, &a, s)
@@ -90,7 +90,7 @@ pub(crate) fn headed_of(
     positions: &[Position],
     env: &[Local],
 ) -> Result<(Ty, Store), NoTyping>
-    ensures { Follows part result (λ p. Makes (λ r. record { result = type_of r.0; state = state_of r.1 }) result (make_call (find name.now (locals_of env.now)) (find name.now (schemes_of positions.now)) (type_of p.0) (state_of p.1))) }
+    ensures { Follows part result (λ p. MakesType result (make_call (find name.now (locals_of env.now)) (find name.now (schemes_of positions.now)) (type_of p.0) (state_of p.1))) }
 {
     let (a, s) = part?;
     headed(alloc, name, &a, positions, env, s)
@@ -101,7 +101,7 @@ pub(crate) fn truths_of(
     alloc: Global,
     parts: Result<(Ty, Ty, Store), NoTyping>,
 ) -> Result<(Ty, Store), NoTyping>
-    ensures { Follows parts result (λ p. Makes (λ r. record { result = type_of r.0; state = state_of r.1 }) result (made_truths (type_of p.0) (type_of p.1) (state_of p.2))) }
+    ensures { Follows parts result (λ p. MakesType result (made_truths (type_of p.0) (type_of p.1) (state_of p.2))) }
 {
     let (a, b, s) = parts?;
     truths(alloc, &a, &b, s)
@@ -112,7 +112,7 @@ pub(crate) fn comparison_of(
     alloc: Global,
     parts: Result<(Ty, Ty, Store), NoTyping>,
 ) -> Result<(Ty, Store), NoTyping>
-    ensures { Follows parts result (λ p. Makes (λ r. record { result = type_of r.0; state = state_of r.1 }) result (made_compare (type_of p.0) (type_of p.1) (state_of p.2))) }
+    ensures { Follows parts result (λ p. MakesType result (made_compare (type_of p.0) (type_of p.1) (state_of p.2))) }
 {
     let (a, b, s) = parts?;
     comparison(alloc, &a, &b, s)
@@ -123,7 +123,7 @@ pub(crate) fn arith_of(
     alloc: Global,
     parts: Result<(Ty, Ty, Store), NoTyping>,
 ) -> Result<(Ty, Store), NoTyping>
-    ensures { Follows parts result (λ p. Makes (λ r. record { result = type_of r.0; state = state_of r.1 }) result (made_arith (type_of p.0) (type_of p.1) (state_of p.2))) }
+    ensures { Follows parts result (λ p. MakesType result (made_arith (type_of p.0) (type_of p.1) (state_of p.2))) }
 {
     let (a, b, s) = parts?;
     arith(alloc, &a, &b, s)
@@ -134,7 +134,7 @@ pub(crate) fn union_of(
     alloc: Global,
     parts: Result<(Ty, Ty, Store), NoTyping>,
 ) -> Result<(Ty, Store), NoTyping>
-    ensures { Follows parts result (λ p. Makes (λ r. record { result = type_of r.0; state = state_of r.1 }) result (made_union (type_of p.0) (type_of p.1) (state_of p.2))) }
+    ensures { Follows parts result (λ p. MakesType result (made_union (type_of p.0) (type_of p.1) (state_of p.2))) }
 {
     let (a, b, s) = parts?;
     union(alloc, &a, &b, s)
@@ -145,7 +145,7 @@ pub(crate) fn either_of(
     alloc: Global,
     parts: Result<(Ty, Ty, Store), NoTyping>,
 ) -> Result<(Ty, Store), NoTyping>
-    ensures { Follows parts result (λ p. Makes (λ r. record { result = type_of r.0; state = state_of r.1 }) result (made_either (type_of p.0) (type_of p.1) (state_of p.2))) }
+    ensures { Follows parts result (λ p. MakesType result (made_either (type_of p.0) (type_of p.1) (state_of p.2))) }
 {
     let (a, b, s) = parts?;
     either(alloc, a, &b, s)
@@ -157,7 +157,7 @@ pub(crate) fn chosen(
     test: &Ty,
     parts: Result<(Ty, Ty, Store), NoTyping>,
 ) -> Result<(Ty, Store), NoTyping>
-    ensures { Follows parts result (λ p. Makes (λ r. record { result = type_of r.0; state = state_of r.1 }) result (made_choice (type_of test.now) (type_of p.0) (type_of p.1) (state_of p.2))) }
+    ensures { Follows parts result (λ p. MakesType result (made_choice (type_of test.now) (type_of p.0) (type_of p.1) (state_of p.2))) }
 {
     let (a, b, s) = parts?;
     choice(alloc, test, a, &b, s)

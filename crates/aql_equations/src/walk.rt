@@ -7,8 +7,8 @@ ghost use Rattle.aql_syntax.specs.Tree.{no_qual};
 ghost use Rattle.aql_syntax.specs.Typing.{with_indices};
 ghost use Rattle.aql_syntax.specs.View.{pat_of, tree_of, trees_of, quals_of, qual_of, axes_in, defs_in};
 ghost use Rattle.aql_constraints.specs.Constraints.{make, make_all, make_each, make_bounds, make_rows, make_binds};
-ghost use Rattle.aql_equations.specs.Pairs.{make_two, choice_of, subscript_of, literal_of};
-ghost use Rattle.aql_constraints.specs.View.{state_of, locals_of, schemes_of, types_in, Makes, Extends};
+ghost use Rattle.aql_equations.specs.Pairs.{make_two, choice_of, subscript_of, literal_of, walked};
+ghost use Rattle.aql_constraints.specs.View.{state_of, locals_of, schemes_of, types_in, Makes, Extends, MakesType, MakesState, MakesLocals};
 
 use crate::steps::{
     arith_of, chosen, comparison_of, dimensions_of, either_of, generated_of, grouped_of, headed_of,
@@ -37,7 +37,7 @@ pub fn infer(
     env: &mut Vec<Local>,
     s: Store,
 ) -> Result<(Ty, Store), NoTyping>
-    ensures made { Makes (λ r. record { result = type_of r.0; state = state_of r.1 }) result (make (tree_of e.now) (schemes_of positions.now) (locals_of env.old.items) (state_of s)) }
+    ensures made { MakesType result (walked (make (tree_of e.now)) positions.now env.old.items s) }
     ensures kept { OnOk result (env.new.items ≡ env.old.items) }
 {
     match fuel.checked_sub(1) {
@@ -57,7 +57,7 @@ fn infer_form(
     env: &mut Vec<Local>,
     s: Store,
 ) -> Result<(Ty, Store), NoTyping>
-    ensures made { Makes (λ r. record { result = type_of r.0; state = state_of r.1 }) result (make (tree_of e.now) (schemes_of positions.now) (locals_of env.old.items) (state_of s)) }
+    ensures made { MakesType result (walked (make (tree_of e.now)) positions.now env.old.items s) }
     ensures kept { OnOk result (env.new.items ≡ env.old.items) }
 {
     match e {
@@ -134,7 +134,7 @@ fn infer_two(
     env: &mut Vec<Local>,
     s: Store,
 ) -> Result<(Ty, Ty, Store), NoTyping>
-    ensures made { Makes (λ r. record { result = (type_of r.0, type_of r.1); state = state_of r.2 }) result (make_two (tree_of a.now) (tree_of b.now) (schemes_of positions.now) (locals_of env.old.items) (state_of s)) }
+    ensures made { Makes (λ r. record { result = (type_of r.0, type_of r.1); state = state_of r.2 }) result (walked (make_two (tree_of a.now) (tree_of b.now)) positions.now env.old.items s) }
     ensures kept { OnOk result (env.new.items ≡ env.old.items) }
 {
     let (y, s) = infer(alloc, a, fuel, positions, env, s)?;
@@ -155,7 +155,7 @@ fn infer_choice(
     env: &mut Vec<Local>,
     s: Store,
 ) -> Result<(Ty, Store), NoTyping>
-    ensures made { Makes (λ r. record { result = type_of r.0; state = state_of r.1 }) result (choice_of (tree_of c.now) (tree_of a.now) (tree_of b.now) (schemes_of positions.now) (locals_of env.old.items) (state_of s)) }
+    ensures made { MakesType result (walked (choice_of (tree_of c.now) (tree_of a.now) (tree_of b.now)) positions.now env.old.items s) }
     ensures kept { OnOk result (env.new.items ≡ env.old.items) }
 {
     let (t, s) = infer(alloc, c, fuel, positions, env, s)?;
@@ -173,7 +173,7 @@ fn infer_members(
     env: &mut Vec<Local>,
     s: Store,
 ) -> Result<(Ty, Store), NoTyping>
-    ensures made { Makes (λ r. record { result = type_of r.0; state = state_of r.1 }) result (make (tree.members (trees_of es.now)) (schemes_of positions.now) (locals_of env.old.items) (state_of s)) }
+    ensures made { MakesType result (walked (make (tree.members (trees_of es.now))) positions.now env.old.items s) }
     ensures kept { OnOk result (env.new.items ≡ env.old.items) }
 {
     let (t, s) = new_variable(s)?;
@@ -193,7 +193,7 @@ fn infer_literal(
     env: &mut Vec<Local>,
     s: Store,
 ) -> Result<(Ty, Store), NoTyping>
-    ensures made { Makes (λ r. record { result = type_of r.0; state = state_of r.1 }) result (literal_of (length dims.now) (trees_of dims.now) (trees_of cells.now) (schemes_of positions.now) (locals_of env.old.items) (state_of s)) }
+    ensures made { MakesType result (walked (literal_of (length dims.now) (trees_of dims.now) (trees_of cells.now)) positions.now env.old.items s) }
     ensures kept { OnOk result (env.new.items ≡ env.old.items) }
 {
     let (ds, s) = infer_all(alloc, dims, fuel, positions, env, s)?;
@@ -213,7 +213,7 @@ fn infer_subscript(
     env: &mut Vec<Local>,
     s: Store,
 ) -> Result<(Ty, Store), NoTyping>
-    ensures made { Makes (λ r. record { result = type_of r.0; state = state_of r.1 }) result (subscript_of (tree_of array.now) (trees_of at.now) (schemes_of positions.now) (locals_of env.old.items) (state_of s)) }
+    ensures made { MakesType result (walked (subscript_of (tree_of array.now) (trees_of at.now)) positions.now env.old.items s) }
     ensures kept { OnOk result (env.new.items ≡ env.old.items) }
 {
     let (a, s) = infer(alloc, array, fuel, positions, env, s)?;
@@ -233,7 +233,7 @@ fn infer_comprehension(
     env: &mut Vec<Local>,
     s: Store,
 ) -> Result<(Ty, Store), NoTyping>
-    ensures made { Makes (λ r. record { result = type_of r.0; state = state_of r.1 }) result (make (tree.comp (tree_of head.now) (quals_of quals.now)) (schemes_of positions.now) (locals_of env.old.items) (state_of s)) }
+    ensures made { MakesType result (walked (make (tree.comp (tree_of head.now) (quals_of quals.now))) positions.now env.old.items s) }
     ensures kept { OnOk result (env.new.items ≡ env.old.items) }
 {
     let mark = env.len();
@@ -255,7 +255,7 @@ fn infer_tabulation(
     env: &mut Vec<Local>,
     s: Store,
 ) -> Result<(Ty, Store), NoTyping>
-    ensures made { Makes (λ r. record { result = type_of r.0; state = state_of r.1 }) result (make (tree.tab (axes_in binds.now) (tree_of body.now)) (schemes_of positions.now) (locals_of env.old.items) (state_of s)) }
+    ensures made { MakesType result (walked (make (tree.tab (axes_in binds.now) (tree_of body.now))) positions.now env.old.items s) }
     ensures kept { OnOk result (env.new.items ≡ env.old.items) }
 {
     let rank = binds.len() as u64;
@@ -280,7 +280,7 @@ fn infer_let(
     env: &mut Vec<Local>,
     s: Store,
 ) -> Result<(Ty, Store), NoTyping>
-    ensures made { Makes (λ r. record { result = type_of r.0; state = state_of r.1 }) result (make (tree.bindings (defs_in binds.now) (tree_of body.now)) (schemes_of positions.now) (locals_of env.old.items) (state_of s)) }
+    ensures made { MakesType result (walked (make (tree.bindings (defs_in binds.now) (tree_of body.now))) positions.now env.old.items s) }
     ensures kept { OnOk result (env.new.items ≡ env.old.items) }
 {
     let mark = env.len();
@@ -303,7 +303,7 @@ fn infer_function(
     env: &mut Vec<Local>,
     s: Store,
 ) -> Result<(Ty, Store), NoTyping>
-    ensures made { Makes (λ r. record { result = type_of r.0; state = state_of r.1 }) result (make (tree.function (pat_of pattern.now) (tree_of body.now) (tree_of argument.now)) (schemes_of positions.now) (locals_of env.old.items) (state_of s)) }
+    ensures made { MakesType result (walked (make (tree.function (pat_of pattern.now) (tree_of body.now) (tree_of argument.now))) positions.now env.old.items s) }
     ensures kept { OnOk result (env.new.items ≡ env.old.items) }
 {
     let (y, s) = infer(alloc, argument, fuel, positions, env, s)?;
@@ -327,7 +327,7 @@ fn infer_sum(
     env: &mut Vec<Local>,
     s: Store,
 ) -> Result<(Ty, Store), NoTyping>
-    ensures made { Makes (λ r. record { result = type_of r.0; state = state_of r.1 }) result (make (tree.summap (pat_of pattern.now) (tree_of body.now) (tree_of over.now)) (schemes_of positions.now) (locals_of env.old.items) (state_of s)) }
+    ensures made { MakesType result (walked (make (tree.summap (pat_of pattern.now) (tree_of body.now) (tree_of over.now))) positions.now env.old.items s) }
     ensures kept { OnOk result (env.new.items ≡ env.old.items) }
 {
     let (y, s) = infer(alloc, over, fuel, positions, env, s)?;
@@ -350,7 +350,7 @@ fn infer_all(
     env: &mut Vec<Local>,
     s: Store,
 ) -> Result<(Vec<Ty>, Store), NoTyping>
-    ensures made { Makes (λ r. record { result = types_in r.0.items; state = state_of r.1 }) result (make_all (trees_of es.now) (schemes_of positions.now) (locals_of env.old.items) (state_of s)) }
+    ensures made { Makes (λ r. record { result = types_in r.0.items; state = state_of r.1 }) result (walked (make_all (trees_of es.now)) positions.now env.old.items s) }
     ensures kept { OnOk result (env.new.items ≡ env.old.items) }
     ensures count { IfOk result (λ r. length r.0.items ≡ length es.now) }
 {
@@ -376,7 +376,7 @@ fn infer_each(
     env: &mut Vec<Local>,
     s: Store,
 ) -> Result<Store, NoTyping>
-    ensures made { Makes (λ r. record { result = tt; state = state_of r }) result (make_each (trees_of es.now) (schemes_of positions.now) (locals_of env.old.items) (type_of t.now) (state_of s)) }
+    ensures made { MakesState result (make_each (trees_of es.now) (schemes_of positions.now) (locals_of env.old.items) (type_of t.now) (state_of s)) }
     ensures kept { OnOk result (env.new.items ≡ env.old.items) }
 {
     let mut s = s;
@@ -398,7 +398,7 @@ fn infer_bounds(
     env: &mut Vec<Local>,
     s: Store,
 ) -> Result<Store, NoTyping>
-    ensures made { Makes (λ r. record { result = tt; state = state_of r }) result (make_bounds (axes_in binds.now) (schemes_of positions.now) (locals_of env.old.items) (state_of s)) }
+    ensures made { MakesState result (walked (make_bounds (axes_in binds.now)) positions.now env.old.items s) }
     ensures kept { OnOk result (env.new.items ≡ env.old.items) }
 {
     let mut s = s;
@@ -420,7 +420,7 @@ fn infer_rows(
     env: &mut Vec<Local>,
     s: Store,
 ) -> Result<Store, NoTyping>
-    ensures made { Makes (λ r. record { result = locals_of env.new.items; state = state_of r }) result (make_rows (quals_of quals.now) (schemes_of positions.now) (locals_of env.old.items) (state_of s)) }
+    ensures made { MakesLocals env.new.items result (walked (make_rows (quals_of quals.now)) positions.now env.old.items s) }
     ensures extends { OnOk result (Extends env.old.items env.new.items) }
 {
     let mut s = s;
@@ -443,7 +443,7 @@ fn infer_row(
     env: &mut Vec<Local>,
     s: Store,
 ) -> Result<Store, NoTyping>
-    ensures made { Makes (λ r. record { result = locals_of env.new.items; state = state_of r }) result (make_rows (qual_of q.now no_qual) (schemes_of positions.now) (locals_of env.old.items) (state_of s)) }
+    ensures made { MakesLocals env.new.items result (walked (make_rows (qual_of q.now no_qual)) positions.now env.old.items s) }
     ensures extends { OnOk result (Extends env.old.items env.new.items) }
 {
     match q {
@@ -479,7 +479,7 @@ fn infer_binds(
     env: &mut Vec<Local>,
     s: Store,
 ) -> Result<Store, NoTyping>
-    ensures made { Makes (λ r. record { result = locals_of env.new.items; state = state_of r }) result (make_binds (defs_in binds.now) (schemes_of positions.now) (locals_of env.old.items) (state_of s)) }
+    ensures made { MakesLocals env.new.items result (walked (make_binds (defs_in binds.now)) positions.now env.old.items s) }
     ensures extends { OnOk result (Extends env.old.items env.new.items) }
 {
     let mut s = s;

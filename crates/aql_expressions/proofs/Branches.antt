@@ -5,7 +5,8 @@ use Rattle.aql_syntax.specs.declared.sign.Sign.{Sign}
 use Rattle.aql_syntax.specs.declared.sign.Sign.TheVariants as signs
 use Rattle.aql_syntax.specs.Lexis.{Lexeme, named, numeral, quoted, mark}
 use Rattle.aql_syntax.specs.Tree.{Name, Pat, Tree, op, choice, members, bindings, Trees, no_tree, tree, Axes, Quals, Defs, count_trees}
-use Rattle.aql_grammar.specs.Parsing.{Out, ◌>>=◌, Parser, Parsers, after, Joiner, joined_by, Front, short, pat_then, list_at, list_rest, maybe_at, axes_at, axes_rest, binder_at, quals_at, quals_rest, front_at, defs_at, defs_rest, def_at, closed_twice, literal_of, whole_at, choice_at, default_rest, level_at, negation_at, chain_step, function_at, primary_at, paren_at, let_at, braces_at, brace_rest, bracket_rest, sub_rest, sub_step}
+use Rattle.aql_value.specs.Partial.{◌>>=◌}
+use Rattle.aql_grammar.specs.Parsing.{Out, Parser, Parsers, after, Joiner, joined_by, Front, short, pat_then, list_at, list_rest, maybe_at, axes_at, axes_rest, binder_at, quals_at, quals_rest, front_at, defs_at, defs_rest, def_at, closed_twice, literal_of, whole_at, choice_at, default_rest, level_at, negation_at, chain_step, function_at, primary_at, paren_at, let_at, braces_at, brace_rest, bracket_rest, sub_rest, sub_step}
 use Rattle.aql_phrases.specs.Parts.{few_of, one_of, leaf_at}
 use Rattle.aql_expressions.specs.Parts.{when, expr_then, default_at, not_at, argument_at, joined_at, subs_at, sub_at, comp_at, double_at, list_or_none_at, cells_at, table_at, more_trees, more_axes, more_quals, more_defs}
 

@@ -5,7 +5,8 @@ use Rattle.aql_syntax.specs.Lexis.{Lexeme}
 use Rattle.aql_syntax.specs.declared.ast.Bind.{Bind}
 use Rattle.aql_syntax.specs.Tree.{Tree, Trees, no_tree, Axes, no_axis, Quals, no_qual, Defs, no_def, count_axes}
 use Rattle.aql_syntax.specs.View.{axes_in}
-use Rattle.aql_grammar.specs.Parsing.{Out, ◌>>=◌, Parser, Parsers, parse_at, whole_at, level_at, application_at, chain_rest, chain_step, operator_at, turns, negation_at, sub_rest, list_at, axes_at, quals_at, defs_at}
+use Rattle.aql_value.specs.Partial.{◌>>=◌}
+use Rattle.aql_grammar.specs.Parsing.{Out, Parser, Parsers, parse_at, whole_at, level_at, application_at, chain_rest, chain_step, operator_at, turns, negation_at, sub_rest, list_at, axes_at, quals_at, defs_at}
 use Rattle.aql_expressions.specs.Parts.{with_trees, with_axes, with_quals, with_defs}
 
 pub count_axes_in : (xs : List Bind) → count_axes (axes_in xs) ≡ length xs

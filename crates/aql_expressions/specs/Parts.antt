@@ -6,7 +6,8 @@ use Rattle.aql_syntax.specs.declared.sign.Sign.{Sign}
 use Rattle.aql_syntax.specs.declared.sign.Sign.TheVariants as signs
 use Rattle.aql_syntax.specs.Lexis.{Lexeme}
 use Rattle.aql_syntax.specs.Tree.{Name, Pat, Tree, op, comp, tab, negation, default, Trees, no_tree, tree, Axes, no_axis, axis, Quals, no_qual, Defs, no_def, def, count_axes, append, append_axes, append_quals, append_defs}
-use Rattle.aql_grammar.specs.Parsing.{Out, ◌>>=◌, Parser, Parsers, after, Joiner, Front, joined_by, qualified, short, list_at, axes_at, quals_at, brackets_at, closed_twice, literal_of}
+use Rattle.aql_value.specs.Partial.{◌>>=◌}
+use Rattle.aql_grammar.specs.Parsing.{Out, Parser, Parsers, after, Joiner, Front, joined_by, qualified, short, list_at, axes_at, quals_at, brackets_at, closed_twice, literal_of}
 use Rattle.aql_phrases.specs.Parts.{few_of}
 
 -- one thing behind the sign that was looked for, another without it

@@ -3,24 +3,23 @@
 //! Each function is one of the functions on lists of `aql_grammar`, or the part of one that its contract names. `depth`
 //! bounds how deep a reading may still go, and how many turns a loop may take.
 
-ghost use Rattle.std.specs.Prelude.{◌≡◌, ◌<◌, ◌≤◌, ◌-◌};
+ghost use Rattle.std.specs.Prelude.{◌<◌, ◌≤◌, ◌-◌};
 ghost use Rattle.aql_syntax.specs.View.{tree_of};
 ghost use Rattle.aql_grammar.specs.Parsing as grammar;
 ghost use Rattle.aql_grammar.specs.Parsing.{parse_at, whole_at, choice_at, level_at, chain_rest, application_at, function_at};
-ghost use Rattle.aql_phrases.specs.Words.{lexemes, Gives};
-ghost use Rattle.aql_phrases.specs.Forms.{functional_of, joiner_of};
+ghost use Rattle.aql_phrases.specs.Words.{Parses};
+ghost use Rattle.aql_phrases.specs.Forms.{joiner_of};
+ghost use Rattle.aql_syntax.specs.Nodes.{functional_of};
 ghost use Rattle.aql_expressions.specs.Parts.{expr_then, default_at, argument_at, joined_at};
 
 use crate::primaries::postfix;
 use aql_phrases::fault::Refusal;
-use aql_phrases::forms::{
-    Functional, Head, Operator, binary, function, negated_level, opening, operated, operator_at,
-    second_level, turns,
-};
+use aql_phrases::forms::{Head, binary, negated_level, opening, operator_at, second_level, turns};
 use aql_phrases::parts::applied;
 use aql_phrases::patterns::pattern_then;
 use aql_phrases::words::{Word, behind, expect};
 use aql_syntax::ast::Expr;
+use aql_syntax::nodes::{Functional, Operator, function_in_place, operated};
 use aql_syntax::sign::Sign;
 use std::alloc::Global;
 
@@ -35,7 +34,7 @@ pub fn parse<'a>(
     depth: u64,
 ) -> Result<(Expr, &'a [Word]), Refusal>
     requires { level ≤ 8 }
-    ensures { Gives (λ x. (tree_of x.0, lexemes source.now x.1.now)) result (parse_at depth level (lexemes source.now words.now)) }
+    ensures { Parses tree_of source.now words.now result (parse_at depth level) }
 {
     if depth == 0 {
         return Err(Refusal::Syntax);
@@ -58,7 +57,7 @@ fn parse_boxed<'a>(
     depth: u64,
 ) -> Result<(Box<Expr>, &'a [Word]), Refusal>
     requires { level ≤ 8 }
-    ensures { Gives (λ x. (tree_of x.0.value, lexemes source.now x.1.now)) result (parse_at depth level (lexemes source.now words.now)) }
+    ensures { Parses (λ x. tree_of x.value) source.now words.now result (parse_at depth level) }
 {
     let (expr, rest) = parse(alloc, source, level, words, depth)?;
     Ok((Box::new(alloc, expr)?, rest))
@@ -74,7 +73,7 @@ pub fn parse_then<'a>(
     sign: Sign,
     depth: u64,
 ) -> Result<(Box<Expr>, &'a [Word]), Refusal>
-    ensures { Gives (λ x. (tree_of x.0.value, lexemes source.now x.1.now)) result (expr_then sign (parse_at depth) (lexemes source.now words.now)) }
+    ensures { Parses (λ x. tree_of x.value) source.now words.now result (expr_then sign (parse_at depth)) }
 {
     let (expr, rest) = parse_boxed(alloc, source, 8, words, depth)?;
     let rest = expect(source, rest, sign)?;
@@ -90,7 +89,7 @@ fn whole<'a>(
     words: &'a [Word],
     depth: u64,
 ) -> Result<(Expr, &'a [Word]), Refusal>
-    ensures { Gives (λ x. (tree_of x.0, lexemes source.now x.1.now)) result (whole_at (parse_at depth) depth (lexemes source.now words.now)) }
+    ensures { Parses tree_of source.now words.now result (whole_at (parse_at depth) depth) }
 {
     match behind(source, words, Sign::If) {
         Some(rest) => chosen(alloc, source, rest, depth),
@@ -110,7 +109,7 @@ fn chosen<'a>(
     words: &'a [Word],
     depth: u64,
 ) -> Result<(Expr, &'a [Word]), Refusal>
-    ensures { Gives (λ x. (tree_of x.0, lexemes source.now x.1.now)) result (choice_at (parse_at depth) (lexemes source.now words.now)) }
+    ensures { Parses tree_of source.now words.now result (choice_at (parse_at depth)) }
 {
     let (test, rest) = parse_then(alloc, source, words, Sign::Then, depth)?;
     let (first, rest) = parse_then(alloc, source, rest, Sign::Else, depth)?;
@@ -128,7 +127,7 @@ fn defaulted<'a>(
     words: &'a [Word],
     depth: u64,
 ) -> Result<(Expr, &'a [Word]), Refusal>
-    ensures { Gives (λ x. (tree_of x.0, lexemes source.now x.1.now)) result (default_at (parse_at depth) (tree_of left) (lexemes source.now words.now)) }
+    ensures { Parses tree_of source.now words.now result (default_at (parse_at depth) (tree_of left)) }
 {
     match behind(source, words, Sign::Default) {
         Some(rest) => {
@@ -151,7 +150,7 @@ fn chain<'a>(
     depth: u64,
 ) -> Result<(Expr, &'a [Word]), Refusal>
     requires { level ≤ 7 }
-    ensures { Gives (λ x. (tree_of x.0, lexemes source.now x.1.now)) result (level_at (parse_at depth) depth level (lexemes source.now words.now)) }
+    ensures { Parses tree_of source.now words.now result (level_at (parse_at depth) depth level) }
 {
     if level == 0 {
         return application(alloc, source, words, depth);
@@ -182,7 +181,7 @@ fn operators<'a>(
 ) -> Result<(Expr, &'a [Word]), Refusal>
     requires above { 0 < level }
     requires below { level ≤ 7 }
-    ensures { Gives (λ x. (tree_of x.0, lexemes source.now x.1.now)) result (chain_rest (level_at (parse_at depth) depth (level - 1)) level (grammar.turns level depth) (tree_of left) (lexemes source.now words.now)) }
+    ensures { Parses tree_of source.now words.now result (chain_rest (level_at (parse_at depth) depth (level - 1)) level (grammar.turns level depth) (tree_of left)) }
 {
     let mut left = left;
     let mut rest = words;
@@ -213,7 +212,7 @@ fn joined<'a>(
 ) -> Result<(Expr, &'a [Word]), Refusal>
     requires above { 0 < level }
     requires below { level ≤ 7 }
-    ensures { Gives (λ x. (tree_of x.0, lexemes source.now x.1.now)) result (joined_at (level_at (parse_at depth) depth (level - 1)) (joiner_of operator) (tree_of left) (lexemes source.now words.now)) }
+    ensures { Parses tree_of source.now words.now result (joined_at (level_at (parse_at depth) depth (level - 1)) (joiner_of operator) (tree_of left)) }
 {
     let left = Box::new(alloc, left)?;
     let (right, rest) = chain(alloc, source, second_level(level), words, depth)?;
@@ -230,7 +229,7 @@ fn application<'a>(
     words: &'a [Word],
     depth: u64,
 ) -> Result<(Expr, &'a [Word]), Refusal>
-    ensures { Gives (λ x. (tree_of x.0, lexemes source.now x.1.now)) result (application_at (parse_at depth) depth (lexemes source.now words.now)) }
+    ensures { Parses tree_of source.now words.now result (application_at (parse_at depth) depth) }
 {
     match opening(source, words) {
         Some((Head::Macro(token), rest)) => {
@@ -258,12 +257,12 @@ fn in_place<'a>(
     words: &'a [Word],
     depth: u64,
 ) -> Result<(Expr, &'a [Word]), Refusal>
-    ensures { Gives (λ x. (tree_of x.0, lexemes source.now x.1.now)) result (function_at (functional_of functional) (parse_at depth) depth (lexemes source.now words.now)) }
+    ensures { Parses tree_of source.now words.now result (function_at (functional_of functional) (parse_at depth) depth) }
 {
     let (pattern, rest) = pattern_then(alloc, source, words, Sign::FatArrow, depth)?;
     let (body, rest) = parse_then(alloc, source, rest, Sign::Close, depth)?;
     let (argument, rest) = argument(alloc, source, rest, depth)?;
-    Ok((function(functional, pattern, body, argument), rest))
+    Ok((function_in_place(functional, pattern, body, argument), rest))
 }
 
 // An exclamation mark and an application, in a box.
@@ -275,7 +274,7 @@ fn argument<'a>(
     words: &'a [Word],
     depth: u64,
 ) -> Result<(Box<Expr>, &'a [Word]), Refusal>
-    ensures { Gives (λ x. (tree_of x.0.value, lexemes source.now x.1.now)) result (argument_at (parse_at depth) (lexemes source.now words.now)) }
+    ensures { Parses (λ x. tree_of x.value) source.now words.now result (argument_at (parse_at depth)) }
 {
     let rest = expect(source, words, Sign::Bang)?;
     parse_boxed(alloc, source, 0, rest, depth)

@@ -3,10 +3,9 @@
 //! Each is read in a loop of at most `depth` turns, but for `list_or_none`; each contract is the function on lists of
 //! `aql_grammar`, or a part of one.
 
-ghost use Rattle.std.specs.Prelude.{◌≡◌};
 ghost use Rattle.aql_syntax.specs.View.{trees_of, axes_in, quals_of, defs_in};
 ghost use Rattle.aql_grammar.specs.Parsing.{parse_at, list_at, axes_at, quals_at, defs_at};
-ghost use Rattle.aql_phrases.specs.Words.{lexemes, Gives};
+ghost use Rattle.aql_phrases.specs.Words.{Parses};
 ghost use Rattle.aql_expressions.specs.Parts.{list_or_none_at};
 
 use crate::expressions::parse;
@@ -27,7 +26,7 @@ pub fn list_or_none<'a>(
     words: &'a [Word],
     depth: u64,
 ) -> Result<(Vec<Expr>, &'a [Word]), Refusal>
-    ensures { Gives (λ x. (trees_of x.0.items, lexemes source.now x.1.now)) result (list_or_none_at (parse_at depth) depth (lexemes source.now words.now)) }
+    ensures { Parses (λ x. trees_of x.items) source.now words.now result (list_or_none_at (parse_at depth) depth) }
 {
     match behind(source, words, Sign::CloseBracket) {
         Some(_) => none_listed(alloc, source, words),
@@ -44,7 +43,7 @@ pub fn list<'a>(
     words: &'a [Word],
     depth: u64,
 ) -> Result<(Vec<Expr>, &'a [Word]), Refusal>
-    ensures { Gives (λ x. (trees_of x.0.items, lexemes source.now x.1.now)) result (list_at (parse_at depth) depth (lexemes source.now words.now)) }
+    ensures { Parses (λ x. trees_of x.items) source.now words.now result (list_at (parse_at depth) depth) }
 {
     let mut items = Vec::new(alloc);
     let mut rest = words;
@@ -70,7 +69,7 @@ pub fn indices<'a>(
     words: &'a [Word],
     depth: u64,
 ) -> Result<(Vec<Bind>, &'a [Word]), Refusal>
-    ensures { Gives (λ x. (axes_in x.0.items, lexemes source.now x.1.now)) result (axes_at (parse_at depth) depth (lexemes source.now words.now)) }
+    ensures { Parses (λ x. axes_in x.items) source.now words.now result (axes_at (parse_at depth) depth) }
 {
     let mut items = Vec::new(alloc);
     let mut rest = words;
@@ -97,7 +96,7 @@ pub fn qualifiers<'a>(
     words: &'a [Word],
     depth: u64,
 ) -> Result<(Vec<Qual>, &'a [Word]), Refusal>
-    ensures { Gives (λ x. (quals_of x.0.items, lexemes source.now x.1.now)) result (quals_at (parse_at depth) depth depth (lexemes source.now words.now)) }
+    ensures { Parses (λ x. quals_of x.items) source.now words.now result (quals_at (parse_at depth) depth depth) }
 {
     let mut items = Vec::new(alloc);
     let mut rest = words;
@@ -124,7 +123,7 @@ pub fn definitions<'a>(
     words: &'a [Word],
     depth: u64,
 ) -> Result<(Vec<LetBind>, &'a [Word]), Refusal>
-    ensures { Gives (λ x. (defs_in x.0.items, lexemes source.now x.1.now)) result (defs_at (parse_at depth) depth depth (lexemes source.now words.now)) }
+    ensures { Parses (λ x. defs_in x.items) source.now words.now result (defs_at (parse_at depth) depth depth) }
 {
     let mut items = Vec::new(alloc);
     let mut rest = words;

@@ -2,10 +2,9 @@
 //!
 //! As in `expressions`, each function is one of the functions on lists of `aql_grammar` or a part of one.
 
-ghost use Rattle.std.specs.Prelude.{◌≡◌};
 ghost use Rattle.aql_syntax.specs.View.{tree_of, trees_of};
 ghost use Rattle.aql_grammar.specs.Parsing.{parse_at, postfix_at, primary_at, paren_at, let_at, braces_at, brace_rest, bracket_rest};
-ghost use Rattle.aql_phrases.specs.Words.{lexemes, Gives};
+ghost use Rattle.aql_phrases.specs.Words.{Parses};
 ghost use Rattle.aql_expressions.specs.Parts.{subs_at, double_at, cells_at, table_at, comp_at};
 
 use crate::expressions::parse_then;
@@ -28,7 +27,7 @@ pub fn postfix<'a>(
     words: &'a [Word],
     depth: u64,
 ) -> Result<(Expr, &'a [Word]), Refusal>
-    ensures { Gives (λ x. (tree_of x.0, lexemes source.now x.1.now)) result (postfix_at (parse_at depth) depth (lexemes source.now words.now)) }
+    ensures { Parses tree_of source.now words.now result (postfix_at (parse_at depth) depth) }
 {
     let (first, rest) = primary(alloc, source, words, depth)?;
     let mut left = first;
@@ -56,7 +55,7 @@ fn subscripts<'a>(
     words: &'a [Word],
     depth: u64,
 ) -> Result<(Vec<Expr>, &'a [Word]), Refusal>
-    ensures { Gives (λ x. (trees_of x.0.items, lexemes source.now x.1.now)) result (subs_at (parse_at depth) depth (lexemes source.now words.now)) }
+    ensures { Parses (λ x. trees_of x.items) source.now words.now result (subs_at (parse_at depth) depth) }
 {
     let (at, rest) = list(alloc, source, words, depth)?;
     let at = few(at)?;
@@ -73,7 +72,7 @@ fn primary<'a>(
     words: &'a [Word],
     depth: u64,
 ) -> Result<(Expr, &'a [Word]), Refusal>
-    ensures { Gives (λ x. (tree_of x.0, lexemes source.now x.1.now)) result (primary_at (parse_at depth) depth (lexemes source.now words.now)) }
+    ensures { Parses tree_of source.now words.now result (primary_at (parse_at depth) depth) }
 {
     if let Some(rest) = behind(source, words, Sign::Open) {
         return grouped(alloc, source, rest, depth);
@@ -99,7 +98,7 @@ fn grouped<'a>(
     words: &'a [Word],
     depth: u64,
 ) -> Result<(Expr, &'a [Word]), Refusal>
-    ensures { Gives (λ x. (tree_of x.0, lexemes source.now x.1.now)) result (paren_at (parse_at depth) depth (lexemes source.now words.now)) }
+    ensures { Parses tree_of source.now words.now result (paren_at (parse_at depth) depth) }
 {
     let (items, rest) = list(alloc, source, words, depth)?;
     let rest = expect(source, rest, Sign::Close)?;
@@ -115,7 +114,7 @@ fn bound<'a>(
     words: &'a [Word],
     depth: u64,
 ) -> Result<(Expr, &'a [Word]), Refusal>
-    ensures { Gives (λ x. (tree_of x.0, lexemes source.now x.1.now)) result (let_at (parse_at depth) depth (lexemes source.now words.now)) }
+    ensures { Parses tree_of source.now words.now result (let_at (parse_at depth) depth) }
 {
     let (items, rest) = definitions(alloc, source, words, depth)?;
     let rest = expect(source, rest, Sign::In)?;
@@ -132,7 +131,7 @@ fn braces<'a>(
     words: &'a [Word],
     depth: u64,
 ) -> Result<(Expr, &'a [Word]), Refusal>
-    ensures { Gives (λ x. (tree_of x.0, lexemes source.now x.1.now)) result (braces_at (parse_at depth) depth (lexemes source.now words.now)) }
+    ensures { Parses tree_of source.now words.now result (braces_at (parse_at depth) depth) }
 {
     match behind(source, words, Sign::CloseBrace) {
         Some(rest) => Ok((Expr::Empty, rest)),
@@ -153,7 +152,7 @@ fn in_braces<'a>(
     words: &'a [Word],
     depth: u64,
 ) -> Result<(Expr, &'a [Word]), Refusal>
-    ensures { Gives (λ x. (tree_of x.0, lexemes source.now x.1.now)) result (brace_rest (parse_at depth) depth (trees_of items.items) (lexemes source.now words.now)) }
+    ensures { Parses tree_of source.now words.now result (brace_rest (parse_at depth) depth (trees_of items.items)) }
 {
     if let Some(rest) = behind(source, words, Sign::CloseBrace) {
         return Ok((members(items), rest));
@@ -177,7 +176,7 @@ fn comprehended<'a>(
     words: &'a [Word],
     depth: u64,
 ) -> Result<(Expr, &'a [Word]), Refusal>
-    ensures { Gives (λ x. (tree_of x.0, lexemes source.now x.1.now)) result (comp_at (parse_at depth) depth (tree_of head.value) (lexemes source.now words.now)) }
+    ensures { Parses tree_of source.now words.now result (comp_at (parse_at depth) depth (tree_of head.value)) }
 {
     let (quals, rest) = qualifiers(alloc, source, words, depth)?;
     let rest = expect(source, rest, Sign::CloseBrace)?;
@@ -193,7 +192,7 @@ fn brackets<'a>(
     words: &'a [Word],
     depth: u64,
 ) -> Result<(Expr, &'a [Word]), Refusal>
-    ensures { Gives (λ x. (tree_of x.0, lexemes source.now x.1.now)) result (double_at (parse_at depth) depth (lexemes source.now words.now)) }
+    ensures { Parses tree_of source.now words.now result (double_at (parse_at depth) depth) }
 {
     let rest = expect(source, words, Sign::OpenBracket)?;
     let (items, rest) = list(alloc, source, rest, depth)?;
@@ -210,7 +209,7 @@ fn in_brackets<'a>(
     words: &'a [Word],
     depth: u64,
 ) -> Result<(Expr, &'a [Word]), Refusal>
-    ensures { Gives (λ x. (tree_of x.0, lexemes source.now x.1.now)) result (bracket_rest (parse_at depth) depth (trees_of items.items) (lexemes source.now words.now)) }
+    ensures { Parses tree_of source.now words.now result (bracket_rest (parse_at depth) depth (trees_of items.items)) }
 {
     if let Some(rest) = behind(source, words, Sign::Semicolon) {
         return cells(alloc, source, few(items)?, rest, depth);
@@ -234,7 +233,7 @@ fn cells<'a>(
     words: &'a [Word],
     depth: u64,
 ) -> Result<(Expr, &'a [Word]), Refusal>
-    ensures { Gives (λ x. (tree_of x.0, lexemes source.now x.1.now)) result (cells_at (parse_at depth) depth (trees_of dims.items) (lexemes source.now words.now)) }
+    ensures { Parses tree_of source.now words.now result (cells_at (parse_at depth) depth (trees_of dims.items)) }
 {
     let (cells, rest) = list_or_none(alloc, source, words, depth)?;
     let rest = closed_twice(source, rest)?;
@@ -251,7 +250,7 @@ fn tabulated<'a>(
     words: &'a [Word],
     depth: u64,
 ) -> Result<(Expr, &'a [Word]), Refusal>
-    ensures { Gives (λ x. (tree_of x.0, lexemes source.now x.1.now)) result (table_at (parse_at depth) depth (tree_of body.value) (lexemes source.now words.now)) }
+    ensures { Parses tree_of source.now words.now result (table_at (parse_at depth) depth (tree_of body.value)) }
 {
     let (binds, rest) = indices(alloc, source, words, depth)?;
     if binds.len() > 8 {

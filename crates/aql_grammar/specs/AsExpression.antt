@@ -6,7 +6,8 @@ use Rattle.aql_syntax.specs.declared.sign.Sign.TheVariants as signs
 use Rattle.aql_syntax.specs.Lexis.{Lexeme, mark}
 use Rattle.aql_syntax.specs.Tree.{Pat, Pats, Tree, name, op, no_tree, tree}
 use Rattle.aql_syntax.specs.Grammar.{ReadsPat, pat_bind, pat_any, pat_number, pat_text, pat_true, pat_false, pat_name, pat_paren, pat_tuple, ReadsPats, pats_last, pats_more}
-use Rattle.aql_grammar.specs.Parsing.{◌>>=◌, Out, Parser, Parsers, after, operand, opening_in, list_at, enclosed, paren_at, primary_at, sub_rest, postfix_at, chain_rest, level_at, default_rest, whole_in, parse_at}
+use Rattle.aql_value.specs.Partial.{◌>>=◌}
+use Rattle.aql_grammar.specs.Parsing.{Out, Parser, Parsers, after, operand, opening_in, list_at, enclosed, paren_at, primary_at, sub_rest, postfix_at, chain_rest, level_at, default_rest, whole_in, parse_at}
 use Rattle.aql_grammar.specs.First.{pat_shrinks}
 use Rattle.aql_grammar.specs.Stops.{Stops, stops_below, chain_rest_stops, sub_rest_stops, default_rest_stops, no_bang, choice_skipped, negation_skipped, list_one, list_cons, paren_primary, application_postfix, level_0, level_tight, level_4, level_5, level_loose, parse_8}
 

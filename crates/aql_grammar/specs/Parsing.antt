@@ -1,6 +1,7 @@
 -- What the parser does, as functions on lists of lexemes: what is read at the front, and what follows it.
 -- No public clause of the parser cites them; the laws of this crate say that they are the grammar.
 use Rattle.std.specs.Prelude.{ℕ, zero, suc, ◌==◌, ◌-◌, List, [], ◌∷◌, Bool, true, false, Option, Some, None, nat_lt, length, if◌then◌else◌}
+use Rattle.aql_value.specs.Partial.{◌>>=◌, or_else}
 use Rattle.aql_value.specs.Strict.{Strict}
 use Rattle.aql_value.specs.declared.ops.ArithOp.TheVariants as ariths
 use Rattle.aql_value.specs.declared.ops.CompareOp.TheVariants as compares
@@ -8,16 +9,11 @@ use Rattle.aql_syntax.specs.declared.sign.Sign.{Sign}
 use Rattle.aql_syntax.specs.declared.sign.Sign.TheVariants as signs
 use Rattle.aql_syntax.specs.declared.ast.Kind.{Kind}
 use Rattle.aql_syntax.specs.declared.ast.Kind.TheVariants as field_kinds
-use Rattle.aql_syntax.specs.Lexis.{Lexeme, named, numeral, quoted, mark}
+use Rattle.aql_syntax.specs.Lexis.{behind, Lexeme, named, numeral, quoted, mark}
 use Rattle.aql_syntax.specs.Tree.{Name, Pat, bind, any, equals, refers, tuple, Pats, no_pat, pat, number, truth, bytes, Tree, name, op, members, comp, tab, bindings, choice, negation, default, apply, function, summap, Trees, no_tree, tree, Axes, no_axis, axis, Quals, no_qual, from, cells, same, test, Defs, no_def, def, Reader, plain, signed, strided, records, Declaration, val, mac, read, bare, count_trees, count_axes, append}
 use Rattle.aql_syntax.specs.View.{of_one, of_two}
 use Rattle.aql_syntax.specs.Grammar.{Junction, both, either, joined, head_operator, netcdf, csv}
 use Rattle.aql_grammar.specs.SignNumbers.{same_sign}
-
-infixl 10 ◌>>=◌
-abbrev pub ◌>>=◌ : {A B : Type 0} → Option A → (A → Option B) → Option B
-None >>= f = None
-(Some x) >>= f = f x
 
 -- what was read, and what follows it
 abbrev pub Out : Type 0 → Type 0
@@ -212,10 +208,6 @@ cells_front n s =
     after signs.OpenBracket s >>= λ r. pat_at n r >>= λ x. after signs.Colon x.1 >>= λ r'. pat_at n r' >>= λ y.
     after signs.CloseBracket y.1 >>= λ r''. after signs.Arrow r'' >>= λ r'''. Some (from_cells x.0 y.0, r''')
 
-abbrev pub or_else : {A : Type 0} → Option A → Option A → Option A
-or_else (Some x) o = Some x
-or_else None o = o
-
 abbrev pub or_tests : List Lexeme → Out Front → Front × List Lexeme
 or_tests s (Some x) = x
 or_tests s None = (tests, s)
@@ -378,12 +370,6 @@ parse_at zero h s = None
 parse_at (suc n) h s = if h == 8 then whole_at (parse_at n) n s else level_at (parse_at n) n h s
 
 -- Declarations.
-
--- what follows those bytes
-abbrev pub behind : List ℕ → List ℕ → Option (List ℕ)
-behind [] s = Some s
-behind (a ∷ p) [] = None
-behind (a ∷ p) (b ∷ s) = if b == a then behind p s else None
 
 -- the rank that these bytes are, one digit from 1 to 8
 abbrev pub rank_of : List ℕ → Option ℕ

@@ -6,7 +6,9 @@ use Rattle.aql_syntax.specs.declared.ast.Kind.{Kind}
 use Rattle.aql_syntax.specs.declared.ast.Kind.TheVariants as field_kinds
 use Rattle.aql_syntax.specs.Tree.{Name, Reader, plain, signed, strided, records}
 use Rattle.aql_syntax.specs.Grammar.{netcdf, csv, kind_letter, reader_name, IsReader}
-use Rattle.aql_grammar.specs.Parsing.{◌>>=◌, short, behind, rank_of, kind_of_letter, kinds_of, records_of, netcdf_reader, csv_reader, reader_named}
+use Rattle.aql_value.specs.Partial.{◌>>=◌}
+use Rattle.aql_syntax.specs.Lexis.{behind}
+use Rattle.aql_grammar.specs.Parsing.{short, rank_of, kind_of_letter, kinds_of, records_of, netcdf_reader, csv_reader, reader_named}
 use Rattle.aql_grammar.specs.Steps.{went, short_is}
 use Rattle.aql_grammar.specs.Stops.{short_list}
 

@@ -5,7 +5,8 @@ use Rattle.aql_syntax.specs.declared.sign.Sign.TheVariants as signs
 use Rattle.aql_syntax.specs.Lexis.{Lexeme, named, mark}
 use Rattle.aql_syntax.specs.Tree.{Tree, Declaration, val, mac, read, bare}
 use Rattle.aql_syntax.specs.Grammar.{whole, Reads, reader_name, ReadsDecl, decl_val, decl_macro, decl_read, decl_bare, ReadsDecls, decls_none, decls_more, ReadsScript, SyntaxFaultAt}
-use Rattle.aql_grammar.specs.Parsing.{◌>>=◌, Out, after, name_at, binder_at, pat_then, parse_at, ended_at, reader_named, reader_at, val_at, macro_at, readval_at, decl_in, decl_at}
+use Rattle.aql_value.specs.Partial.{◌>>=◌}
+use Rattle.aql_grammar.specs.Parsing.{Out, after, name_at, binder_at, pat_then, parse_at, ended_at, reader_named, reader_at, val_at, macro_at, readval_at, decl_in, decl_at}
 use Rattle.aql_grammar.specs.Steps.{went, moved, after_is, at_sign, name_is, binder_is}
 use Rattle.aql_grammar.specs.PatternSound.{pat_then_sound}
 use Rattle.aql_grammar.specs.Sound.{parse_at_sound}

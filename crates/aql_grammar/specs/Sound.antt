@@ -7,7 +7,8 @@ use Rattle.aql_syntax.specs.declared.sign.Sign.TheVariants as signs
 use Rattle.aql_syntax.specs.Lexis.{Lexeme, named, numeral, quoted, mark}
 use Rattle.aql_syntax.specs.Tree.{Name, Pat, Tree, op, tab, function, summap, Trees, tree, Axes, axis, Quals, no_qual, Defs, def, count_trees, count_axes}
 use Rattle.aql_syntax.specs.Grammar.{ReadsPat, Level, primary, postfix, tight, comparison, loose, whole, head_operator, Reads, reads_number, reads_text, reads_true, reads_false, reads_name, reads_paren, reads_tuple, reads_empty, reads_members, reads_comp, reads_tab, reads_literal, reads_let, reads_primary, reads_sub, reads_postfix, reads_apply, reads_operation, reads_function, reads_summap, reads_tighter, reads_union, reads_comparison, reads_not, reads_looser, reads_or, reads_default, reads_if, ReadsList, list_last, list_more, ReadsMaybe, maybe_none, maybe_list, ReadsAxes, axes_last, axes_more, ReadsDefs, defs_last, defs_more, ReadsQuals, quals_from, quals_cells, quals_same, quals_test, ReadsMoreQuals, more_none, more_quals}
-use Rattle.aql_grammar.specs.Parsing.{◌>>=◌, Out, Parser, Parsers, after, binder_at, pat_at, pat_then, Joiner, joined_by, operator_at, Opening, applies, operates, functions, summaps, operand, opens, operates_at, opening_in, opening, list_at, list_rest, maybe_at, short, only, enclosed, axes_at, axes_rest, Front, from_set, from_cells, matches, qualified, front_of, cells_front, or_else, or_tests, front_at, quals_at, quals_rest, def_at, defs_at, defs_rest, closed_twice, brace_rest, braces_at, literal_of, bracket_rest, brackets_at, let_at, paren_at, primary_in, primary_at, sub_rest, postfix_at, function_at, applied, application_at, chain_rest, negation_at, level_at, choice_at, default_rest, whole_in, whole_at, parse_at}
+use Rattle.aql_value.specs.Partial.{◌>>=◌, or_else}
+use Rattle.aql_grammar.specs.Parsing.{Out, Parser, Parsers, after, binder_at, pat_at, pat_then, Joiner, joined_by, operator_at, Opening, applies, operates, functions, summaps, operand, opens, operates_at, opening_in, opening, list_at, list_rest, maybe_at, short, only, enclosed, axes_at, axes_rest, Front, from_set, from_cells, matches, qualified, front_of, cells_front, or_tests, front_at, quals_at, quals_rest, def_at, defs_at, defs_rest, closed_twice, brace_rest, braces_at, literal_of, bracket_rest, brackets_at, let_at, paren_at, primary_in, primary_at, sub_rest, postfix_at, function_at, applied, application_at, chain_rest, negation_at, level_at, choice_at, default_rest, whole_in, whole_at, parse_at}
 use Rattle.aql_grammar.specs.Steps.{went, moved, after_is, at_sign, from_sign, binder_is, short_is}
 use Rattle.aql_grammar.specs.PatternSound.{pat_at_sound, pat_then_sound}
 use Rattle.aql_grammar.specs.Operators.{operator_is, reads_tight, reads_comparing, reads_loose}

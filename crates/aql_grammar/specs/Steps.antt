@@ -6,7 +6,8 @@ use Rattle.aql_syntax.specs.declared.sign.Sign.TheVariants as signs
 use Rattle.aql_syntax.specs.Lexis.{Lexeme, named, numeral, quoted, mark}
 use Rattle.aql_syntax.specs.Tree.{Name}
 use Rattle.aql_grammar.specs.SignNumbers.{same_sign, same_sign-eq}
-use Rattle.aql_grammar.specs.Parsing.{◌>>=◌, after, name_at, binder_at, short}
+use Rattle.aql_value.specs.Partial.{◌>>=◌}
+use Rattle.aql_grammar.specs.Parsing.{after, name_at, binder_at, short}
 
 -- what a bind that gives something went through
 pub record Went {A B : Type 0} (o : Option A) (f : A → Option B) (y : B) : Type 0 where

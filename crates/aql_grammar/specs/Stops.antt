@@ -10,7 +10,8 @@ use Rattle.aql_syntax.specs.Lexis.{Lexeme, named, mark}
 use Rattle.aql_syntax.specs.Tree.{Name, Pat, Tree, op, members, comp, tab, bindings, apply, function, summap, Trees, no_tree, tree, Axes, no_axis, axis, Quals, no_qual, Defs, no_def, def, count_trees, count_axes}
 use Rattle.aql_syntax.specs.View.{of_one}
 use Rattle.aql_syntax.specs.Grammar.{ReadsPat, Junction, tight_operator, compare_operator, loose_operator, primary, postfix, head_operator, Reads, reads_number, reads_text, reads_true, reads_false, reads_name, reads_paren, reads_tuple, reads_empty, reads_members, reads_comp, reads_tab, reads_literal, reads_let, reads_primary, reads_sub, ReadsList, list_last, list_more, ReadsDefs, defs_last, defs_more}
-use Rattle.aql_grammar.specs.Parsing.{◌>>=◌, Out, Parser, Parsers, after, name_at, binder_at, pat_then, Joiner, builds, joins, joined_by, operator_of, at_level, operator_at, operates, operand, opening_in, opening, list_at, list_rest, maybe_at, short, enclosed, axes_at, axes_rest, Front, qualified, front_at, quals_at, quals_rest, def_at, defs_at, defs_rest, closed_twice, brace_rest, braces_at, literal_of, bracket_rest, brackets_at, let_at, paren_at, primary_at, sub_rest, postfix_at, function_at, application_at, chain_rest, negation_at, level_at, default_rest, whole_in, whole_at, parse_at}
+use Rattle.aql_value.specs.Partial.{◌>>=◌}
+use Rattle.aql_grammar.specs.Parsing.{Out, Parser, Parsers, after, name_at, binder_at, pat_then, Joiner, builds, joins, joined_by, operator_of, at_level, operator_at, operates, operand, opening_in, opening, list_at, list_rest, maybe_at, short, enclosed, axes_at, axes_rest, Front, qualified, front_at, quals_at, quals_rest, def_at, defs_at, defs_rest, closed_twice, brace_rest, braces_at, literal_of, bracket_rest, brackets_at, let_at, paren_at, primary_at, sub_rest, postfix_at, function_at, application_at, chain_rest, negation_at, level_at, default_rest, whole_in, whole_at, parse_at}
 use Rattle.aql_grammar.specs.First.{StartsAt, starts_at}
 use Rattle.aql_grammar.specs.PatternComplete.{pat_then_complete, after_self}
 

@@ -7,7 +7,8 @@ use Rattle.aql_types.specs.View.{sort_of}
 use Rattle.aql_types.specs.declared.ty.Scheme as code_scheme
 use Rattle.aql_syntax.specs.Tree.{Declaration}
 use Rattle.aql_constraints.specs.Constraints.{Schemes, State, Made, start, make_decl}
-use Rattle.aql_constraints.specs.Numbering.{sort_variables, number}
+use Rattle.aql_types.specs.Variables.{sort_variables}
+use Rattle.aql_constraints.specs.Numbering.{number}
 use Rattle.aql_constraints.specs.Principal.{IsNotInferred, HasNoSolution}
 use Rattle.aql_constraints.specs.View.{Fails}
 use Rattle.aql_constraints.specs.declared.names.Position.{Position}

@@ -6,7 +6,8 @@ use Rattle.aql_types.specs.View.{sort_of}
 use Rattle.aql_types.specs.declared.ty.Scheme as code_scheme
 use Rattle.aql_syntax.specs.Tree.{Declaration, declared}
 use Rattle.aql_constraints.specs.Constraints.{Schemes}
-use Rattle.aql_constraints.specs.Numbering.{sort_variables, numbered}
+use Rattle.aql_types.specs.Variables.{sort_variables}
+use Rattle.aql_constraints.specs.Numbering.{numbered}
 use Rattle.aql_constraints.specs.Principal.{IsInferred, IsNotInferred}
 use Rattle.aql_constraints.specs.View.{scheme_of}
 use Rattle.aql_constraints.specs.declared.names.Position.{Position}

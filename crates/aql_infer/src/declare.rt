@@ -1,17 +1,15 @@
 //! One declaration after others.
 
-ghost use Rattle.std.specs.Prelude.{◌≡◌, [], IfOk};
-ghost use Rattle.aql_types.specs.View.{sort_of};
+ghost use Rattle.std.specs.Prelude.{◌≡◌, []};
 ghost use Rattle.aql_syntax.specs.Tree as tree;
-ghost use Rattle.aql_syntax.specs.Tree.{declared};
 ghost use Rattle.aql_syntax.specs.View.{tree_of, decl_of, reader_of, pat_of};
 ghost use Rattle.aql_constraints.specs.Constraints.{start, make_decl};
-ghost use Rattle.aql_constraints.specs.View.{state_of, schemes_of, Makes};
+ghost use Rattle.aql_constraints.specs.View.{state_of, schemes_of, MakesSort};
 ghost use Rattle.aql_infer.specs.Inferred.{Inferred, Placed};
 
 use aql_constraints::fault::NoTyping;
 use aql_constraints::names::Position;
-use aql_constraints::numbering::{instance_of, scheme_variables, with_places};
+use aql_constraints::numbering::{instance_of, with_places};
 use aql_constraints::patterns::pattern;
 use aql_constraints::readers::{argument_type, has_rank, reader_type};
 use aql_constraints::store::{Store, equal_types, tested, used};
@@ -21,7 +19,8 @@ use aql_syntax::ast::{Decl, Expr, Pattern, Reader};
 use aql_types::fault::UnifyFault;
 use aql_types::solve::solve;
 use aql_types::ty::Scheme;
-use aql_value::{Memory, Str};
+use aql_types::variables::scheme_variables;
+use aql_value::Memory;
 use std::alloc::Global;
 
 /// What a declaration has over what the earlier positions have: its principal scheme, with its
@@ -52,7 +51,7 @@ fn placed(alloc: Global, d: &Decl, scheme: Result<Scheme, Memory>) -> Result<Pos
 {
     let scheme = boxed(alloc, scheme)?;
     let names = scheme_variables(alloc, &scheme)?;
-    let (scheme, name) = both(with_places(alloc, &scheme, &names), declared_name(alloc, d))?;
+    let (scheme, name) = both(with_places(alloc, &scheme, &names), d.name_copy(alloc))?;
     Ok(Position {
         name,
         scheme,
@@ -70,30 +69,6 @@ fn begin(alloc: Global) -> Store
     }
 }
 
-// The name that a declaration binds.
-fn declared_name(alloc: Global, d: &Decl) -> Result<Str, Memory>
-    ensures { IfOk result (λ x. x ≡ declared (decl_of d.now)) }
-{
-    match d {
-        Decl::Val { name, expr: _ } => name.copy(alloc),
-        Decl::Macro {
-            name,
-            pattern: _,
-            body: _,
-        } => name.copy(alloc),
-        Decl::Read {
-            name,
-            reader: _,
-            expr: _,
-        } => name.copy(alloc),
-        Decl::Bare { expr: _ } => {
-            let mut bytes = Vec::new(alloc);
-            bytes.extend_from_slice(b"it")?;
-            Ok(Str { bytes })
-        }
-    }
-}
-
 // What a declaration asks, and what it has then.
 fn asked(
     alloc: Global,
@@ -101,7 +76,7 @@ fn asked(
     positions: &[Position],
     s: Store,
 ) -> Result<(Scheme, Store), NoTyping>
-    ensures { Makes (λ r. record { result = sort_of r.0; state = state_of r.1 }) result (make_decl (decl_of d.now) (schemes_of positions.now) (state_of s)) }
+    ensures { MakesSort result (make_decl (decl_of d.now) (schemes_of positions.now) (state_of s)) }
 {
     match d {
         Decl::Val { name: _, expr } => asked_of_value(alloc, expr, positions, s),
@@ -126,7 +101,7 @@ fn asked_of_value(
     positions: &[Position],
     s: Store,
 ) -> Result<(Scheme, Store), NoTyping>
-    ensures { Makes (λ r. record { result = sort_of r.0; state = state_of r.1 }) result (make_decl (tree.bare (tree_of e.now)) (schemes_of positions.now) (state_of s)) }
+    ensures { MakesSort result (make_decl (tree.bare (tree_of e.now)) (schemes_of positions.now) (state_of s)) }
 {
     let mut env = Vec::new(alloc);
     let (t, s) = infer(alloc, e, u64::MAX, positions, &mut env, s)?;
@@ -142,7 +117,7 @@ fn asked_of_macro(
     positions: &[Position],
     s: Store,
 ) -> Result<(Scheme, Store), NoTyping>
-    ensures { Makes (λ r. record { result = sort_of r.0; state = state_of r.1 }) result (make_decl (tree.mac [] (pat_of p.now) (tree_of body.now)) (schemes_of positions.now) (state_of s)) }
+    ensures { MakesSort result (make_decl (tree.mac [] (pat_of p.now) (tree_of body.now)) (schemes_of positions.now) (state_of s)) }
 {
     let mut env = Vec::new(alloc);
     let (a, s) = pattern(alloc, p, positions, &mut env, s)?;
@@ -166,7 +141,7 @@ fn asked_of_reader(
     positions: &[Position],
     s: Store,
 ) -> Result<(Scheme, Store), NoTyping>
-    ensures { Makes (λ r. record { result = sort_of r.0; state = state_of r.1 }) result (make_decl (tree.read [] (reader_of reader.now) (tree_of e.now)) (schemes_of positions.now) (state_of s)) }
+    ensures { MakesSort result (make_decl (tree.read [] (reader_of reader.now) (tree_of e.now)) (schemes_of positions.now) (state_of s)) }
 {
     let s = tested(has_rank(reader), s)?;
     let mut env = Vec::new(alloc);

@@ -14,7 +14,8 @@ use Rattle.aql_lex.specs.declared.signs.TheConstants.{WORDS, SIGNS}
 use Rattle.aql_lex.specs.declared.lexer.Item.{Item}
 use Rattle.aql_lex.specs.declared.lexer.Item.TheVariants as items
 use Rattle.aql_lex.specs.Texts.{digits_value}
-use Rattle.aql_lex.specs.Lexing.{◌>>=◌, run_rest, string_rest, inside, comment_rest, first_spelled, sign_from, number, word, word_item, paren, found_at}
+use Rattle.aql_value.specs.Partial.{◌>>=◌}
+use Rattle.aql_lex.specs.Lexing.{run_rest, string_rest, inside, comment_rest, first_spelled, sign_from, number, word, word_item, paren, found_at}
 use Rattle.aql_lex.proofs.RunLaws.{run-is, run-reads, string-is, string-reads, comment-is, comment-reads, digits-are, digits-read, tested}
 use Rattle.aql_lex.proofs.Spellings.{spelled_so, word_is, word_reads, no_word, no_word_is, sign_stands, listed, listed_is_sign, listed_ends}
 

@@ -1,14 +1,16 @@
 -- The tables of reserved words and signs.
 use Rattle.std.proofs.Common.{ℕ, ◌≡◌, ◌≢◌, List, [], ◌∷◌, ◌++◌, Bool, true, false, ◌||◌, ◌==◌, Option, Some, None, MatchOption, refl, sym, ap, ◌∙◌, subst, if◌then◌else◌}
 use Rattle.std.specs.Str.{bytes_eq}
+use Rattle.std.specs.Option.{option_map}
 use Rattle.std.proofs.lemmas.Bool.{eqb-true}
 use Rattle.std.proofs.lemmas.Slice.Eq.{bytes_eq-Decides}
 use Rattle.aql_syntax.specs.declared.sign.Sign.{Sign}
 use Rattle.aql_syntax.specs.declared.sign.Sign.TheVariants as signs
 use Rattle.aql_syntax.specs.Signs.{spelling, is_word, joins}
-use Rattle.aql_syntax.specs.Lexis.{Ends, IsNoWord}
+use Rattle.aql_syntax.specs.Lexis.{behind, Ends, IsNoWord}
 use Rattle.aql_lex.specs.declared.signs.TheConstants.{WORDS, SIGNS, ALL}
-use Rattle.aql_lex.specs.Lexing.{first_spelled, behind, or_else, sign_from}
+use Rattle.aql_value.specs.Partial.{or_else}
+use Rattle.aql_lex.specs.Lexing.{first_spelled, sign_from}
 use Rattle.aql_lex.proofs.RunLaws.{tested}
 
 -- a word that is found in a table is spelled so
@@ -82,7 +84,7 @@ sign_stands [] s g r e = cc
 sign_stands (h ∷ gs) s g r e = go (behind (spelling h) s) refl (sign_stands gs s g r) e
   where
     go : (o : Option (List ℕ)) → behind (spelling h) s ≡ o → (sign_from gs s ≡ Some (g, r) → s ≡ spelling g ++ r) →
-        or_else h o (sign_from gs s) ≡ Some (g, r) → s ≡ spelling g ++ r
+        or_else (option_map (λ r. (h, r)) o) (sign_from gs s) ≡ Some (g, r) → s ≡ spelling g ++ r
     go None is again e = again e
     go (Some q) is again e =
         let same : ◌≡◌ {A = Sign × List ℕ} (h, q) (g, r) = cc in
@@ -93,7 +95,7 @@ sign_holds f [] s g r h e = cc
 sign_holds f (k ∷ gs) s g r h e =
     tested (f k) _ _ _ (f g ≡ true) h (λ q h. go (behind (spelling k) s) q (sign_holds f gs s g r h) e) (λ _ h. cc)
   where
-    go : (o : Option (List ℕ)) → f k ≡ true → (sign_from gs s ≡ Some (g, r) → f g ≡ true) → or_else k o (sign_from gs s) ≡ Some (g, r) → f g ≡ true
+    go : (o : Option (List ℕ)) → f k ≡ true → (sign_from gs s ≡ Some (g, r) → f g ≡ true) → or_else (option_map (λ r. (k, r)) o) (sign_from gs s) ≡ Some (g, r) → f g ≡ true
     go None q again e = again e
     go (Some x) q again e =
         let same : ◌≡◌ {A = Sign × List ℕ} (k, x) (g, r) = cc in

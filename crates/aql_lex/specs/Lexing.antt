@@ -1,11 +1,13 @@
 -- What the lexer does, as functions on lists of bytes. No clause of `tokens` cites it.
 use Rattle.std.specs.Prelude.{ℕ, ◌-◌, ◌^◌, List, [], ◌∷◌, Bool, false, ◌||◌, ◌&&◌, ◌==◌, Option, Some, None, if◌then◌else◌, nat_lt, take, length}
 use Rattle.std.specs.Str.{bytes_eq}
+use Rattle.std.specs.Option.{option_map}
+use Rattle.aql_value.specs.Partial.{◌>>=◌, or_else}
 use Rattle.aql_syntax.specs.declared.sign.Sign.{Sign}
 use Rattle.aql_syntax.specs.declared.sign.Sign.TheVariants as signs
 use Rattle.aql_syntax.specs.declared.token.TokenKind.TheVariants as kinds
 use Rattle.aql_syntax.specs.Signs.{spelling}
-use Rattle.aql_syntax.specs.Lexis.{is_letter, is_digit, is_name_byte, is_plain, is_hex, is_space}
+use Rattle.aql_syntax.specs.Lexis.{behind, is_letter, is_digit, is_name_byte, is_plain, is_hex, is_space}
 use Rattle.aql_lex.specs.declared.signs.TheConstants.{WORDS, SIGNS}
 use Rattle.aql_lex.specs.declared.lexer.Item.{Item}
 use Rattle.aql_lex.specs.declared.lexer.Item.TheVariants as items
@@ -40,25 +42,10 @@ abbrev pub first_spelled : List Sign → List ℕ → Option Sign
 first_spelled [] t = None
 first_spelled (g ∷ gs) t = if bytes_eq t (spelling g) then Some g else first_spelled gs t
 
--- what follows p, where it stands at the front
-abbrev pub behind : List ℕ → List ℕ → Option (List ℕ)
-behind [] s = Some s
-behind (a ∷ p) [] = None
-behind (a ∷ p) (b ∷ s) = if b == a then behind p s else None
-
-abbrev pub or_else : Sign → Option (List ℕ) → Option (Sign × List ℕ) → Option (Sign × List ℕ)
-or_else g (Some r) o = Some (g, r)
-or_else g None o = o
-
 -- the first of these that stands at the front, and what follows it
 abbrev pub sign_from : List Sign → List ℕ → Option (Sign × List ℕ)
 sign_from [] s = None
-sign_from (g ∷ gs) s = or_else g (behind (spelling g) s) (sign_from gs s)
-
-infixl 10 ◌>>=◌
-abbrev pub ◌>>=◌ : {A B : Type 0} → Option A → (A → Option B) → Option B
-None >>= f = None
-(Some x) >>= f = f x
+sign_from (g ∷ gs) s = or_else (option_map (λ r. (g, r)) (behind (spelling g) s)) (sign_from gs s)
 
 -- what is found at the front, and what follows it
 abbrev pub Found : Type 0

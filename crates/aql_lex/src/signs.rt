@@ -1,11 +1,12 @@
 //! How reserved words and signs are spelled, and which one stands somewhere.
 
-ghost use Rattle.std.specs.Prelude.{◌≡◌, ◌≢◌, ◌++◌, MatchOption, Some, None};
+ghost use Rattle.std.specs.Prelude.{◌≡◌, ◌≢◌, MatchOption, Some, None};
 ghost use Rattle.aql_syntax.specs.declared.sign.Sign.{Sign};
 ghost use Rattle.aql_syntax.specs.Signs as table;
-ghost use Rattle.aql_lex.specs.Lexing.{first_spelled, sign_from, behind};
+ghost use Rattle.aql_lex.specs.Lexing.{first_spelled, sign_from};
 
 use aql_syntax::sign::Sign;
+use aql_syntax::token::behind;
 
 /// The reserved word or sign that these bytes spell.
 pub fn sign_of(text: &[u8]) -> Option<Sign>
@@ -33,11 +34,11 @@ fn spelled(signs: &[Sign], text: &[u8]) -> Option<Sign>
     ensures { MatchOption result (first_spelled signs.now text.now ≡ None) (λ g. first_spelled signs.now text.now ≡ Some g) }
 {
     let mut left = signs;
-    while let Some((first, behind)) = left.split_first() {
+    while let Some((first, later)) = left.split_first() {
         if text == spelling(*first) {
             return Some(*first);
         }
-        left = behind;
+        left = later;
     }
     None
 }
@@ -48,29 +49,12 @@ fn first_at<'a>(signs: &[Sign], bytes: &'a [u8]) -> Option<(Sign, &'a [u8])>
 {
     let mut left = signs;
     while let Some((first, later)) = left.split_first() {
-        if let Some(rest) = after(spelling(*first), bytes) {
+        if let Some(rest) = behind(spelling(*first), bytes) {
             return Some((*first, rest));
         }
         left = later;
     }
     None
-}
-
-// What follows these bytes, where they stand at the front.
-fn after<'a>(prefix: &[u8], bytes: &'a [u8]) -> Option<&'a [u8]>
-    ensures { MatchOption result (behind prefix.now bytes.now ≡ None) (λ r. behind prefix.now bytes.now ≡ Some r.now) }
-{
-    let mut left = prefix;
-    let mut rest = bytes;
-    while let Some((wanted, later)) = left.split_first() {
-        let (first, others) = rest.split_first()?;
-        if *first != *wanted {
-            return None;
-        }
-        left = later;
-        rest = others;
-    }
-    Some(rest)
 }
 
 /// The reserved words.

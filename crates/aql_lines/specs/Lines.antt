@@ -3,10 +3,11 @@ use Rattle.std.specs.Prelude.{ℕ, List, [], ◌++◌, codes, decimal}
 use Rattle.cdf_header.specs.declared.fault.CdfFault.{CdfFault}
 use Rattle.cdf_header.specs.declared.fault.CdfFault.TheVariants as cdf
 
--- a fault at a byte, and in a declaration
+-- a fault at a byte
 abbrev pub at_byte : List ℕ → ℕ → List ℕ
 at_byte fault k = codes "fault " ++ (fault ++ (codes " at byte " ++ (decimal k ++ codes "\n")))
 
+-- a fault in a declaration
 abbrev pub in_declaration : List ℕ → ℕ → List ℕ
 in_declaration fault n = codes "fault " ++ (fault ++ (codes " in declaration " ++ (decimal n ++ codes "\n")))
 

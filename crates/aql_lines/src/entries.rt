@@ -1,13 +1,6 @@
 //! The lines of a declaration.
-ghost use Rattle.std.specs.Prelude.{◌≡◌, ◌++◌, codes, decimal, IfOk, OnOk};
-ghost use Rattle.std.specs.Option.{option_map};
-ghost use Rattle.aql_types.specs.View.{sort_of};
-ghost use Rattle.nrca_array.specs.Held.{held_datum};
-ghost use Rattle.aql_print.specs.TypeText.{scheme_text};
-ghost use Rattle.nrca_term.specs.View.{term_of};
-ghost use Rattle.aql_print.specs.CoreText.{core_text};
-ghost use Rattle.aql_print.specs.TraceText.{trace_text};
-ghost use Rattle.aql_lines.specs.Entry.{entry, line, type_line, value_line, plan_lines, outcome_text};
+ghost use Rattle.std.specs.Prelude.{◌≡◌, ◌++◌, codes, IfOk, OnOk};
+ghost use Rattle.aql_lines.specs.Entry.{entry, lent, line, type_line, value_line, plan_line, plan_lines, rules_line, turns_line, outcome_text};
 
 use aql_print::{print_core, print_held, print_scheme, print_trace};
 use aql_session::{Answer, Ran};
@@ -16,15 +9,15 @@ use itoa::Buffer;
 use nrca_array::Held;
 use std::alloc::Global;
 
-/// The lines of a declaration: its type, its value or that it is a macro, and with `plan` its plan, the
-/// rules that made it and its turns.
+/// The lines of a declaration: its type, its value or that it is a macro, and with `plan` its plan,
+/// the rules that made it and its turns.
 pub fn entry_text(
     alloc: Global,
     plan: bool,
     answer: &Answer,
     outcome: Option<&Held>,
 ) -> Result<Vec<u8>, Memory>
-    ensures { IfOk result (λ text. text.items ≡ entry plan answer.now (option_map (λ h. held_datum h.now) outcome.entry)) }
+    ensures { IfOk result (λ text. text.items ≡ entry plan answer.now (lent outcome.entry)) }
 {
     let mut text = Vec::new(alloc);
     push_type(alloc, answer, &mut text)?;
@@ -52,7 +45,8 @@ fn push_value(
     outcome: Option<&Held>,
     text: &mut Vec<u8>,
 ) -> Result<(), Memory>
-    ensures { OnOk result (text.new.items ≡ text.old.items ++ value_line answer.now.by answer.now.name (option_map (λ h. held_datum h.now) outcome.entry)) }
+    ensures { OnOk result (text.new.items ≡ text.old.items
+        ++ value_line answer.now.by answer.now.name (lent outcome.entry)) }
 {
     match answer.by {
         Ran::Declared => {
@@ -73,7 +67,8 @@ fn push_outcome(
     outcome: Option<&Held>,
     text: &mut Vec<u8>,
 ) -> Result<(), Memory>
-    ensures { OnOk result (text.new.items ≡ text.old.items ++ (codes "val " ++ (name.now ++ (codes " = " ++ (outcome_text (option_map (λ h. held_datum h.now) outcome.entry) ++ codes "\n"))))) }
+    ensures { OnOk result (text.new.items ≡ text.old.items
+        ++ line (codes "val ") name.now (codes " = ") (outcome_text (lent outcome.entry))) }
 {
     text.extend_from_slice(b"val ")?;
     text.extend_from_slice(name)?;
@@ -87,7 +82,8 @@ fn push_outcome(
 }
 
 fn push_plan(alloc: Global, answer: &Answer, text: &mut Vec<u8>) -> Result<(), Memory>
-    ensures { OnOk result (text.new.items ≡ text.old.items ++ plan_lines answer.now.by answer.now) }
+    ensures { OnOk result (text.new.items ≡ text.old.items
+        ++ plan_lines answer.now.by answer.now) }
 {
     match answer.by {
         Ran::Declared => Ok(()),
@@ -106,7 +102,7 @@ fn push_plan_lines(alloc: Global, answer: &Answer, text: &mut Vec<u8>) -> Result
 }
 
 fn push_term(alloc: Global, answer: &Answer, text: &mut Vec<u8>) -> Result<(), Memory>
-    ensures { OnOk result (text.new.items ≡ text.old.items ++ line (codes "plan ") answer.now.name (codes " = ") (core_text 0 (term_of answer.now.plan))) }
+    ensures { OnOk result (text.new.items ≡ text.old.items ++ plan_line answer.now) }
 {
     text.extend_from_slice(b"plan ")?;
     text.extend_from_slice(&answer.name.bytes)?;
@@ -117,7 +113,7 @@ fn push_term(alloc: Global, answer: &Answer, text: &mut Vec<u8>) -> Result<(), M
 }
 
 fn push_rules(alloc: Global, answer: &Answer, text: &mut Vec<u8>) -> Result<(), Memory>
-    ensures { OnOk result (text.new.items ≡ text.old.items ++ line (codes "rules ") answer.now.name (codes " = ") (trace_text answer.now.trace)) }
+    ensures { OnOk result (text.new.items ≡ text.old.items ++ rules_line answer.now) }
 {
     text.extend_from_slice(b"rules ")?;
     text.extend_from_slice(&answer.name.bytes)?;
@@ -128,7 +124,7 @@ fn push_rules(alloc: Global, answer: &Answer, text: &mut Vec<u8>) -> Result<(), 
 }
 
 fn push_turns(answer: &Answer, text: &mut Vec<u8>) -> Result<(), Memory>
-    ensures { OnOk result (text.new.items ≡ text.old.items ++ line (codes "turns ") answer.now.name (codes " = ") (decimal answer.now.turns)) }
+    ensures { OnOk result (text.new.items ≡ text.old.items ++ turns_line answer.now) }
 {
     text.extend_from_slice(b"turns ")?;
     text.extend_from_slice(&answer.name.bytes)?;

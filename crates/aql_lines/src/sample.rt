@@ -6,8 +6,8 @@ use aql_value::Memory;
 use itoa::Buffer;
 use std::alloc::Global;
 
-/// The script of `--sample n`: a tabulation of n cells and a comprehension over it, a sum over n numbers,
-/// and an array made of n pairs.
+/// The script of `--sample n`: a tabulation of n cells and a comprehension over it, a sum over n
+/// numbers, and an array made of n pairs.
 pub fn sample_script(alloc: Global, n: u64) -> Result<Vec<u8>, Memory>
     ensures { IfOk result (λ text. text.items ≡ sample_text n) }
 {

@@ -1,8 +1,6 @@
 -- The code's names as a scope.
-use Rattle.std.proofs.Common.{◌≡◌, ◌<◌, ◌≤◌, ℕ, zero, suc, ◌+◌, ◌-◌, Bool, true, false, ◌&&◌, nat_eq, List, [], ◌∷◌, ◌++◌, length, take, drop, get_or, Option, Some, None, option_map, if◌then◌else◌, refl, sym, ap, ◌∙◌, arith, length-append}
-use Rattle.std.specs.Cmp.Lexicographic.{pointwise}
+use Rattle.std.proofs.Common.{◌≡◌, ◌<◌, ◌≤◌, ℕ, zero, suc, ◌+◌, ◌-◌, true, false, List, [], ◌∷◌, ◌++◌, length, take, drop, get_or, Option, Some, None, option_map, refl, sym, ap, ◌∙◌, arith, length-append}
 use Rattle.aql_syntax.specs.Tree.{Name, Pat, bind, any, equals, refers, tuple, pat}
-use Rattle.aql_syntax.specs.Names.{names_equal}
 use Rattle.aql_syntax.specs.Size.{pat_nodes}
 use Rattle.aql_syntax.specs.View.{pat_of, pats_of}
 use Rattle.aql_syntax.specs.declared.ast.Pattern.{Pattern}
@@ -10,17 +8,6 @@ use Rattle.aql_syntax.specs.ViewLaws.{pat_of_row, pats_from, pats_past}
 use Rattle.aql_start.specs.Start.{Scope, raised, index_of, hidden, bound, bounds}
 use Rattle.aql_matches.specs.Names.{scope, has_name, further_by}
 use Rattle.aql_matches.specs.Scopes.{scope_last, take_before, take_all}
-
-both_equal : (c p q : Bool) → p ≡ q → (c && p) ≡ (if c then q else false)
-both_equal true p q e = e
-both_equal false p q e = refl
-
--- names are equal where their bytes are
-pub names_equal_pointwise : (a b : List ℕ) → pointwise nat_eq a b ≡ names_equal a b
-names_equal_pointwise [] [] = refl
-names_equal_pointwise [] (y ∷ b) = refl
-names_equal_pointwise (x ∷ a) [] = refl
-names_equal_pointwise (x ∷ a) (y ∷ b) = both_equal (nat_eq x y) _ _ (names_equal_pointwise a b)
 
 pub index_here : (x : Name) (v : Option Name) (s : Scope) → has_name x v ≡ true → index_of x (v ∷ s) ≡ Some 0
 index_here x None s e = cc

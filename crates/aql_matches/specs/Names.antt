@@ -1,10 +1,15 @@
 -- The scope that the code's names make, and the position that a name stands for.
-use Rattle.std.specs.Prelude.{ℕ, ◌+◌, Bool, false, List, [], ◌∷◌, Option, Some, None, option_map, if◌then◌else◌}
+use Rattle.std.proofs.Common.{Bor}
+use Rattle.std.specs.Prelude.{ℕ, ◌≡◌, ◌+◌, Bool, false, List, [], ◌∷◌, Option, Some, None, option_map, if◌then◌else◌}
 use Rattle.aql_syntax.specs.Tree.{Name, Declaration, declared}
 use Rattle.aql_syntax.specs.Names.{names_equal}
 use Rattle.nrca_term.specs.Term.{Term}
+use Rattle.nrca_term.specs.View.{term_of}
+use Rattle.nrca_term.specs.declared.term.Core.{Core}
 use Rattle.nrca_term.specs.Nodes.{bottom_term, empty_term}
-use Rattle.aql_start.specs.Start.{Scope, hidden}
+use Rattle.aql_syntax.specs.Measured.{latest}
+use Rattle.aql_syntax.specs.declared.ast.Decl.{Decl}
+use Rattle.aql_start.specs.Start.{Scope, Knowns, hidden, knowns_of}
 use Rattle.aql_matches.specs.declared.matches.Missing.{Missing}
 use Rattle.aql_matches.specs.declared.matches.Missing.TheVariants as missing
 
@@ -16,6 +21,22 @@ put_on f (x ∷ xs) s = put_on f xs (option_map f x ∷ s)
 -- the variables of a list, the innermost last, around which are some without a name
 abbrev pub scope : {A : Type 0} → (A → Name) → List (Option A) → (base : ℕ) → Scope
 scope f xs base = put_on f xs (hidden base)
+
+-- the variables that the code's names are
+abbrev pub scope_in : List (Option (Bor Name)) → (base : ℕ) → Scope
+scope_in names base = scope (λ x. x.now) names base
+
+-- what the code's declarations are to the terms after them
+abbrev pub knowns_in : List Decl → Knowns
+knowns_in ds = knowns_of (latest ds)
+
+-- the scope after is f of the one before, whatever stands around
+abbrev pub Enters : (Scope → Scope) → (old new : List (Option (Bor Name))) → Type 0
+Enters f old new = (base : ℕ) → scope_in new base ≡ f (scope_in old base)
+
+-- the term is f of the declarations before it and of the variables around it
+abbrev pub Stands : (Knowns → Scope → Term) → List Decl → List (Option (Bor Name)) → (base : ℕ) → Core → Type 0
+Stands f earlier names base c = term_of c ≡ f (knowns_in earlier) (scope_in names base)
 
 -- whether a variable has the name
 abbrev pub has_name : Name → Option Name → Bool

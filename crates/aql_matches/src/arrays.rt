@@ -2,12 +2,11 @@
 
 ghost use Rattle.std.specs.Prelude.{◌≡◌, ℕ, ◌+◌, ◌-◌, ◌≤◌, length, take, OnOk, IfOk};
 ghost use Rattle.aql_syntax.specs.View.{pats_of};
-ghost use Rattle.aql_syntax.specs.Measured.{latest};
 ghost use Rattle.nrca_term.specs.Nodes.{let_term};
 ghost use Rattle.nrca_term.specs.View.{term_of};
 ghost use Rattle.aql_start.specs.Start as start_term;
-ghost use Rattle.aql_start.specs.Start.{knowns_of, under, bound_axes, axes_term, loops_term, cell_term};
-ghost use Rattle.aql_matches.specs.Names.{scope, missing_term};
+ghost use Rattle.aql_start.specs.Start.{under, bound_axes, axes_term, loops_term, cell_term};
+ghost use Rattle.aql_matches.specs.Names.{missing_term, scope_in, knowns_in, Enters};
 
 use crate::matches::{Missing, enter_past, plus, wrap};
 use crate::names::enter;
@@ -62,7 +61,7 @@ fn cell(alloc: Global, rank: u64, added: u64) -> Result<Core, Memory>
 
 /// Puts on `n` variables without a name.
 pub fn hide(names: &mut Vec<Option<&Str>>, n: usize) -> Result<(), Memory>
-    ensures inside { OnOk result ((base : ℕ) → scope (λ x. x.now) names.new.items base ≡ under n (scope (λ x. x.now) names.old.items base)) }
+    ensures inside { OnOk result (Enters (under n) names.old.items names.new.items) }
     ensures around { OnOk result (take (length names.old.items) names.new.items ≡ names.old.items) }
 {
     for i in 0..n {
@@ -74,7 +73,7 @@ pub fn hide(names: &mut Vec<Option<&Str>>, n: usize) -> Result<(), Memory>
 
 /// Puts on the variables inside the matches of the parts of an index.
 pub fn enter_axes<'a>(ps: &'a [Pattern], names: &mut Vec<Option<&'a Str>>) -> Result<(), Memory>
-    ensures inside { OnOk result ((base : ℕ) → scope (λ x. x.now) names.new.items base ≡ bound_axes (pats_of ps.now) (scope (λ x. x.now) names.old.items base)) }
+    ensures inside { OnOk result (Enters (bound_axes (pats_of ps.now)) names.old.items names.new.items) }
     ensures around { OnOk result (take (length names.old.items) names.new.items ≡ names.old.items) }
 {
     for p in ps {
@@ -93,7 +92,7 @@ fn wrap_axes<'a>(
     inside: Core,
     other: Missing,
 ) -> Result<Core, Memory>
-    ensures made { IfOk result (λ c. (base : ℕ) → term_of c ≡ axes_term (pats_of ps.now) (knowns_of (latest earlier.now)) (scope (λ x. x.now) names.old.items base) added (term_of inside) (missing_term other)) }
+    ensures made { IfOk result (λ c. (base : ℕ) → term_of c ≡ axes_term (pats_of ps.now) (knowns_in earlier.now) (scope_in names.old.items base) added (term_of inside) (missing_term other)) }
     ensures kept { OnOk result (names.new.items ≡ names.old.items) }
 {
     match ps.split_first() {
@@ -121,7 +120,7 @@ pub fn walk<'a>(
     added: u64,
     body: Core,
 ) -> Result<Core, Memory>
-    ensures made { IfOk result (λ c. (base : ℕ) → term_of c ≡ loops_term (length ps.now) 0 (length ps.now) (axes_term (pats_of ps.now) (knowns_of (latest earlier.now)) (scope (λ x. x.now) (take low names.old.items) base) 0 (let_term (cell_term (length ps.now) added) (term_of body)) (missing_term Missing.Empty))) }
+    ensures made { IfOk result (λ c. (base : ℕ) → term_of c ≡ loops_term (length ps.now) 0 (length ps.now) (axes_term (pats_of ps.now) (knowns_in earlier.now) (scope_in (take low names.old.items) base) 0 (let_term (cell_term (length ps.now) added) (term_of body)) (missing_term Missing.Empty))) }
     ensures kept { OnOk result (names.new.items ≡ take low names.old.items) }
 {
     let rank = ps.len() as u64;

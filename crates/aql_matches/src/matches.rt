@@ -3,12 +3,11 @@
 ghost use Rattle.std.specs.Prelude.{◌≡◌, ℕ, ◌+◌, ◌-◌, [], ◌∷◌, ◌++◌, length, take, OnOk, IfOk, None};
 ghost use Rattle.aql_syntax.specs.Names as surface_names;
 ghost use Rattle.aql_syntax.specs.View.{pat_of, pats_of};
-ghost use Rattle.aql_syntax.specs.Measured.{latest};
 ghost use Rattle.nrca_term.specs.Nodes.{if_term};
 ghost use Rattle.nrca_term.specs.View.{term_of};
 ghost use Rattle.aql_start.specs.Start as start_term;
-ghost use Rattle.aql_start.specs.Start.{knowns_of, match_term, parts_term, equal_term};
-ghost use Rattle.aql_matches.specs.Names.{scope, missing_term};
+ghost use Rattle.aql_start.specs.Start.{match_term, parts_term, equal_term};
+ghost use Rattle.aql_matches.specs.Names.{scope, missing_term, scope_in, knowns_in, Enters};
 
 use crate::names::{enter, index_of};
 use crate::nodes::{choose, compare, let_in, proj};
@@ -47,7 +46,7 @@ pub fn plus(a: u64, b: u64) -> Result<u64, Memory>
 
 /// A name: the variable, else the position.
 pub fn name_term(name: &Str, earlier: &[Decl], names: &[Option<&Str>]) -> Core
-    ensures { (base : ℕ) → term_of result ≡ start_term.name_term (start_term.index_of name.now (scope (λ x. x.now) names.now base)) (surface_names.find name.now (knowns_of (latest earlier.now))) }
+    ensures { (base : ℕ) → term_of result ≡ start_term.name_term (start_term.index_of name.now (scope_in names.now base)) (surface_names.find name.now (knowns_in earlier.now)) }
 {
     match index_of(names, name) {
         Some(i) => Core::Var(i),
@@ -75,7 +74,7 @@ pub(crate) fn wrap<'a>(
     inside: Core,
     other: Missing,
 ) -> Result<Core, Memory>
-    ensures made { IfOk result (λ c. (base : ℕ) → term_of c ≡ match_term (pat_of p.now) (knowns_of (latest earlier.now)) (scope (λ x. x.now) names.old.items base) at (term_of inside) (missing_term other)) }
+    ensures made { IfOk result (λ c. (base : ℕ) → term_of c ≡ match_term (pat_of p.now) (knowns_in earlier.now) (scope_in names.old.items base) at (term_of inside) (missing_term other)) }
     ensures kept { OnOk result (names.new.items ≡ names.old.items) }
 {
     match p {
@@ -114,7 +113,7 @@ fn wrap_parts<'a>(
     inside: Core,
     other: Missing,
 ) -> Result<Core, Memory>
-    ensures made { IfOk result (λ c. (base : ℕ) → term_of c ≡ parts_term (pats_of ps.now) (knowns_of (latest earlier.now)) (scope (λ x. x.now) names.old.items base) at j n (term_of inside) (missing_term other)) }
+    ensures made { IfOk result (λ c. (base : ℕ) → term_of c ≡ parts_term (pats_of ps.now) (knowns_in earlier.now) (scope_in names.old.items base) at j n (term_of inside) (missing_term other)) }
     ensures kept { OnOk result (names.new.items ≡ names.old.items) }
 {
     match ps.split_first() {
@@ -143,7 +142,7 @@ pub fn close<'a>(
     inside: Core,
     other: Missing,
 ) -> Result<Core, Memory>
-    ensures made { IfOk result (λ c. (base : ℕ) → term_of c ≡ match_term (pat_of p.now) (knowns_of (latest earlier.now)) (None ∷ scope (λ x. x.now) (take mark names.old.items) base) 0 (term_of inside) (missing_term other)) }
+    ensures made { IfOk result (λ c. (base : ℕ) → term_of c ≡ match_term (pat_of p.now) (knowns_in earlier.now) (None ∷ scope_in (take mark names.old.items) base) 0 (term_of inside) (missing_term other)) }
     ensures kept { OnOk result (names.new.items ≡ take mark names.old.items) }
 {
     names.truncate(mark);
@@ -164,7 +163,7 @@ fn hide_one(names: &mut Vec<Option<&Str>>) -> Result<(), Memory>
 /// Puts on the variable that is matched and those inside its match.
 #[tactic(auto, using(crate::proofs::Scoping::entering))]
 pub fn open<'a>(p: &'a Pattern, names: &mut Vec<Option<&'a Str>>) -> Result<(), Memory>
-    ensures inside { OnOk result ((base : ℕ) → scope (λ x. x.now) names.new.items base ≡ start_term.bound (pat_of p.now) (None ∷ scope (λ x. x.now) names.old.items base)) }
+    ensures inside { OnOk result (Enters (λ s. start_term.bound (pat_of p.now) (None ∷ s)) names.old.items names.new.items) }
     ensures around { OnOk result (take (length names.old.items) names.new.items ≡ names.old.items) }
 {
     names.push(None)?;
@@ -177,7 +176,7 @@ pub(crate) fn enter_past<'a>(
     names: &mut Vec<Option<&'a Str>>,
     at: u64,
 ) -> Result<u64, Memory>
-    ensures inside { OnOk result ((base : ℕ) → scope (λ x. x.now) names.new.items base ≡ start_term.bound (pat_of p.now) (scope (λ x. x.now) names.old.items base)) }
+    ensures inside { OnOk result (Enters (start_term.bound (pat_of p.now)) names.old.items names.new.items) }
     ensures around { OnOk result (take (length names.old.items) names.new.items ≡ names.old.items) }
     ensures number { IfOk result (λ n. n ≡ at + (length names.new.items - length names.old.items)) }
 {
@@ -188,7 +187,7 @@ pub(crate) fn enter_past<'a>(
 
 // The same with the variable that is matched.
 fn open_past<'a>(p: &'a Pattern, names: &mut Vec<Option<&'a Str>>, at: u64) -> Result<u64, Memory>
-    ensures inside { OnOk result ((base : ℕ) → scope (λ x. x.now) names.new.items base ≡ start_term.bound (pat_of p.now) (None ∷ scope (λ x. x.now) names.old.items base)) }
+    ensures inside { OnOk result (Enters (λ s. start_term.bound (pat_of p.now) (None ∷ s)) names.old.items names.new.items) }
     ensures around { OnOk result (take (length names.old.items) names.new.items ≡ names.old.items) }
     ensures number { IfOk result (λ n. n ≡ at + (length names.new.items - length names.old.items)) }
 {

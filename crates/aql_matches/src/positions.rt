@@ -1,16 +1,13 @@
 //! The positions that names stand for.
 
 ghost use Rattle.std.specs.Prelude.{◌≡◌, ◌<◌, length, option_map, IfSome};
-ghost use Rattle.aql_syntax.specs.Names.{names_equal, find};
-ghost use Rattle.aql_syntax.specs.Tree.{declared};
+ghost use Rattle.aql_syntax.specs.Names.{find};
 ghost use Rattle.aql_syntax.specs.View.{decl_of};
 ghost use Rattle.aql_syntax.specs.Measured.{latest};
 ghost use Rattle.nrca_term.specs.View.{term_of};
 ghost use Rattle.aql_start.specs.Start as start_term;
-ghost use Rattle.aql_start.specs.Start.{knowns_of};
-ghost use Rattle.aql_matches.specs.Names.{declaration_of};
+ghost use Rattle.aql_matches.specs.Names.{declaration_of, knowns_in};
 
-use crate::names::same_bytes;
 use aql_syntax::ast::Decl;
 use aql_value::Str;
 use nrca_term::Core;
@@ -23,7 +20,7 @@ pub fn find<'a>(name: &Str, earlier: &'a [Decl]) -> Option<(&'a Decl, &'a [Decl]
 {
     let mut rest = earlier;
     while let Some((last, before)) = rest.split_last() {
-        if declares(last, name) {
+        if last.declares(name) {
             return Some((last, before));
         }
         rest = before;
@@ -31,29 +28,9 @@ pub fn find<'a>(name: &Str, earlier: &'a [Decl]) -> Option<(&'a Decl, &'a [Decl]
     None
 }
 
-// Whether the declaration binds that name.
-fn declares(d: &Decl, name: &Str) -> bool
-    ensures { result ≡ names_equal name.now (declared (decl_of d.now)) }
-{
-    match d {
-        Decl::Val { name: x, expr: _ } => same_bytes(&name.bytes, &x.bytes),
-        Decl::Macro {
-            name: x,
-            pattern: _,
-            body: _,
-        } => same_bytes(&name.bytes, &x.bytes),
-        Decl::Read {
-            name: x,
-            reader: _,
-            expr: _,
-        } => same_bytes(&name.bytes, &x.bytes),
-        Decl::Bare { expr: _ } => same_bytes(&name.bytes, b"it"),
-    }
-}
-
 /// The position that a name stands for; undefined where it is a macro, or nothing declares the name.
 pub(crate) fn position_term(name: &Str, earlier: &[Decl]) -> Core
-    ensures { term_of result ≡ start_term.position_term (find name.now (knowns_of (latest earlier.now))) }
+    ensures { term_of result ≡ start_term.position_term (find name.now (knowns_in earlier.now)) }
 {
     match find(name, earlier) {
         None => Core::Bottom,

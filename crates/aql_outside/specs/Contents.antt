@@ -1,9 +1,7 @@
 -- What files hold, and what is answered of it.
 use Rattle.std.specs.Global.{Vec}
 use Rattle.std.specs.BTreeMap.{get_by_text, BTreeMap}
-use Rattle.std.proofs.Common.{subst}
-use Rattle.std.proofs.lemmas.Option.{none-some}
-use Rattle.std.specs.Prelude.{◌≡◌, ℕ, String, ◌-◌, min, Option, Some, None, option_map, Result, Ok, IfOk, List, [], length, take, drop}
+use Rattle.std.specs.Prelude.{◌≡◌, ℕ, String, ◌-◌, min, Option, Some, None, option_map, Result, IfOk, List, [], length, take, drop}
 
 -- the bytes under each name, None where no file has the name
 abbrev pub Content : Type 0
@@ -18,6 +16,10 @@ abbrev pub bytes_in : Option Content → List ℕ → Option (List ℕ)
 bytes_in None name = None
 bytes_in (Some files) name = files name
 
+-- what holds of the bytes under a name, where the files tell them and a file has the name
+abbrev pub WhereTold : Option Content → (name : List ℕ) → (List ℕ → Type 0) → Type 0
+WhereTold holds name P = (bytes : List ℕ) → bytes_in holds name ≡ Some bytes → P bytes
+
 -- it is told that no file has the name
 abbrev pub IsAbsent : Option Content → List ℕ → Type 0
 IsAbsent None name = ⊥
@@ -27,6 +29,10 @@ IsAbsent (Some files) name = files name ≡ None
 abbrev pub or_none : Option (List ℕ) → List ℕ
 or_none None = []
 or_none (Some bytes) = bytes
+
+-- the bytes under a name in a map, none where the map lacks it
+abbrev pub bytes_under : {Y : Type 0} → BTreeMap (String Y) (Vec ℕ) → List ℕ → List ℕ
+bytes_under m name = or_none (content_of m name)
 
 -- where the files are told, a size is the length of the file, and None exactly where no file has the name
 abbrev pub TellsSize : {E : Type 0} → Option Content → List ℕ → Result (Option ℕ) E → Type 0
@@ -38,21 +44,3 @@ abbrev pub GivesAt : {E : Type 0} → Option Content → List ℕ → ℕ → Re
 GivesAt None name at result piece = Unit {0}
 GivesAt (Some files) name at result piece = IfOk result (λ n.
     (n ≡ min (length piece) (length (or_none (files name)) - at)) × (take n piece ≡ take n (drop at (or_none (files name)))))
-
--- what a size is where the bytes of the file are told
-pub size-from_told : (E : Type 0) (holds : Option Content) (name bytes : List ℕ) (size : Option ℕ) → bytes_in holds name ≡ Some bytes
-    → TellsSize {E = E} holds name (Ok size) → size ≡ Some (length bytes)
-size-from_told E None name bytes size there told = absurd (none-some _ there)
-size-from_told E (Some files) name bytes size there told = subst (λ (file : Option (List ℕ)). size ≡ option_map length file) there told
-
--- what a size is where it is told that no file has the name
-pub size-from_absent : (E : Type 0) (holds : Option Content) (name : List ℕ) (size : Option ℕ) → IsAbsent holds name → TellsSize {E = E} holds name (Ok size) → size ≡ None
-size-from_absent E None name size absent told = absurd absent
-size-from_absent E (Some files) name size absent told = subst (λ (file : Option (List ℕ)). size ≡ option_map length file) absent told
-
--- what a read gives where the bytes of the file are told
-pub given-from_told : (E : Type 0) (holds : Option Content) (name bytes piece : List ℕ) (at n : ℕ) → bytes_in holds name ≡ Some bytes → GivesAt {E = E} holds name at (Ok n) piece
-    → (n ≡ min (length piece) (length bytes - at)) × (take n piece ≡ take n (drop at bytes))
-given-from_told E None name bytes piece at n there told = absurd (none-some _ there)
-given-from_told E (Some files) name bytes piece at n there told =
-    subst (λ (file : Option (List ℕ)). (n ≡ min (length piece) (length (or_none file) - at)) × (take n piece ≡ take n (drop at (or_none file)))) there told

@@ -16,7 +16,8 @@ impl Counter {
     ghost use Rattle.aql_outside.specs.Calls.{no_calls, after_call, NextFails, next_piece};
     ghost use Rattle.aql_outside.specs.Memory.{counted_calls};
 
-    /// A counter without calls: the calls of these numbers are to fail, and each gives or takes at most its piece.
+    /// A counter without calls: the calls of these numbers are to fail, and each gives or takes at
+    /// most its piece.
     pub fn new(fails: Vec<u64>, pieces: Vec<u64>) -> Self
         ensures { counted_calls result ≡ no_calls fails.items pieces.items }
     {

@@ -1,6 +1,6 @@
 // Files in memory.
 ghost use Rattle.std.specs.Prelude.{◌≡◌, ◌-◌, [], length, min, take, drop, option_map};
-ghost use Rattle.aql_outside.specs.Contents.{or_none, content_of};
+ghost use Rattle.aql_outside.specs.Contents.{bytes_under, content_of};
 
 use crate::copying::copy_from;
 use crate::counter::Counter;
@@ -51,8 +51,10 @@ fn size_in(content: &BTreeMap<String, Vec<u8>>, name: &str) -> Option<u64>
 
 // Copies the bytes under a name from an offset on, as many as fit.
 fn copy_in(content: &BTreeMap<String, Vec<u8>>, name: &str, at: u64, into: &mut [u8]) -> usize
-    ensures count { result ≡ min (length into.new) (length (or_none (content_of content.now name.now)) - at) }
-    ensures copied { take result into.new ≡ take result (drop at (or_none (content_of content.now name.now))) }
+    ensures count { result ≡ min (length into.new)
+        (length (bytes_under content.now name.now) - at) }
+    ensures copied { take result into.new
+        ≡ take result (drop at (bytes_under content.now name.now)) }
     ensures kept { drop result into.new ≡ drop result into.old }
     ensures same { length into.new ≡ length into.old }
 {
@@ -65,10 +67,9 @@ fn copy_in(content: &BTreeMap<String, Vec<u8>>, name: &str, at: u64, into: &mut 
 impl Files for MemFiles {
     ghost use Rattle.std.specs.Prelude.{◌≡◌, ◌↔◌, Some, IsErr, IfOk, OnErr, is_err, drop};
     ghost use Rattle.std.specs.Io.{ReadsAtMost};
-    ghost use Rattle.aql_outside.specs.Causes.{HasCause};
     ghost use Rattle.aql_outside.specs.Contents.{TellsSize, GivesAt};
     ghost use Rattle.aql_outside.specs.Calls.{after_call, NextFails};
-    ghost use Rattle.aql_outside.specs.Memory.{files_content, files_calls};
+    ghost use Rattle.aql_outside.specs.Memory.{files_content, files_calls, CountsFaults};
 
     ghost holds = { λ s. Some (files_content s) };
 
@@ -81,7 +82,7 @@ impl Files for MemFiles {
     fn size(&mut self, name: &str) -> Result<Option<u64>, Failed>
         ensures told { TellsSize (Some (files_content self.old)) name.now result }
         ensures kept { Some (files_content self.new) ≡ Some (files_content self.old) }
-        ensures cause { HasCause (Unit {0}) (files_calls self.old).failed (files_calls self.new).failed result }
+        ensures cause { CountsFaults (files_calls self.old) (files_calls self.new) result }
         ensures calls { files_calls self.new ≡ after_call (files_calls self.old) (is_err result) }
         ensures fails { IsErr result ↔ NextFails (files_calls self.old) }
     {
@@ -97,7 +98,7 @@ impl Files for MemFiles {
         ensures bound { ReadsAtMost result into.new }
         ensures told { GivesAt (Some (files_content self.old)) name.now at result into.new }
         ensures kept { Some (files_content self.new) ≡ Some (files_content self.old) }
-        ensures cause { HasCause (Unit {0}) (files_calls self.old).failed (files_calls self.new).failed result }
+        ensures cause { CountsFaults (files_calls self.old) (files_calls self.new) result }
         ensures calls { files_calls self.new ≡ after_call (files_calls self.old) (is_err result) }
         ensures fails { IsErr result ↔ NextFails (files_calls self.old) }
         ensures rest { IfOk result (λ n. drop n into.new ≡ drop n into.old) }

@@ -5,8 +5,8 @@ use crate::copying::write_over;
 use crate::counter::Counter;
 use crate::{Failed, Sink};
 
-/// A sink that writes over a list of bytes from the front. Some calls fail, and so does a write of a
-/// piece that isn't empty once the list is used up.
+/// A sink that writes over a list of bytes from the front. Some calls fail, and so does a write of
+/// a piece that isn't empty once the list is used up.
 #[derive(Drop)]
 pub struct MemSink {
     room: Vec<u8>,
@@ -59,12 +59,12 @@ impl MemSink {
 }
 
 impl Sink for MemSink {
-    ghost use Rattle.std.specs.Prelude.{◌≡◌, ◌-◌, ◌<◌, ◌↔◌, ◌⊎◌, length, min, Some, IsErr, IfOk, OnErr, is_err};
+    ghost use Rattle.std.specs.Prelude.{◌≡◌, ◌-◌, ◌↔◌, length, Some, IsErr, IfOk, OnErr, is_err};
     ghost use Rattle.std.specs.Io.{WritesAtMost};
     ghost use Rattle.std.specs.Io.KnownBytes.{WriteAppends};
-    ghost use Rattle.aql_outside.specs.Causes.{HasCause, TakesSome};
-    ghost use Rattle.aql_outside.specs.Calls.{after_call, NextFails, next_piece};
-    ghost use Rattle.aql_outside.specs.Memory.{sink_bytes, sink_room, sink_calls};
+    ghost use Rattle.aql_outside.specs.Causes.{TakesSome};
+    ghost use Rattle.aql_outside.specs.Calls.{after_call};
+    ghost use Rattle.aql_outside.specs.Memory.{sink_bytes, sink_room, sink_calls, write_count, WriteFails, CountsFaults};
 
     ghost holds = { λ s. Some (sink_bytes s) };
 
@@ -77,11 +77,12 @@ impl Sink for MemSink {
     fn write(&mut self, from: &[u8]) -> Result<usize, Failed>
         ensures bound { WritesAtMost result from.now }
         ensures progress { TakesSome result from.now }
-        ensures bytes { WriteAppends (Some (sink_bytes self.old)) (Some (sink_bytes self.new)) result from.now }
-        ensures cause { HasCause (Unit {0}) (sink_calls self.old).failed (sink_calls self.new).failed result }
+        ensures bytes { WriteAppends (Some (sink_bytes self.old)) (Some (sink_bytes self.new))
+            result from.now }
+        ensures cause { CountsFaults (sink_calls self.old) (sink_calls self.new) result }
         ensures calls { sink_calls self.new ≡ after_call (sink_calls self.old) (is_err result) }
-        ensures fails { IsErr result ↔ (NextFails (sink_calls self.old) ⊎ ((sink_room self.old ≡ 0) × (0 < length from.now))) }
-        ensures count { IfOk result (λ n. n ≡ min (next_piece (sink_calls self.old) (length from.now)) (sink_room self.old)) }
+        ensures fails { IsErr result ↔ WriteFails self.old from.now }
+        ensures count { IfOk result (λ n. n ≡ write_count self.old (length from.now)) }
         ensures room { IfOk result (λ n. sink_room self.new ≡ sink_room self.old - n) }
         ensures refused { OnErr result (sink_room self.new ≡ sink_room self.old) }
     {

@@ -52,12 +52,11 @@ impl MemSource {
 }
 
 impl Source for MemSource {
-    ghost use Rattle.std.specs.Prelude.{◌≡◌, ◌-◌, ◌↔◌, length, min, Some, IsErr, IfOk, OnErr, is_err, drop};
+    ghost use Rattle.std.specs.Prelude.{◌≡◌, ◌↔◌, length, Some, IsErr, IfOk, OnErr, is_err, drop};
     ghost use Rattle.std.specs.Io.{ReadsAtMost};
     ghost use Rattle.std.specs.Io.KnownBytes.{ReadConsumes};
-    ghost use Rattle.aql_outside.specs.Causes.{HasCause};
-    ghost use Rattle.aql_outside.specs.Calls.{after_call, NextFails, next_piece};
-    ghost use Rattle.aql_outside.specs.Memory.{source_left, source_calls};
+    ghost use Rattle.aql_outside.specs.Calls.{after_call, NextFails};
+    ghost use Rattle.aql_outside.specs.Memory.{source_left, source_calls, read_count, CountsFaults};
 
     ghost left = { λ s. Some (source_left s) };
 
@@ -69,11 +68,12 @@ impl Source for MemSource {
 
     fn read(&mut self, into: &mut [u8]) -> Result<usize, Failed>
         ensures bound { ReadsAtMost result into.new }
-        ensures bytes { ReadConsumes (Some (source_left self.old)) (Some (source_left self.new)) result into.new }
-        ensures cause { HasCause (Unit {0}) (source_calls self.old).failed (source_calls self.new).failed result }
+        ensures bytes { ReadConsumes (Some (source_left self.old)) (Some (source_left self.new))
+            result into.new }
+        ensures cause { CountsFaults (source_calls self.old) (source_calls self.new) result }
         ensures calls { source_calls self.new ≡ after_call (source_calls self.old) (is_err result) }
         ensures fails { IsErr result ↔ NextFails (source_calls self.old) }
-        ensures count { IfOk result (λ n. n ≡ min (next_piece (source_calls self.old) (length into.old)) (length (source_left self.old))) }
+        ensures count { IfOk result (λ n. n ≡ read_count self.old (length into.old)) }
         ensures rest { IfOk result (λ n. drop n into.new ≡ drop n into.old) }
         ensures refused { OnErr result (into.new ≡ into.old) }
     {
@@ -126,10 +126,12 @@ impl Source for SureSource {
 
     fn read(&mut self, into: &mut [u8]) -> Result<usize, Failed>
         ensures bound { ReadsAtMost result into.new }
-        ensures bytes { ReadConsumes (Some (sure_source_left self.old)) (Some (sure_source_left self.new)) result into.new }
+        ensures bytes { ReadConsumes (Some (sure_source_left self.old))
+            (Some (sure_source_left self.new)) result into.new }
         ensures cause { HasCause (Unit {0}) 0 0 result }
         ensures sure { IsOk result }
-        ensures count { IfOk result (λ n. n ≡ min (length into.old) (length (sure_source_left self.old))) }
+        ensures count { IfOk result
+            (λ n. n ≡ min (length into.old) (length (sure_source_left self.old))) }
         ensures rest { IfOk result (λ n. drop n into.new ≡ drop n into.old) }
     {
         let count = copy_front(&self.content[self.given..], into, usize::MAX);

@@ -1,10 +1,9 @@
 //! Declarations.
 
-ghost use Rattle.std.specs.Prelude.{◌≡◌};
 ghost use Rattle.aql_syntax.specs.View.{tree_of, reader_of, decl_of};
 ghost use Rattle.aql_grammar.specs.Scripts.{bare_at};
 ghost use Rattle.aql_grammar.specs.Parsing.{decl_at, val_at, macro_at, readval_at, ended_at, reader_at};
-ghost use Rattle.aql_phrases.specs.Words.{lexemes, Gives};
+ghost use Rattle.aql_phrases.specs.Words.{Parses};
 
 use aql_expressions::parse_then;
 use aql_lex::scan::text_at;
@@ -25,7 +24,7 @@ pub fn declaration<'a>(
     words: &'a [Word],
     depth: u64,
 ) -> Result<(Decl, &'a [Word]), Refusal>
-    ensures { Gives (λ x. (decl_of x.0, lexemes source.now x.1.now)) result (decl_at depth (lexemes source.now words.now)) }
+    ensures { Parses decl_of source.now words.now result (decl_at depth) }
 {
     match next(words) {
         Some((Word::Mark(Sign::Val), rest)) => val_declaration(alloc, source, rest, depth),
@@ -43,7 +42,7 @@ fn val_declaration<'a>(
     words: &'a [Word],
     depth: u64,
 ) -> Result<(Decl, &'a [Word]), Refusal>
-    ensures { Gives (λ x. (decl_of x.0, lexemes source.now x.1.now)) result (val_at depth (lexemes source.now words.now)) }
+    ensures { Parses decl_of source.now words.now result (val_at depth) }
 {
     let (name, rest) = binder(alloc, source, words, Sign::Equal)?;
     let (expr, rest) = ended(alloc, source, rest, depth)?;
@@ -58,7 +57,7 @@ fn macro_declaration<'a>(
     words: &'a [Word],
     depth: u64,
 ) -> Result<(Decl, &'a [Word]), Refusal>
-    ensures { Gives (λ x. (decl_of x.0, lexemes source.now x.1.now)) result (macro_at depth (lexemes source.now words.now)) }
+    ensures { Parses decl_of source.now words.now result (macro_at depth) }
 {
     let (name, rest) = binder(alloc, source, words, Sign::Equal)?;
     let rest = expect(source, rest, Sign::Fn)?;
@@ -82,7 +81,7 @@ fn read_declaration<'a>(
     words: &'a [Word],
     depth: u64,
 ) -> Result<(Decl, &'a [Word]), Refusal>
-    ensures { Gives (λ x. (decl_of x.0, lexemes source.now x.1.now)) result (readval_at depth (lexemes source.now words.now)) }
+    ensures { Parses decl_of source.now words.now result (readval_at depth) }
 {
     let (name, rest) = binder(alloc, source, words, Sign::Using)?;
     let (reader, rest) = reader(alloc, source, rest)?;
@@ -97,7 +96,7 @@ fn bare_declaration<'a>(
     words: &'a [Word],
     depth: u64,
 ) -> Result<(Decl, &'a [Word]), Refusal>
-    ensures { Gives (λ x. (decl_of x.0, lexemes source.now x.1.now)) result (bare_at depth (lexemes source.now words.now)) }
+    ensures { Parses decl_of source.now words.now result (bare_at depth) }
 {
     let (expr, rest) = ended(alloc, source, words, depth)?;
     Ok((Decl::Bare { expr }, rest))
@@ -111,7 +110,7 @@ fn ended<'a>(
     words: &'a [Word],
     depth: u64,
 ) -> Result<(Expr, &'a [Word]), Refusal>
-    ensures { Gives (λ x. (tree_of x.0, lexemes source.now x.1.now)) result (ended_at depth (lexemes source.now words.now)) }
+    ensures { Parses tree_of source.now words.now result (ended_at depth) }
 {
     let (expr, rest) = parse_then(alloc, source, words, Sign::Semicolon, depth)?;
     Ok((Box::into_inner(expr), rest))
@@ -124,7 +123,7 @@ fn reader<'a>(
     source: &[u8],
     words: &'a [Word],
 ) -> Result<(Reader, &'a [Word]), Refusal>
-    ensures { Gives (λ x. (reader_of x.0, lexemes source.now x.1.now)) result (reader_at (lexemes source.now words.now)) }
+    ensures { Parses reader_of source.now words.now result reader_at }
 {
     match next(words) {
         Some((Word::Name(token), rest)) => {

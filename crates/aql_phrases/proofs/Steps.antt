@@ -4,12 +4,25 @@ use Rattle.aql_value.specs.Strict.{Strict}
 use Rattle.aql_syntax.specs.Lexis.{Lexeme}
 use Rattle.aql_syntax.specs.declared.ast.Expr.{Expr}
 use Rattle.aql_syntax.specs.declared.ast.Pattern.{Pattern}
-use Rattle.aql_syntax.specs.Tree.{Pat, Pats, no_pat, tuple, op, count_trees}
+use Rattle.aql_syntax.specs.Tree.{Tree, Pat, Pats, no_pat, tuple, op, count_trees}
+use Rattle.aql_syntax.specs.Nodes.{joined_of}
+use Rattle.aql_syntax.specs.declared.nodes.Operator.{Operator}
+use Rattle.aql_syntax.specs.declared.nodes.Operator.TheVariants as operators
 use Rattle.aql_syntax.specs.View.{pats_of, tree_of, trees_of}
-use Rattle.aql_grammar.specs.Parsing.{Out, ◌>>=◌, pat_at, pat_in, pats_at, pats_rest, enclosed_pats, enclosed}
+use Rattle.aql_value.specs.Partial.{◌>>=◌}
+use Rattle.aql_grammar.specs.Parsing.{Out, pat_at, pat_in, pats_at, pats_rest, enclosed_pats, enclosed, joined_by}
+use Rattle.aql_phrases.specs.Forms.{joiner_of}
 use Rattle.aql_phrases.specs.Parts.{few_of, one_of}
 use Rattle.aql_phrases.specs.Short.{short_ok, short_long}
 use Rattle.aql_phrases.specs.Words.{with_pats}
+
+-- an operator makes what the grammar has it make
+pub joined_is : (o : Operator) (a b : Tree) → joined_of o a b ≡ joined_by (joiner_of o) a b
+joined_is (operators.Arith o) a b = refl
+joined_is operators.Union a b = refl
+joined_is (operators.Compare o) a b = refl
+joined_is operators.And a b = refl
+joined_is operators.Or a b = refl
 
 pub pat_at_above : (n : ℕ) (s : List Lexeme) → 0 < n → pat_at n s ≡ pat_in (pat_at (n - 1)) (n - 1) s
 unfolding pat_at

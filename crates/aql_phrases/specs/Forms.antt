@@ -2,38 +2,26 @@
 use Rattle.std.specs.Prelude.{ℕ, List}
 use Rattle.aql_value.specs.Strict.{Strict}
 use Rattle.aql_syntax.specs.Lexis.{Lexeme}
-use Rattle.aql_syntax.specs.Tree.{Pat, Tree, function, summap}
+use Rattle.aql_syntax.specs.Nodes.{strict_of}
 use Rattle.aql_syntax.specs.View.{pat_of}
 use Rattle.aql_syntax.specs.Grammar.{both, either}
 use Rattle.aql_lex.specs.Texts.{text_of}
 use Rattle.aql_grammar.specs.Parsing.{Joiner, builds, joins, Opening, applies, operates, functions, summaps, Front, from_set, from_cells, matches, tests}
-use Rattle.aql_phrases.specs.declared.forms.Operator.{Operator}
-use Rattle.aql_phrases.specs.declared.forms.Operator.TheVariants as operators
-use Rattle.aql_phrases.specs.declared.forms.Operation.{Operation}
-use Rattle.aql_phrases.specs.declared.forms.Operation.TheVariants as operations
+use Rattle.aql_syntax.specs.declared.nodes.Operator.{Operator}
+use Rattle.aql_syntax.specs.declared.nodes.Operator.TheVariants as operators
 use Rattle.aql_phrases.specs.declared.forms.Head.{Head}
 use Rattle.aql_phrases.specs.declared.forms.Head.TheVariants as heads
-use Rattle.aql_phrases.specs.declared.forms.Functional.{Functional}
-use Rattle.aql_phrases.specs.declared.forms.Functional.TheVariants as functionals
+use Rattle.aql_syntax.specs.declared.nodes.Functional.TheVariants as functionals
 use Rattle.aql_phrases.specs.declared.forms.Front as code_front
 use Rattle.aql_phrases.specs.declared.forms.Front.TheVariants as fronts
 
+-- an operator, as the grammar has it
 abbrev pub joiner_of : Operator → Joiner
 joiner_of (operators.Arith o) = builds (Strict.arith o)
 joiner_of operators.Union = builds Strict.union
 joiner_of (operators.Compare o) = builds (Strict.compare o)
 joiner_of operators.And = joins both
 joiner_of operators.Or = joins either
-
-abbrev pub strict_of : Operation → Strict
-strict_of operations.Gen = Strict.gen
-strict_of operations.Get = Strict.get
-strict_of (operations.Dim k) = Strict.dim k
-strict_of (operations.Index k) = Strict.index k
-
-abbrev pub functional_of : Functional → Pat → Tree → Tree → Tree
-functional_of functionals.Plain = function
-functional_of functionals.Sum = summap
 
 -- a head, before what follows it
 abbrev pub opening_of : List ℕ → Head → List Lexeme → Opening
@@ -42,6 +30,7 @@ opening_of source (heads.Operation o) r = operates (strict_of o) r
 opening_of source (heads.Function functionals.Plain) r = functions r
 opening_of source (heads.Function functionals.Sum) r = summaps r
 
+-- what a qualifier is before its expression
 abbrev pub front_seen : code_front.Front → Front
 front_seen (fronts.Set p) = from_set (pat_of p)
 front_seen (fronts.Cells p q) = from_cells (pat_of p) (pat_of q)

@@ -3,31 +3,23 @@
 ghost use Rattle.std.specs.Prelude.{◌≡◌, ◌<◌, ◌-◌, MatchOption, Some, None};
 ghost use Rattle.aql_syntax.specs.Lexis.{mark};
 ghost use Rattle.aql_syntax.specs.Tree as tree;
-ghost use Rattle.aql_syntax.specs.View.{tree_of, trees_of, pat_of, qual_of, of_one};
+ghost use Rattle.aql_syntax.specs.Nodes.{strict_of};
+ghost use Rattle.aql_syntax.specs.View.{tree_of, trees_of, qual_of};
 ghost use Rattle.aql_syntax.specs.Grammar.{head_operator};
 ghost use Rattle.aql_grammar.specs.Parsing as grammar;
 ghost use Rattle.aql_grammar.specs.Parsing.{joined_by, operand, enclosed, qualified};
 ghost use Rattle.aql_phrases.specs.Words.{lexemes, Gives};
 ghost use Rattle.aql_phrases.specs.Parts.{few_of, one_of};
-ghost use Rattle.aql_phrases.specs.Forms.{joiner_of, strict_of, opening_of, functional_of, front_seen};
+ghost use Rattle.aql_phrases.specs.Forms.{joiner_of, opening_of, front_seen};
 
 use crate::fault::Refusal;
 use crate::words::{Word, behind, next};
 use aql_syntax::ast::{Expr, Pattern, Qual};
 use aql_syntax::build::row;
+use aql_syntax::nodes::{Functional, Operation, Operator, joined};
 use aql_syntax::sign::Sign;
 use aql_syntax::token::Token;
 use aql_value::{ArithOp, CompareOp};
-
-/// An operator between two expressions.
-#[derive(Clone, Copy)]
-pub enum Operator {
-    Arith(ArithOp),
-    Union,
-    Compare(CompareOp),
-    And,
-    Or,
-}
 
 // The level of an operator, and the operator.
 fn operator_of(sign: Sign) -> Option<(u64, Operator)>
@@ -99,25 +91,11 @@ pub fn negated_level() -> u64
 }
 
 /// An operator applied.
+#[tactic(auto, using(crate::proofs::Steps::joined_is))]
 pub fn binary(operator: Operator, left: Box<Expr>, right: Box<Expr>) -> Expr
     ensures { tree_of result ≡ joined_by (joiner_of operator) (tree_of left.value) (tree_of right.value) }
 {
-    match operator {
-        Operator::Arith(op) => Expr::Arith(op, left, right),
-        Operator::Union => Expr::Union(left, right),
-        Operator::Compare(op) => Expr::Compare(op, left, right),
-        Operator::And => Expr::And(left, right),
-        Operator::Or => Expr::Or(left, right),
-    }
-}
-
-/// A reserved word in head position.
-#[derive(Clone, Copy)]
-pub enum Operation {
-    Gen,
-    Get,
-    Dim(u64),
-    Index(u64),
+    joined(operator, left, right)
 }
 
 fn operation_of(sign: Sign) -> Option<Operation>
@@ -155,13 +133,6 @@ pub enum Head {
     Function(Functional),
 }
 
-/// A function written in place, or a sum over one.
-#[derive(Clone, Copy)]
-pub enum Functional {
-    Plain,
-    Sum,
-}
-
 /// The beginning of an application, and what follows it.
 #[tactic(auto, unfolding(aql_grammar::specs::Parsing::opening, aql_grammar::specs::Parsing::after))]
 pub fn opening<'a>(source: &[u8], words: &'a [Word]) -> Option<(Head, &'a [Word])>
@@ -187,41 +158,6 @@ pub fn opening<'a>(source: &[u8], words: &'a [Word]) -> Option<(Head, &'a [Word]
             Some((Head::Operation(operation), rest))
         }
         _ => None,
-    }
-}
-
-/// An operation applied.
-pub fn operated(operation: Operation, part: Box<Expr>) -> Expr
-    ensures { tree_of result ≡ of_one (strict_of operation) (tree_of part.value) }
-{
-    match operation {
-        Operation::Gen => Expr::Gen(part),
-        Operation::Get => Expr::Get(part),
-        Operation::Dim(rank) => Expr::Dim { rank, array: part },
-        Operation::Index(rank) => Expr::Index { rank, pairs: part },
-    }
-}
-
-/// A function applied, or summed over a set.
-pub fn function(
-    functional: Functional,
-    pattern: Pattern,
-    body: Box<Expr>,
-    argument: Box<Expr>,
-) -> Expr
-    ensures { tree_of result ≡ functional_of functional (pat_of pattern) (tree_of body.value) (tree_of argument.value) }
-{
-    match functional {
-        Functional::Plain => Expr::Fun {
-            pattern,
-            body,
-            argument,
-        },
-        Functional::Sum => Expr::SumMap {
-            pattern,
-            body,
-            over: argument,
-        },
     }
 }
 

@@ -6,7 +6,7 @@ ghost use Rattle.aql_syntax.specs.View.{tree_of, trees_of, pat_of};
 ghost use Rattle.aql_lex.specs.Texts.{text_of};
 ghost use Rattle.aql_grammar.specs.Parsing as grammar;
 ghost use Rattle.aql_grammar.specs.Parsing.{binder_at, def_at, pat_at, front_of, front_at};
-ghost use Rattle.aql_phrases.specs.Words.{lexemes, Gives};
+ghost use Rattle.aql_phrases.specs.Words.{lexemes, Gives, Parses};
 ghost use Rattle.aql_phrases.specs.Forms.{front_seen};
 ghost use Rattle.aql_phrases.specs.Parts.{leaf_at, none_at};
 
@@ -28,7 +28,7 @@ pub fn binder<'a>(
     words: &'a [Word],
     sign: Sign,
 ) -> Result<(Str, &'a [Word]), Refusal>
-    ensures { Gives (λ x. (x.0, lexemes source.now x.1.now)) result (binder_at sign (lexemes source.now words.now)) }
+    ensures { Parses (λ x. x) source.now words.now result (binder_at sign) }
 {
     let rest = expect(source, words, Sign::Backslash)?;
     let (name, rest) = name(alloc, source, rest)?;
@@ -44,7 +44,7 @@ pub fn definition<'a>(
     words: &'a [Word],
     depth: u64,
 ) -> Result<(Pattern, &'a [Word]), Refusal>
-    ensures { Gives (λ x. (pat_of x.0, lexemes source.now x.1.now)) result (def_at depth (lexemes source.now words.now)) }
+    ensures { Parses pat_of source.now words.now result (def_at depth) }
 {
     let rest = expect(source, words, Sign::Val)?;
     pattern_then(alloc, source, rest, Sign::Equal, depth)
@@ -104,7 +104,7 @@ fn cells_front<'a>(
     words: &'a [Word],
     depth: u64,
 ) -> Result<(Front, &'a [Word]), Refusal>
-    ensures { Gives (λ x. (front_seen x.0, lexemes source.now x.1.now)) result (grammar.cells_front depth (lexemes source.now words.now)) }
+    ensures { Parses front_seen source.now words.now result (grammar.cells_front depth) }
 {
     let rest = expect(source, words, Sign::OpenBracket)?;
     let (index, rest) = pattern(alloc, source, rest, depth)?;
@@ -121,7 +121,7 @@ pub fn none_listed<'a>(
     source: &[u8],
     words: &'a [Word],
 ) -> Result<(Vec<Expr>, &'a [Word]), Refusal>
-    ensures { Gives (λ x. (trees_of x.0.items, lexemes source.now x.1.now)) result (none_at (lexemes source.now words.now)) }
+    ensures { Parses (λ x. trees_of x.items) source.now words.now result none_at }
 {
     Ok((Vec::new(alloc), words))
 }
@@ -133,7 +133,7 @@ pub fn leaf<'a>(
     source: &[u8],
     words: &'a [Word],
 ) -> Result<(Expr, &'a [Word]), Refusal>
-    ensures { Gives (λ x. (tree_of x.0, lexemes source.now x.1.now)) result (leaf_at (lexemes source.now words.now)) }
+    ensures { Parses tree_of source.now words.now result leaf_at }
 {
     match next(words) {
         Some((Word::Name(token), rest)) => Ok((Expr::Name(name_in(alloc, source, token)?), rest)),

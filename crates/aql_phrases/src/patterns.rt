@@ -3,7 +3,7 @@
 ghost use Rattle.std.specs.Prelude.{◌≡◌};
 ghost use Rattle.aql_syntax.specs.View.{pat_of, pats_of};
 ghost use Rattle.aql_grammar.specs.Parsing.{name_at, pat_at, pats_at, enclosed_pats, pat_then};
-ghost use Rattle.aql_phrases.specs.Words.{lexemes, Gives};
+ghost use Rattle.aql_phrases.specs.Words.{Parses};
 
 use crate::fault::Refusal;
 use crate::words::{Word, expect, name_in, next, string_in};
@@ -22,7 +22,7 @@ pub fn pattern<'a>(
     words: &'a [Word],
     depth: u64,
 ) -> Result<(Pattern, &'a [Word]), Refusal>
-    ensures { Gives (λ x. (pat_of x.0, lexemes source.now x.1.now)) result (pat_at depth (lexemes source.now words.now)) }
+    ensures { Parses pat_of source.now words.now result (pat_at depth) }
 {
     if depth == 0 {
         return Err(Refusal::Syntax);
@@ -62,7 +62,7 @@ fn patterns<'a>(
     words: &'a [Word],
     depth: u64,
 ) -> Result<(Vec<Pattern>, &'a [Word]), Refusal>
-    ensures { Gives (λ x. (pats_of x.0.items, lexemes source.now x.1.now)) result (pats_at (pat_at depth) depth (lexemes source.now words.now)) }
+    ensures { Parses (λ x. pats_of x.items) source.now words.now result (pats_at (pat_at depth) depth) }
 {
     let mut items = Vec::new(alloc);
     let mut rest = words;
@@ -101,7 +101,7 @@ pub fn name<'a>(
     source: &[u8],
     words: &'a [Word],
 ) -> Result<(Str, &'a [Word]), Refusal>
-    ensures { Gives (λ x. (x.0, lexemes source.now x.1.now)) result (name_at (lexemes source.now words.now)) }
+    ensures { Parses (λ x. x) source.now words.now result name_at }
 {
     match next(words) {
         Some((Word::Name(token), rest)) => Ok((name_in(alloc, source, token)?, rest)),
@@ -118,7 +118,7 @@ pub fn pattern_then<'a>(
     sign: Sign,
     depth: u64,
 ) -> Result<(Pattern, &'a [Word]), Refusal>
-    ensures { Gives (λ x. (pat_of x.0, lexemes source.now x.1.now)) result (pat_then sign depth (lexemes source.now words.now)) }
+    ensures { Parses pat_of source.now words.now result (pat_then sign depth) }
 {
     let (pattern, rest) = pattern(alloc, source, words, depth)?;
     let rest = expect(source, rest, sign)?;

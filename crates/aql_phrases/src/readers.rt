@@ -1,6 +1,6 @@
 //! The names of readers.
 
-ghost use Rattle.std.specs.Prelude.{◌≡◌, MatchOption, Some, None};
+ghost use Rattle.std.specs.Prelude.{◌≡◌, Some, None};
 ghost use Rattle.aql_syntax.specs.View.{reader_of};
 ghost use Rattle.aql_grammar.specs.Parsing as grammar;
 ghost use Rattle.aql_grammar.specs.Parsing.{kind_of_letter, kinds_of, rank_of};
@@ -8,6 +8,7 @@ ghost use Rattle.aql_phrases.specs.Words.{Gives};
 
 use crate::fault::Refusal;
 use aql_syntax::ast::{CsvReader, Kind, Kinds, Reader};
+use aql_syntax::token::behind;
 use std::alloc::Global;
 
 /// The reader that has that name.
@@ -22,23 +23,6 @@ pub fn reader_named(alloc: Global, name: &[u8]) -> Result<Reader, Refusal>
             None => Err(Refusal::Syntax),
         },
     }
-}
-
-// What follows these bytes, where they stand at the front.
-fn behind<'a>(prefix: &[u8], bytes: &'a [u8]) -> Option<&'a [u8]>
-    ensures { MatchOption result (grammar.behind prefix.now bytes.now ≡ None) (λ r. grammar.behind prefix.now bytes.now ≡ Some r.now) }
-{
-    let mut left = prefix;
-    let mut rest = bytes;
-    while let Some((wanted, later)) = left.split_first() {
-        let (first, others) = rest.split_first()?;
-        if *first != *wanted {
-            return None;
-        }
-        left = later;
-        rest = others;
-    }
-    Some(rest)
 }
 
 fn netcdf_reader(bytes: &[u8]) -> Result<Reader, Refusal>

@@ -1,6 +1,6 @@
 -- The prelude: 24 macros that stand before the declarations of every script. Above each is its text.
 use Prim.Native.String.{String}
-use Rattle.std.specs.Prelude.{List, [], ◌∷◌, ◌++◌, codes}
+use Rattle.std.specs.Prelude.{ℕ, List, [], ◌∷◌, ◌++◌, codes}
 use Rattle.aql_value.specs.Strict.{Strict}
 use Rattle.aql_value.specs.declared.ops.ArithOp.{ArithOp}
 use Rattle.aql_value.specs.declared.ops.ArithOp.TheVariants as ariths
@@ -191,6 +191,10 @@ of_numbers = min2 ∷ max2 ∷ range ∷ domain ∷ []
 abbrev pub of_arrays : List Declaration
 of_arrays = cells ∷ graph ∷ reverse ∷ subseq ∷ append ∷ transpose ∷ zip ∷ []
 
--- the 24 declarations in order
+-- how many declarations the prelude has
+abbrev pub prelude_count : ℕ
+prelude_count = 24
+
+-- the declarations in order
 abbrev pub prelude_decls : List Declaration
 prelude_decls = of_pairs_and_counts ++ of_sets ++ of_numbers ++ of_arrays

@@ -8,7 +8,7 @@
 ghost use Rattle.std.specs.Prelude.{[], ◌∷◌, ◌≡◌, ◌++◌, length, IfOk, OnOk};
 ghost use Rattle.aql_syntax.specs.Tree.{Declaration};
 ghost use Rattle.aql_syntax.specs.View.{decl_of, decls_of};
-ghost use Rattle.aql_prelude.specs.Prelude.{prelude_decls, of_pairs_and_counts, of_sets, of_numbers, of_arrays};
+ghost use Rattle.aql_prelude.specs.Prelude.{prelude_decls, prelude_count, of_pairs_and_counts, of_sets, of_numbers, of_arrays};
 
 mod arrays;
 mod counts;
@@ -21,10 +21,13 @@ use aql_syntax::ast::{Decl, Decls};
 use aql_value::Memory;
 use std::alloc::Global;
 
+/// How many declarations the prelude has.
+pub const COUNT: u64 = 24;
+
 /// The declarations of the prelude, in order.
 pub fn prelude(alloc: Global) -> Result<Decls, Memory>
     ensures declarations { IfOk result (λ d. decls_of d.items.items ≡ prelude_decls) }
-    ensures count { IfOk result (λ d. length d.items.items ≡ 24) }
+    ensures count { IfOk result (λ d. length d.items.items ≡ prelude_count) }
 {
     let mut items = Vec::new(alloc);
     push_counts(alloc, &mut items)?;

@@ -12,6 +12,7 @@ use aql_made as made;
 use aql_made::{both_boxed, boxed, listed, listed_both};
 use aql_syntax::ast::{Bind, Decl, Expr, Pattern, Qual};
 use aql_syntax::build::{comprehension, row, subscript, tabulation, tuple_pattern};
+use aql_syntax::nodes::{Functional, Operation, Operator, function_in_place, joined, operated};
 use aql_value::{ArithOp, CompareOp, Memory, Str};
 use std::alloc::Global;
 
@@ -99,7 +100,7 @@ pub(crate) fn compare(
     ensures { (t u : tree.Tree) → MadeTree a t → MadeTree b u → MadeTree result (of_two (Strict.compare op) t u) }
 {
     let (a, b) = both_boxed(alloc, a, b)?;
-    Ok(Expr::Compare(op, a, b))
+    Ok(joined(Operator::Compare(op), a, b))
 }
 
 pub(crate) fn arith(
@@ -111,7 +112,7 @@ pub(crate) fn arith(
     ensures { (t u : tree.Tree) → MadeTree a t → MadeTree b u → MadeTree result (of_two (Strict.arith op) t u) }
 {
     let (a, b) = both_boxed(alloc, a, b)?;
-    Ok(Expr::Arith(op, a, b))
+    Ok(joined(Operator::Arith(op), a, b))
 }
 
 /// `e = {}`.
@@ -144,14 +145,14 @@ pub(crate) fn generate(alloc: Global, a: Result<Expr, Memory>) -> Result<Expr, M
     ensures { (t : tree.Tree) → MadeTree a t → MadeTree result (of_one Strict.gen t) }
 {
     let a = boxed(alloc, a)?;
-    Ok(Expr::Gen(a))
+    Ok(operated(Operation::Gen, a))
 }
 
 pub(crate) fn get(alloc: Global, a: Result<Expr, Memory>) -> Result<Expr, Memory>
     ensures { (t : tree.Tree) → MadeTree a t → MadeTree result (of_one Strict.get t) }
 {
     let a = boxed(alloc, a)?;
-    Ok(Expr::Get(a))
+    Ok(operated(Operation::Get, a))
 }
 
 /// The length of the array of that name.
@@ -167,7 +168,7 @@ pub(crate) fn dim_2(alloc: Global, x: &[u8]) -> Result<Expr, Memory>
     ensures { MadeTree result (of_one (Strict.dim 2) (tree.name x.now)) }
 {
     let array = boxed(alloc, name(alloc, x))?;
-    Ok(Expr::Dim { rank: 2, array })
+    Ok(operated(Operation::Dim(2), array))
 }
 
 /// A cell of the array of that name, which has one dimension.
@@ -204,11 +205,7 @@ pub(crate) fn sum_map(
     ensures { (v : tree.Pat) (t u : tree.Tree) → MadePat pattern v → MadeTree body t → MadeTree over u → MadeTree result (tree.summap v t u) }
 {
     let (pattern, (body, over)) = made::both(pattern, both_boxed(alloc, body, over))?;
-    Ok(Expr::SumMap {
-        pattern,
-        body,
-        over,
-    })
+    Ok(function_in_place(Functional::Sum, pattern, body, over))
 }
 
 /// A comprehension of one qualifier.

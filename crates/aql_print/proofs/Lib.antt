@@ -1,5 +1,5 @@
 pub mod Chains
 pub mod CoreEquations
 mod Examples
-pub mod Variables
+pub mod TypeParts
 pub mod Weights

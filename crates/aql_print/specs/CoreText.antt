@@ -8,8 +8,9 @@ use Rattle.aql_value.specs.declared.ops.ArithOp.TheVariants.{Add, Monus, Mul, Qu
 use Rattle.aql_value.specs.declared.ops.CompareOp.{CompareOp}
 use Rattle.aql_value.specs.declared.ops.CompareOp.TheVariants.{Equal, Unequal, Less, LessEqual, Greater, GreaterEqual}
 use Rattle.nrca_term.specs.Term.{Term, node, Parts, none, part, Form, var, global, bind, choose, default, big_union, sum, tab, strict}
+use Rattle.aql_prelude.specs.Prelude.{prelude_count}
 use Rattle.aql_texts.specs.Joined.{separated}
-use Rattle.aql_texts.specs.Names.{bound_text, variable_text, position_text}
+use Rattle.aql_texts.specs.Names.{bound_text, variable_text}
 use Rattle.aql_texts.specs.ValueText.{text}
 
 abbrev pub arith_text : ArithOp → List ℕ
@@ -98,6 +99,10 @@ strict_text Strict.sub ts = first_and_rest indexed_text ts
 strict_text (Strict.dim rank) ts = one (λ a. codes "dim_" ++ (decimal rank ++ between (codes "(") a (codes ")"))) ts
 strict_text (Strict.index rank) ts = one (λ a. codes "index_" ++ (decimal rank ++ between (codes "(") a (codes ")"))) ts
 strict_text (Strict.literal rank) ts = literal_text (take rank ts) (drop rank ts)
+
+-- a position, by the number of its declaration: the first positions are those of the prelude
+abbrev pub position_text : ℕ → List ℕ
+position_text n = codes "@" ++ decimal (n - prelude_count)
 
 -- a form with d binders around it, by the texts of its parts
 abbrev pub form_text : ℕ → Form → List (List ℕ) → List ℕ

@@ -1,33 +1,9 @@
 -- The text of a type and of what a declaration has, in ASCII bytes.
-use Rattle.std.specs.Prelude.{ℕ, suc, ◌+◌, ◌/◌, ◌%◌, ◌==◌, ◌||◌, Bool, false, List, [], ◌∷◌, ◌++◌, codes, decimal, if◌then◌else◌}
+use Rattle.std.specs.Prelude.{ℕ, ◌+◌, ◌/◌, ◌%◌, ◌==◌, List, [], ◌∷◌, ◌++◌, codes, decimal, if◌then◌else◌}
 use Rattle.aql_types.specs.Types as types
 use Rattle.aql_types.specs.Types.{Ty, natural, truth, var, product, set_of, array_of, Tys, no_type, type, Sort, value, macro}
+use Rattle.aql_types.specs.Variables.{place, sort_variables}
 use Rattle.aql_texts.specs.Joined.{separated}
-
--- whether a variable is one of some
-abbrev pub is_one_of : ℕ → List ℕ → Bool
-is_one_of x [] = false
-is_one_of x (y ∷ ys) = y == x || is_one_of x ys
-
--- the place of a variable among some; their number where it is none of them
-abbrev pub place : ℕ → List ℕ → ℕ
-place x [] = 0
-place x (y ∷ ys) = if y == x then 0 else suc (place x ys)
-
-abbrev mutual
-  -- the variables seen before, and behind them those of a type that are new, by first appearance from the left
-  pub variables : Ty → List ℕ → List ℕ
-  variables natural seen = seen
-  variables truth seen = seen
-  variables types.text seen = seen
-  variables (var x) seen = if is_one_of x seen then seen else seen ++ (x ∷ [])
-  variables (product ts) seen = variables_all ts seen
-  variables (set_of t) seen = variables t seen
-  variables (array_of k t) seen = variables t seen
-
-  pub variables_all : Tys → List ℕ → List ℕ
-  variables_all no_type seen = seen
-  variables_all (type t ts) seen = variables_all ts (variables t seen)
 
 -- variable n, counted from 0: `'a` to `'z`, then `'a1` to `'z1`, `'a2` and so on
 abbrev pub variable_text : ℕ → List ℕ
@@ -61,6 +37,6 @@ abbrev mutual
 
 -- the type of a value, or a macro's argument and result
 abbrev pub scheme_text : Sort → List ℕ
-scheme_text (value t) = type_text t (variables t [])
+scheme_text (value t) = type_text t (sort_variables (value t))
 scheme_text (macro s t) =
-    type_text s (variables t (variables s [])) ++ (codes " -> " ++ type_text t (variables t (variables s [])))
+    type_text s (sort_variables (macro s t)) ++ (codes " -> " ++ type_text t (sort_variables (macro s t)))

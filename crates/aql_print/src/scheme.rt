@@ -1,13 +1,12 @@
 ghost use Rattle.std.specs.Prelude.{◌≡◌, ◌+◌, ◌++◌, ◌∷◌, [], OnOk, IfOk, decimal, codes};
-ghost use Rattle.aql_types.specs.Types as types;
 ghost use Rattle.aql_types.specs.View.{type_of, types_of, sort_of};
 ghost use Rattle.aql_texts.specs.Appends.{AppendsPrefix};
 ghost use Rattle.aql_texts.specs.Joined.{separated};
-ghost use Rattle.aql_print.specs.TypeText as texts;
-ghost use Rattle.aql_print.specs.TypeText.{is_one_of, place, variables_all, variable_text, part_text, part_texts, type_text, scheme_text};
+ghost use Rattle.aql_print.specs.TypeText.{variable_text, part_text, part_texts, type_text, scheme_text};
 
 use aql_texts::{put, put_before, put_number};
 use aql_types::ty::{Scheme, Ty};
+use aql_types::variables::{place_of, scheme_variables};
 use aql_value::Memory;
 use std::alloc::Global;
 
@@ -25,83 +24,15 @@ pub fn print_scheme(alloc: Global, s: &Scheme, out: &mut Vec<u8>) -> Result<(), 
 fn written(alloc: Global, s: &Scheme) -> Result<Vec<u8>, Memory>
     ensures { IfOk result (λ text. text.items ≡ scheme_text (sort_of s.now)) }
 {
+    let names = scheme_variables(alloc, s)?;
     match s {
-        Scheme::Value(t) => {
-            let names = variables(t, Vec::new(alloc))?;
-            add_type(t, &names, Vec::new(alloc))
-        }
+        Scheme::Value(t) => add_type(t, &names, Vec::new(alloc)),
         Scheme::Macro { argument, result } => {
-            let names = variables(argument, Vec::new(alloc))?;
-            let names = variables(result, names)?;
             let text = add_type(argument, &names, Vec::new(alloc))?;
             let text = add(b" -> ", text)?;
             add_type(result, &names, text)
         }
     }
-}
-
-// The variables seen before, and behind them those of a type that are new.
-#[cycle(variables)]
-#[tactic(auto, using(aql_types::specs::ViewLaws::type_of_row))]
-fn variables(t: &Ty, seen: Vec<u64>) -> Result<Vec<u64>, Memory>
-    ensures { IfOk result (λ vs. vs.items ≡ texts.variables (type_of t.now) seen.items) }
-{
-    match t {
-        Ty::Nat => Ok(seen),
-        Ty::Bool => Ok(seen),
-        Ty::Text => Ok(seen),
-        Ty::Var(x) => with_variable(*x, seen),
-        Ty::Tuple(ts) => variables_of_all(&ts.items, seen),
-        Ty::SetOf(t) => variables(t, seen),
-        Ty::ArrayOf { rank: _, cell } => variables(cell, seen),
-    }
-}
-
-#[cycle(variables)]
-#[tactic(auto, using(aql_types::specs::ViewLaws::list_steps))]
-fn variables_of_all(ts: &[Ty], seen: Vec<u64>) -> Result<Vec<u64>, Memory>
-    ensures { IfOk result (λ vs. vs.items ≡ variables_all (types_of ts.now) seen.items) }
-{
-    let mut seen = seen;
-    for t in ts {
-        seen = variables(t, seen)?;
-    }
-    Ok(seen)
-}
-
-fn with_variable(x: u64, seen: Vec<u64>) -> Result<Vec<u64>, Memory>
-    ensures { IfOk result (λ vs. vs.items ≡ texts.variables (types.var x) seen.items) }
-{
-    if is_seen(x, &seen) {
-        return Ok(seen);
-    }
-    let mut seen = seen;
-    seen.push(x)?;
-    Ok(seen)
-}
-
-#[tactic(auto, using(crate::proofs::Variables::place_steps))]
-fn is_seen(x: u64, seen: &[u64]) -> bool
-    ensures { result ≡ is_one_of x seen.now }
-{
-    for y in seen {
-        if *y == x {
-            return true;
-        }
-    }
-    false
-}
-
-#[tactic(auto, using(crate::proofs::Variables::place_steps))]
-fn place_of(x: u64, names: &[u64]) -> usize
-    ensures { result ≡ place x names.now }
-{
-    for (i, y) in names.iter().enumerate() {
-        if *y == x {
-            return i;
-        }
-    }
-    names.len()
 }
 
 // Adds bytes behind a text.

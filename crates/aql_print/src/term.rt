@@ -3,11 +3,11 @@ ghost use Rattle.nrca_term.specs.Nodes.{let_term, if_term, tab_term, sub_term, l
 ghost use Rattle.nrca_term.specs.View.{term_of, terms_of};
 ghost use Rattle.aql_texts.specs.Appends.{AppendsPrefix};
 ghost use Rattle.aql_print.specs.CoreText as texts;
-ghost use Rattle.aql_print.specs.CoreText.{between, bounds_text, core_text, joined, loop_text};
-ghost use Rattle.aql_texts.specs.Names.{bound_text, position_text};
+ghost use Rattle.aql_print.specs.CoreText.{between, bounds_text, core_text, joined, loop_text, position_text};
 ghost use Rattle.aql_texts.specs.Joined.{separated};
 
-use aql_texts::{put, put_before, put_bound, put_number, put_position, put_quoted, put_variable};
+use aql_prelude::COUNT;
+use aql_texts::{put, put_before, put_bound, put_number, put_quoted, put_variable};
 use aql_value::{ArithOp, CompareOp, Memory};
 use nrca_term::{Core, Terms};
 use std::alloc::Global;
@@ -21,6 +21,15 @@ pub fn print_core(alloc: Global, term: &Core, out: &mut Vec<u8>) -> Result<(), M
     let mut text = Vec::new(alloc);
     put_term(term, 0, &mut text)?;
     put(&text, out)
+}
+
+// Adds a position, by the number of its declaration.
+#[inline(never)]
+fn put_position(n: u64, out: &mut Vec<u8>) -> Result<(), Memory>
+    ensures { OnOk result (out.new.items ≡ out.old.items ++ position_text n) }
+{
+    put(b"@", out)?;
+    put_number(u128::from(n.saturating_sub(COUNT)), out)
 }
 
 // Adds the text of a term with some binders around it. A level of the recursion keeps little on the stack.

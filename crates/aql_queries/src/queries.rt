@@ -1,16 +1,15 @@
 //! The terms of expressions.
 
-ghost use Rattle.std.specs.Prelude.{◌≡◌, ℕ, length, take, map, OnOk, IfOk, Some};
+ghost use Rattle.std.specs.Prelude.{◌≡◌, length, take, map, OnOk, IfOk, Some};
 ghost use Rattle.aql_syntax.specs.Names as surface_names;
 ghost use Rattle.aql_syntax.specs.View.{tree_of, trees_of, quals_of, axes_in, defs_in, pat_of, pats_of, decl_of};
 ghost use Rattle.aql_syntax.specs.Tree.{axes};
-ghost use Rattle.aql_syntax.specs.Measured.{latest};
 ghost use Rattle.nrca_term.specs.Nodes.{let_term, empty_term};
 ghost use Rattle.nrca_term.specs.Term.{Term};
 ghost use Rattle.nrca_term.specs.View.{term_of};
 ghost use Rattle.aql_start.specs.Start as start_term;
-ghost use Rattle.aql_start.specs.Start.{knowns_of, matching, starts, bound_terms, under_axes, quals_term, defs_term, array_term};
-ghost use Rattle.aql_matches.specs.Names.{scope, missing_term};
+ghost use Rattle.aql_start.specs.Start.{matching, starts, bound_terms, under_axes, quals_term, defs_term, array_term};
+ghost use Rattle.aql_matches.specs.Names.{missing_term, scope_in, knowns_in, Enters, Stands};
 
 use aql_made::both;
 use aql_matches::arrays::{enter_axes, hide, walk};
@@ -40,7 +39,7 @@ pub fn start<'a>(
     base: u64,
     names: &mut Vec<Option<&'a Str>>,
 ) -> Result<Core, Memory>
-    ensures made { IfOk result (λ c. term_of c ≡ start_term.start (tree_of e.now) (knowns_of (latest earlier.now)) (scope (λ x. x.now) names.old.items base)) }
+    ensures made { IfOk result (Stands (start_term.start (tree_of e.now)) earlier.now names.old.items base) }
     ensures kept { OnOk result (names.new.items ≡ names.old.items) }
 {
     match e {
@@ -131,8 +130,8 @@ fn pair<'a>(
     base: u64,
     names: &mut Vec<Option<&'a Str>>,
 ) -> Result<(Core, Core), Memory>
-    ensures first { IfOk result (λ x. term_of x.0 ≡ start_term.start (tree_of a.now) (knowns_of (latest earlier.now)) (scope (λ x. x.now) names.old.items base)) }
-    ensures second { IfOk result (λ x. term_of x.1 ≡ start_term.start (tree_of b.now) (knowns_of (latest earlier.now)) (scope (λ x. x.now) names.old.items base)) }
+    ensures first { IfOk result (λ x. Stands (start_term.start (tree_of a.now)) earlier.now names.old.items base x.0) }
+    ensures second { IfOk result (λ x. Stands (start_term.start (tree_of b.now)) earlier.now names.old.items base x.1) }
     ensures kept { OnOk result (names.new.items ≡ names.old.items) }
 {
     let a = start(alloc, a, earlier, base, names)?;
@@ -150,7 +149,7 @@ fn all<'a>(
     base: u64,
     names: &mut Vec<Option<&'a Str>>,
 ) -> Result<Vec<Core>, Memory>
-    ensures made { IfOk result (λ ts. map term_of ts.items ≡ starts (trees_of es.now) (knowns_of (latest earlier.now)) (scope (λ x. x.now) names.old.items base)) }
+    ensures made { IfOk result (λ ts. map term_of ts.items ≡ starts (trees_of es.now) (knowns_in earlier.now) (scope_in names.old.items base)) }
     ensures kept { OnOk result (names.new.items ≡ names.old.items) }
 {
     let mut made = Vec::new(alloc);
@@ -171,7 +170,7 @@ fn bounds<'a>(
     base: u64,
     names: &mut Vec<Option<&'a Str>>,
 ) -> Result<Vec<Core>, Memory>
-    ensures made { IfOk result (λ ts. map term_of ts.items ≡ bound_terms (axes_in binds.now) (knowns_of (latest earlier.now)) (scope (λ x. x.now) names.old.items base)) }
+    ensures made { IfOk result (λ ts. map term_of ts.items ≡ bound_terms (axes_in binds.now) (knowns_in earlier.now) (scope_in names.old.items base)) }
     ensures kept { OnOk result (names.new.items ≡ names.old.items) }
 {
     let mut made = Vec::new(alloc);
@@ -184,7 +183,7 @@ fn bounds<'a>(
 
 // Puts on the indices of a tabulation.
 fn enter_binds<'a>(binds: &'a [Bind], names: &mut Vec<Option<&'a Str>>) -> Result<(), Memory>
-    ensures inside { OnOk result ((base : ℕ) → scope (λ x. x.now) names.new.items base ≡ under_axes (axes_in binds.now) (scope (λ x. x.now) names.old.items base)) }
+    ensures inside { OnOk result (Enters (under_axes (axes_in binds.now)) names.old.items names.new.items) }
     ensures around { OnOk result (take (length names.old.items) names.new.items ≡ names.old.items) }
 {
     for b in binds {
@@ -203,7 +202,7 @@ fn indexed<'a>(
     base: u64,
     names: &mut Vec<Option<&'a Str>>,
 ) -> Result<Core, Memory>
-    ensures made { IfOk result (λ c. term_of c ≡ start_term.start (tree_of body.now) (knowns_of (latest earlier.now)) (under_axes (axes_in binds.now) (scope (λ x. x.now) names.old.items base))) }
+    ensures made { IfOk result (λ c. term_of c ≡ start_term.start (tree_of body.now) (knowns_in earlier.now) (under_axes (axes_in binds.now) (scope_in names.old.items base))) }
     ensures kept { OnOk result (names.new.items ≡ names.old.items) }
 {
     let mark = names.len();
@@ -223,7 +222,7 @@ fn within<'a>(
     base: u64,
     names: &mut Vec<Option<&'a Str>>,
 ) -> Result<Core, Memory>
-    ensures made { IfOk result (λ c. term_of c ≡ matching (pat_of p.now) (knowns_of (latest earlier.now)) (scope (λ x. x.now) names.old.items base) (start_term.start (tree_of body.now) (knowns_of (latest earlier.now))) (missing_term Missing.Undefined)) }
+    ensures made { IfOk result (λ c. term_of c ≡ matching (pat_of p.now) (knowns_in earlier.now) (scope_in names.old.items base) (start_term.start (tree_of body.now) (knowns_in earlier.now)) (missing_term Missing.Undefined)) }
     ensures kept { OnOk result (names.new.items ≡ names.old.items) }
 {
     let mark = names.len();
@@ -241,7 +240,7 @@ fn call<'a>(
     base: u64,
     names: &[Option<&Str>],
 ) -> Result<Core, Memory>
-    ensures { IfOk result (λ c. term_of c ≡ start_term.call_term (start_term.index_of name.now (scope (λ x. x.now) names.now base)) (surface_names.find name.now (knowns_of (latest earlier.now))) (length (scope (λ x. x.now) names.now base))) }
+    ensures { IfOk result (λ c. term_of c ≡ start_term.call_term (start_term.index_of name.now (scope_in names.now base)) (surface_names.find name.now (knowns_in earlier.now)) (length (scope_in names.now base))) }
 {
     match index_of(names, name) {
         Some(_) => Ok(Core::Bottom),
@@ -255,7 +254,7 @@ fn call<'a>(
 // A macro's body under the match of its argument, which is the innermost of `depth` variables without a name and one more.
 #[cycle(start)]
 fn expand<'a>(alloc: Global, name: &Str, earlier: &'a [Decl], depth: u64) -> Result<Core, Memory>
-    ensures { IfOk result (λ c. term_of c ≡ start_term.macro_term (surface_names.find name.now (knowns_of (latest earlier.now))) depth) }
+    ensures { IfOk result (λ c. term_of c ≡ start_term.macro_term (surface_names.find name.now (knowns_in earlier.now)) depth) }
 {
     match find(name, earlier) {
         None => Ok(Core::Bottom),
@@ -290,7 +289,7 @@ fn comprehend<'a>(
     base: u64,
     names: &mut Vec<Option<&'a Str>>,
 ) -> Result<Core, Memory>
-    ensures made { IfOk result (λ c. term_of c ≡ quals_term (quals_of quals.now) (start_term.start (tree_of head.now) (knowns_of (latest earlier.now))) (knowns_of (latest earlier.now)) (scope (λ x. x.now) names.old.items base)) }
+    ensures made { IfOk result (λ c. term_of c ≡ quals_term (quals_of quals.now) (start_term.start (tree_of head.now) (knowns_in earlier.now)) (knowns_in earlier.now) (scope_in names.old.items base)) }
     ensures kept { OnOk result (names.new.items ≡ names.old.items) }
 {
     match quals.split_first() {
@@ -348,7 +347,7 @@ fn continued<'a>(
     base: u64,
     names: &mut Vec<Option<&'a Str>>,
 ) -> Result<Core, Memory>
-    ensures made { IfOk result (λ c. term_of c ≡ matching (pat_of p.now) (knowns_of (latest earlier.now)) (scope (λ x. x.now) names.old.items base) (quals_term (quals_of rest.now) (start_term.start (tree_of head.now) (knowns_of (latest earlier.now))) (knowns_of (latest earlier.now))) (missing_term Missing.Empty)) }
+    ensures made { IfOk result (λ c. term_of c ≡ matching (pat_of p.now) (knowns_in earlier.now) (scope_in names.old.items base) (quals_term (quals_of rest.now) (start_term.start (tree_of head.now) (knowns_in earlier.now)) (knowns_in earlier.now)) (missing_term Missing.Empty)) }
     ensures kept { OnOk result (names.new.items ≡ names.old.items) }
 {
     let mark = names.len();
@@ -369,7 +368,7 @@ fn grid<'a>(
     base: u64,
     names: &mut Vec<Option<&'a Str>>,
 ) -> Result<Core, Memory>
-    ensures made { IfOk result (λ c. (array : Term) → let_term array (term_of c) ≡ array_term (pats_of ps.now) (knowns_of (latest earlier.now)) (scope (λ x. x.now) names.old.items base) array (λ inner. matching (pat_of p.now) (knowns_of (latest earlier.now)) inner (quals_term (quals_of rest.now) (start_term.start (tree_of head.now) (knowns_of (latest earlier.now))) (knowns_of (latest earlier.now))) empty_term) empty_term) }
+    ensures made { IfOk result (λ c. (array : Term) → let_term array (term_of c) ≡ array_term (pats_of ps.now) (knowns_in earlier.now) (scope_in names.old.items base) array (λ inner. matching (pat_of p.now) (knowns_in earlier.now) inner (quals_term (quals_of rest.now) (start_term.start (tree_of head.now) (knowns_in earlier.now)) (knowns_in earlier.now)) empty_term) empty_term) }
     ensures kept { OnOk result (names.new.items ≡ names.old.items) }
 {
     let mark = names.len();
@@ -394,7 +393,7 @@ fn bind_all<'a>(
     base: u64,
     names: &mut Vec<Option<&'a Str>>,
 ) -> Result<Core, Memory>
-    ensures made { IfOk result (λ c. term_of c ≡ defs_term (defs_in binds.now) (start_term.start (tree_of body.now) (knowns_of (latest earlier.now))) (knowns_of (latest earlier.now)) (scope (λ x. x.now) names.old.items base)) }
+    ensures made { IfOk result (λ c. term_of c ≡ defs_term (defs_in binds.now) (start_term.start (tree_of body.now) (knowns_in earlier.now)) (knowns_in earlier.now) (scope_in names.old.items base)) }
     ensures kept { OnOk result (names.new.items ≡ names.old.items) }
 {
     match binds.split_first() {
@@ -418,7 +417,7 @@ fn bind_rest<'a>(
     base: u64,
     names: &mut Vec<Option<&'a Str>>,
 ) -> Result<Core, Memory>
-    ensures made { IfOk result (λ c. term_of c ≡ matching (pat_of p.now) (knowns_of (latest earlier.now)) (scope (λ x. x.now) names.old.items base) (defs_term (defs_in rest.now) (start_term.start (tree_of body.now) (knowns_of (latest earlier.now))) (knowns_of (latest earlier.now))) (missing_term Missing.Undefined)) }
+    ensures made { IfOk result (λ c. term_of c ≡ matching (pat_of p.now) (knowns_in earlier.now) (scope_in names.old.items base) (defs_term (defs_in rest.now) (start_term.start (tree_of body.now) (knowns_in earlier.now)) (knowns_in earlier.now)) (missing_term Missing.Undefined)) }
     ensures kept { OnOk result (names.new.items ≡ names.old.items) }
 {
     let mark = names.len();

@@ -9,6 +9,7 @@ use Rattle.aql_syntax.specs.Grammar.{ReadsScript}
 use Rattle.aql_syntax.specs.Lexis.{Lexeme}
 use Rattle.aql_syntax.specs.Script.{Earlier, globals_of}
 use Rattle.aql_syntax.specs.Sound.{declarations_of}
+use Rattle.aql_syntax.specs.Size.{most_nodes, most_levels, AreWithinLimits}
 use Rattle.aql_syntax.specs.Tree.{Tree, Declaration, val, mac, read, bare}
 use Rattle.aql_syntax.specs.Work.{work}
 use Rattle.aql_infer.specs.Checked.{IsFirstUntyped}
@@ -19,7 +20,8 @@ use Rattle.nrca_term.specs.Turns.{settle}
 use Rattle.aql_start.specs.Laws.{outcomes_of}
 use Rattle.aql_start.specs.Positions.{start-turns}
 use Rattle.aql_start.specs.Start.{start, knowns_of}
-use Rattle.aql_script.specs.Script.{Spells, Reads, positions, AreWithinLimits, IsFirstLarge, NoneReadsRecords, IsFirstOfRecords}
+use Rattle.aql_prelude.specs.Prelude.{prelude_count}
+use Rattle.aql_script.specs.Script.{Spells, Reads, positions, IsFirstLarge, NoneReadsRecords, IsFirstOfRecords}
 use Rattle.aql_session.specs.Bound.{earlier_of}
 use Rattle.aql_session.specs.Reading.{read_fault}
 use Rattle.aql_session.specs.Step.{query_turns, IsCause}
@@ -32,6 +34,7 @@ use Rattle.aql_answers.specs.Answered.{AreAnswered, reached}
 use Rattle.aql_answers.specs.AnsweredLaws.{told_at}
 use Rattle.aql_run.specs.Complete.{work_of, AreOutcomes, HaveTypings, IsWithin, IsSound, EndsWell, Lexed}
 use Rattle.aql_run.specs.Outcome.{Told, IsScript, HasRun, Stops, Refuses, RunsWords, IsSpent}
+use Rattle.aql_run.specs.Reading.{most_bytes}
 use Rattle.aql_run.specs.declared.report.Stop.{Stop}
 use Rattle.aql_status.specs.declared.status.Status.{Status}
 use Rattle.aql_status.specs.declared.status.Status.TheVariants as status
@@ -44,7 +47,7 @@ same_script (Some n) left taken script given (_, it) (none, is) = is ∙ sym it
 same_script None left taken script given (it, _) (is, whole) = is ∙ sym it
 
 -- and as far as it is the source's, a short one
-short_script : (sample : Option ℕ) (left : Option (List ℕ)) (taken script : List ℕ) → sample ≡ None → IsScript sample left taken script → length taken ≤ 1048576
+short_script : (sample : Option ℕ) (left : Option (List ℕ)) (taken script : List ℕ) → sample ≡ None → IsScript sample left taken script → length taken ≤ most_bytes
 short_script (Some n) left taken script e is = absurd cc
 short_script None left taken script e (is, (few, _)) = few
 
@@ -61,13 +64,13 @@ records_or_none k [] n h f = f
 records_or_none k (d ∷ ds) n h (inl (e, is)) = absurd cc
 records_or_none k (d ∷ ds) n h (inr (e, later)) = records_or_none (k + 1) ds n h.1 later
 
-within_or_large : (ds : List Declaration) (n : ℕ) → AreWithinLimits (positions ds) (24 + length ds) → IsFirstLarge ds n → ⊥
+within_or_large : (ds : List Declaration) (n : ℕ) → AreWithinLimits (positions ds) (prelude_count + length ds) → IsFirstLarge ds n → ⊥
 within_or_large ds n h f =
     let last = f.last in
-    let k = h (24 + n) (omega arith) (omega (arith, last)) in
+    let k = h (prelude_count + n) (omega arith) (omega (arith, last)) in
     of f.large k.0 k.1
   where
-    of : {a b : ℕ} → (20000 < a) ⊎ (1000 < b) → a ≤ 20000 → b ≤ 1000 → ⊥
+    of : {a b : ℕ} → (most_nodes < a) ⊎ (most_levels < b) → a ≤ most_nodes → b ≤ most_levels → ⊥
     of (inl x) y z = absurd (omega (arith, x, y))
     of (inr x) y z = absurd (omega (arith, x, z))
 
@@ -160,8 +163,8 @@ module _ (one : OneList) (text : TokensOrTextFault) (deep : ShallowOrDeep) (word
       (λ script are p. either h.ds n p.0 (subst (λ (l : List Lexeme). ReadsScript h.ds l) (spells_one one script are.0 p.0 are.1 p.1) are.2) p.2))
   ends status.Type (_, (lines, line, (n, r), _)) whole =
       absurd (refuses_none words told same taken given answers stop lines line _ _ it h r
-      (λ script are p. typed_or_not [] (positions h.ds) (24 + n) h.typed
-      (subst (λ (l : List Declaration). IsFirstUntyped [] (positions l) (24 + n)) (sym (p.1.1 h.ds are)) p.3)))
+      (λ script are p. typed_or_not [] (positions h.ds) (prelude_count + n) h.typed
+      (subst (λ (l : List Declaration). IsFirstUntyped [] (positions l) (prelude_count + n)) (sym (p.1.1 h.ds are)) p.3)))
   ends status.Large (_, (lines, line, (n, r), _)) whole =
       absurd (refuses_none words told same taken given answers stop lines line _ _ it h r
       (λ script are p. within_or_large h.ds n h.limits (subst (λ (l : List Declaration). IsFirstLarge l n) (sym (p.1.1 h.ds are)) p.3)))

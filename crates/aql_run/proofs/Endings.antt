@@ -1,21 +1,24 @@
 -- How the parts of a run make its outcome.
 use Rattle.std.proofs.Common.{◌≡◌, ◌∙◌, ◌<◌, ◌+◌, ◌-◌, ◌⊎◌, inl, inr, ℕ, zero, suc, List, [], ◌∷◌, ◌++◌, refl, sym, ap, subst, length, take, drop, arith, append_assoc, append-nil}
 use Rattle.std.specs.Prelude.{Option, Some, None, Bool, Result, Ok, Err, OnOk, IfOk, IfErr, IsErrOf, codes}
-use Rattle.std.proofs.KnownBytes.{Appends-nil, Appends-trans, Consumes-nil}
+use Rattle.std.specs.Io.KnownBytes.{Appends, Consumes}
 use Rattle.aql_outside.specs.Causes.{Rose}
 use Rattle.aql_outside.specs.Contents.{Content}
 use Rattle.aql_value.specs.Datum.{Datum}
+use Rattle.aql_syntax.specs.Size.{AreWithinLimits}
 use Rattle.aql_syntax.specs.Tree.{Declaration}
 use Rattle.nrca_term.specs.Meaning.{Outcomes}
 use Rattle.aql_words.specs.Words.{HasReading, options_of}
 use Rattle.aql_words.specs.declared.words.Options.{Options}
 use Rattle.aql_words.specs.declared.fault.WordFault.{WordFault}
 use Rattle.aql_words.specs.declared.fault.WordFault.TheVariants as wording
+use Rattle.aql_prelude.specs.Prelude.{prelude_count}
 use Rattle.aql_script.specs.PositionLaws.{drop_prelude}
-use Rattle.aql_script.specs.Script.{Prepares, ReadsAlone, AreTyped, positions, AreWithinLimits, NoneReadsRecords}
+use Rattle.aql_script.specs.Script.{Prepares, ReadsAlone, AreTyped, positions, NoneReadsRecords}
 use Rattle.aql_script.specs.declared.preparing.Prepared.{Prepared}
 use Rattle.aql_script.specs.declared.fault.ScriptFault.{ScriptFault}
 use Rattle.aql_script.specs.declared.fault.ScriptFault.TheVariants as refused
+use Rattle.aql_session.specs.Device.{Device}
 use Rattle.aql_session.specs.declared.answer.Answer.{Answer}
 use Rattle.aql_session.specs.declared.answer.StepFault.{StepFault}
 use Rattle.aql_session.specs.declared.answer.StepFault.TheVariants as faults
@@ -25,17 +28,19 @@ use Rattle.aql_answers.specs.AnsweredLaws.{are_values}
 use Rattle.aql_lines.specs.Entry.{entry, entries}
 use Rattle.aql_lines.specs.Lines.{at_byte, in_declaration}
 use Rattle.aql_lines.specs.Sample.{sample_text}
-use Rattle.aql_answers.specs.Steps.{own, sorts, IsPrepared, AllAnswered, CutsLines, EndsEarly}
+use Rattle.aql_answers.specs.Steps.{own, sorts, IsPrepared, AnswersAll, CutsLines, EndsAt}
 use Rattle.aql_answers.specs.declared.steps.Halt.{Halt}
 use Rattle.aql_answers.specs.declared.steps.Halt.TheVariants as halts
 use Rattle.aql_status.specs.Codes.{code_of, status_is}
 use Rattle.aql_run.specs.Complete.{EndsWell, Lexed}
-use Rattle.aql_run.specs.Reading.{ReadsWhole, ReadFails}
+use Rattle.aql_run.specs.Devices.{Devices, told_by, told_of}
+use Rattle.aql_run.specs.Reading.{most_bytes, ReadsWhole, ReadFails}
 use Rattle.aql_run.specs.declared.reading.ReadFault.TheVariants as reading
 use Rattle.aql_run.specs.Outcome.{Told, IsPrefix, IsCut, IsScript, HasRun, CutsLast, stop_of, Writes, WritesAll, Serves, RunsWords}
 use Rattle.aql_run.proofs.Completing.{ends_well}
-use Rattle.aql_run.specs.Ending.{told_of, Passes, Answering, Answers, Asks, AsksSample, EndsWith, IsReady, Readies, Refused, Reported, Responds, Running, Samples, Serving, Stopped, refusal_line, stop_status, stop_line}
+use Rattle.aql_run.specs.Ending.{Passes, Answering, Answers, Asks, AsksSample, EndsWith, IsReady, Readies, Refused, Reported, Responds, Running, Samples, Serving, Stopped, refusal_line, stop_status, stop_line}
 use Rattle.aql_run.specs.declared.report.End.{End}
+use Rattle.aql_run.specs.declared.report.Report.{Report}
 use Rattle.aql_run.specs.declared.report.Stop.{Stop}
 use Rattle.aql_run.specs.declared.report.Stop.TheVariants as stops
 use Rattle.aql_status.specs.declared.status.Status.{Status}
@@ -46,11 +51,11 @@ use Rattle.aql_status.specs.declared.status.Status.TheVariants as status
 -- the script's own declarations stand behind those of the prelude
 prepared_is : (script : List ℕ) (p : Prepared) → Prepares script (Ok p) → IsPrepared p × ReadsAlone script (own p)
 prepared_is script p (ds, reads, all, typed, limits, built) =
-    let same : own p ≡ ds = ap (drop 24) all ∙ drop_prelude ds in (
+    let same : own p ≡ ds = ap (drop prelude_count) all ∙ drop_prelude ds in (
       record {
         all = all ∙ ap positions (sym same);
         typed = subst (λ (l : List Declaration). AreTyped l (sorts p)) (sym same) typed;
-        limits = subst (λ (l : List Declaration). AreWithinLimits (positions l) (24 + length l)) (sym same) limits;
+        limits = subst (λ (l : List Declaration). AreWithinLimits (positions l) (prelude_count + length l)) (sym same) limits;
         built = subst NoneReadsRecords (sym same) built;
       },
       subst (ReadsAlone script) (sym same) reads,
@@ -68,10 +73,10 @@ pub is_prepared : (p : Prepared) → IsReady p → IsPrepared p
 unfolding IsReady
 is_prepared p h = h
 
-pub answering : (p : Prepared) (o : Settings) (same : Type 0) (before now : ℕ) (holds : Option Content) (answers : List Answer) (old new : Option (List ℕ)) (r : Result (Unit {0}) Halt) →
-    OnOk r (AllAnswered p o holds same answers old new) → IfErr r (λ h. EndsEarly p o holds same before now answers old new h) → Answering p o same before now holds answers old new r
+pub answering : (p : Prepared) (o : Settings) (answers : List Answer) (sink : Device (Option (List ℕ))) (files : Device (Option Content)) (r : Result (Unit {0}) Halt) →
+    OnOk r (AnswersAll p o answers sink files) → IfErr r (EndsAt p o answers sink files) → Answering p o answers sink files r
 unfolding Answering
-answering p o same before now holds answers old new r done early = (done, early)
+answering p o answers sink files r done early = (done, early)
 
 -- ---- the lines of answers
 
@@ -87,7 +92,7 @@ entries_front plan (a ∷ answers) (o ∷ os) (suc k) =
 -- a run with these answers
 has_run : (p : Prepared) (o : Settings) (told : Told) (same : Type 0) (begun : ℕ) (taken script : List ℕ) (answers : List Answer) (V : Outcomes) → IsPrepared p →
     ReadsAlone script (own p) → IsScript o.sample told.left taken script → AreAnswered (own p) (sorts p) o.budget told.holds answers V →
-    (ReadNoFile (own p) o.budget V begun → same) → HasRun o told same begun taken answers (entries o.plan answers (drop 24 V))
+    (ReadNoFile (own p) o.budget V begun → same) → HasRun o told same begun taken answers (entries o.plan answers (drop prelude_count V))
 has_run p o told same begun taken script answers V h reads is answered untouched = record {
   script = script;
   ds = own p;
@@ -107,19 +112,19 @@ has_run p o told same begun taken script answers V h reads is answered untouched
 -- all the lines, and then a text of which nothing is a line
 cuts_behind : (p : Prepared) (o : Settings) (told : Told) (same : Type 0) (begun : ℕ) (taken script : List ℕ) (answers : List Answer) (V : Outcomes) (more : List ℕ) → IsPrepared p →
     ReadsAlone script (own p) → IsScript o.sample told.left taken script → AreAnswered (own p) (sorts p) o.budget told.holds answers V →
-    (ReadNoFile (own p) o.budget V begun → same) → IsPrefix more [] → CutsLast o told same begun taken answers (entries o.plan answers (drop 24 V) ++ more)
+    (ReadNoFile (own p) o.budget V begun → same) → IsPrefix more [] → CutsLast o told same begun taken answers (entries o.plan answers (drop prelude_count V) ++ more)
 unfolding has_run
 cuts_behind p o told same begun taken script answers V more h reads is answered untouched (none, e) =
-    let (last, f) = entries_front o.plan answers (drop 24 V) (length answers - 1) in
+    let (last, f) = entries_front o.plan answers (drop prelude_count V) (length answers - 1) in
     record {
-      lines = entries o.plan answers (drop 24 V);
+      lines = entries o.plan answers (drop prelude_count V);
       run = has_run p o told same begun taken script answers V h reads is answered untouched;
       front = (
         none,
-        sym (append-nil (entries o.plan answers (drop 24 V))) ∙ (ap (λ l. entries o.plan answers (drop 24 V) ++ l) e
-            ∙ sym (append_assoc (entries o.plan answers (drop 24 V)) more none)),
+        sym (append-nil (entries o.plan answers (drop prelude_count V))) ∙ (ap (λ l. entries o.plan answers (drop prelude_count V) ++ l) e
+            ∙ sym (append_assoc (entries o.plan answers (drop prelude_count V)) more none)),
       );
-      whole = (last ++ more, ap (λ l. l ++ more) f ∙ append_assoc (entries o.plan (take (length answers - 1) answers) (drop 24 V)) last more);
+      whole = (last ++ more, ap (λ l. l ++ more) f ∙ append_assoc (entries o.plan (take (length answers - 1) answers) (drop prelude_count V)) last more);
     }
 
 -- a front of the lines
@@ -127,7 +132,7 @@ cuts : (p : Prepared) (o : Settings) (told : Told) (same : Type 0) (begun : ℕ)
     IsScript o.sample told.left taken script → CutsLines p o told.holds same begun answers written → CutsLast o told same begun taken answers written
 unfolding has_run
 cuts p o told same begun taken script answers written h reads is c = record {
-  lines = entries o.plan answers (drop 24 c.outcomes);
+  lines = entries o.plan answers (drop prelude_count c.outcomes);
   run = has_run p o told same begun taken script answers c.outcomes h reads is c.answered c.untouched;
   front = (c.back, c.front);
   whole = (c.last, c.whole);
@@ -135,47 +140,47 @@ cuts p o told same begun taken script answers written h reads is c = record {
 
 -- ---- the ends of the run of the declarations
 
-ends_done : (p : Prepared) (o : Settings) (same : Type 0) (before now : ℕ) (holds : Option Content) (answers : List Answer) (old new : Option (List ℕ)) → IsPrepared p →
-    AllAnswered p o holds same answers old new → Answers p o same before now holds answers (record { status = status.Done; stop = stops.Done }) old new
+ends_done : (p : Prepared) (o : Settings) (answers : List Answer) (sink : Device (Option (List ℕ))) (files : Device (Option Content)) → IsPrepared p →
+    AnswersAll p o answers sink files → Answers p o answers sink files (record { status = status.Done; stop = stops.Done })
 unfolding Answers Responds has_run
-ends_done p o same before now holds answers old new h all =
+ends_done p o answers sink files h all =
     λ script reads. (
-      entries o.plan answers (drop 24 all.outcomes),
+      entries o.plan answers (drop prelude_count all.outcomes),
       all.written,
       λ input_before input_now left taken is. (
-        entries o.plan answers (drop 24 all.outcomes),
+        entries o.plan answers (drop prelude_count all.outcomes),
         [],
         (
-          has_run p o (told_of input_before input_now left before now holds) same (length answers) taken script answers all.outcomes h reads is all.answered all.untouched,
+          has_run p o (told_of input_before input_now left files) files.same (length answers) taken script answers all.outcomes h reads is all.answered all.untouched,
           all.all,
           refl,
           refl,
         ),
-        sym (append-nil (entries o.plan answers (drop 24 all.outcomes))),
+        sym (append-nil (entries o.plan answers (drop prelude_count all.outcomes))),
       ),
     )
 
-ends_memory : (p : Prepared) (o : Settings) (same : Type 0) (before now : ℕ) (holds : Option Content) (answers : List Answer) (old new : Option (List ℕ)) → IsPrepared p →
-    EndsEarly p o holds same before now answers old new halts.Memory → Answers p o same before now holds answers (record { status = status.Memory; stop = stops.Other }) old new
+ends_memory : (p : Prepared) (o : Settings) (answers : List Answer) (sink : Device (Option (List ℕ))) (files : Device (Option Content)) → IsPrepared p →
+    EndsAt p o answers sink files halts.Memory → Answers p o answers sink files (record { status = status.Memory; stop = stops.Other })
 unfolding Answers Responds
-ends_memory p o same before now holds answers old new h (written, appended, inl none) = λ script reads. (written, appended, λ input_before input_now left taken is. (refl, inl none))
-ends_memory p o same before now holds answers old new h (written, appended, inr c) =
+ends_memory p o answers sink files h (written, appended, inl none) = λ script reads. (written, appended, λ input_before input_now left taken is. (refl, inl none))
+ends_memory p o answers sink files h (written, appended, inr c) =
     λ script reads. (
       written,
       appended,
       λ input_before input_now left taken is.
-          (refl, inr (cuts p o (told_of input_before input_now left before now holds) same (length answers + 1) taken script answers written h reads is c)),
+          (refl, inr (cuts p o (told_of input_before input_now left files) files.same (length answers + 1) taken script answers written h reads is c)),
     )
 
-ends_sink : (p : Prepared) (o : Settings) (same : Type 0) (before now : ℕ) (holds : Option Content) (answers : List Answer) (old new : Option (List ℕ)) → IsPrepared p →
-    EndsEarly p o holds same before now answers old new halts.Sink → Answers p o same before now holds answers (record { status = status.Output; stop = stops.Other }) old new
+ends_sink : (p : Prepared) (o : Settings) (answers : List Answer) (sink : Device (Option (List ℕ))) (files : Device (Option Content)) → IsPrepared p →
+    EndsAt p o answers sink files halts.Sink → Answers p o answers sink files (record { status = status.Output; stop = stops.Other })
 unfolding Answers Responds cuts
-ends_sink p o same before now holds answers old new h (written, appended, (c, some)) =
+ends_sink p o answers sink files h (written, appended, (c, some)) =
     λ script reads. (
       written,
       appended,
       λ input_before input_now left taken is.
-          (refl, inl (cuts p o (told_of input_before input_now left before now holds) same (length answers) taken script answers written h reads is c, some)),
+          (refl, inl (cuts p o (told_of input_before input_now left files) files.same (length answers) taken script answers written h reads is c, some)),
     )
 
 -- ---- the fault of a declaration
@@ -189,7 +194,7 @@ FaultWrites f o told same taken answers lines line =
 fault_writes : (p : Prepared) (o : Settings) (told : Told) (same : Type 0) (taken script : List ℕ) (answers : List Answer) (V : Outcomes) (f : StepFault) → IsPrepared p →
     ReadsAlone script (own p) → IsScript o.sample told.left taken script → AreAnswered (own p) (sorts p) o.budget told.holds answers V →
     IsStopped (own p) o.budget told.holds told.files_before told.files_now (length answers) V f → (ReadNoFile (own p) o.budget V (reached f (length answers)) → same) →
-    FaultWrites f o told same taken answers (entries o.plan answers (drop 24 V)) (stop_line (length answers + 1) f)
+    FaultWrites f o told same taken answers (entries o.plan answers (drop prelude_count V)) (stop_line (length answers + 1) f)
 unfolding has_run
 fault_writes p o told same taken script answers V (faults.Query start plan trace) h reads is answered stopped untouched =
     inl (faults.Query start plan trace, tt, has_run p o told same (length answers) taken script answers V h reads is answered untouched, stopped, refl, refl)
@@ -233,24 +238,29 @@ none_cut (x ∷ front) (rest, some, e) = cc
 fault_cut : (f : StepFault) (p : Prepared) (o : Settings) (told : Told) (same : Type 0) (taken script : List ℕ) (answers : List Answer) (V : Outcomes) (front : List ℕ) → IsPrepared p →
     ReadsAlone script (own p) → IsScript o.sample told.left taken script → AreAnswered (own p) (sorts p) o.budget told.holds answers V →
     IsStopped (own p) o.budget told.holds told.files_before told.files_now (length answers) V f → (ReadNoFile (own p) o.budget V (reached f (length answers)) → same) →
-    IsCut front (stop_line (length answers + 1) f) → Serves status.Output o told same taken answers stops.Other (entries o.plan answers (drop 24 V) ++ front)
+    IsCut front (stop_line (length answers + 1) f) → Serves status.Output o told same taken answers stops.Other (entries o.plan answers (drop prelude_count V) ++ front)
 fault_cut f p o told same taken script answers V front h reads is answered stopped untouched split =
     by (fault_writes p o told same taken script answers V f h reads is answered stopped untouched)
   where
     lines : List ℕ
-    lines = entries o.plan answers (drop 24 V)
+    lines = entries o.plan answers (drop prelude_count V)
 
     by : FaultWrites f o told same taken answers lines (stop_line (length answers + 1) f) → Serves status.Output o told same taken answers stops.Other (lines ++ front)
     by (inl w) = (refl, inr (stop_status f, stop_of f, lines, stop_line (length answers + 1) f, front, w, split, refl))
     by (inr (m, _, _)) = absurd (none_cut front (subst (IsCut front) (no_line f (length answers + 1) m) split))
 
-ends_fault : (p : Prepared) (o : Settings) (same : Type 0) (before now : ℕ) (holds : Option Content) (answers : List Answer) (f : StepFault) (n : ℕ) (old mid new : Option (List ℕ)) (e : End) →
-    IsPrepared p → EndsEarly p o holds same before now answers old mid (halts.Fault f) → n ≡ length answers + 1 → Stopped n f mid new e → Answers p o same before now holds answers e old new
+-- what was given to the sink by one call and by another is what was given to it by both
+abbrev Joins : (first second both : Device (Option (List ℕ))) → Type 0
+Joins first second both =
+    (a b : List ℕ) → Appends first.before first.after a → Appends second.before second.after b → Appends both.before both.after (a ++ b)
+
+ends_fault : (p : Prepared) (o : Settings) (answers : List Answer) (f : StepFault) (n : ℕ) (first second sink : Device (Option (List ℕ))) (files : Device (Option Content)) (e : End) →
+    Joins first second sink → IsPrepared p → EndsAt p o answers first files (halts.Fault f) → n ≡ length answers + 1 → Stopped n f second e → Answers p o answers sink files e
 unfolding Answers Responds Stopped
-ends_fault p o same before now holds answers f n old mid new e h (V, answered, stopped, appended, untouched) is (line, more, ends) =
+ends_fault p o answers f n first second sink files e joins h (V, answered, stopped, appended, untouched) is (line, more, ends) =
     λ script reads. (
-      entries o.plan answers (drop 24 V) ++ line,
-      Appends-trans old mid new (entries o.plan answers (drop 24 V)) line appended more,
+      entries o.plan answers (drop prelude_count V) ++ line,
+      joins (entries o.plan answers (drop prelude_count V)) line appended more,
       λ input_before input_now left taken of_script. by script reads input_before input_now left taken of_script ends,
     )
   where
@@ -268,64 +278,62 @@ ends_fault p o same before now holds answers f n old mid new e h (V, answered, s
         (((e.status ≡ stop_status f) × (e.stop ≡ stop_of f) × (line ≡ stop_line n f))
         ⊎ (((e.status ≡ status.Output) × (e.stop ≡ stops.Other) × IsCut line (stop_line n f))
         ⊎ ((e.status ≡ status.Memory) × (e.stop ≡ stops.Other) × (line ≡ [])))) →
-        Serves e.status o (told_of input_before input_now left before now holds) same taken answers e.stop (entries o.plan answers (drop 24 V) ++ line)
+        Serves e.status o (told_of input_before input_now left files) files.same taken answers e.stop (entries o.plan answers (drop prelude_count V) ++ line)
     by script reads input_before input_now left taken of_script (inl (s, k, l)) =
-        let told : Told = told_of input_before input_now left before now holds in
-        subst (λ (x : Status). Serves x o told same taken answers e.stop (entries o.plan answers (drop 24 V) ++ line)) (sym s)
-        (subst (λ (x : Stop). Serves (stop_status f) o told same taken answers x (entries o.plan answers (drop 24 V) ++ line)) (sym k)
-        (subst (λ (w : List ℕ). Serves (stop_status f) o told same taken answers (stop_of f) (entries o.plan answers (drop 24 V) ++ w)) (sym (l ∙ at))
-        (fault_serves f o told same taken answers (entries o.plan answers (drop 24 V)) (stop_line (length answers + 1) f)
-        (fault_writes p o told same taken script answers V f h reads of_script answered stopped untouched))))
+        let told : Told = told_of input_before input_now left files in
+        subst (λ (x : Status). Serves x o told files.same taken answers e.stop (entries o.plan answers (drop prelude_count V) ++ line)) (sym s)
+        (subst (λ (x : Stop). Serves (stop_status f) o told files.same taken answers x (entries o.plan answers (drop prelude_count V) ++ line)) (sym k)
+        (subst (λ (w : List ℕ). Serves (stop_status f) o told files.same taken answers (stop_of f) (entries o.plan answers (drop prelude_count V) ++ w)) (sym (l ∙ at))
+        (fault_serves f o told files.same taken answers (entries o.plan answers (drop prelude_count V)) (stop_line (length answers + 1) f)
+        (fault_writes p o told files.same taken script answers V f h reads of_script answered stopped untouched))))
     by script reads input_before input_now left taken of_script (inr (inl (s, k, split))) =
-        let told : Told = told_of input_before input_now left before now holds in
-        subst (λ (x : Status). Serves x o told same taken answers e.stop (entries o.plan answers (drop 24 V) ++ line)) (sym s)
-        (subst (λ (x : Stop). Serves status.Output o told same taken answers x (entries o.plan answers (drop 24 V) ++ line)) (sym k)
-        (fault_cut f p o told same taken script answers V line h reads of_script answered stopped untouched (subst (IsCut line) at split)))
+        let told : Told = told_of input_before input_now left files in
+        subst (λ (x : Status). Serves x o told files.same taken answers e.stop (entries o.plan answers (drop prelude_count V) ++ line)) (sym s)
+        (subst (λ (x : Stop). Serves status.Output o told files.same taken answers x (entries o.plan answers (drop prelude_count V) ++ line)) (sym k)
+        (fault_cut f p o told files.same taken script answers V line h reads of_script answered stopped untouched (subst (IsCut line) at split)))
     by script reads input_before input_now left taken of_script (inr (inr (s, k, none))) =
-        let told : Told = told_of input_before input_now left before now holds in
-        subst (λ (x : Status). Serves x o told same taken answers e.stop (entries o.plan answers (drop 24 V) ++ line)) (sym s)
-        (subst (λ (x : Stop). Serves status.Memory o told same taken answers x (entries o.plan answers (drop 24 V) ++ line)) (sym k) (
+        let told : Told = told_of input_before input_now left files in
+        subst (λ (x : Status). Serves x o told files.same taken answers e.stop (entries o.plan answers (drop prelude_count V) ++ line)) (sym s)
+        (subst (λ (x : Stop). Serves status.Memory o told files.same taken answers x (entries o.plan answers (drop prelude_count V) ++ line)) (sym k) (
           refl,
-          inr (cuts_behind p o told same (length answers + 1) taken script answers V line h reads of_script answered
+          inr (cuts_behind p o told files.same (length answers + 1) taken script answers V line h reads of_script answered
               (λ reads. untouched (all_reached f reads)) ([], sym (append-nil line ∙ none))),
         ))
 
 -- ---- the same of what the call answered
 
-pub answers_done : (p : Prepared) (o : Settings) (same : Type 0) (before now : ℕ) (holds : Option Content) (answers : List Answer) (old new : Option (List ℕ)) (u : Unit {0}) → IsReady p →
-    Answering p o same before now holds answers old new (Ok u) → Answers p o same before now holds answers (record { status = status.Done; stop = stops.Done }) old new
+pub answers_done : (p : Prepared) (o : Settings) (answers : List Answer) (sink : Device (Option (List ℕ))) (files : Device (Option Content)) (u : Unit {0}) → IsReady p →
+    Answering p o answers sink files (Ok u) → Answers p o answers sink files (record { status = status.Done; stop = stops.Done })
 unfolding IsReady Answering
-answers_done p o same before now holds answers old new u h (all, _) = ends_done p o same before now holds answers old new h all
+answers_done p o answers sink files u h (all, _) = ends_done p o answers sink files h all
 
-pub answers_memory : (p : Prepared) (o : Settings) (same : Type 0) (before now : ℕ) (holds : Option Content) (answers : List Answer) (old new : Option (List ℕ)) (halt : Halt) → halt ≡ halts.Memory →
-    IsReady p → Answering p o same before now holds answers old new (Err halt) → Answers p o same before now holds answers (record { status = status.Memory; stop = stops.Other }) old new
+pub answers_memory : (p : Prepared) (o : Settings) (answers : List Answer) (sink : Device (Option (List ℕ))) (files : Device (Option Content)) (halt : Halt) → halt ≡ halts.Memory →
+    IsReady p → Answering p o answers sink files (Err halt) → Answers p o answers sink files (record { status = status.Memory; stop = stops.Other })
 unfolding IsReady Answering
-answers_memory p o same before now holds answers old new halt is h (_, early) =
-    ends_memory p o same before now holds answers old new h (subst (λ (x : Halt). EndsEarly p o holds same before now answers old new x) is early)
+answers_memory p o answers sink files halt is h (_, early) = ends_memory p o answers sink files h (subst (EndsAt p o answers sink files) is early)
 
-pub answers_sink : (p : Prepared) (o : Settings) (same : Type 0) (before now : ℕ) (holds : Option Content) (answers : List Answer) (old new : Option (List ℕ)) (halt : Halt) → halt ≡ halts.Sink →
-    IsReady p → Answering p o same before now holds answers old new (Err halt) → Answers p o same before now holds answers (record { status = status.Output; stop = stops.Other }) old new
+pub answers_sink : (p : Prepared) (o : Settings) (answers : List Answer) (sink : Device (Option (List ℕ))) (files : Device (Option Content)) (halt : Halt) → halt ≡ halts.Sink →
+    IsReady p → Answering p o answers sink files (Err halt) → Answers p o answers sink files (record { status = status.Output; stop = stops.Other })
 unfolding IsReady Answering
-answers_sink p o same before now holds answers old new halt is h (_, early) =
-    ends_sink p o same before now holds answers old new h (subst (λ (x : Halt). EndsEarly p o holds same before now answers old new x) is early)
+answers_sink p o answers sink files halt is h (_, early) = ends_sink p o answers sink files h (subst (EndsAt p o answers sink files) is early)
 
-pub answers_fault : (p : Prepared) (o : Settings) (same : Type 0) (before now : ℕ) (holds : Option Content) (answers : List Answer) (f : StepFault) (n : ℕ) (old mid new : Option (List ℕ)) (e : End)
-    (halt : Halt) → halt ≡ halts.Fault f → IsReady p → Answering p o same before now holds answers old mid (Err halt) → n ≡ length answers + 1 → Stopped n f mid new e →
-    Answers p o same before now holds answers e old new
+pub answers_fault : (p : Prepared) (o : Settings) (answers : List Answer) (f : StepFault) (n : ℕ) (first second sink : Device (Option (List ℕ))) (files : Device (Option Content)) (e : End)
+    (halt : Halt) → Joins first second sink → halt ≡ halts.Fault f → IsReady p → Answering p o answers first files (Err halt) → n ≡ length answers + 1 → Stopped n f second e →
+    Answers p o answers sink files e
 unfolding IsReady Answering
-answers_fault p o same before now holds answers f n old mid new e halt is h (_, early) at stopped =
-    ends_fault p o same before now holds answers f n old mid new e h (subst (λ (x : Halt). EndsEarly p o holds same before now answers old mid x) is early) at stopped
+answers_fault p o answers f n first second sink files e halt joins is h (_, early) at stopped =
+    ends_fault p o answers f n first second sink files e joins h (subst (EndsAt p o answers first files) is early) at stopped
 
 -- the line of a fault was written as far as that went, and the fault is kept where it was written whole
-pub stopped_as : (n : ℕ) (f : StepFault) (old new : Option (List ℕ)) (line : List ℕ) (wanted s : Status) (e : End) → stop_status f ≡ wanted → stop_line n f ≡ line →
-    (wanted ≡ status.Output → ⊥) → (wanted ≡ status.Memory → ⊥) → EndsWith old new line wanted s → e.status ≡ s → (s ≡ wanted → e.stop ≡ stop_of f) →
-    ((s ≡ wanted → ⊥) → e.stop ≡ stops.Other) → Stopped n f old new e
+pub stopped_as : (n : ℕ) (f : StepFault) (sink : Device (Option (List ℕ))) (line : List ℕ) (wanted s : Status) (e : End) → stop_status f ≡ wanted → stop_line n f ≡ line →
+    (wanted ≡ status.Output → ⊥) → (wanted ≡ status.Memory → ⊥) → EndsWith sink line wanted s → e.status ≡ s → (s ≡ wanted → e.stop ≡ stop_of f) →
+    ((s ≡ wanted → ⊥) → e.stop ≡ stops.Other) → Stopped n f sink e
 unfolding Stopped
-stopped_as n f old new line wanted s e st ln no_output no_memory (written, appended, inl (is, all)) same kept other =
+stopped_as n f sink line wanted s e st ln no_output no_memory (written, appended, inl (is, all)) same kept other =
     (written, appended, inl (same ∙ (is ∙ sym st), kept is, all ∙ sym ln))
-stopped_as n f old new line wanted s e st ln no_output no_memory (written, appended, inr (inl (is, split))) same kept other =
+stopped_as n f sink line wanted s e st ln no_output no_memory (written, appended, inr (inl (is, split))) same kept other =
     (written, appended, inr (inl (same ∙ is, other (λ x. no_output (sym x ∙ is)), subst (IsCut written) (sym ln) split)))
-stopped_as n f old new line wanted s e st ln no_output no_memory (written, appended, inr (inr (is, nothing))) same kept other =
+stopped_as n f sink line wanted s e st ln no_output no_memory (written, appended, inr (inr (is, nothing))) same kept other =
     (written, appended, inr (inr (same ∙ is, other (λ x. no_memory (sym x ∙ is)), nothing)))
 
 -- ---- the fault of a script, and of the source
@@ -345,163 +353,163 @@ served o told same taken answers line wanted s written none there w serves (inr 
     subst (λ (x : Status). Serves x o told same taken answers stops.Other written) (sym e) (refl, inl (none, nothing, there))
 
 -- the line of each fault of a script
-pub refused_text : (f : ScriptFault) (k : ℕ) (old new : Option (List ℕ)) (s : Status) → f ≡ refused.Text k → EndsWith old new (at_byte (codes "text") k) status.Text s → Refused f old new s
+pub refused_text : (f : ScriptFault) (k : ℕ) (sink : Device (Option (List ℕ))) (s : Status) → f ≡ refused.Text k → EndsWith sink (at_byte (codes "text") k) status.Text s → Refused f sink s
 unfolding Refused
-refused_text f k old new s is h = subst (λ (x : ScriptFault). Refused x old new s) (sym is) h
+refused_text f k sink s is h = subst (λ (x : ScriptFault). Refused x sink s) (sym is) h
 
-pub refused_deep : (f : ScriptFault) (k : ℕ) (old new : Option (List ℕ)) (s : Status) → f ≡ refused.Deep k → EndsWith old new (at_byte (codes "deep") k) status.Deep s → Refused f old new s
+pub refused_deep : (f : ScriptFault) (k : ℕ) (sink : Device (Option (List ℕ))) (s : Status) → f ≡ refused.Deep k → EndsWith sink (at_byte (codes "deep") k) status.Deep s → Refused f sink s
 unfolding Refused
-refused_deep f k old new s is h = subst (λ (x : ScriptFault). Refused x old new s) (sym is) h
+refused_deep f k sink s is h = subst (λ (x : ScriptFault). Refused x sink s) (sym is) h
 
-pub refused_syntax : (f : ScriptFault) (n : ℕ) (old new : Option (List ℕ)) (s : Status) → f ≡ refused.Syntax n → EndsWith old new (in_declaration (codes "syntax") n) status.Syntax s → Refused f old new s
+pub refused_syntax : (f : ScriptFault) (n : ℕ) (sink : Device (Option (List ℕ))) (s : Status) → f ≡ refused.Syntax n → EndsWith sink (in_declaration (codes "syntax") n) status.Syntax s → Refused f sink s
 unfolding Refused
-refused_syntax f n old new s is h = subst (λ (x : ScriptFault). Refused x old new s) (sym is) h
+refused_syntax f n sink s is h = subst (λ (x : ScriptFault). Refused x sink s) (sym is) h
 
-pub refused_type : (f : ScriptFault) (n : ℕ) (old new : Option (List ℕ)) (s : Status) → f ≡ refused.Type n → EndsWith old new (in_declaration (codes "type") n) status.Type s → Refused f old new s
+pub refused_type : (f : ScriptFault) (n : ℕ) (sink : Device (Option (List ℕ))) (s : Status) → f ≡ refused.Type n → EndsWith sink (in_declaration (codes "type") n) status.Type s → Refused f sink s
 unfolding Refused
-refused_type f n old new s is h = subst (λ (x : ScriptFault). Refused x old new s) (sym is) h
+refused_type f n sink s is h = subst (λ (x : ScriptFault). Refused x sink s) (sym is) h
 
-pub refused_large : (f : ScriptFault) (n : ℕ) (old new : Option (List ℕ)) (s : Status) → f ≡ refused.Large n → EndsWith old new (in_declaration (codes "large") n) status.Large s → Refused f old new s
+pub refused_large : (f : ScriptFault) (n : ℕ) (sink : Device (Option (List ℕ))) (s : Status) → f ≡ refused.Large n → EndsWith sink (in_declaration (codes "large") n) status.Large s → Refused f sink s
 unfolding Refused
-refused_large f n old new s is h = subst (λ (x : ScriptFault). Refused x old new s) (sym is) h
+refused_large f n sink s is h = subst (λ (x : ScriptFault). Refused x sink s) (sym is) h
 
-pub refused_unbuilt : (f : ScriptFault) (n : ℕ) (old new : Option (List ℕ)) (s : Status) → f ≡ refused.Unbuilt n → EndsWith old new (in_declaration (codes "unbuilt") n) status.Unbuilt s → Refused f old new s
+pub refused_unbuilt : (f : ScriptFault) (n : ℕ) (sink : Device (Option (List ℕ))) (s : Status) → f ≡ refused.Unbuilt n → EndsWith sink (in_declaration (codes "unbuilt") n) status.Unbuilt s → Refused f sink s
 unfolding Refused
-refused_unbuilt f n old new s is h = subst (λ (x : ScriptFault). Refused x old new s) (sym is) h
+refused_unbuilt f n sink s is h = subst (λ (x : ScriptFault). Refused x sink s) (sym is) h
 
-pub refused_memory : (f : ScriptFault) (old : Option (List ℕ)) → f ≡ refused.Memory → Refused f old old status.Memory
+pub refused_memory : (f : ScriptFault) (sink : Device (Option (List ℕ))) → f ≡ refused.Memory → Appends sink.before sink.after [] → Refused f sink status.Memory
 unfolding Refused
-refused_memory f old is = subst (λ (x : ScriptFault). Refused x old old status.Memory) (sym is) (refl, Appends-nil old)
+refused_memory f sink is nothing = subst (λ (x : ScriptFault). Refused x sink status.Memory) (sym is) (refl, nothing)
 
 -- the line of each fault of a declaration
-pub stopped_memory : (n : ℕ) (old : Option (List ℕ)) → Stopped n faults.Memory old old (record { status = status.Memory; stop = stops.Other })
+pub stopped_memory : (n : ℕ) (sink : Device (Option (List ℕ))) → Appends sink.before sink.after [] → Stopped n faults.Memory sink (record { status = status.Memory; stop = stops.Other })
 unfolding Stopped
-stopped_memory n old = ([], Appends-nil old, inl (refl, refl, refl))
+stopped_memory n sink nothing = ([], nothing, inl (refl, refl, refl))
 
 -- of a script with a fault
-refuses_with : (o : Settings) (script : List ℕ) (same : Type 0) (before now : ℕ) (holds : Option Content) (answers : List Answer) (line : List ℕ) (wanted s : Status) (old new : Option (List ℕ)) →
-    answers ≡ [] → same → ((told : Told) (taken : List ℕ) → IsScript o.sample told.left taken script → Writes wanted o told same taken answers stops.Other [] line) →
-    ((told : Told) (taken w : List ℕ) → WritesAll wanted o told same taken answers stops.Other w → Serves wanted o told same taken answers stops.Other w) → EndsWith old new line wanted s →
-    Responds o script same before now holds answers (record { status = s; stop = stops.Other }) old new
+refuses_with : (script : List ℕ) (o : Settings) (answers : List Answer) (sink : Device (Option (List ℕ))) (files : Device (Option Content)) (line : List ℕ) (wanted s : Status) →
+    answers ≡ [] → files.same → ((told : Told) (taken : List ℕ) → IsScript o.sample told.left taken script → Writes wanted o told files.same taken answers stops.Other [] line) →
+    ((told : Told) (taken w : List ℕ) → WritesAll wanted o told files.same taken answers stops.Other w → Serves wanted o told files.same taken answers stops.Other w) →
+    EndsWith sink line wanted s → Responds script o answers sink files (record { status = s; stop = stops.Other })
 unfolding Responds
-refuses_with o script same before now holds answers line wanted s old new none there writes serves (written, appended, ends) = (
+refuses_with script o answers sink files line wanted s none there writes serves (written, appended, ends) = (
   written,
   appended,
-  λ input_before input_now left taken is. served o (told_of input_before input_now left before now holds) same taken answers line wanted s written none there
-      (writes (told_of input_before input_now left before now holds) taken is) (serves (told_of input_before input_now left before now holds) taken) ends,
+  λ input_before input_now left taken is. served o (told_of input_before input_now left files) files.same taken answers line wanted s written none there
+      (writes (told_of input_before input_now left files) taken is) (serves (told_of input_before input_now left files) taken) ends,
 )
 
-ends_refused : (o : Settings) (script : List ℕ) (f : ScriptFault) (same : Type 0) (before now : ℕ) (holds : Option Content) (answers : List Answer) (s : Status) (old new : Option (List ℕ)) →
-    answers ≡ [] → same → Prepares script (Err f) → Refused f old new s → Responds o script same before now holds answers (record { status = s; stop = stops.Other }) old new
+ends_refused : (script : List ℕ) (o : Settings) (f : ScriptFault) (answers : List Answer) (sink : Device (Option (List ℕ))) (files : Device (Option Content)) (s : Status) →
+    answers ≡ [] → files.same → Prepares script (Err f) → Refused f sink s → Responds script o answers sink files (record { status = s; stop = stops.Other })
 unfolding Responds Refused
-ends_refused o script (refused.Text k) same before now holds answers s old new none there h ends =
-    refuses_with o script same before now holds answers (refusal_line (refused.Text k)) status.Text s old new none there
+ends_refused script o (refused.Text k) answers sink files s none there h ends =
+    refuses_with script o answers sink files (refusal_line (refused.Text k)) status.Text s none there
     (λ told taken is. (k, (script, is, h, (none, refl, refl, refl, there)))) (λ told taken w x. x) ends
-ends_refused o script (refused.Deep k) same before now holds answers s old new none there h ends =
-    refuses_with o script same before now holds answers (refusal_line (refused.Deep k)) status.Deep s old new none there
+ends_refused script o (refused.Deep k) answers sink files s none there h ends =
+    refuses_with script o answers sink files (refusal_line (refused.Deep k)) status.Deep s none there
     (λ told taken is. (k, (script, is, h, (none, refl, refl, refl, there)))) (λ told taken w x. x) ends
-ends_refused o script (refused.Syntax n) same before now holds answers s old new none there h ends =
-    refuses_with o script same before now holds answers (refusal_line (refused.Syntax n)) status.Syntax s old new none there
+ends_refused script o (refused.Syntax n) answers sink files s none there h ends =
+    refuses_with script o answers sink files (refusal_line (refused.Syntax n)) status.Syntax s none there
     (λ told taken is. (n, (script, is, h, (none, refl, refl, refl, there)))) (λ told taken w x. x) ends
-ends_refused o script (refused.Type n) same before now holds answers s old new none there h ends =
-    refuses_with o script same before now holds answers (refusal_line (refused.Type n)) status.Type s old new none there
+ends_refused script o (refused.Type n) answers sink files s none there h ends =
+    refuses_with script o answers sink files (refusal_line (refused.Type n)) status.Type s none there
     (λ told taken is. (n, (script, is, h, (none, refl, refl, refl, there)))) (λ told taken w x. x) ends
-ends_refused o script (refused.Large n) same before now holds answers s old new none there h ends =
-    refuses_with o script same before now holds answers (refusal_line (refused.Large n)) status.Large s old new none there
+ends_refused script o (refused.Large n) answers sink files s none there h ends =
+    refuses_with script o answers sink files (refusal_line (refused.Large n)) status.Large s none there
     (λ told taken is. (n, (script, is, h, (none, refl, refl, refl, there)))) (λ told taken w x. x) ends
-ends_refused o script (refused.Unbuilt n) same before now holds answers s old new none there h ends =
-    refuses_with o script same before now holds answers (refusal_line (refused.Unbuilt n)) status.Unbuilt s old new none there
+ends_refused script o (refused.Unbuilt n) answers sink files s none there h ends =
+    refuses_with script o answers sink files (refusal_line (refused.Unbuilt n)) status.Unbuilt s none there
     (λ told taken is. (n, (script, is, h, (none, refl, refl, refl, there)))) (λ told taken w x. x) ends
-ends_refused o script refused.Memory same before now holds answers s old new none there h (e, nothing) = (
+ends_refused script o refused.Memory answers sink files s none there h (e, nothing) = (
   [],
   nothing,
   λ input_before input_now left taken is.
-      subst (λ (x : Status). Serves x o (told_of input_before input_now left before now holds) same taken answers stops.Other []) (sym e) (refl, inl (none, refl, there)),
+      subst (λ (x : Status). Serves x o (told_of input_before input_now left files) files.same taken answers stops.Other []) (sym e) (refl, inl (none, refl, there)),
 )
 
 -- a script that was read
-pub responds : (script : List ℕ) (p : Prepared) (o : Settings) (same : Type 0) (before now : ℕ) (holds : Option Content) (answers : List Answer) (e : End) (old new : Option (List ℕ)) →
-    Readies script (Ok p) → Answers p o same before now holds answers e old new → Responds o script same before now holds answers e old new
+pub responds : (script : List ℕ) (p : Prepared) (o : Settings) (answers : List Answer) (sink : Device (Option (List ℕ))) (files : Device (Option Content)) (e : End) →
+    Readies script (Ok p) → Answers p o answers sink files e → Responds script o answers sink files e
 unfolding Readies Answers
-responds script p o same before now holds answers e old new h answered = let (_, reads) = prepared_is script p h in answered script reads
+responds script p o answers sink files e h answered = let (_, reads) = prepared_is script p h in answered script reads
 
 -- a script that was refused
-pub responds_refused : (script : List ℕ) (f : ScriptFault) (o : Settings) (same : Type 0) (before now : ℕ) (holds : Option Content) (answers : List Answer) (s : Status) (old new : Option (List ℕ)) →
-    answers ≡ [] → same → Readies script (Err f) → Refused f old new s → Responds o script same before now holds answers (record { status = s; stop = stops.Other }) old new
+pub responds_refused : (script : List ℕ) (f : ScriptFault) (o : Settings) (answers : List Answer) (sink : Device (Option (List ℕ))) (files : Device (Option Content)) (s : Status) →
+    answers ≡ [] → files.same → Readies script (Err f) → Refused f sink s → Responds script o answers sink files (record { status = s; stop = stops.Other })
 unfolding Readies
-responds_refused script f o same before now holds answers s old new none there h ends = ends_refused o script f same before now holds answers s old new none there h ends
+responds_refused script f o answers sink files s none there h ends = ends_refused script o f answers sink files s none there h ends
 
 -- of the source
-pub ends_long : (o : Settings) (same : Type 0) (input_before input_now before now : ℕ) (content : Option Content) (left left' holds holds' : Option (List ℕ)) (answers : List Answer) (s : Status) →
-    o.sample ≡ None → answers ≡ [] → same → ReadFails left left' reading.Long → EndsWith holds holds' (codes "fault long\n") status.Long s →
-    Serving o same input_before input_now before now content answers (record { status = s; stop = stops.Other }) left left' holds holds'
+pub ends_long : (o : Settings) (answers : List Answer) (d : Devices) (s : Status) →
+    o.sample ≡ None → answers ≡ [] → d.files.same → ReadFails d.source.before d.source.after reading.Long → EndsWith d.sink (codes "fault long\n") status.Long s →
+    Serving o answers d (record { status = s; stop = stops.Other })
 unfolding Serving
-ends_long o same input_before input_now before now content left left' holds holds' answers s sample none there (taken, consumed, long) (written, appended, ends) =
-    let more : 1048576 < length taken = omega (arith, long) in (
+ends_long o answers d s sample none there (taken, consumed, long) (written, appended, ends) =
+    let more : most_bytes < length taken = omega (arith, long) in (
       taken,
       written,
       consumed,
       appended,
       omega (arith, long),
-      served o (told_of input_before input_now left' before now content) same taken answers (codes "fault long\n") status.Long s written none there
+      served o (told_by d) d.files.same taken answers (codes "fault long\n") status.Long s written none there
           (sample, more, (none, refl, refl, refl, there)) (λ w x. x) ends,
     )
 
-pub ends_input : (o : Settings) (same : Type 0) (input_before input_now before now : ℕ) (content : Option Content) (left left' holds holds' : Option (List ℕ)) (answers : List Answer) (s : Status) →
-    o.sample ≡ None → answers ≡ [] → same → ReadFails left left' reading.Failed → Rose input_before input_now → EndsWith holds holds' (codes "fault input\n") status.Input s →
-    Serving o same input_before input_now before now content answers (record { status = s; stop = stops.Other }) left left' holds holds'
+pub ends_input : (o : Settings) (answers : List Answer) (d : Devices) (s : Status) →
+    o.sample ≡ None → answers ≡ [] → d.files.same → ReadFails d.source.before d.source.after reading.Failed → Rose d.source.faults_before d.source.faults_after →
+    EndsWith d.sink (codes "fault input\n") status.Input s → Serving o answers d (record { status = s; stop = stops.Other })
 unfolding Serving
-ends_input o same input_before input_now before now content left left' holds holds' answers s sample none there (taken, consumed, short) rose (written, appended, ends) = (
+ends_input o answers d s sample none there (taken, consumed, short) rose (written, appended, ends) = (
   taken,
   written,
   consumed,
   appended,
   omega (arith, short),
-  served o (told_of input_before input_now left' before now content) same taken answers (codes "fault input\n") status.Input s written none there
+  served o (told_by d) d.files.same taken answers (codes "fault input\n") status.Input s written none there
       (sample, short, rose, (none, refl, refl, refl, there)) (λ w x. x) ends,
 )
 
-pub ends_unread : (o : Settings) (same : Type 0) (input_before input_now before now : ℕ) (content : Option Content) (left left' holds : Option (List ℕ)) (answers : List Answer) → answers ≡ [] →
-    same → ReadFails left left' reading.Memory → Serving o same input_before input_now before now content answers (record { status = status.Memory; stop = stops.Other }) left left' holds holds
+pub ends_unread : (o : Settings) (answers : List Answer) (d : Devices) → answers ≡ [] → d.files.same → Appends d.sink.before d.sink.after [] →
+    ReadFails d.source.before d.source.after reading.Memory → Serving o answers d (record { status = status.Memory; stop = stops.Other })
 unfolding Serving
-ends_unread o same input_before input_now before now content left left' holds answers none there (taken, consumed, few) =
-    (taken, [], consumed, Appends-nil holds, few, (refl, inl (none, refl, there)))
+ends_unread o answers d none there nothing (taken, consumed, few) = (taken, [], consumed, nothing, few, (refl, inl (none, refl, there)))
 
 -- ---- a script of the source, and the built-in one
 
-pub ends_read : (o : Settings) (script : List ℕ) (same : Type 0) (input_before input_now before now : ℕ) (content : Option Content) (left left' holds holds' : Option (List ℕ)) (answers : List Answer) (e : End) →
-    o.sample ≡ None → ReadsWhole left left' script → (text : List ℕ) → text ≡ script → Responds o text same before now content answers e holds holds' →
-    Serving o same input_before input_now before now content answers e left left' holds holds'
+pub ends_read : (o : Settings) (script : List ℕ) (answers : List Answer) (d : Devices) (e : End) →
+    o.sample ≡ None → ReadsWhole d.source.before d.source.after script → (text : List ℕ) → text ≡ script → Responds text o answers d.sink d.files e → Serving o answers d e
 unfolding Serving Responds
-ends_read o script same input_before input_now before now content left left' holds holds' answers e sample (consumed, atend, few) text is (written, appended, serves) = (
+ends_read o script answers d e sample (consumed, atend, few) text is (written, appended, serves) = (
   script,
   written,
   consumed,
   appended,
   omega (arith, few),
-  serves input_before input_now left' script (subst (λ (x : Option ℕ). IsScript x left' script text) (sym sample) (is, (few, atend))),
+  serves d.source.faults_before d.source.faults_after d.source.after script
+      (subst (λ (x : Option ℕ). IsScript x d.source.after script text) (sym sample) (is, (few, atend))),
 )
 
-pub samples : (n : ℕ) (script : List ℕ) (o : Settings) (same : Type 0) (before now : ℕ) (holds : Option Content) (answers : List Answer) (e : End) (old new : Option (List ℕ)) → script ≡ sample_text n →
-    Responds o script same before now holds answers e old new → Samples n o same before now holds answers e old new
+pub samples : (n : ℕ) (script : List ℕ) (o : Settings) (answers : List Answer) (sink : Device (Option (List ℕ))) (files : Device (Option Content)) (e : End) → script ≡ sample_text n →
+    Responds script o answers sink files e → Samples n o answers sink files e
 unfolding Samples
-samples n script o same before now holds answers e old new is h = subst (λ (x : List ℕ). Responds o x same before now holds answers e old new) is h
+samples n script o answers sink files e is h = subst (λ (x : List ℕ). Responds x o answers sink files e) is h
 
-pub ends_unmade : (n : ℕ) (o : Settings) (same : Type 0) (before now : ℕ) (holds : Option Content) (answers : List Answer) (old : Option (List ℕ)) → answers ≡ [] → same →
-    Samples n o same before now holds answers (record { status = status.Memory; stop = stops.Other }) old old
+pub ends_unmade : (n : ℕ) (o : Settings) (answers : List Answer) (sink : Device (Option (List ℕ))) (files : Device (Option Content)) → answers ≡ [] → files.same →
+    Appends sink.before sink.after [] → Samples n o answers sink files (record { status = status.Memory; stop = stops.Other })
 unfolding Samples Responds
-ends_unmade n o same before now holds answers old none there = ([], Appends-nil old, λ input_before input_now left taken is. (refl, inl (none, refl, there)))
+ends_unmade n o answers sink files none there nothing = ([], nothing, λ input_before input_now left taken is. (refl, inl (none, refl, there)))
 
-pub ends_sample : (o : Settings) (n : ℕ) (same : Type 0) (input_before before now : ℕ) (content : Option Content) (left holds holds' : Option (List ℕ)) (answers : List Answer) (e : End) →
-    o.sample ≡ Some n → Samples n o same before now content answers e holds holds' → Serving o same input_before input_before before now content answers e left left holds holds'
+pub ends_sample : (o : Settings) (n : ℕ) (answers : List Answer) (d : Devices) (e : End) → o.sample ≡ Some n → Consumes d.source.before d.source.after [] →
+    Samples n o answers d.sink d.files e → Serving o answers d e
 unfolding Serving Samples Responds
-ends_sample o n same input_before before now content left holds holds' answers e sample (written, appended, serves) = (
+ends_sample o n answers d e sample none (written, appended, serves) = (
   [],
   written,
-  Consumes-nil left,
+  none,
   appended,
   omega arith,
-  serves input_before input_before left [] (subst (λ (x : Option ℕ). IsScript x left [] (sample_text n)) (sym sample) (refl, refl)),
+  serves d.source.faults_before d.source.faults_after d.source.after []
+      (subst (λ (x : Option ℕ). IsScript x d.source.after [] (sample_text n)) (sym sample) (refl, refl)),
 )
 
 -- ---- the words
@@ -524,24 +532,26 @@ runs status.Spent words o told same taken answers stop written reads is h = (rea
 runs status.Files words o told same taken answers stop written reads is h = (reads, subst (λ (x : Settings). Serves status.Files x told same taken answers stop written) is h)
 runs status.Unbuilt words o told same taken answers stop written reads is h = (reads, subst (λ (x : Settings). Serves status.Unbuilt x told same taken answers stop written) is h)
 
-words_run : (words : List (List ℕ)) (o : Settings) (same : Type 0) (input_before input_now before now : ℕ) (content : Option Content) (answers : List Answer) (e : End) (left left' holds holds' : Option (List ℕ)) →
-    HasReading words → o ≡ settings_of (options_of words) → Serving o same input_before input_now before now content answers e left left' holds holds' →
-    Running words same input_before input_now before now content answers e left left' holds holds'
+words_run : (words : List (List ℕ)) (o : Settings) (answers : List Answer) (d : Devices) (e : End) → HasReading words → o ≡ settings_of (options_of words) →
+    Serving o answers d e → Running words answers d e
 unfolding Serving Running
-words_run words o same input_before input_now before now content answers e left left' holds holds' reads is (taken, written, consumed, appended, few, h) =
-    (taken, written, consumed, appended, few, runs e.status words o (told_of input_before input_now left' before now content) same taken answers e.stop written reads is h)
+words_run words o answers d e reads is (taken, written, consumed, appended, few, h) =
+    (taken, written, consumed, appended, few, runs e.status words o (told_by d) d.files.same taken answers e.stop written reads is h)
 
-no_words : (words : List (List ℕ)) (same : Type 0) (input_before before : ℕ) (content : Option Content) (answers : List Answer) (left holds : Option (List ℕ)) → answers ≡ [] → same → (HasReading words → ⊥) →
-    Running words same input_before input_before before before content answers (record { status = status.Usage; stop = stops.Other }) left left holds holds
-unfolding Running
-no_words words same input_before before content answers left holds none there unread =
-    ([], [], Consumes-nil left, Appends-nil holds, omega arith, (unread, (refl, none, refl, refl, there)))
+-- nothing was taken and nothing given
+abbrev IsUntouched : Devices → Type 0
+IsUntouched d = Consumes d.source.before d.source.after [] × Appends d.sink.before d.sink.after [] × d.files.same
 
-pub no_memory : (words : List (List ℕ)) (same : Type 0) (input_before before : ℕ) (content : Option Content) (answers : List Answer) (left holds : Option (List ℕ)) → answers ≡ [] → same →
-    Running words same input_before input_before before before content answers (record { status = status.Memory; stop = stops.Other }) left left holds holds
+no_words : (words : List (List ℕ)) (answers : List Answer) (d : Devices) → answers ≡ [] → IsUntouched d → (HasReading words → ⊥) →
+    Running words answers d (record { status = status.Usage; stop = stops.Other })
 unfolding Running
-no_memory words same input_before before content answers left holds none there =
-    ([], [], Consumes-nil left, Appends-nil holds, omega arith, inl (refl, none, refl, refl, there))
+no_words words answers d none (unread, unwritten, there) no_reading =
+    ([], [], unread, unwritten, omega arith, (no_reading, (refl, none, refl, refl, there)))
+
+pub no_memory : (words : List (List ℕ)) (answers : List Answer) (d : Devices) → answers ≡ [] → IsUntouched d →
+    Running words answers d (record { status = status.Memory; stop = stops.Other })
+unfolding Running
+no_memory words answers d none (unread, unwritten, there) = ([], [], unread, unwritten, omega arith, inl (refl, none, refl, refl, there))
 
 pub asked : (words : List (List ℕ)) (r : Result Options WordFault) → IfOk r (λ o. HasReading words × (o ≡ options_of words)) → (IsErrOf r wording.Usage → HasReading words → ⊥) → Asks words r
 unfolding Asks
@@ -551,34 +561,37 @@ pub asks_sample : (words : List (List ℕ)) (o : Options) (n : ℕ) → Asks wor
 unfolding Asks AsksSample
 asks_sample words o n ((reads, is), _) a = ap (λ (x : Options). x.sample) is ∙ a
 
-pub options_run : (words : List (List ℕ)) (o : Options) (same : Type 0) (input_before input_now before now : ℕ) (content : Option Content) (answers : List Answer) (e : End) (left left' holds holds' : Option (List ℕ)) →
-    Asks words (Ok o) → Serving (settings_of o) same input_before input_now before now content answers e left left' holds holds' →
-    Running words same input_before input_now before now content answers e left left' holds holds'
+pub options_run : (words : List (List ℕ)) (o : Options) (answers : List Answer) (d : Devices) (e : End) → Asks words (Ok o) → Serving (settings_of o) answers d e → Running words answers d e
 unfolding Asks
-options_run words o same input_before input_now before now content answers e left left' holds holds' ((reads, is), _) h =
-    words_run words (settings_of o) same input_before input_now before now content answers e left left' holds holds' reads (ap settings_of is) h
+options_run words o answers d e ((reads, is), _) h = words_run words (settings_of o) answers d e reads (ap settings_of is) h
 
-pub words_refused : (words : List (List ℕ)) (f : WordFault) (same : Type 0) (input_before before : ℕ) (content : Option Content) (answers : List Answer) (left holds : Option (List ℕ)) → f ≡ wording.Usage →
-    answers ≡ [] → same → Asks words (Err f) →
-    Running words same input_before input_before before before content answers (record { status = status.Usage; stop = stops.Other }) left left holds holds
+pub words_refused : (words : List (List ℕ)) (f : WordFault) (answers : List Answer) (d : Devices) → f ≡ wording.Usage → answers ≡ [] → IsUntouched d → Asks words (Err f) →
+    Running words answers d (record { status = status.Usage; stop = stops.Other })
 unfolding Asks
-words_refused words f same input_before before content answers left holds is none there (_, usage) =
-    no_words words same input_before before content answers left holds none there (usage (ap Err is))
+words_refused words f answers d is none untouched (_, usage) = no_words words answers d none untouched (usage (ap Err is))
 
 -- a run whose words have a reading does not end with that fault
-pub never_usage : (o : Settings) (same : Type 0) (input_before input_now before now : ℕ) (content : Option Content) (answers : List Answer) (e : End) (left left' holds holds' : Option (List ℕ)) →
-    Serving o same input_before input_now before now content answers e left left' holds holds' → e.status ≡ status.Usage → ⊥
+pub never_usage : (o : Settings) (answers : List Answer) (d : Devices) (e : End) → Serving o answers d e → e.status ≡ status.Usage → ⊥
 unfolding Serving
-never_usage o same input_before input_now before now content answers e left left' holds holds' (taken, written, consumed, appended, few, h) is =
-    subst (λ (s : Status). Serves s o (told_of input_before input_now left' before now content) same taken answers e.stop written) is h
+never_usage o answers d e (taken, written, consumed, appended, few, h) is =
+    subst (λ (s : Status). Serves s o (told_by d) d.files.same taken answers e.stop written) is h
 
 -- ---- the report
 
-pub reports : (words : List (List ℕ)) (same : Type 0) (input_before input_now before now : ℕ) (content : Option Content) (answers : List Answer) (e : End) (n : ℕ) (left left' holds holds' : Option (List ℕ)) →
-    n ≡ code_of e.status → Running words same input_before input_now before now content answers e left left' holds holds' →
-    Reported words same input_before input_now before now content answers e.stop n left left' holds holds'
+pub reports : (words : List (List ℕ)) (d : Devices) (e : End) (r : Report) → r.status ≡ code_of e.status → r.stop ≡ e.stop → Running words r.answers.items.items d e → Reported words d r
 unfolding Running Reported
-reports words same input_before input_now before now content answers e n left left' holds holds' is h = (e.status, is, h)
+reports words d e r is same (taken, written, consumed, appended, few, h) = (
+  e.status,
+  is,
+  (
+    taken,
+    written,
+    consumed,
+    appended,
+    few,
+    subst (λ (x : Stop). RunsWords e.status words (told_by d) d.files.same taken r.answers.items.items x written) (sym same) h,
+  ),
+)
 
 pub reported_sample : (words : List (List ℕ)) (n : ℕ) → (options_of words).sample ≡ Some n → AsksSample words n
 unfolding AsksSample
@@ -588,13 +601,11 @@ reported_sample words n is = is
 pub coded : (s t : Status) (n : ℕ) → n ≡ code_of s → n ≡ code_of t → s ≡ t
 coded s t n is at = status_is s t n is at
 
-pub reported_serves : (words : List (List ℕ)) (same : Type 0) (input_before input_now before now : ℕ) (content : Option Content) (sink : Type 0) (answers : List Answer) (stop : Stop) (n : ℕ)
-    (left left' holds holds' : Option (List ℕ)) → Lexed → (n ≡ 11 → sink) → Reported words same input_before input_now before now content answers stop n left left' holds holds' →
-    (s : Status) × (n ≡ code_of s)
-    × Passes (λ taken written. RunsWords s words (told_of input_before input_now left' before now content) same taken answers stop written
-    × EndsWell s words (told_of input_before input_now left' before now content) sink taken) left left' holds holds'
+pub reported_serves : (words : List (List ℕ)) (sink : Type 0) (d : Devices) (r : Report) → Lexed → (r.status ≡ 11 → sink) → Reported words d r →
+    (s : Status) × (r.status ≡ code_of s)
+    × Passes d.source d.sink (λ taken written. RunsWords s words (told_by d) d.files.same taken r.answers.items.items r.stop written × EndsWell s words (told_by d) sink taken)
 unfolding Reported
-reported_serves words same input_before input_now before now content sink answers stop n left left' holds holds' lexed output (s, code, (taken, written, consumed, appended, few, h)) = (
+reported_serves words sink d r lexed output (s, code, (taken, written, consumed, appended, few, h)) = (
   s,
   code,
   (
@@ -603,24 +614,19 @@ reported_serves words same input_before input_now before now content sink answer
     consumed,
     appended,
     few,
-    (
-      h,
-      ends_well lexed s words (told_of input_before input_now left' before now content) same sink taken answers stop written (λ is. output (code ∙ ap code_of is)) h,
-    ),
+    (h, ends_well lexed s words (told_by d) d.files.same sink taken r.answers.items.items r.stop written (λ is. output (code ∙ ap code_of is)) h),
   ),
 )
 
-pub reported_input : (words : List (List ℕ)) (same : Type 0) (input_before input_now before now : ℕ) (content : Option Content) (answers : List Answer) (stop : Stop) (n : ℕ) (left left' holds holds' : Option (List ℕ)) →
-    Reported words same input_before input_now before now content answers stop n left left' holds holds' → n ≡ 10 → Rose input_before input_now
+pub reported_input : (words : List (List ℕ)) (d : Devices) (r : Report) → Reported words d r → r.status ≡ 10 → Rose d.source.faults_before d.source.faults_after
 unfolding Reported
-reported_input words same input_before input_now before now content answers stop n left left' holds holds' (s, code, (taken, written, consumed, appended, few, h)) is =
-    let (reads, (lines, line, (none, short, rose, _), _)) = subst (λ (x : Status). RunsWords x words (told_of input_before input_now left' before now content) same taken answers stop written)
-    (status_is s status.Input n code is) h in rose
+reported_input words d r (s, code, (taken, written, consumed, appended, few, h)) is =
+    let (reads, (lines, line, (none, short, rose, _), _)) =
+    subst (λ (x : Status). RunsWords x words (told_by d) d.files.same taken r.answers.items.items r.stop written) (status_is s status.Input r.status code is) h in rose
 
-pub reported_files : (words : List (List ℕ)) (same : Type 0) (input_before input_now before now : ℕ) (content : Option Content) (answers : List Answer) (stop : Stop) (n : ℕ) (left left' holds holds' : Option (List ℕ)) →
-    Reported words same input_before input_now before now content answers stop n left left' holds holds' → n ≡ 13 → Rose before now
+pub reported_files : (words : List (List ℕ)) (d : Devices) (r : Report) → Reported words d r → r.status ≡ 13 → Rose d.files.faults_before d.files.faults_after
 unfolding Reported
-reported_files words same input_before input_now before now content answers stop n left left' holds holds' (s, code, (taken, written, consumed, appended, few, h)) is =
-    let (reads, (lines, line, (run, stops, _, _), _)) = subst (λ (x : Status). RunsWords x words (told_of input_before input_now left' before now content) same taken answers stop written)
-    (status_is s status.Files n code is) h in
+reported_files words d r (s, code, (taken, written, consumed, appended, few, h)) is =
+    let (reads, (lines, line, (run, stops, _, _), _)) =
+    subst (λ (x : Status). RunsWords x words (told_by d) d.files.same taken r.answers.items.items r.stop written) (status_is s status.Files r.status code is) h in
     let (d, there, (within, a, asked, (cells, rose))) = stops in rose

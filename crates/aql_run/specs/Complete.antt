@@ -7,12 +7,14 @@ use Rattle.aql_outside.specs.Contents.{Content}
 use Rattle.aql_value.specs.Datum.{Datum}
 use Rattle.aql_types.specs.Types.{Sort}
 use Rattle.aql_syntax.specs.Script.{Earlier, globals_of, outcome_after}
+use Rattle.aql_syntax.specs.Size.{AreWithinLimits}
 use Rattle.aql_syntax.specs.Tree.{Declaration, val, mac, read, bare}
 use Rattle.aql_syntax.specs.Typing.{DeclHas, scope_of}
 use Rattle.aql_syntax.specs.Work.{work}
 use Rattle.aql_lex.specs.Lexed.{OneList, TokensOrTextFault, ShallowOrDeep}
 use Rattle.nrca_term.specs.Meaning.{Outcomes}
-use Rattle.aql_script.specs.Script.{Reads, positions, AreWithinLimits, NoneReadsRecords}
+use Rattle.aql_prelude.specs.Prelude.{prelude_count}
+use Rattle.aql_script.specs.Script.{Reads, positions, NoneReadsRecords}
 use Rattle.aql_session.specs.Asked.{Asked, cells}
 use Rattle.aql_session.specs.Bound.{earlier_of}
 use Rattle.aql_session.specs.Reading.{reading, read_fault}
@@ -32,10 +34,10 @@ work_of (bare e) earlier = work e (globals_of earlier) []
 -- the outcomes of the first positions: none for each macro of the prelude, and then one after another; where the files are told,
 -- those over them
 pub record AreOutcomes (ds : List Declaration) (holds : Option Content) (V : Outcomes) : Type 0 where
-  pub prelude : take 24 V ≡ replicate 24 None
-  pub each : (i : ℕ) (d : Declaration) (o : Option Datum) → slice_get (positions ds) (24 + i) ≡ Some d → slice_get V (24 + i) ≡ Some o →
-      IsOutcome d (earlier_of (positions ds) (take (24 + i) V)) holds o
-      × ForSome holds (λ files. outcome_after (reading files) d (globals_of (earlier_of (positions ds) (take (24 + i) V))) ≡ Some o)
+  pub prelude : take prelude_count V ≡ replicate prelude_count None
+  pub each : (i : ℕ) (d : Declaration) (o : Option Datum) → slice_get (positions ds) (prelude_count + i) ≡ Some d → slice_get V (prelude_count + i) ≡ Some o →
+      IsOutcome d (earlier_of (positions ds) (take (prelude_count + i) V)) holds o
+      × ForSome holds (λ files. outcome_after (reading files) d (globals_of (earlier_of (positions ds) (take (prelude_count + i) V))) ≡ Some o)
 
 -- the turns and the cells of a declaration are within the budget, and what it reads of the files, which are told, has no fault
 pub record IsWithin (d : Declaration) (earlier : Earlier) (budget : ℕ) (holds : Option Content) : Type 0 where
@@ -54,7 +56,7 @@ pub record IsSound (words : List (List ℕ)) (script : List ℕ) (holds : Option
   pub ds : List Declaration
   pub are : Reads script ds
   pub typed : HaveTypings [] (positions ds)
-  pub limits : AreWithinLimits (positions ds) (24 + length ds)
+  pub limits : AreWithinLimits (positions ds) (prelude_count + length ds)
   pub built : NoneReadsRecords ds
   pub within : (V : Outcomes) (d : Declaration) → AreOutcomes ds holds V → slice_get (positions ds) (length V) ≡ Some d →
       IsWithin d (earlier_of (positions ds) V) (options_of words).budget holds

@@ -1,5 +1,5 @@
 -- A sound run, so that the promise of completeness is not empty: the words `aql` alone, the script `1+2*3;`, and files that tell nothing.
-use Rattle.std.specs.Prelude.{◌≡◌, ◌<◌, ◌≤◌, ℕ, List, [], ◌∷◌, ◌++◌, length, take, replicate, codes, refl, Some, None}
+use Rattle.std.specs.Prelude.{◌≡◌, ◌<◌, ◌≤◌, ◌+◌, ℕ, List, [], ◌∷◌, ◌++◌, length, take, replicate, codes, refl, Some, None}
 use Rattle.std.specs.List.{slice_get}
 use Rattle.std.proofs.Common.{sym, ap, subst, arith}
 use Rattle.std.proofs.lemmas.List.{length-take}
@@ -14,7 +14,7 @@ use Rattle.aql_syntax.specs.Tree.{Tree, Declaration, bare}
 use Rattle.aql_syntax.specs.Typing.{Scope, Has, DeclHas, scope_of}
 use Rattle.aql_syntax.specs.View.{of_two}
 use Rattle.nrca_term.specs.Meaning.{Outcomes}
-use Rattle.aql_prelude.specs.Prelude.{prelude_decls}
+use Rattle.aql_prelude.specs.Prelude.{prelude_decls, prelude_count}
 use Rattle.aql_prelude.specs.Typing.{HaveSorts, prelude_typed}
 use Rattle.aql_script.specs.Script.{positions}
 use Rattle.aql_script.proofs.Examples.{number, product, sum, one_sum, sum_read, sum_limits}
@@ -25,6 +25,7 @@ use Rattle.aql_run.specs.Complete.{AreOutcomes, IsWithin, HaveTypings, IsSound}
 
 -- ---- the typings
 
+-- a number in the script is a natural
 number_has : (n : ℕ) (g : Scope) → Has (number n) g [] natural
 number_has n g = ([], (refl, refl), tt, refl)
 
@@ -32,6 +33,7 @@ number_has n g = ([], (refl, refl), tt, refl)
 two_have : (o : ArithOp) (a b : Tree) (g : Scope) → Has a g [] natural → Has b g [] natural → Has (of_two (Strict.arith o) a b) g [] natural
 two_have o a b g h k = (natural ∷ natural ∷ [], (refl, refl), tt, (natural, natural ∷ [], refl, h, (natural, [], refl, k, refl)))
 
+-- the sum is a natural
 sum_has : (g : Scope) → DeclHas (bare sum) g (value natural)
 sum_has g =
     let right = two_have ariths.Mul (number 2) (number 3) g (number_has 2 g) (number_has 3 g) in
@@ -42,6 +44,7 @@ behind : (front earlier : List Declaration) → HaveSorts earlier front → Have
 behind [] earlier h = ((value natural, sum_has (scope_of earlier)), tt)
 behind (d ∷ front) earlier h = (h.0, behind front (d ∷ earlier) h.1)
 
+-- the prelude and the sum have typings
 all_typed : HaveTypings [] (positions one_sum)
 unfolding positions
 all_typed = behind prelude_decls [] prelude_typed
@@ -53,19 +56,19 @@ sum_within : (earlier : Earlier) (budget : ℕ) → IsWithin (bare sum) earlier 
 sum_within earlier budget = record { turns = omega arith; cells = λ a e. absurd cc; file = λ a e. absurd cc }
 
 -- no other declaration stands behind the prelude
-last_is : (k : ℕ) (d : Declaration) → 24 ≤ k → slice_get (positions one_sum) k ≡ Some d → d ≡ bare sum
+last_is : (k : ℕ) (d : Declaration) → prelude_count ≤ k → slice_get (positions one_sum) k ≡ Some d → d ≡ bare sum
 unfolding positions
 last_is k d le e =
-    let lt : k < 25 = slice_get_within (positions one_sum) k d e in
-    let same : k ≡ 24 = omega (arith, le, lt) in
-    let there : slice_get (positions one_sum) 24 ≡ Some d = subst (λ n. slice_get (positions one_sum) n ≡ Some d) same e in
+    let lt : k < prelude_count + 1 = slice_get_within (positions one_sum) k d e in
+    let same : k ≡ prelude_count = omega (arith, le, lt) in
+    let there : slice_get (positions one_sum) prelude_count ≡ Some d = subst (λ n. slice_get (positions one_sum) n ≡ Some d) same e in
     cc
 
--- the outcomes of the prelude are 24
-many : (V : Outcomes) → take 24 V ≡ replicate 24 None → 24 ≤ length V
+-- as many outcomes as the prelude has positions
+many : (V : Outcomes) → take prelude_count V ≡ replicate prelude_count None → prelude_count ≤ length V
 many V e =
-    let front = length-take 24 V in
-    let count : length (take 24 V) ≡ 24 = ap length e in
+    let front = length-take prelude_count V in
+    let count : length (take prelude_count V) ≡ prelude_count = ap length e in
     omega (arith, front, count)
 
 -- what comes behind any outcomes of the prelude, which is the sum, is within any budget
@@ -77,6 +80,7 @@ within budget V d h e =
 
 -- ---- the run
 
+-- the run is sound
 pub script_is_sound : IsSound (codes "aql" ∷ []) (codes "1+2*3;") None
 script_is_sound = record {
   reads = name_read;

@@ -1,42 +1,17 @@
 -- What a run promises: by the words of its command line, by what the devices told and counted before and after it, and by its report.
-use Rattle.std.specs.Prelude.{◌≡◌, ◌≤◌, ◌<◌, ◌⊎◌, ℕ, List, Option, Some, length}
+use Rattle.std.specs.Prelude.{◌≡◌, ◌≤◌, ◌<◌, ◌+◌, ◌⊎◌, ℕ, List, Some, length}
 use Rattle.std.specs.Io.KnownBytes.{Consumes, Appends}
 use Rattle.aql_outside.specs.Causes.{Rose}
-use Rattle.aql_outside.specs.Contents.{Content}
 use Rattle.aql_status.specs.Codes.{code_of}
 use Rattle.aql_status.specs.declared.status.Status.{Status}
 use Rattle.aql_status.specs.declared.status.Status.TheVariants as statuses
+use Rattle.aql_session.specs.Device.{Device}
 use Rattle.aql_words.specs.Words.{options_of}
 use Rattle.aql_run.specs.Complete.{EndsWell}
-use Rattle.aql_run.specs.Outcome.{Told, RunsWords}
+use Rattle.aql_run.specs.Devices.{Devices, told_by}
+use Rattle.aql_run.specs.Outcome.{RunsWords}
+use Rattle.aql_run.specs.Reading.{most_bytes}
 use Rattle.aql_run.specs.declared.report.Report.{Report}
-
--- What a device told, and how many calls on it had failed, before a run and after it; that it is as before; and that its calls which end
--- well leave the count of those that failed.
-pub record Device (T : Type 0) : Type 1 where
-  pub before : T
-  pub after : T
-  pub faults_before : ℕ
-  pub faults_after : ℕ
-  pub same : Type 0
-  pub quiet : Type 0
-
--- the devices of a run: of the source what is left of it is told, of the sink what it took, of the files what they hold
-pub record Devices : Type 1 where
-  pub source : Device (Option (List ℕ))
-  pub sink : Device (Option (List ℕ))
-  pub files : Device (Option Content)
-
--- what the causes of statuses speak of
-abbrev pub told_by : Devices → Told
-told_by d = record {
-  input_before = d.source.faults_before;
-  input_now = d.source.faults_after;
-  left = d.source.after;
-  files_before = d.files.faults_before;
-  files_now = d.files.faults_after;
-  holds = d.files.before;
-}
 
 -- The run blames a device only where a call on it failed, as its count says, which did not fall. And no failure is passed over: where the
 -- device is quiet and its count is greater than before, the run ended so.
@@ -55,7 +30,7 @@ pub record Headline (words : List (List ℕ)) (d : Devices) (r : Report) : Type 
   pub written : List ℕ
   pub consumed : Consumes d.source.before d.source.after taken
   pub appended : Appends d.sink.before d.sink.after written
-  pub few : length taken ≤ 1048577
+  pub few : length taken ≤ most_bytes + 1
   -- The status has its cause, what was answered and written is what the cause says, and the files are as before where no declaration that
   -- was begun reads one.
   pub cause : RunsWords status words (told_by d) d.files.same taken r.answers.items.items r.stop written

@@ -8,12 +8,14 @@ use Rattle.aql_types.specs.Types.{Sort}
 use Rattle.aql_syntax.specs.Grammar.{SyntaxFaultAt}
 use Rattle.aql_syntax.specs.Lexis.{Lexeme, TextFaultAt}
 use Rattle.aql_syntax.specs.Script.{values}
+use Rattle.aql_syntax.specs.Size.{AreWithinLimits}
 use Rattle.aql_syntax.specs.Tree.{Declaration}
 use Rattle.aql_infer.specs.Checked.{IsFirstUntyped}
 use Rattle.aql_lex.specs.Lexed.{IsDeepAt}
 use Rattle.nrca_term.specs.Meaning.{Outcomes}
 use Rattle.cdf_header.specs.declared.fault.CdfFault.{CdfFault}
-use Rattle.aql_script.specs.Script.{Spells, ReadsAlone, AreTyped, positions, AreWithinLimits, IsFirstLarge, NoneReadsRecords, IsFirstOfRecords}
+use Rattle.aql_prelude.specs.Prelude.{prelude_count}
+use Rattle.aql_script.specs.Script.{Spells, ReadsAlone, AreTyped, positions, IsFirstLarge, NoneReadsRecords, IsFirstOfRecords}
 use Rattle.aql_session.specs.Reading.{reading}
 use Rattle.aql_session.specs.declared.answer.Answer.{Answer}
 use Rattle.aql_session.specs.declared.answer.StepFault.{StepFault}
@@ -26,6 +28,7 @@ use Rattle.aql_lines.specs.Lines.{at_byte, in_declaration, of_file}
 use Rattle.aql_lines.specs.Sample.{sample_text}
 use Rattle.aql_status.specs.declared.status.Status.{Status}
 use Rattle.aql_status.specs.declared.status.Status.TheVariants as status
+use Rattle.aql_run.specs.Reading.{most_bytes}
 use Rattle.aql_run.specs.declared.report.Stop.{Stop}
 use Rattle.aql_run.specs.declared.report.Stop.TheVariants as stops
 
@@ -47,9 +50,9 @@ IsPrefix front all = (rest : List ℕ) × (all ≡ front ++ rest)
 abbrev pub IsCut : List ℕ → List ℕ → Type 0
 IsCut front all = (rest : List ℕ) × (rest ≢ []) × (all ≡ front ++ rest)
 
--- the bytes taken are all that the source had, and a script has at most 1,048,576
+-- the bytes taken are all that the source had, within the limit on a script
 abbrev pub IsWhole : List ℕ → Option (List ℕ) → Type 0
-IsWhole taken left = (length taken ≤ 1048576) × IsAtEnd left
+IsWhole taken left = (length taken ≤ most_bytes) × IsAtEnd left
 
 -- the script: what the source gave up to its end, or where a sample is asked for its text, and then nothing was taken
 abbrev pub IsScript : (sample : Option ℕ) → (left : Option (List ℕ)) → (taken script : List ℕ) → Type 0
@@ -68,11 +71,11 @@ pub record HasRun (settings : Settings) (told : Told) (same : Type 0) (begun : �
   pub is : IsScript settings.sample told.left taken script
   pub reads : ReadsAlone script ds
   pub typed : AreTyped ds sorts
-  pub limits : AreWithinLimits (positions ds) (24 + length ds)
+  pub limits : AreWithinLimits (positions ds) (prelude_count + length ds)
   pub built : NoneReadsRecords ds
   pub answered : AreAnswered ds sorts settings.budget told.holds answers outcomes
   pub script_values : ForSome told.holds (λ files. take (length outcomes) (values (reading files) (positions ds)) ≡ outcomes)
-  pub printed : lines ≡ entries settings.plan answers (drop 24 outcomes)
+  pub printed : lines ≡ entries settings.plan answers (drop prelude_count outcomes)
   pub untouched : ReadNoFile ds settings.budget outcomes begun → same
 
 -- the next declaration was not answered
@@ -119,18 +122,18 @@ Writes status.Syntax settings told same taken answers stop lines line =
     (n : ℕ) × Refuses settings told same taken answers stop lines line (in_declaration (codes "syntax") n) (λ script. (ls : List Lexeme) × Spells script ls × SyntaxFaultAt n ls)
 Writes status.Type settings told same taken answers stop lines line =
     (n : ℕ) × Refuses settings told same taken answers stop lines line (in_declaration (codes "type") n)
-    (λ script. (ds : List Declaration) × ReadsAlone script ds × (1 ≤ n) × IsFirstUntyped [] (positions ds) (24 + n))
+    (λ script. (ds : List Declaration) × ReadsAlone script ds × (1 ≤ n) × IsFirstUntyped [] (positions ds) (prelude_count + n))
 Writes status.Large settings told same taken answers stop lines line =
     (n : ℕ) × Refuses settings told same taken answers stop lines line (in_declaration (codes "large") n)
     (λ script. (ds : List Declaration) × ReadsAlone script ds × ((sorts : List Sort) × AreTyped ds sorts) × IsFirstLarge ds n)
 Writes status.Unbuilt settings told same taken answers stop lines line =
     (n : ℕ) × Refuses settings told same taken answers stop lines line (in_declaration (codes "unbuilt") n)
-    (λ script. (ds : List Declaration) × ReadsAlone script ds × ((sorts : List Sort) × AreTyped ds sorts) × AreWithinLimits (positions ds) (24 + length ds)
+    (λ script. (ds : List Declaration) × ReadsAlone script ds × ((sorts : List Sort) × AreTyped ds sorts) × AreWithinLimits (positions ds) (prelude_count + length ds)
     × IsFirstOfRecords 1 ds n)
 Writes status.Long settings told same taken answers stop lines line =
-    (settings.sample ≡ None) × (1048576 < length taken) × BeginsNone same answers stop lines line (codes "fault long\n")
+    (settings.sample ≡ None) × (most_bytes < length taken) × BeginsNone same answers stop lines line (codes "fault long\n")
 Writes status.Input settings told same taken answers stop lines line =
-    (settings.sample ≡ None) × (length taken ≤ 1048576) × Rose told.input_before told.input_now
+    (settings.sample ≡ None) × (length taken ≤ most_bytes) × Rose told.input_before told.input_now
     × BeginsNone same answers stop lines line (codes "fault input\n")
 Writes status.File settings told same taken answers stop lines line =
     (run : HasRun settings told same (length answers + 1) taken answers lines) × (f : CdfFault) × Stops run (faults.File f) × (stop ≡ stops.File f) × (line ≡ of_file (length answers + 1) f)
@@ -157,7 +160,7 @@ pub record CutsLast (settings : Settings) (told : Told) (same : Type 0) (begun :
   pub lines : List ℕ
   pub run : HasRun settings told same begun taken answers lines
   pub front : IsPrefix written lines
-  pub whole : IsPrefix (entries settings.plan (take (length answers - 1) answers) (drop 24 run.outcomes)) written
+  pub whole : IsPrefix (entries settings.plan (take (length answers - 1) answers) (drop prelude_count run.outcomes)) written
 
 -- What a run that ended with a status has written, where the words have a reading: the whole output; for want of memory a front
 -- of the lines of the answers; for a fault of the sink that, or all lines of the answers and a front of the line of some fault.

@@ -1,19 +1,28 @@
-//! The calls of a run whose contracts speak of the words' command and of the prelude, under words that stay closed in the
-//! proofs above.
-ghost use Rattle.std.specs.Prelude.{◌≡◌, ◌≤◌, ℕ, [], map, IfOk, IsErrOf};
+//! The calls of a run whose contracts speak of the words' command and of the prelude, under words
+//! that stay closed in the proofs above.
+ghost use Rattle.std.specs.Prelude.{◌≡◌, [], map, IfOk, IsErrOf};
 ghost use Rattle.std.specs.String.{string_bytes};
-ghost use Rattle.aql_outside.specs.Causes.{Blames};
 ghost use Rattle.aql_words.specs.Words.{AreInRange};
+ghost use Rattle.aql_session.specs.Device.{sink_of, files_of, BlamesSink, BlamesFiles};
 ghost use Rattle.aql_answers.specs.Settings.{settings_of};
+ghost use Rattle.aql_answers.specs.Steps.{IsOfDevice};
 ghost use Rattle.aql_run.specs.Ending.{Answering, Asks, IsReady, Readies};
 
 use aql_answers::{Halt, answer_all};
 use aql_outside::{Files, Gate, Sink};
 use aql_script::{Prepared, ScriptFault, prepare};
-use aql_session::{Answer, Options, StepFault};
+use aql_session::{Answer, Options};
 use aql_words::{WordFault, read_words};
 use std::alloc::Global;
 use std::thread::Threads;
+
+/// The threads, the memory and the gate that a run works with.
+#[derive(Drop)]
+pub(crate) struct Machine<'a, R, G> {
+    pub(crate) rt: &'a R,
+    pub(crate) alloc: Global,
+    pub(crate) gate: &'a G,
+}
 
 // The options that the words ask for.
 pub(crate) fn read_options(alloc: Global, words: &[String]) -> Result<Options, WordFault>
@@ -32,22 +41,30 @@ pub(crate) fn ready(alloc: Global, script: &[u8]) -> Result<Prepared, ScriptFaul
 
 // Answers the declarations, and writes their lines.
 pub(crate) fn answer_each<R: Threads + Sync, O: Sink, F: Files, G: Gate>(
-    rt: &R,
-    alloc: Global,
+    machine: &Machine<R, G>,
     prepared: &Prepared,
     options: &Options,
     output: &mut O,
     files: &mut F,
-    gate: &G,
     answers: &mut Vec<Answer>,
 ) -> Result<(), Halt>
     requires prepared { IsReady prepared.now }
     requires none { answers.old.items ≡ [] }
     requires options { AreInRange options.now }
-    ensures written { Answering prepared.now (settings_of options.now) (files.new ≡ files.old) (F.faults files.old) (F.faults files.new) (F.holds files.old) answers.new.items (O.holds output.old) (O.holds output.new) result }
+    ensures written { Answering prepared.now (settings_of options.now) answers.new.items
+        (sink_of O.Sink output.old output.new) (files_of F.Files files.old files.new) result }
     ensures kept { F.holds files.new ≡ F.holds files.old }
-    ensures files { Blames F.quiet (IsErrOf result (Halt.Fault StepFault.Device)) (F.faults files.old) (F.faults files.new) }
-    ensures output { Blames O.quiet (IsErrOf result Halt.Sink) (O.faults output.old) (O.faults output.new) }
+    ensures files { BlamesFiles F.Files files.old files.new (IsOfDevice result) }
+    ensures output { BlamesSink O.Sink output.old output.new (IsErrOf result Halt.Sink) }
 {
-    answer_all(rt, alloc, prepared, options, output, files, gate, answers)
+    answer_all(
+        machine.rt,
+        machine.alloc,
+        prepared,
+        options,
+        output,
+        files,
+        machine.gate,
+        answers,
+    )
 }

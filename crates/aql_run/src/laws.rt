@@ -3,7 +3,8 @@ ghost use Rattle.aql_run.specs.Complete.{Lexed};
 
 use aql_lex::laws::one_answer;
 
-/// Each script has one list of tokens, or a byte where none begins; and its depth is within the limit or passes it.
+/// Each script has one list of tokens, or a byte where none begins; and its depth is within the
+/// limit or passes it.
 pub(crate) fn lexed()
     ensures { Lexed }
 {

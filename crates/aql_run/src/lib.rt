@@ -1,17 +1,17 @@
-//! Runs a script from a source to a sink over files: reads the words and the script, finds the types, answers each
-//! declaration, and writes its lines.
+//! Runs a script from a source to a sink over files: reads the words and the script, finds the
+//! types, answers each declaration, and writes its lines.
 //!
-//! The contract that the program uses is that of `run`: which bytes are written for the bytes read, whatever the number
-//! of workers, and the cause of each status.
+//! The contract that the program uses is that of `run`: which bytes are written for the bytes read,
+//! whatever the number of workers, and the cause of each status.
 //!
-//! Read `specs/Headline` beside `run`, which has all that is promised; then `specs/Outcome` and `specs/Complete`, the
-//! cause and the output of each status; then `serving`, `closed`, `reading`, `report`, `laws`. The statuses are those
-//! of `aql_status`.
+//! Read `specs/Headline` beside `run`, which has all that is promised; then `specs/Devices`,
+//! `specs/Outcome` and `specs/Complete`, the cause and the output of each status; then `serving`,
+//! `closed`, `reading`, `report`, `laws`. The statuses are those of `aql_status`.
 #![tactic(auto)]
 
 ghost use Rattle.std.specs.Prelude.{◌≡◌, ◌≤◌, ◌<◌, ◌⊎◌, ℕ, map};
 ghost use Rattle.std.specs.String.{string_bytes};
-ghost use Rattle.aql_outside.specs.Causes.{Blames};
+ghost use Rattle.aql_session.specs.Device.{source_of, sink_of, files_of, BlamesSink};
 ghost use Rattle.aql_run.specs.Headline.{Headline};
 ghost use Rattle.aql_run.specs.Ending.{AsksSample, Reported};
 
@@ -25,17 +25,19 @@ pub use aql_lines::sample_script;
 use aql_outside::{Files, Gate, Sink, Source};
 pub use aql_session::Options;
 pub use aql_words::{WordFault, read_words};
+use closed::Machine;
 use laws::lexed;
 pub use report::{Answers, Report, Stop};
 use serving::end_of;
 use std::alloc::Global;
 use std::thread::Threads;
 
-/// Runs the script of the source, or the built-in one, and writes what its declarations print to the sink. The words are
-/// those of the command line, the program's name first.
+/// Runs the script of the source, or the built-in one, and writes what its declarations print to
+/// the sink. The words are those of the command line, the program's name first.
 ///
-/// The order is: the words; reading the source; then the script's tokens, depth, grammar, types, sizes and readers; then
-/// the declarations, each of which is answered and its lines written before the next one starts.
+/// The order is: the words; reading the source; then the script's tokens, depth, grammar, types,
+/// sizes and readers; then the declarations, each of which is answered and its lines written before
+/// the next one starts.
 pub fn run<R: Threads + Sync, S: Source, O: Sink, F: Files, G: Gate>(
     rt: &R,
     alloc: Global,
@@ -46,30 +48,9 @@ pub fn run<R: Threads + Sync, S: Source, O: Sink, F: Files, G: Gate>(
     gate: &G,
 ) -> Report
     ensures { Headline (map string_bytes words.now) (record {
-      source = record {
-        before = S.left input.old;
-        after = S.left input.new;
-        faults_before = S.faults input.old;
-        faults_after = S.faults input.new;
-        same = input.new ≡ input.old;
-        quiet = S.quiet;
-      };
-      sink = record {
-        before = O.holds output.old;
-        after = O.holds output.new;
-        faults_before = O.faults output.old;
-        faults_after = O.faults output.new;
-        same = output.new ≡ output.old;
-        quiet = O.quiet;
-      };
-      files = record {
-        before = F.holds files.old;
-        after = F.holds files.new;
-        faults_before = F.faults files.old;
-        faults_after = F.faults files.new;
-        same = files.new ≡ files.old;
-        quiet = F.quiet;
-      };
+      source = source_of S.Source input.old input.new;
+      sink = sink_of O.Sink output.old output.new;
+      files = files_of F.Files files.old files.new;
     }) result }
 {
     lexed();
@@ -86,20 +67,27 @@ fn reported<R: Threads + Sync, S: Source, O: Sink, F: Files, G: Gate>(
     files: &mut F,
     gate: &G,
 ) -> Report
-    ensures serves { Reported (map string_bytes words.now) (files.new ≡ files.old) (S.faults input.old) (S.faults input.new) (F.faults files.old) (F.faults files.new) (F.holds files.old) result.answers.items.items result.stop result.status
-        (S.left input.old) (S.left input.new) (O.holds output.old) (O.holds output.new) }
+    ensures serves { Reported (map string_bytes words.now) (record {
+      source = source_of S.Source input.old input.new;
+      sink = sink_of O.Sink output.old output.new;
+      files = files_of F.Files files.old files.new;
+    }) result }
     ensures untouched_input { result.status ≡ 2 → input.new ≡ input.old }
     ensures untouched_output { result.status ≡ 2 → output.new ≡ output.old }
-    ensures sample { (n : ℕ) → AsksSample (map string_bytes words.now) n → input.new ≡ input.old }
-    ensures output { Blames O.quiet (result.status ≡ 11) (O.faults output.old) (O.faults output.new) }
+    ensures sample { (n : ℕ) → AsksSample (map string_bytes words.now) n →
+        input.new ≡ input.old }
+    ensures output { BlamesSink O.Sink output.old output.new (result.status ≡ 11) }
     ensures kept { F.holds files.new ≡ F.holds files.old }
     ensures later_input { S.faults input.old ≤ S.faults input.new }
     ensures later_files { F.faults files.old ≤ F.faults files.new }
-    ensures noticed_input { S.quiet → S.faults input.old < S.faults input.new → (result.status ≡ 10) ⊎ (result.status ≡ 11) }
-    ensures noticed_files { F.quiet → F.faults files.old < F.faults files.new → (result.status ≡ 13) ⊎ (result.status ≡ 11) }
+    ensures noticed_input { S.quiet → S.faults input.old < S.faults input.new →
+        (result.status ≡ 10) ⊎ (result.status ≡ 11) }
+    ensures noticed_files { F.quiet → F.faults files.old < F.faults files.new →
+        (result.status ≡ 13) ⊎ (result.status ≡ 11) }
 {
     let mut answers = Vec::new(alloc);
-    let end = end_of(rt, alloc, words, input, output, files, gate, &mut answers);
+    let machine = Machine { rt, alloc, gate };
+    let end = end_of(&machine, words, input, output, files, &mut answers);
     let status = end.status.code();
     Report {
         status,

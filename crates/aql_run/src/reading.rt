@@ -1,7 +1,7 @@
 // Reading a source to its end.
 ghost use Rattle.std.specs.Prelude.{◌≡◌, ◌≤◌, vec_len, IfOk, IfErr, IsErrOf};
-ghost use Rattle.aql_outside.specs.Causes.{Blames};
-ghost use Rattle.aql_run.specs.Reading.{TakesPiece, PieceFails, ReadFails, ReadsWhole};
+ghost use Rattle.aql_session.specs.Device.{BlamesSource};
+ghost use Rattle.aql_run.specs.Reading.{most_bytes, TakesPiece, PieceFails, ReadFails, ReadsWhole};
 ghost use Rattle.aql_run.specs.declared.reading.ReadFault.TheVariants.{Memory};
 
 use aql_outside::Source;
@@ -33,9 +33,10 @@ impl From<AllocError> for ReadFault {
 
 /// Reads the source to its end, which comes within the limit on a script.
 pub fn read_script<S: Source>(alloc: Global, input: &mut S) -> Result<Vec<u8>, ReadFault>
-    ensures whole { IfOk result (λ script. ReadsWhole (S.left input.old) (S.left input.new) script.items) }
-    ensures fails { IfErr result (λ e. ReadFails (S.left input.old) (S.left input.new) e) }
-    ensures input { Blames S.quiet (IsErrOf result ReadFault.Failed) (S.faults input.old) (S.faults input.new) }
+    ensures whole { IfOk result (λ script.
+        ReadsWhole (S.left input.old) (S.left input.new) script.items) }
+    ensures fails { IfErr result (ReadFails (S.left input.old) (S.left input.new)) }
+    ensures input { BlamesSource S.Source input.old input.new (IsErrOf result ReadFault.Failed) }
 {
     let mut script = Vec::new(alloc);
     'pieces: while script.len() <= LIMIT {
@@ -48,10 +49,12 @@ pub fn read_script<S: Source>(alloc: Global, input: &mut S) -> Result<Vec<u8>, R
 
 // Takes the next piece of the source, and says how many bytes came.
 fn read_piece<S: Source>(input: &mut S, script: &mut Vec<u8>) -> Result<usize, ReadFault>
-    requires { vec_len script.old ≤ 1048576 }
-    ensures taken { IfOk result (λ n. TakesPiece (S.left input.old) (S.left input.new) script.old.items script.new.items n) }
-    ensures fails { IfErr result (λ e. PieceFails (S.left input.old) (S.left input.new) script.old.items e) }
-    ensures input { Blames S.quiet (IsErrOf result ReadFault.Failed) (S.faults input.old) (S.faults input.new) }
+    requires { vec_len script.old ≤ most_bytes }
+    ensures taken { IfOk result (TakesPiece (S.left input.old) (S.left input.new)
+        script.old.items script.new.items) }
+    ensures fails { IfErr result (PieceFails (S.left input.old) (S.left input.new)
+        script.old.items) }
+    ensures input { BlamesSource S.Source input.old input.new (IsErrOf result ReadFault.Failed) }
 {
     let mut piece = [0u8; PIECE];
     let room = (LIMIT + 1 - script.len()).min(PIECE);

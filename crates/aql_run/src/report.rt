@@ -21,7 +21,8 @@ pub enum Stop {
         plan: Core,
         trace: Trace,
     },
-    /// The cells that a readval asks for passed the budget: their number, or 2^128-1 where it is larger.
+    /// The cells that a readval asks for passed the budget: their number, or 2^128-1 where it is
+    /// larger.
     Cells {
         cells: u128,
     },
@@ -33,7 +34,8 @@ pub enum Stop {
     Other,
 }
 
-/// What a run answers: the program's exit status, the answers that were made, and what is kept of the end.
+/// What a run answers: the program's exit status, the answers that were made, and what is kept of
+/// the end.
 #[derive(Drop)]
 pub struct Report {
     pub status: u8,

@@ -1,13 +1,14 @@
 //! A run, from the words to the last line.
-ghost use Rattle.std.specs.Prelude.{◌≡◌, ◌≢◌, ◌≤◌, ◌<◌, ◌+◌, ◌⊎◌, List, ℕ, [], codes, map, length, IfOk, None, Some};
+ghost use Rattle.std.specs.Prelude.{◌≡◌, ◌≢◌, ◌≤◌, ◌+◌, ◌⊎◌, List, ℕ, [], codes, map, IfOk, None, Some};
 ghost use Rattle.std.specs.String.{string_bytes};
-ghost use Rattle.aql_outside.specs.Causes.{Blames};
 ghost use Rattle.aql_words.specs.Words.{AreInRange};
+ghost use Rattle.aql_session.specs.Device.{source_of, sink_of, files_of, BlamesSink};
 ghost use Rattle.aql_lines.specs.Lines.{in_declaration};
 ghost use Rattle.aql_answers.specs.Settings.{settings_of};
+ghost use Rattle.aql_run.specs.Devices.{NoticesFiles, NoticesInput};
 ghost use Rattle.aql_run.specs.Ending.{Answers, AsksSample, EndsWith, IsReady, Refused, Responds, Running, Samples, Serving, Stopped};
 
-use crate::closed::{answer_each, read_options, ready};
+use crate::closed::{Machine, answer_each, read_options, ready};
 use crate::reading::{ReadFault, read_script};
 use crate::report::{End, Stop};
 use aql_answers::Halt;
@@ -23,30 +24,32 @@ use std::thread::Threads;
 
 /// Reads the words, and then runs the script that they ask for.
 pub(crate) fn end_of<R: Threads + Sync, S: Source, O: Sink, F: Files, G: Gate>(
-    rt: &R,
-    alloc: Global,
+    machine: &Machine<R, G>,
     words: &[String],
     input: &mut S,
     output: &mut O,
     files: &mut F,
-    gate: &G,
     answers: &mut Vec<Answer>,
 ) -> End
     requires none { answers.old.items ≡ [] }
-    ensures serves { Running (map string_bytes words.now) (files.new ≡ files.old) (S.faults input.old) (S.faults input.new) (F.faults files.old) (F.faults files.new) (F.holds files.old) answers.new.items result
-        (S.left input.old) (S.left input.new) (O.holds output.old) (O.holds output.new) }
+    ensures serves { Running (map string_bytes words.now) answers.new.items (record {
+      source = source_of S.Source input.old input.new;
+      sink = sink_of O.Sink output.old output.new;
+      files = files_of F.Files files.old files.new;
+    }) result }
     ensures untouched_input { result.status ≡ Status.Usage → input.new ≡ input.old }
     ensures untouched_output { result.status ≡ Status.Usage → output.new ≡ output.old }
-    ensures sample { (n : ℕ) → AsksSample (map string_bytes words.now) n → input.new ≡ input.old }
-    ensures output { Blames O.quiet (result.status ≡ Status.Output) (O.faults output.old) (O.faults output.new) }
+    ensures sample { (n : ℕ) → AsksSample (map string_bytes words.now) n →
+        input.new ≡ input.old }
+    ensures output { BlamesSink O.Sink output.old output.new (result.status ≡ Status.Output) }
     ensures kept { F.holds files.new ≡ F.holds files.old }
     ensures later_input { S.faults input.old ≤ S.faults input.new }
-    ensures noticed_input { S.quiet → S.faults input.old < S.faults input.new → (result.status ≡ Status.Input) ⊎ (result.status ≡ Status.Output) }
+    ensures noticed_input { NoticesInput S.Source input.old input.new result.status }
     ensures later_files { F.faults files.old ≤ F.faults files.new }
-    ensures noticed_files { F.quiet → F.faults files.old < F.faults files.new → (result.status ≡ Status.Files) ⊎ (result.status ≡ Status.Output) }
+    ensures noticed_files { NoticesFiles F.Files files.old files.new result.status }
 {
-    match read_options(alloc, words) {
-        Ok(options) => serve(rt, alloc, &options, input, output, files, gate, answers),
+    match read_options(machine.alloc, words) {
+        Ok(options) => serve(machine, &options, input, output, files, answers),
         Err(WordFault::Usage) => End {
             status: Status::Usage,
             stop: Stop::Other,
@@ -60,54 +63,54 @@ pub(crate) fn end_of<R: Threads + Sync, S: Source, O: Sink, F: Files, G: Gate>(
 
 // Runs the script that the options ask for: the built-in one, or that of the source.
 fn serve<R: Threads + Sync, S: Source, O: Sink, F: Files, G: Gate>(
-    rt: &R,
-    alloc: Global,
+    machine: &Machine<R, G>,
     options: &Options,
     input: &mut S,
     output: &mut O,
     files: &mut F,
-    gate: &G,
     answers: &mut Vec<Answer>,
 ) -> End
     requires none { answers.old.items ≡ [] }
     requires options { AreInRange options.now }
-    ensures serves { Serving (settings_of options.now) (files.new ≡ files.old) (S.faults input.old) (S.faults input.new) (F.faults files.old) (F.faults files.new) (F.holds files.old) answers.new.items result
-        (S.left input.old) (S.left input.new) (O.holds output.old) (O.holds output.new) }
+    ensures serves { Serving (settings_of options.now) answers.new.items (record {
+      source = source_of S.Source input.old input.new;
+      sink = sink_of O.Sink output.old output.new;
+      files = files_of F.Files files.old files.new;
+    }) result }
     ensures sample { (n : ℕ) → options.now.sample ≡ Some n → input.new ≡ input.old }
-    ensures output { Blames O.quiet (result.status ≡ Status.Output) (O.faults output.old) (O.faults output.new) }
+    ensures output { BlamesSink O.Sink output.old output.new (result.status ≡ Status.Output) }
     ensures kept { F.holds files.new ≡ F.holds files.old }
     ensures later_input { S.faults input.old ≤ S.faults input.new }
-    ensures noticed_input { S.quiet → S.faults input.old < S.faults input.new → (result.status ≡ Status.Input) ⊎ (result.status ≡ Status.Output) }
+    ensures noticed_input { NoticesInput S.Source input.old input.new result.status }
     ensures later_files { F.faults files.old ≤ F.faults files.new }
-    ensures noticed_files { F.quiet → F.faults files.old < F.faults files.new → (result.status ≡ Status.Files) ⊎ (result.status ≡ Status.Output) }
+    ensures noticed_files { NoticesFiles F.Files files.old files.new result.status }
 {
     match options.sample {
-        Some(n) => serve_sample(rt, alloc, options, n, output, files, gate, answers),
-        None => serve_source(rt, alloc, options, input, output, files, gate, answers),
+        Some(n) => serve_sample(machine, options, n, output, files, answers),
+        None => serve_source(machine, options, input, output, files, answers),
     }
 }
 
 // Runs the built-in script of n cells.
 fn serve_sample<R: Threads + Sync, O: Sink, F: Files, G: Gate>(
-    rt: &R,
-    alloc: Global,
+    machine: &Machine<R, G>,
     options: &Options,
     n: u64,
     output: &mut O,
     files: &mut F,
-    gate: &G,
     answers: &mut Vec<Answer>,
 ) -> End
     requires none { answers.old.items ≡ [] }
     requires options { AreInRange options.now }
-    ensures written { Samples n (settings_of options.now) (files.new ≡ files.old) (F.faults files.old) (F.faults files.new) (F.holds files.old) answers.new.items result (O.holds output.old) (O.holds output.new) }
-    ensures output { Blames O.quiet (result.status ≡ Status.Output) (O.faults output.old) (O.faults output.new) }
+    ensures written { Samples n (settings_of options.now) answers.new.items
+        (sink_of O.Sink output.old output.new) (files_of F.Files files.old files.new) result }
+    ensures output { BlamesSink O.Sink output.old output.new (result.status ≡ Status.Output) }
     ensures kept { F.holds files.new ≡ F.holds files.old }
     ensures later_files { F.faults files.old ≤ F.faults files.new }
-    ensures noticed_files { F.quiet → F.faults files.old < F.faults files.new → (result.status ≡ Status.Files) ⊎ (result.status ≡ Status.Output) }
+    ensures noticed_files { NoticesFiles F.Files files.old files.new result.status }
 {
-    match sample_script(alloc, n) {
-        Ok(script) => respond(rt, alloc, options, &script, output, files, gate, answers),
+    match sample_script(machine.alloc, n) {
+        Ok(script) => respond(machine, options, &script, output, files, answers),
         Err(_) => End {
             status: Status::Memory,
             stop: Stop::Other,
@@ -117,29 +120,30 @@ fn serve_sample<R: Threads + Sync, O: Sink, F: Files, G: Gate>(
 
 // Runs the script of the source.
 fn serve_source<R: Threads + Sync, S: Source, O: Sink, F: Files, G: Gate>(
-    rt: &R,
-    alloc: Global,
+    machine: &Machine<R, G>,
     options: &Options,
     input: &mut S,
     output: &mut O,
     files: &mut F,
-    gate: &G,
     answers: &mut Vec<Answer>,
 ) -> End
     requires none { answers.old.items ≡ [] }
     requires options { AreInRange options.now }
     requires no_sample { options.now.sample ≡ None }
-    ensures serves { Serving (settings_of options.now) (files.new ≡ files.old) (S.faults input.old) (S.faults input.new) (F.faults files.old) (F.faults files.new) (F.holds files.old) answers.new.items result
-        (S.left input.old) (S.left input.new) (O.holds output.old) (O.holds output.new) }
-    ensures output { Blames O.quiet (result.status ≡ Status.Output) (O.faults output.old) (O.faults output.new) }
+    ensures serves { Serving (settings_of options.now) answers.new.items (record {
+      source = source_of S.Source input.old input.new;
+      sink = sink_of O.Sink output.old output.new;
+      files = files_of F.Files files.old files.new;
+    }) result }
+    ensures output { BlamesSink O.Sink output.old output.new (result.status ≡ Status.Output) }
     ensures kept { F.holds files.new ≡ F.holds files.old }
     ensures later_input { S.faults input.old ≤ S.faults input.new }
-    ensures noticed_input { S.quiet → S.faults input.old < S.faults input.new → (result.status ≡ Status.Input) ⊎ (result.status ≡ Status.Output) }
+    ensures noticed_input { NoticesInput S.Source input.old input.new result.status }
     ensures later_files { F.faults files.old ≤ F.faults files.new }
-    ensures noticed_files { F.quiet → F.faults files.old < F.faults files.new → (result.status ≡ Status.Files) ⊎ (result.status ≡ Status.Output) }
+    ensures noticed_files { NoticesFiles F.Files files.old files.new result.status }
 {
-    match read_script(alloc, input) {
-        Ok(script) => respond(rt, alloc, options, &script, output, files, gate, answers),
+    match read_script(machine.alloc, input) {
+        Ok(script) => respond(machine, options, &script, output, files, answers),
         Err(ReadFault::Memory) => End {
             status: Status::Memory,
             stop: Stop::Other,
@@ -157,27 +161,26 @@ fn serve_source<R: Threads + Sync, S: Source, O: Sink, F: Files, G: Gate>(
 
 // Runs a script that was read whole.
 fn respond<R: Threads + Sync, O: Sink, F: Files, G: Gate>(
-    rt: &R,
-    alloc: Global,
+    machine: &Machine<R, G>,
     options: &Options,
     script: &[u8],
     output: &mut O,
     files: &mut F,
-    gate: &G,
     answers: &mut Vec<Answer>,
 ) -> End
     requires none { answers.old.items ≡ [] }
     requires options { AreInRange options.now }
-    ensures written { Responds (settings_of options.now) script.now (files.new ≡ files.old) (F.faults files.old) (F.faults files.new) (F.holds files.old) answers.new.items result (O.holds output.old) (O.holds output.new) }
-    ensures output { Blames O.quiet (result.status ≡ Status.Output) (O.faults output.old) (O.faults output.new) }
+    ensures written { Responds script.now (settings_of options.now) answers.new.items
+        (sink_of O.Sink output.old output.new) (files_of F.Files files.old files.new) result }
+    ensures output { BlamesSink O.Sink output.old output.new (result.status ≡ Status.Output) }
     ensures kept { F.holds files.new ≡ F.holds files.old }
     ensures later_files { F.faults files.old ≤ F.faults files.new }
-    ensures noticed_files { F.quiet → F.faults files.old < F.faults files.new → (result.status ≡ Status.Files) ⊎ (result.status ≡ Status.Output) }
+    ensures noticed_files { NoticesFiles F.Files files.old files.new result.status }
 {
-    match ready(alloc, script) {
-        Ok(prepared) => answer(rt, alloc, &prepared, options, output, files, gate, answers),
+    match ready(machine.alloc, script) {
+        Ok(prepared) => answer(machine, &prepared, options, output, files, answers),
         Err(fault) => End {
-            status: refuse(alloc, fault, output),
+            status: refuse(machine.alloc, fault, output),
             stop: Stop::Other,
         },
     }
@@ -185,25 +188,24 @@ fn respond<R: Threads + Sync, O: Sink, F: Files, G: Gate>(
 
 // Answers the declarations of a script, and writes the line of a fault.
 fn answer<R: Threads + Sync, O: Sink, F: Files, G: Gate>(
-    rt: &R,
-    alloc: Global,
+    machine: &Machine<R, G>,
     prepared: &Prepared,
     options: &Options,
     output: &mut O,
     files: &mut F,
-    gate: &G,
     answers: &mut Vec<Answer>,
 ) -> End
     requires prepared { IsReady prepared.now }
     requires none { answers.old.items ≡ [] }
     requires options { AreInRange options.now }
-    ensures written { Answers prepared.now (settings_of options.now) (files.new ≡ files.old) (F.faults files.old) (F.faults files.new) (F.holds files.old) answers.new.items result (O.holds output.old) (O.holds output.new) }
-    ensures output { Blames O.quiet (result.status ≡ Status.Output) (O.faults output.old) (O.faults output.new) }
+    ensures written { Answers prepared.now (settings_of options.now) answers.new.items
+        (sink_of O.Sink output.old output.new) (files_of F.Files files.old files.new) result }
+    ensures output { BlamesSink O.Sink output.old output.new (result.status ≡ Status.Output) }
     ensures kept { F.holds files.new ≡ F.holds files.old }
     ensures later_files { F.faults files.old ≤ F.faults files.new }
-    ensures noticed_files { F.quiet → F.faults files.old < F.faults files.new → (result.status ≡ Status.Files) ⊎ (result.status ≡ Status.Output) }
+    ensures noticed_files { NoticesFiles F.Files files.old files.new result.status }
 {
-    match answer_each(rt, alloc, prepared, options, output, files, gate, answers) {
+    match answer_each(machine, prepared, options, output, files, answers) {
         Ok(()) => End {
             status: Status::Done,
             stop: Stop::Done,
@@ -218,16 +220,17 @@ fn answer<R: Threads + Sync, O: Sink, F: Files, G: Gate>(
         },
         Err(Halt::Fault(fault)) => {
             let n = answers.len() as u64 + 1;
-            stop_at(alloc, n, fault, output)
+            stop_at(machine.alloc, n, fault, output)
         }
     }
 }
 
 // Writes the line of the fault of declaration n.
 fn stop_at<O: Sink>(alloc: Global, n: u64, fault: StepFault, output: &mut O) -> End
-    ensures written { Stopped n fault (O.holds output.old) (O.holds output.new) result }
-    ensures device { fault ≡ StepFault.Device → (result.status ≡ Status.Files) ⊎ (result.status ≡ Status.Output) }
-    ensures output { Blames O.quiet (result.status ≡ Status.Output) (O.faults output.old) (O.faults output.new) }
+    ensures written { Stopped n fault (sink_of O.Sink output.old output.new) result }
+    ensures device { fault ≡ StepFault.Device →
+        (result.status ≡ Status.Files) ⊎ (result.status ≡ Status.Output) }
+    ensures output { BlamesSink O.Sink output.old output.new (result.status ≡ Status.Output) }
 {
     match fault {
         StepFault::Query { start, plan, trace } => {
@@ -275,8 +278,8 @@ fn kept(status: Status, wanted: Status, stop: Stop) -> End
 
 // Writes the line of a script's fault.
 fn refuse<O: Sink>(alloc: Global, fault: ScriptFault, output: &mut O) -> Status
-    ensures written { Refused fault (O.holds output.old) (O.holds output.new) result }
-    ensures output { Blames O.quiet (result ≡ Status.Output) (O.faults output.old) (O.faults output.new) }
+    ensures written { Refused fault (sink_of O.Sink output.old output.new) result }
+    ensures output { BlamesSink O.Sink output.old output.new (result ≡ Status.Output) }
 {
     match fault {
         ScriptFault::Text { at } => {
@@ -312,8 +315,9 @@ fn refuse<O: Sink>(alloc: Global, fault: ScriptFault, output: &mut O) -> Status
 // Writes a line, where there was memory for it.
 fn end_with_made<O: Sink>(output: &mut O, line: Result<Vec<u8>, Memory>, status: Status) -> Status
     requires real { status ≢ Status.Output }
-    ensures written { (text : List ℕ) → IfOk line (λ l. l.items ≡ text) → EndsWith (O.holds output.old) (O.holds output.new) text status result }
-    ensures output { Blames O.quiet (result ≡ Status.Output) (O.faults output.old) (O.faults output.new) }
+    ensures written { (text : List ℕ) → IfOk line (λ l. l.items ≡ text) →
+        EndsWith (sink_of O.Sink output.old output.new) text status result }
+    ensures output { BlamesSink O.Sink output.old output.new (result ≡ Status.Output) }
 {
     match line {
         Ok(text) => end_with(output, &text, status),
@@ -324,9 +328,9 @@ fn end_with_made<O: Sink>(output: &mut O, line: Result<Vec<u8>, Memory>, status:
 // Writes the line of a fault.
 fn end_with<O: Sink>(output: &mut O, line: &[u8], status: Status) -> Status
     requires real { status ≢ Status.Output }
-    ensures written { EndsWith (O.holds output.old) (O.holds output.new) line.now status result }
+    ensures written { EndsWith (sink_of O.Sink output.old output.new) line.now status result }
     ensures ends { (result ≡ status) ⊎ (result ≡ Status.Output) }
-    ensures output { Blames O.quiet (result ≡ Status.Output) (O.faults output.old) (O.faults output.new) }
+    ensures output { BlamesSink O.Sink output.old output.new (result ≡ Status.Output) }
 {
     match write_all(output, line) {
         Ok(()) => status,

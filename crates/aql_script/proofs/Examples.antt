@@ -1,5 +1,5 @@
 -- The script `1+2*3;`: what its bytes declare, and that the positions are within the limits.
-use Rattle.std.specs.Prelude.{ℕ, List, [], ◌∷◌, codes, refl}
+use Rattle.std.specs.Prelude.{ℕ, ◌+◌, List, [], ◌∷◌, codes, refl}
 use Rattle.std.proofs.Common.{lit<, lit≤}
 use Rattle.aql_value.specs.Strict.{Strict}
 use Rattle.aql_value.specs.declared.ops.ArithOp.TheVariants as ariths
@@ -10,7 +10,9 @@ use Rattle.aql_syntax.specs.Grammar.{tight, whole, reads_number, reads_primary, 
 use Rattle.aql_syntax.specs.Lexis.{Lexeme, numeral, mark, AreTokens, begins_number, begins_sign, digits_end, covers_none, covers_token}
 use Rattle.aql_syntax.specs.Tree.{Tree, op, no_tree, Declaration, bare}
 use Rattle.aql_syntax.specs.View.{of_two}
-use Rattle.aql_script.specs.Script.{Reads, positions, AreWithinLimits}
+use Rattle.aql_script.specs.Script.{Reads, positions}
+use Rattle.aql_syntax.specs.Size.{AreWithinLimits}
+use Rattle.aql_prelude.specs.Prelude.{prelude_count}
 use Rattle.aql_script.proofs.Positions.{prelude_within, within_more}
 
 abbrev pub number : ℕ → Tree
@@ -63,6 +65,6 @@ parsed =
 pub sum_read : Reads (codes "1+2*3;") one_sum
 sum_read = (lexemes, (covered.0, covered.1, refl), parsed)
 
-pub sum_limits : AreWithinLimits (positions one_sum) 25
+pub sum_limits : AreWithinLimits (positions one_sum) (prelude_count + 1)
 unfolding positions
-sum_limits = within_more (positions one_sum) 24 (lit≤ tt, lit≤ tt) (prelude_within one_sum)
+sum_limits = within_more (positions one_sum) prelude_count (lit≤ tt, lit≤ tt) (prelude_within one_sum)

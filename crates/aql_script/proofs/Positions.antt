@@ -1,12 +1,13 @@
 -- Why what is prepared is a script's one reading behind the prelude.
-use Rattle.std.proofs.Common.{ℕ, zero, suc, ◌≡◌, ◌+◌, ◌-◌, ◌<◌, ◌≤◌, ◌⊎◌, inl, inr, List, [], ◌∷◌, ◌++◌, refl, sym, ap, ◌∙◌, subst, length, take, drop, append_assoc, length-append, length-drop, arith, Bool, true, false}
+use Rattle.std.proofs.Common.{ℕ, zero, suc, ◌≡◌, ◌+◌, ◌-◌, ◌<◌, ◌≤◌, ◌⊎◌, inl, inr, List, [], ◌∷◌, ◌++◌, refl, sym, ap, ◌∙◌, subst, length, take, drop, append_assoc, length-drop, arith, Bool, true}
 use Rattle.std.specs.Prelude.{◌&&◌, nat_le, Err}
+use Rattle.std.specs.Cmp.{first_so, second_so}
 use Rattle.std.proofs.lemmas.Bool.{leb-true, cases_lt}
 use Rattle.std.proofs.lemmas.List.{take_all}
 use Rattle.aql_syntax.specs.declared.token.Token.{Token}
 use Rattle.aql_syntax.specs.Lexis.{Lexeme, AreTokens}
 use Rattle.aql_syntax.specs.Grammar.{ReadsScript, SyntaxFaultAt}
-use Rattle.aql_syntax.specs.Size.{expanded_size, expanded_levels}
+use Rattle.aql_syntax.specs.Size.{expanded_size, expanded_levels, most_nodes, most_levels, IsWithinLimits, AreWithinLimits, IsLarge}
 use Rattle.aql_syntax.specs.Tree.{Declaration}
 use Rattle.aql_syntax.specs.View.{decl_of, decls_of}
 use Rattle.aql_syntax.specs.declared.ast.Decl.{Decl}
@@ -15,11 +16,11 @@ use Rattle.aql_grammar.specs.Scripts.{OneReading}
 use Rattle.aql_infer.specs.Checked.{IsChecked, IsFirstUntyped}
 use Rattle.aql_infer.specs.declared.fault.TypeFault.{TypeFault}
 use Rattle.aql_infer.specs.declared.fault.TypeFault.TheVariants as type_faults
-use Rattle.aql_prelude.specs.Prelude.{prelude_decls}
+use Rattle.aql_prelude.specs.Prelude.{prelude_decls, prelude_count}
 use Rattle.aql_prelude.specs.Typing.{HaveSorts, prelude_typed}
 use Rattle.aql_script.specs.PositionLaws.{positions_are, length_positions, drop_prelude}
-use Rattle.aql_script.specs.Limits.{IsLarge, WithinBetween}
-use Rattle.aql_script.specs.Script.{Spells, ReadsAlone, positions, IsWithinLimits, AreWithinLimits, IsFirstLarge}
+use Rattle.aql_script.specs.Limits.{WithinBetween}
+use Rattle.aql_script.specs.Script.{Spells, ReadsAlone, positions, IsFirstLarge}
 
 -- what the parser reads of the tokens is the one reading of the bytes
 pub alone : OneList → OneReading → (bytes : List ℕ) (ts : List Token) (ds : List Declaration) → IsShallow bytes ts →
@@ -45,37 +46,33 @@ behind_typed (a ∷ front) ds earlier zero h u = absurd u
 behind_typed (a ∷ front) ds earlier (suc zero) h u = absurd (u h.0.0 h.0.1)
 behind_typed (a ∷ front) ds earlier (suc (suc k)) h u = omega (arith, behind_typed front ds (a ∷ earlier) (suc k) h.1 u.1)
 
-pub behind_prelude : (ds : List Declaration) (k : ℕ) → IsFirstUntyped [] (positions ds) k → 24 < k
+pub behind_prelude : (ds : List Declaration) (k : ℕ) → IsFirstUntyped [] (positions ds) k → prelude_count < k
 unfolding positions
 behind_prelude ds k u = behind_typed prelude_decls ds [] k prelude_typed u
 
-pub untyped_own : (ds : List Declaration) (k : ℕ) → IsFirstUntyped [] (positions ds) k → (1 ≤ k - 24) × IsFirstUntyped [] (positions ds) (24 + (k - 24))
+pub untyped_own : (ds : List Declaration) (k : ℕ) → IsFirstUntyped [] (positions ds) k → (1 ≤ k - prelude_count) × IsFirstUntyped [] (positions ds) (prelude_count + (k - prelude_count))
 untyped_own ds k u =
     let lt = behind_prelude ds k u in
-    let same : 24 + (k - 24) ≡ k = omega (arith, lt) in
+    let same : prelude_count + (k - prelude_count) ≡ k = omega (arith, lt) in
     (omega (arith, lt), subst (λ n. IsFirstUntyped [] (positions ds) n) (sym same) u)
 
 -- the test of the limits, at a position and at each up to one
 abbrev within : List Declaration → ℕ → Bool
-within all n = nat_le (expanded_size all n) 20000 && nat_le (expanded_levels all n) 1000
+within all n = nat_le (expanded_size all n) most_nodes && nat_le (expanded_levels all n) most_levels
 
 abbrev within_all : List Declaration → ℕ → Bool
 within_all all zero = true
 within_all all (suc n) = within all (suc n) && within_all all n
 
-prelude_tested : (ds : List Declaration) → within_all (positions ds) 24 ≡ true
+prelude_tested : (ds : List Declaration) → within_all (positions ds) prelude_count ≡ true
 unfolding positions
 prelude_tested ds = refl
 
-both : (a b : Bool) → (a && b) ≡ true → (a ≡ true) × (b ≡ true)
-both true true e = (refl, refl)
-both true false e = absurd cc
-both false b e = absurd cc
-
 within_is : (all : List Declaration) (n : ℕ) → within all n ≡ true → IsWithinLimits all n
 within_is all n e =
-    let own = both (nat_le (expanded_size all n) 20000) (nat_le (expanded_levels all n) 1000) e in
-    (leb-true (expanded_size all n) 20000 own.0, leb-true (expanded_levels all n) 1000 own.1)
+    let size = nat_le (expanded_size all n) most_nodes in
+    let levels = nat_le (expanded_levels all n) most_levels in
+    (leb-true (expanded_size all n) most_nodes (first_so size levels e), leb-true (expanded_levels all n) most_levels (second_so size levels e))
 
 -- one position more
 pub within_more : (all : List Declaration) (n : ℕ) → IsWithinLimits all (suc n) → AreWithinLimits all n → AreWithinLimits all (suc n)
@@ -88,12 +85,13 @@ within_more all n own before k one last = at (cases_lt k (suc n))
 tested_within : (all : List Declaration) (n : ℕ) → within_all all n ≡ true → AreWithinLimits all n
 tested_within all zero e = λ k one last. absurd (omega (arith, one, last))
 tested_within all (suc n) e =
-    let parts = both (within all (suc n)) (within_all all n) e in
-    within_more all n (within_is all (suc n) parts.0) (tested_within all n parts.1)
+    let here = within all (suc n) in
+    let front = within_all all n in
+    within_more all n (within_is all (suc n) (first_so here front e)) (tested_within all n (second_so here front e))
 
 -- the prelude is within the limits, whatever follows
-pub prelude_within : (ds : List Declaration) → AreWithinLimits (positions ds) 24
-prelude_within ds = tested_within (positions ds) 24 (prelude_tested ds)
+pub prelude_within : (ds : List Declaration) → AreWithinLimits (positions ds) prelude_count
+prelude_within ds = tested_within (positions ds) prelude_count (prelude_tested ds)
 
 decls_last : (ds : List Decl) (d : Decl) → decls_of (ds ++ d ∷ []) ≡ decls_of ds ++ decl_of d ∷ []
 decls_last [] d = refl
@@ -107,7 +105,7 @@ decls_length (d ∷ ds) = ap suc (decls_length ds)
 pub one_behind : (all : List Decl) (d : Decl) (rest : List Decl) → decls_of (all ++ d ∷ []) ++ decls_of rest ≡ decls_of all ++ decls_of (d ∷ rest)
 one_behind all d rest = ap (λ l. l ++ decls_of rest) (decls_last all d) ∙ append_assoc (decls_of all) (decl_of d ∷ []) (decls_of rest)
 
-pub many : (all : List Decl) (ds : List Declaration) → decls_of all ≡ positions ds → length all ≡ 24 + length ds
+pub many : (all : List Decl) (ds : List Declaration) → decls_of all ≡ positions ds → length all ≡ prelude_count + length ds
 many all ds e = sym (decls_length all) ∙ (ap length e ∙ length_positions ds)
 
 decls_drop : (n : ℕ) (ds : List Decl) → decls_of (drop n ds) ≡ drop n (decls_of ds)
@@ -115,9 +113,9 @@ decls_drop zero ds = refl
 decls_drop (suc n) [] = refl
 decls_drop (suc n) (d ∷ ds) = decls_drop n ds
 
--- the script's own declarations stand behind the first 24
-pub own : (all : List Decl) (ds : List Declaration) → decls_of all ≡ positions ds → decls_of (drop 24 all) ≡ ds
-own all ds e = decls_drop 24 all ∙ (ap (drop 24) e ∙ drop_prelude ds)
+-- the script's own declarations stand behind the prelude
+pub own : (all : List Decl) (ds : List Declaration) → decls_of all ≡ positions ds → decls_of (drop prelude_count all) ≡ ds
+own all ds e = decls_drop prelude_count all ∙ (ap (drop prelude_count) e ∙ drop_prelude ds)
 
 within_join : (all : List Declaration) (n m : ℕ) → AreWithinLimits all n → WithinBetween all n m → AreWithinLimits all m
 within_join all n m a b k one last = at (cases_lt n k)
@@ -127,20 +125,20 @@ within_join all n m a b k one last = at (cases_lt n k)
     at (inr le) = a k one le
 
 -- all positions are within the limits
-pub all_within : (all : List Decl) (ds : List Declaration) → decls_of all ≡ positions ds → WithinBetween (decls_of all) 24 (length all) →
-    AreWithinLimits (positions ds) (24 + length ds)
+pub all_within : (all : List Decl) (ds : List Declaration) → decls_of all ≡ positions ds → WithinBetween (decls_of all) prelude_count (length all) →
+    AreWithinLimits (positions ds) (prelude_count + length ds)
 all_within all ds e h =
-    let between = subst (λ (l : List Declaration). WithinBetween l 24 (length all)) e h in
-    within_join (positions ds) 24 (24 + length ds) (prelude_within ds) (subst (WithinBetween (positions ds) 24) (many all ds e) between)
+    let between = subst (λ (l : List Declaration). WithinBetween l prelude_count (length all)) e h in
+    within_join (positions ds) prelude_count (prelude_count + length ds) (prelude_within ds) (subst (WithinBetween (positions ds) prelude_count) (many all ds e) between)
 
 -- the first that passes a limit
-pub is_first_large : (all : List Decl) (ds : List Declaration) (n : ℕ) → decls_of all ≡ positions ds → (1 ≤ n) → (24 + n ≤ length all) →
-    WithinBetween (decls_of all) 24 (23 + n) → IsLarge (decls_of all) (24 + n) → IsFirstLarge ds n
+pub is_first_large : (all : List Decl) (ds : List Declaration) (n : ℕ) → decls_of all ≡ positions ds → (1 ≤ n) → (prelude_count + n ≤ length all) →
+    WithinBetween (decls_of all) prelude_count (prelude_count + n - 1) → IsLarge (decls_of all) (prelude_count + n) → IsFirstLarge ds n
 is_first_large all ds n e one last within_before large = record {
   first = one;
   last = let count = many all ds e in omega (arith, count, last);
-  before = within_join (positions ds) 24 (23 + n) (prelude_within ds) (subst (λ (l : List Declaration). WithinBetween l 24 (23 + n)) e within_before);
-  large = subst (λ (l : List Declaration). IsLarge l (24 + n)) e large;
+  before = within_join (positions ds) prelude_count (prelude_count + n - 1) (prelude_within ds) (subst (λ (l : List Declaration). WithinBetween l prelude_count (prelude_count + n - 1)) e within_before);
+  large = subst (λ (l : List Declaration). IsLarge l (prelude_count + n)) e large;
 }
 
 -- what inference answers of the positions
@@ -148,10 +146,10 @@ pub first_untyped : (all ds : List Declaration) (f : TypeFault) (k : ℕ) → al
 first_untyped all ds f k e is h =
     subst (λ (l : List Declaration). IsFirstUntyped [] l k) e (subst (λ (g : TypeFault). IsChecked (Err g) all) is h)
 
--- the same of the slice behind the first 24
+-- the same of the slice behind the prelude
 pub own_slice : (all rest : List Decl) (ds : List Declaration) → rest ≡ all → decls_of all ≡ positions ds →
-    decls_of (take (length rest - 24) (drop 24 rest)) ≡ ds
+    decls_of (take (length rest - prelude_count) (drop prelude_count rest)) ≡ ds
 own_slice all rest ds same e =
-    ap decls_of (take_all (length rest - 24) (drop 24 rest) (omega (arith, length-drop 24 rest))) ∙ (ap (λ l. decls_of (drop 24 l)) same ∙ own all ds e)
+    ap decls_of (take_all (length rest - prelude_count) (drop prelude_count rest) (omega (arith, length-drop prelude_count rest))) ∙ (ap (λ l. decls_of (drop prelude_count l)) same ∙ own all ds e)
 
 pub ruleset preparing = (one_behind, positions_are, many, own, all_within, is_first_large)

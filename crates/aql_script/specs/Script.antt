@@ -1,20 +1,19 @@
 -- What the bytes of a script are, and what is answered for them.
-use Rattle.std.specs.Prelude.{ℕ, ◌≡◌, ◌≤◌, ◌<◌, ◌+◌, ◌⊎◌, Bool, true, false, not, List, [], ◌∷◌, ◌++◌, length, Option, Some, None, Result, Ok, Err}
-use Rattle.std.specs.List.{slice_get}
+use Rattle.std.specs.Prelude.{ℕ, ◌≡◌, ◌≤◌, ◌+◌, ◌-◌, ◌⊎◌, Bool, true, false, List, [], ◌∷◌, ◌++◌, length, Option, Some, None, Result, Ok, Err}
 use Rattle.aql_types.specs.Types.{Sort}
 use Rattle.aql_syntax.specs.declared.ast.Decls.{Decls}
 use Rattle.aql_syntax.specs.declared.token.Token.{Token}
 use Rattle.aql_syntax.specs.Lexis.{Lexeme, AreTokens, TextFaultAt}
 use Rattle.aql_syntax.specs.Scan.{first_deep, no_counters}
 use Rattle.aql_syntax.specs.Grammar.{ReadsScript, SyntaxFaultAt}
-use Rattle.aql_syntax.specs.Tree.{Declaration, val, mac, read, bare, Reader, plain, signed, strided, records}
-use Rattle.aql_syntax.specs.Size.{expanded_size, expanded_levels}
+use Rattle.aql_syntax.specs.Tree.{Declaration, val, mac, read, bare, plain, signed, strided, records}
+use Rattle.aql_syntax.specs.Size.{AreWithinLimits, IsLarge}
 use Rattle.aql_syntax.specs.View.{decls_of}
 use Rattle.aql_lex.specs.Lexed.{IsDeepAt}
 use Rattle.aql_constraints.specs.Typed.{ArePrincipal, sorts_of}
 use Rattle.aql_infer.specs.Checked.{IsFirstUntyped}
 use Rattle.aql_constraints.specs.declared.typed.Typed.{Typed}
-use Rattle.aql_prelude.specs.Prelude.{prelude_decls}
+use Rattle.aql_prelude.specs.Prelude.{prelude_decls, prelude_count}
 use Rattle.aql_script.specs.declared.fault.ScriptFault.{ScriptFault}
 use Rattle.aql_script.specs.declared.fault.ScriptFault.TheVariants as faults
 use Rattle.aql_script.specs.declared.preparing.Prepared.{Prepared}
@@ -31,7 +30,8 @@ Reads bytes ds = (ls : List Lexeme) × Spells bytes ls × ReadsScript ds ls
 abbrev pub ReadsAlone : List ℕ → List Declaration → Type 0
 ReadsAlone bytes ds = Reads bytes ds × ((others : List Declaration) → Reads bytes others → others ≡ ds)
 
--- the declarations of the prelude and behind them those of a script: declaration n of the script is position 24 + n
+-- the declarations of the prelude and behind them those of a script: declaration n of the script is position
+-- prelude_count + n
 unfoldable pub positions : List Declaration → List Declaration
 positions ds = prelude_decls ++ ds
 
@@ -39,20 +39,12 @@ positions ds = prelude_decls ++ ds
 abbrev pub AreTyped : List Declaration → List Sort → Type 0
 AreTyped ds sorts = ArePrincipal [] (positions ds) sorts
 
--- the expanded size of a position is at most 20,000 and its levels are at most 1,000
-abbrev pub IsWithinLimits : List Declaration → ℕ → Type 0
-IsWithinLimits all n = (expanded_size all n ≤ 20000) × (expanded_levels all n ≤ 1000)
-
--- each position from 1 up to n
-abbrev pub AreWithinLimits : List Declaration → ℕ → Type 0
-AreWithinLimits all n = (k : ℕ) → 1 ≤ k → k ≤ n → IsWithinLimits all k
-
 -- declaration n, counted from 1, is the first that passes a limit
 pub record IsFirstLarge (ds : List Declaration) (n : ℕ) : Type 0 where
   pub first : 1 ≤ n
   pub last : n ≤ length ds
-  pub before : AreWithinLimits (positions ds) (23 + n)
-  pub large : (20000 < expanded_size (positions ds) (24 + n)) ⊎ (1000 < expanded_levels (positions ds) (24 + n))
+  pub before : AreWithinLimits (positions ds) (prelude_count + n - 1)
+  pub large : IsLarge (positions ds) (prelude_count + n)
 
 -- whether a declaration reads records
 abbrev pub reads_records : Declaration → Bool
@@ -79,14 +71,14 @@ IsFirstOfRecords k (d ∷ ds) n = ((reads_records d ≡ true) × (n ≡ k)) ⊎ 
 abbrev pub Prepares : List ℕ → Result Prepared ScriptFault → Type 0
 Prepares bytes (Ok p) =
     (ds : List Declaration) × ReadsAlone bytes ds × (decls_of p.decls.items.items ≡ positions ds) × AreTyped ds (sorts_of p.typed.items.items)
-    × AreWithinLimits (positions ds) (24 + length ds) × NoneReadsRecords ds
+    × AreWithinLimits (positions ds) (prelude_count + length ds) × NoneReadsRecords ds
 Prepares bytes (Err (faults.Text at)) = TextFaultAt at bytes
 Prepares bytes (Err (faults.Deep at)) = IsDeepAt at bytes
 Prepares bytes (Err (faults.Syntax n)) = (ls : List Lexeme) × Spells bytes ls × SyntaxFaultAt n ls
-Prepares bytes (Err (faults.Type n)) = (ds : List Declaration) × ReadsAlone bytes ds × (1 ≤ n) × IsFirstUntyped [] (positions ds) (24 + n)
+Prepares bytes (Err (faults.Type n)) = (ds : List Declaration) × ReadsAlone bytes ds × (1 ≤ n) × IsFirstUntyped [] (positions ds) (prelude_count + n)
 Prepares bytes (Err (faults.Large n)) = (ds : List Declaration) × ReadsAlone bytes ds × ((sorts : List Sort) × AreTyped ds sorts) × IsFirstLarge ds n
 Prepares bytes (Err (faults.Unbuilt n)) =
-    (ds : List Declaration) × ReadsAlone bytes ds × ((sorts : List Sort) × AreTyped ds sorts) × AreWithinLimits (positions ds) (24 + length ds)
+    (ds : List Declaration) × ReadsAlone bytes ds × ((sorts : List Sort) × AreTyped ds sorts) × AreWithinLimits (positions ds) (prelude_count + length ds)
     × IsFirstOfRecords 1 ds n
 Prepares bytes (Err faults.Memory) = Unit {0}
 
@@ -107,32 +99,32 @@ Types ds (Ok typed) = AreTyped ds (sorts_of typed.items.items)
 Types ds (Err (faults.Text at)) = ⊥
 Types ds (Err (faults.Deep at)) = ⊥
 Types ds (Err (faults.Syntax n)) = ⊥
-Types ds (Err (faults.Type n)) = (1 ≤ n) × IsFirstUntyped [] (positions ds) (24 + n)
+Types ds (Err (faults.Type n)) = (1 ≤ n) × IsFirstUntyped [] (positions ds) (prelude_count + n)
 Types ds (Err (faults.Large n)) = ⊥
 Types ds (Err (faults.Unbuilt n)) = ⊥
 Types ds (Err faults.Memory) = Unit {0}
 
 -- no position passes a limit and none reads records, or the first that does
 abbrev pub Refuses : List Declaration → Option ScriptFault → Type 0
-Refuses ds None = AreWithinLimits (positions ds) (24 + length ds) × NoneReadsRecords ds
+Refuses ds None = AreWithinLimits (positions ds) (prelude_count + length ds) × NoneReadsRecords ds
 Refuses ds (Some (faults.Text at)) = ⊥
 Refuses ds (Some (faults.Deep at)) = ⊥
 Refuses ds (Some (faults.Syntax n)) = ⊥
 Refuses ds (Some (faults.Type n)) = ⊥
 Refuses ds (Some (faults.Large n)) = IsFirstLarge ds n
-Refuses ds (Some (faults.Unbuilt n)) = AreWithinLimits (positions ds) (24 + length ds) × IsFirstOfRecords 1 ds n
+Refuses ds (Some (faults.Unbuilt n)) = AreWithinLimits (positions ds) (prelude_count + length ds) × IsFirstOfRecords 1 ds n
 Refuses ds (Some faults.Memory) = ⊥
 
 -- the positions of a script with these declarations, or the first fault of their types, sizes and readers
 abbrev pub Settles : List Declaration → Result Prepared ScriptFault → Type 0
 Settles ds (Ok p) =
-    (decls_of p.decls.items.items ≡ positions ds) × AreTyped ds (sorts_of p.typed.items.items) × AreWithinLimits (positions ds) (24 + length ds)
+    (decls_of p.decls.items.items ≡ positions ds) × AreTyped ds (sorts_of p.typed.items.items) × AreWithinLimits (positions ds) (prelude_count + length ds)
     × NoneReadsRecords ds
 Settles ds (Err (faults.Text at)) = ⊥
 Settles ds (Err (faults.Deep at)) = ⊥
 Settles ds (Err (faults.Syntax n)) = ⊥
-Settles ds (Err (faults.Type n)) = (1 ≤ n) × IsFirstUntyped [] (positions ds) (24 + n)
+Settles ds (Err (faults.Type n)) = (1 ≤ n) × IsFirstUntyped [] (positions ds) (prelude_count + n)
 Settles ds (Err (faults.Large n)) = ((sorts : List Sort) × AreTyped ds sorts) × IsFirstLarge ds n
 Settles ds (Err (faults.Unbuilt n)) =
-    ((sorts : List Sort) × AreTyped ds sorts) × AreWithinLimits (positions ds) (24 + length ds) × IsFirstOfRecords 1 ds n
+    ((sorts : List Sort) × AreTyped ds sorts) × AreWithinLimits (positions ds) (prelude_count + length ds) × IsFirstOfRecords 1 ds n
 Settles ds (Err faults.Memory) = Unit {0}

@@ -1,43 +1,27 @@
 //! The limits on a declaration, and the readers that are not built.
 
-ghost use Rattle.std.specs.Prelude.{◌≡◌, ◌+◌, ◌≤◌, ◌<◌, ◌⊎◌, None, length, IfSome, IsTrue, true, false};
-ghost use Rattle.aql_syntax.specs.Tree.{Declaration};
+ghost use Rattle.std.specs.Prelude.{◌≡◌, ◌≤◌, length};
 ghost use Rattle.aql_syntax.specs.View.{decl_of, decls_of};
-ghost use Rattle.aql_script.specs.Script.{IsWithinLimits, reads_records};
-ghost use Rattle.aql_script.specs.Limits.{WithinBetween, IsLarge, SearchesRecords};
+ghost use Rattle.aql_prelude.specs.Prelude.{prelude_count};
+ghost use Rattle.aql_script.specs.Script.{reads_records};
+ghost use Rattle.aql_script.specs.Limits.{SearchesLarge, SearchesRecords};
 
+use aql_prelude::COUNT;
 use aql_syntax::ast::{Decl, Decls, Reader};
-use aql_syntax::sizes::{levels, size};
+use aql_syntax::sizes::is_large;
 
-/// The most nodes of a declaration with every macro put in place.
-const MOST_NODES: u64 = 20_000;
-
-/// The most levels of it.
-const MOST_LEVELS: u64 = 1_000;
-
-/// The first declaration behind the first 24 that passes a limit, counted from behind these.
+/// The first declaration behind the prelude that passes a limit, counted from behind it.
 pub(crate) fn first_large(decls: &Decls) -> Option<u64>
-    requires { 24 ≤ length decls.now.items.items }
-    ensures none { result ≡ None → WithinBetween (decls_of decls.now.items.items) 24 (length decls.now.items.items) }
-    ensures some { IfSome result (λ n. (1 ≤ n) × (24 + n ≤ length decls.now.items.items) × WithinBetween (decls_of decls.now.items.items) 24 (23 + n) × IsLarge (decls_of decls.now.items.items) (24 + n)) }
+    requires { prelude_count ≤ length decls.now.items.items }
+    ensures { SearchesLarge decls.now.items.items result }
 {
     let count = decls.items.len() as u64;
-    'positions: for n in 25..count + 1 {
+    'positions: for n in COUNT + 1..count + 1 {
         if is_large(decls, n) {
-            return Some(n - 24);
+            return Some(n - COUNT);
         }
     }
     None
-}
-
-// Whether a declaration passes a limit.
-fn is_large(decls: &Decls, n: u64) -> bool
-    requires first { 1 ≤ n }
-    requires last { n ≤ length decls.now.items.items }
-    ensures large { result ≡ true → IsLarge (decls_of decls.now.items.items) n }
-    ensures within { result ≡ false → IsWithinLimits (decls_of decls.now.items.items) n }
-{
-    size(decls, n) > MOST_NODES || levels(decls, n) > MOST_LEVELS
 }
 
 /// The first declaration that reads records, counted from 1.

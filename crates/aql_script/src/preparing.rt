@@ -16,13 +16,10 @@ use aql_lex::fault::LexFault;
 use aql_lex::laws::one_answer;
 use aql_lex::lexer::tokens;
 use aql_parse::{ParseFault, script as parsed};
-use aql_prelude::prelude;
+use aql_prelude::{COUNT, prelude};
 use aql_syntax::ast::Decls;
 use aql_value::Memory;
 use std::alloc::Global;
-
-/// How many declarations the prelude has.
-const PRELUDE: u64 = 24;
 
 /// The positions of a script, those of the prelude first, each with its principal type.
 #[derive(Drop)]
@@ -98,7 +95,7 @@ fn typed(alloc: Global, decls: &Decls) -> Result<Typed, ScriptFault>
     match check(alloc, decls) {
         Ok(typed) => Ok(typed),
         Err(TypeFault::NoType { declaration }) => Err(ScriptFault::Type {
-            declaration: declaration - PRELUDE,
+            declaration: declaration - COUNT,
         }),
         Err(TypeFault::Memory) => Err(ScriptFault::Memory),
     }
@@ -113,7 +110,7 @@ fn refused(decls: &Decls) -> Option<ScriptFault>
     if let Some(declaration) = first_large(decls) {
         return Some(ScriptFault::Large { declaration });
     }
-    match first_of_records(&decls.items[24..]) {
+    match first_of_records(&decls.items[COUNT as usize..]) {
         Some(declaration) => Some(ScriptFault::Unbuilt { declaration }),
         None => None,
     }

@@ -15,7 +15,8 @@ use Rattle.aql_syntax.specs.Tree as tree
 use Rattle.aql_syntax.specs.Tree.{Reader}
 use Rattle.aql_syntax.specs.Typing.{reader_type, argument_type}
 use Rattle.aql_session.specs.Asked.{Asked, asked, asked_of, unstrided, with_strides}
-use Rattle.aql_session.specs.Runs.{HasRank, cell_type, numbers_with}
+use Rattle.nrca_runs.specs.Parts.{numbers_with}
+use Rattle.aql_session.specs.Runs.{HasRank, cell_type}
 use Rattle.aql_session.specs.Step.{IsOfArrays}
 
 -- the numbers of one value more

@@ -8,14 +8,14 @@ use Rattle.std.proofs.lemmas.List.{length-map}
 use Rattle.std.specs.Global.{Vec}
 use Rattle.indexmap.specs.IndexMap.{IndexMap}
 use Rattle.aql_value.specs.Datum.{Datum}
-use Rattle.aql_value.specs.Partial.{◌>>=◌}
+use Rattle.aql_value.specs.Partial.{◌>>=◌, or_else}
 use Rattle.nrca_array.specs.declared.held.Held.{Held}
 use Rattle.nrca_array.specs.Held.{held_datum}
 use Rattle.nrca_runs.specs.Scope.{held_value}
 use Rattle.nrca_term.specs.Meaning.{Outcomes, outcome}
 use Rattle.aql_syntax.specs.Names.{names_equal}
 use Rattle.aql_syntax.specs.Tree.{Name}
-use Rattle.aql_session.specs.Bound.{names, outcomes, or_else, last_from}
+use Rattle.aql_session.specs.Bound.{names, outcomes, last_from}
 use Rattle.aql_session.specs.LatestNames.{latest_in, GainsName}
 
 pub outcomes-zip : (xs : List Name) (V : Outcomes) → length xs ≡ length V → outcomes (zip xs V) ≡ V

@@ -1,5 +1,5 @@
 -- The map from names to positions after a name was inserted.
-use Rattle.std.proofs.Common.{◌≡◌, ℕ, Bool, true, false, List, [], ◌∷◌, Option, Some, None, cond, nat_eq, refl, sym, ap, ◌∙◌, subst, if◌then◌else◌, ◌&&◌}
+use Rattle.std.proofs.Common.{◌≡◌, ℕ, Bool, true, false, List, [], ◌∷◌, Option, Some, None, cond, nat_eq, refl, sym, ap, ◌∙◌, subst, if◌then◌else◌}
 use Rattle.std.specs.Global.{Vec}
 use Rattle.std.specs.Cmp.Lexicographic.{pointwise}
 use Rattle.std.specs.Map.{lookup}
@@ -8,15 +8,9 @@ use Rattle.aql_syntax.specs.Laws.{names_equal-self, names_equal-true}
 use Rattle.aql_syntax.specs.Names.{names_equal}
 use Rattle.aql_syntax.specs.Tree.{Name}
 
+-- names are equal as the map's keys are
 pub pointwise-names : (x y : Name) → pointwise nat_eq x y ≡ names_equal x y
-pointwise-names [] [] = refl
-pointwise-names [] (b ∷ y) = refl
-pointwise-names (a ∷ x) [] = refl
-pointwise-names (a ∷ x) (b ∷ y) = ap (λ t. nat_eq a b && t) (pointwise-names x y) ∙ go (nat_eq a b)
-  where
-    go : (t : Bool) → (t && names_equal x y) ≡ (if t then names_equal x y else false)
-    go true = refl
-    go false = refl
+pointwise-names x y = refl
 
 abbrev Entries : Type 0
 Entries = List (Vec ℕ × ℕ)

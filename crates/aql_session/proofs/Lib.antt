@@ -4,7 +4,6 @@ pub mod Latest
 pub mod Positions
 pub mod Evaluating
 pub mod Asking
-pub mod Heads
 pub mod Headers
 pub mod Requests
 pub mod Opening

@@ -16,6 +16,7 @@ use Rattle.cdf_slab.specs.Numbers.{IsCell}
 use Rattle.cdf_slab.specs.Slab.{IsShaped, first_zero}
 use Rattle.nrca_array.specs.Held.{table_datum}
 use Rattle.nrca_runs.specs.Scope.{held_value}
+use Rattle.aql_words.specs.Words.{most_budget}
 use Rattle.aql_session.specs.Asked.{Asked, asked_of, cells}
 use Rattle.aql_session.specs.Reading.{read_fault}
 use Rattle.aql_session.specs.Runs.{HasRank, IsReadBy, IsReadCause, IsReadOf, IsRequestOf, IsArgumentCause, cell_type, request_asked}
@@ -67,10 +68,10 @@ module _ (r : Reader) (v : Datum) (request : Request) (asked : IsRequestOf r v r
   asked-is : (a : Asked) → asked_of r v ≡ Some a → request_asked request ≡ a
   asked-is a e = let y = sym asked.is ∙ e in cc
 
-  few : (m p : ℕ) → p ≡ min m (2 ^ 128 - 1) → m ≤ 50000000 → p ≡ m
+  few : (m p : ℕ) → p ≡ min m (2 ^ 128 - 1) → m ≤ most_budget → p ≡ m
   few m p e l = omega (arith, e, l)
 
-  pub read-by : budget ≤ 50000000 → (x : Read) (t : Table) → IsReadOf (request_asked request) budget holds t → held_value x.value ≡ Some (table_datum t) → x.cells ≡ min (product request.count.items) (2 ^ 128 - 1) →
+  pub read-by : budget ≤ most_budget → (x : Read) (t : Table) → IsReadOf (request_asked request) budget holds t → held_value x.value ≡ Some (table_datum t) → x.cells ≡ min (product request.count.items) (2 ^ 128 - 1) →
       IsReadBy r (Some v) budget holds x
   read-by b x t h e p = record {
     many = few (product request.count.items) x.cells p (omega (arith, h.within, b)) ∙ sym (ap (λ o. if_some o cells) asked.is);

@@ -8,25 +8,26 @@ use Rattle.std.proofs.lemmas.Str.{IsUtf8-from_is_utf8, is_utf8-from_IsUtf8}
 use Rattle.aql_outside.specs.Causes.{Rose}
 use Rattle.aql_outside.specs.Contents.{Content, bytes_in, IsAbsent}
 use Rattle.aql_value.specs.Datum.{Table}
-use Rattle.cdf_header.specs.File.{Reading, IsLost}
+use Rattle.cdf_header.specs.File.{IsAnswered, IsLost, header_of}
 use Rattle.cdf_header.specs.Header.{Head}
-use Rattle.cdf_header.specs.Places.{FindsFirst, variable_at}
+use Rattle.cdf_header.specs.HeaderLaws.{header_of-bytes}
+use Rattle.cdf_header.specs.Places.{find_in, variable_at}
 use Rattle.cdf_header.specs.declared.fault.CdfFault.{CdfFault}
 use Rattle.cdf_header.specs.declared.fault.CdfFault.TheVariants as file_faults
 use Rattle.cdf_slab.specs.Slab.{slab, slab_fault, Answers, IsOfRequest}
 use Rattle.nrca_array.specs.Held.{table_datum}
 use Rattle.aql_session.specs.Asked.{Asked, cells}
-use Rattle.aql_session.specs.Reading.{find_in, in_header, in_file, at_name, opened, fault_in, read_fault, value_in, unless, read_value}
+use Rattle.aql_session.specs.Reading.{in_header, in_file, at_name, opened, fault_in, read_fault, value_in, unless, read_value}
 use Rattle.aql_session.specs.Runs.{handed_on, IsFileAt, IsFileCause, IsReadCause}
 use Rattle.aql_session.specs.Step.{IsOfFile, IsOfVersion}
 use Rattle.aql_session.specs.declared.answer.StepFault.{StepFault}
 use Rattle.aql_session.specs.declared.answer.StepFault.TheVariants as faults
 use Rattle.aql_session.specs.declared.readings.Found.{Found}
-use Rattle.aql_session.proofs.Headers.{header-read, header-failed, lost-is, found-in}
+use Rattle.aql_session.proofs.Headers.{header-failed, lost-is}
 
 -- what a reader of headers says of its answer, where these files are held
 pub record Says (a : Asked) (files : Content) (r : Result Head CdfFault) : Type 0 where
-  pub told : (bytes : List ℕ) → IsUtf8 a.file → files a.file ≡ Some bytes → Reading bytes r
+  pub told : (bytes : List ℕ) → IsUtf8 a.file → files a.file ≡ Some bytes → IsAnswered (header_of bytes) r
   pub absent : files a.file ≡ None → (f : CdfFault) × (r ≡ Err f) × IsLost f
   pub unnamed : (IsUtf8 a.file → ⊥) → r ≡ Err file_faults.Absent
 
@@ -79,22 +80,22 @@ module _ (a : Asked) (files : Content) where
       go : is_utf8 a.file ≡ true → (o : Option (List ℕ)) → files a.file ≡ o → HasFile h
       go e None q = let l = s.absent q in absurd (ok-is h l.0 l.1)
       go e (Some bytes) q =
-          let r = header-read bytes h (s.told bytes (IsUtf8-from_is_utf8 a.file e) q) in
+          let r = s.told bytes (IsUtf8-from_is_utf8 a.file e) q in
           record {
             bytes = bytes;
             utf8 = IsUtf8-from_is_utf8 a.file e;
             there = q;
-            size = r.1;
-            is = by-bytes (Some bytes) e q ∙ ap (in_file a bytes) r.0;
+            size = header_of-bytes bytes h r;
+            is = by-bytes (Some bytes) e q ∙ ap (in_file a bytes) r;
           }
 
   -- no variable has the name
-  pub nameless : (h : Head) → Says a files (Ok h) → FindsFirst h.vars a.variable None → read_fault files a ≡ Some file_faults.NoVariable
+  pub nameless : (h : Head) → Says a files (Ok h) → None ≡ find_in h.vars a.variable → read_fault files a ≡ Some file_faults.NoVariable
   nameless h s n =
       let f = answered h s in
-      ap (fault_in a) (f.is ∙ ap (in_header f.bytes h) (found-in h.vars a.variable None n))
+      ap (fault_in a) (f.is ∙ ap (in_header f.bytes h) (sym n))
 
-  pub file-at : (found : Found) → Says a files (Ok found.header) → FindsFirst found.header.vars a.variable (Some found.variable) → IsFileAt a files found
+  pub file-at : (found : Found) → Says a files (Ok found.header) → Some found.variable ≡ find_in found.header.vars a.variable → IsFileAt a files found
   file-at found s n =
       let f = answered found.header s in
       record {
@@ -102,7 +103,7 @@ module _ (a : Asked) (files : Content) where
         utf8 = f.utf8;
         there = f.there;
         size = f.size;
-        is = f.is ∙ ap (in_header f.bytes found.header) (found-in found.header.vars a.variable (Some found.variable) n);
+        is = f.is ∙ ap (in_header f.bytes found.header) (sym n);
       }
 
   -- the fault of a hyperslab is that of the read
@@ -177,7 +178,7 @@ read-cause a budget holds mid before middle now faults.Memory w e l h = tt
 
 -- what is said of the files at hand is said of those that are held
 pub says-of : (a : Asked) (holds : Option Content) (files : Content) (r : Result Head CdfFault) → holds ≡ Some files →
-    ((bytes : List ℕ) → IsUtf8 a.file → bytes_in holds a.file ≡ Some bytes → Reading bytes r) →
+    ((bytes : List ℕ) → IsUtf8 a.file → bytes_in holds a.file ≡ Some bytes → IsAnswered (header_of bytes) r) →
     (IsAbsent holds a.file → (f : CdfFault) × (r ≡ Err f) × IsLost f) → ((IsUtf8 a.file → ⊥) → r ≡ Err file_faults.Absent) → Says a files r
 says-of a holds files r e t b u = record {
   told = λ bytes h q. t bytes h (ap (λ o. bytes_in o a.file) e ∙ q);

@@ -9,7 +9,8 @@ use Rattle.cdf_header.specs.Header.{Head, Var}
 use Rattle.cdf_header.specs.Places.{shape}
 use Rattle.cdf_header.specs.declared.fault.CdfFault.{CdfFault}
 use Rattle.cdf_header.specs.declared.fault.CdfFault.TheVariants as faults
-use Rattle.cdf_slab.specs.Slab.{or_else, is_floating, first_zero, first_outside, wrong_variable, index_fault, cut_fault, early_fault, AnswersEarly, IsLate, IsOfRequest}
+use Rattle.cdf_slab.specs.Slab.{is_floating, first_zero, first_outside, wrong_variable, index_fault, cut_fault, early_fault, AnswersEarly, IsLate, IsOfRequest}
+use Rattle.aql_value.specs.Partial.{or_else}
 use Rattle.aql_session.specs.Step.{IsOfVersion}
 
 -- the faults of a header

@@ -26,6 +26,7 @@ use Rattle.nrca_term.specs.Equations.{term_of-Bottom}
 use Rattle.nrca_term.specs.Meaning.{Outcomes}
 use Rattle.nrca_term.specs.declared.term.Core.TheVariants as core
 use Rattle.cdf_slab.specs.Slab.{first_zero}
+use Rattle.aql_words.specs.Words.{most_budget}
 use Rattle.aql_session.specs.Asked.{Asked, cells}
 use Rattle.aql_session.specs.Bound.{Bound, AreBound, earlier_of, outcomes}
 use Rattle.aql_session.specs.Reading.{read_fault, read_value, reading}
@@ -127,7 +128,7 @@ module _ (x : Name) (r : Reader) (e : Tree) (earlier : Earlier) (budget : ℕ) (
   }
 
   -- the turns fit
-  pub readval-fits : (holds : Option Content) (y : Read) → budget ≤ 50000000 → IsReadBy r (held_value q.value) budget holds y → q.turns + y.cells < 2 ^ 128
+  pub readval-fits : (holds : Option Content) (y : Read) → budget ≤ most_budget → IsReadBy r (held_value q.value) budget holds y → q.turns + y.cells < 2 ^ 128
   readval-fits holds y b k =
       let n = some-within (asked_in r (held_value q.value)) budget k.within in
       omega (arith, h.turns, h.within, k.many, n, b)

@@ -2,7 +2,7 @@
 use Rattle.std.proofs.Common.{◌≡◌, ℕ, ◌-◌, ◌<◌, ◌≤◌, ◌⊎◌, inl, inr, List, Option, Some, refl, sym, ap, ◌∙◌, subst, arith}
 use Rattle.std.specs.Prelude.{slice_get, IsSome}
 use Rattle.aql_types.specs.Types.{Sort}
-use Rattle.aql_syntax.specs.Size.{before, expanded_size, expanded_levels}
+use Rattle.aql_syntax.specs.Size.{before, AreWithinLimits, IsLarge}
 use Rattle.aql_syntax.specs.Tree.{Tree, Declaration}
 use Rattle.nrca_term.specs.Term.{Term}
 use Rattle.aql_start.specs.Start.{query}
@@ -10,7 +10,7 @@ use Rattle.aql_desugar.specs.Translation.{query_at, query_of, IsTranslated, IsFa
 use Rattle.aql_desugar.specs.declared.fault.Fault.{Fault}
 use Rattle.aql_desugar.specs.declared.fault.Fault.TheVariants as faults
 use Rattle.aql_session.specs.Runs.{IsQuery}
-use Rattle.aql_session.specs.Step.{start_term, AreWithinLimits}
+use Rattle.aql_session.specs.Step.{start_term}
 
 found-is : (x : Option Declaration) (q : IsQuery x) → query_at x ≡ Some q.1
 found-is x q = ap query_at q.2 ∙ q.3
@@ -31,7 +31,7 @@ start-is ds sorts n d t e q h =
     (h q.1 x).exact ∙ ap (λ z. start_term z (before ds n)) (sym y)
 
 -- a declaration within the limits is not large
-pub not-large : (ds : List Declaration) (n : ℕ) → 1 ≤ n → AreWithinLimits ds n → (20000 < expanded_size ds n) ⊎ (1000 < expanded_levels ds n) → ⊥
+pub not-large : (ds : List Declaration) (n : ℕ) → 1 ≤ n → AreWithinLimits ds n → IsLarge ds n → ⊥
 not-large ds n one h (inl large) = let k = h n one (omega arith) in omega (arith, k.0, large)
 not-large ds n one h (inr large) = let k = h n one (omega arith) in omega (arith, k.1, large)
 

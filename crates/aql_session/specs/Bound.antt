@@ -1,6 +1,7 @@
 -- What a session keeps: the positions that are bound, and what they are to the declarations after them.
 use Rattle.std.specs.Prelude.{◌≡◌, ℕ, ◌+◌, ◌-◌, List, [], ◌∷◌, map, take, Option, Some, None, if◌then◌else◌}
 use Rattle.aql_value.specs.Datum.{Datum}
+use Rattle.aql_value.specs.Partial.{or_else}
 use Rattle.aql_syntax.specs.Names.{names_equal}
 use Rattle.aql_syntax.specs.Script.{Earlier}
 use Rattle.aql_syntax.specs.Tree.{Name, Declaration, declared}
@@ -10,16 +11,13 @@ use Rattle.nrca_term.specs.Meaning.{Outcomes}
 abbrev pub Bound : Type 0
 Bound = List (Name × Option Datum)
 
+-- the names of the positions
 abbrev pub names : Bound → List Name
 names bound = map (λ b. b.0) bound
 
+-- the outcomes of the positions
 abbrev pub outcomes : Bound → Outcomes
 outcomes bound = map (λ b. b.1) bound
-
--- the first that there is
-abbrev pub or_else : Option ℕ → Option ℕ → Option ℕ
-or_else None y = y
-or_else (Some n) y = Some n
 
 -- the number of the last of these names that is x, the first of them having the number n
 abbrev pub last_from : (n : ℕ) → List Name → Name → Option ℕ

@@ -12,13 +12,15 @@ use Rattle.cdf_header.specs.Format.{num, str, name, list, many, times, dimension
 use Rattle.cdf_header.specs.declared.fault.CdfFault.TheVariants as faults
 use Rattle.aql_session.specs.Reading.{at_name, fault_in, reading, value_in}
 
--- `s.nc` and `v`
+-- `s.nc`
 file : Datum
 file = text (115 ∷ 46 ∷ 110 ∷ 99 ∷ [])
 
+-- `v`
 variable : Datum
 variable = text (118 ∷ [])
 
+-- a pair of numbers
 pair : ℕ → ℕ → Datum
 pair m n = tuple (data_of (natural m ∷ natural n ∷ []))
 
@@ -40,15 +42,17 @@ strided-two : asked_of (strided 2) (tuple (data_of (file ∷ variable ∷ pair 0
 unfolding file variable pair
 strided-two = refl
 
--- a rank 1 has no tuples as indices, and strides stand in no other reader's argument
+-- a rank 1 has no tuples as indices
 plain-one : asked_of (plain 1) (tuple (data_of (file ∷ variable ∷ pair 0 1 ∷ pair 2 3 ∷ []))) ≡ None
 unfolding file variable pair
 plain-one = refl
 
+-- strides stand in no other reader's argument
 plain-strides : asked_of (plain 2) (tuple (data_of (file ∷ variable ∷ pair 0 1 ∷ pair 2 3 ∷ pair 1 1 ∷ []))) ≡ None
 unfolding file variable pair
 plain-strides = refl
 
+-- what asks for these counts
 counts : ℕ → ℕ → Asked
 counts m n = record { file = []; variable = []; start = 0 ∷ 0 ∷ []; count = m ∷ n ∷ []; stride = 1 ∷ 1 ∷ []; signed = false }
 
@@ -57,6 +61,7 @@ cells-none : cells (counts (2 ^ 128 - 1) 0) ≡ 0
 unfolding counts
 cells-none = refl
 
+-- a product past 2^128-1 is kept as it is
 cells-many : cells (counts (2 ^ 128 - 1) 2) ≡ 2 * (2 ^ 128 - 1)
 unfolding counts
 cells-many = refl
@@ -69,6 +74,7 @@ undefined files = refl
 latest-hides : latest_of ((120 ∷ [], Some (natural 1)) ∷ (121 ∷ [], None) ∷ (120 ∷ [], None) ∷ []) (120 ∷ []) ≡ Some 3
 latest-hides = refl
 
+-- a name that no position bound has none
 latest-none : latest_of ((120 ∷ [], None) ∷ []) (122 ∷ []) ≡ None
 latest-none = refl
 
@@ -83,6 +89,7 @@ records_file =
     ∷ 0 ∷ 0 ∷ 0 ∷ 3 ∷ 0 ∷ 0 ∷ 0 ∷ 8 ∷ 0 ∷ 0 ∷ 0 ∷ 96
     ∷ 0 ∷ 1 ∷ 0 ∷ 2 ∷ 0 ∷ 3 ∷ 0 ∷ 4 ∷ 0 ∷ 5 ∷ 0 ∷ 6 ∷ []
 
+-- what asks for the first cells of `v`
 wanted : ℕ → ℕ → Asked
 wanted m n = record { file = 115 ∷ 46 ∷ 110 ∷ 99 ∷ []; variable = 118 ∷ []; start = 0 ∷ 0 ∷ []; count = m ∷ n ∷ []; stride = 1 ∷ 1 ∷ []; signed = false }
 
@@ -92,6 +99,7 @@ reads-both : value_in (wanted 2 3) (at_name (wanted 2 3) (Some records_file)) �
 unfolding records_file wanted num str name list many times dimension dims skip attribute attributes id ids format.variable vars header indices
 reads-both = refl
 
+-- and there is no fault
 faultless : fault_in (wanted 2 3) (at_name (wanted 2 3) (Some records_file)) ≡ None
 unfolding records_file wanted num str name list many times dimension dims skip attribute attributes id ids format.variable vars header indices
 faultless = refl

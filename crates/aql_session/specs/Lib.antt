@@ -1,7 +1,9 @@
+pub mod Device
 pub mod Bound
 pub mod LatestNames
 pub mod Asked
 pub mod Reading
 pub mod Step
+pub mod Numbered
 pub mod Runs
 mod Examples

@@ -1,55 +1,18 @@
 -- What is read of files: the value of a readval, or the first fault.
-use Rattle.std.specs.Prelude.{ℕ, ◌+◌, Bool, ◌&&◌, ◌||◌, nat_le, nat_eq, List, [], ◌∷◌, length, get_or, Option, Some, None, option_map, Result, Ok, Err, if◌then◌else◌}
+use Rattle.std.specs.Prelude.{ℕ, List, Option, Some, None, option_map, Result, Ok, Err, if◌then◌else◌}
 use Rattle.std.specs.Str.{is_utf8}
 use Rattle.aql_outside.specs.Contents.{Content}
 use Rattle.aql_value.specs.Datum.{Datum}
 use Rattle.aql_value.specs.Partial.{◌>>=◌}
-use Rattle.aql_syntax.specs.Names.{names_equal}
 use Rattle.aql_syntax.specs.Script.{Reading}
-use Rattle.cdf_header.specs.File.{version, first}
-use Rattle.cdf_header.specs.Format.{header, done, run}
+use Rattle.cdf_header.specs.File.{header_of}
 use Rattle.cdf_header.specs.Header.{Head, Var}
-use Rattle.cdf_header.specs.Places.{variable_at}
+use Rattle.cdf_header.specs.Places.{find_in, variable_at}
 use Rattle.cdf_header.specs.declared.fault.CdfFault.{CdfFault}
 use Rattle.cdf_header.specs.declared.fault.CdfFault.TheVariants as faults
-use Rattle.cdf_header.specs.declared.fault.Fault.{Fault}
-use Rattle.cdf_header.specs.declared.fault.Fault.TheVariants as field
 use Rattle.cdf_slab.specs.Slab.{slab, slab_fault}
 use Rattle.nrca_array.specs.Held.{table_datum}
 use Rattle.aql_session.specs.Asked.{Asked, asked_of}
-
--- four bytes or more, of which the first three are `CDF`
-abbrev pub is_classic : List ℕ → Bool
-is_classic bytes = nat_le 4 (length bytes) && (nat_eq (get_or bytes 0 0) 67 && (nat_eq (get_or bytes 1 0) 68 && nat_eq (get_or bytes 2 0) 70))
-
--- the versions that are read
-abbrev pub is_known : ℕ → Bool
-is_known v = nat_eq v 1 || (nat_eq v 2 || nat_eq v 5)
-
--- the fault of a file whose first failing field is this
-abbrev pub field_fault : Fault → CdfFault
-field_fault (field.Short k) = faults.Malformed k
-field_fault (field.Malformed k) = faults.Malformed k
-field_fault (field.TooMany l) = faults.TooMany l
-
-abbrev pub fields_answer : Result Head Fault → Result Head CdfFault
-fields_answer (Ok h) = Ok h
-fields_answer (Err f) = Err (field_fault f)
-
--- the header of a file of these bytes, or the first fault: NotClassic, Version, then that of the first field that fails
-abbrev pub header_of : List ℕ → Result Head CdfFault
-header_of bytes =
-    if is_classic bytes
-    then (if is_known (version bytes) then fields_answer (run (header (length bytes) (version bytes) done) (first bytes) 4) else Err (faults.Version (version bytes)))
-    else Err faults.NotClassic
-
--- the number of the first variable of the name, the first of these variables having the number n
-abbrev pub find_from : (n : ℕ) → List Var → (name : List ℕ) → Option ℕ
-find_from n [] name = None
-find_from n (v ∷ vs) name = if names_equal v.name name then Some n else find_from (n + 1) vs name
-
-abbrev pub find_in : List Var → List ℕ → Option ℕ
-find_in vs name = find_from 0 vs name
 
 -- a file's bytes, its header and the variable
 pub record Opened : Type 0 where
@@ -62,10 +25,12 @@ abbrev pub in_header : List ℕ → Head → Option ℕ → Result Opened CdfFau
 in_header bytes h None = Err faults.NoVariable
 in_header bytes h (Some v) = Ok (record { bytes = bytes; head = h; variable = variable_at h v })
 
+-- the variable in the file of this header, or the fault of the header
 abbrev pub in_file : Asked → List ℕ → Result Head CdfFault → Result Opened CdfFault
 in_file a bytes (Err f) = Err f
 in_file a bytes (Ok h) = in_header bytes h (find_in h.vars a.variable)
 
+-- the variable in the file of these bytes; without a file Absent
 abbrev pub at_name : Asked → Option (List ℕ) → Result Opened CdfFault
 at_name a None = Err faults.Absent
 at_name a (Some bytes) = in_file a bytes (header_of bytes)
@@ -74,6 +39,7 @@ at_name a (Some bytes) = in_file a bytes (header_of bytes)
 abbrev pub opened : Content → Asked → Result Opened CdfFault
 opened files a = at_name a (if is_utf8 a.file then files a.file else None)
 
+-- the fault of what was opened, or else of the hyperslab in it
 abbrev pub fault_in : Asked → Result Opened CdfFault → Option CdfFault
 fault_in a (Err f) = Some f
 fault_in a (Ok o) = slab_fault o.bytes o.head o.variable a.start a.count a.stride a.signed
@@ -82,6 +48,7 @@ fault_in a (Ok o) = slab_fault o.bytes o.head o.variable a.start a.count a.strid
 abbrev pub read_fault : Content → Asked → Option CdfFault
 read_fault files a = fault_in a (opened files a)
 
+-- the hyperslab of what was opened
 abbrev pub value_in : Asked → Result Opened CdfFault → Option Datum
 value_in a (Err f) = None
 value_in a (Ok o) = option_map table_datum (slab o.bytes o.head o.variable a.start a.count a.stride a.signed)

@@ -1,22 +1,31 @@
 -- What the functions within this crate say of one another's answers.
-use Rattle.std.specs.Prelude.{◌≡◌, ℕ, ◌-◌, ◌^◌, ◌<◌, ◌≤◌, min, Bool, List, [], ◌∷◌, ◌++◌, length, Option, Some, None, Ok, if◌then◌else◌}
+use Rattle.std.specs.Prelude.{◌≡◌, ℕ, ◌-◌, ◌^◌, ◌<◌, ◌≤◌, min, Bool, List, [], ◌∷◌, ◌++◌, length, Option, Some, None, option_map, Ok, if◌then◌else◌}
+use Rattle.std.specs.Global.{Vec}
 use Rattle.std.specs.Option.{ForSome}
 use Rattle.std.specs.Str.{IsUtf8}
 use Rattle.aql_outside.specs.Causes.{Rose}
 use Rattle.aql_outside.specs.Contents.{Content}
+use Rattle.aql_outside.specs.declared.device.Files as files
 use Rattle.aql_value.specs.Datum.{Datum, Table}
+use Rattle.aql_value.specs.Meaning.{datum}
+use Rattle.aql_value.specs.declared.value.Value.{Value}
 use Rattle.aql_value.specs.Operations.{as_natural}
 use Rattle.aql_value.specs.Partial.{◌>>=◌, if_some}
 use Rattle.aql_types.specs.Types as types
 use Rattle.aql_types.specs.Types.{Ty, Sort}
+use Rattle.aql_types.specs.ValueTypes.{HasType}
 use Rattle.aql_types.specs.View.{sort_of}
 use Rattle.aql_syntax.specs.Denotation.{den}
 use Rattle.aql_syntax.specs.Script.{Earlier, globals_of}
+use Rattle.aql_syntax.specs.Size.{before, AreWithinLimits}
 use Rattle.aql_syntax.specs.Sound.{OutcomesHave}
 use Rattle.aql_syntax.specs.Tree.{Name, Tree, Reader, Declaration, val, mac, read, bare, declared}
-use Rattle.aql_syntax.specs.Typing.{reader_type}
+use Rattle.aql_syntax.specs.Typing.{reader_type, argument_type}
+use Rattle.aql_syntax.specs.View.{reader_of}
+use Rattle.aql_syntax.specs.declared.ast.Reader as ast
 use Rattle.aql_constraints.specs.Typed.{ArePrincipal}
 use Rattle.nrca_array.specs.Held.{table_datum}
+use Rattle.nrca_array.specs.declared.held.Held.{Held}
 use Rattle.nrca_runs.specs.Scope.{held_value}
 use Rattle.nrca_term.specs.Meaning.{Outcomes}
 use Rattle.nrca_term.specs.Term.{Term}
@@ -26,10 +35,12 @@ use Rattle.cdf_header.specs.Places.{variable_at}
 use Rattle.cdf_header.specs.declared.fault.CdfFault.{CdfFault}
 use Rattle.cdf_header.specs.declared.fault.CdfFault.TheVariants as file_faults
 use Rattle.cdf_slab.specs.Slab.{IsShaped, first_zero}
-use Rattle.aql_session.specs.Asked.{Asked, asked_of, cells}
-use Rattle.aql_session.specs.Bound.{earlier_of}
+use Rattle.aql_words.specs.Words.{most_workers}
+use Rattle.aql_session.specs.Asked.{Asked, asked, asked_of, cells}
+use Rattle.aql_session.specs.Bound.{Bound, earlier_of}
+use Rattle.aql_session.specs.Numbered.{declarations, sorts, numbered, sort_numbered, so_far, IsCauseOf, UnlessRead}
 use Rattle.aql_session.specs.Reading.{opened, read_fault, read_value}
-use Rattle.aql_session.specs.Step.{AreWithinLimits, IsAnswerable, IsOutcome, IsReadOutcome, IsFaultOf, query_turns, ran_of, start_of, turns_of}
+use Rattle.aql_session.specs.Step.{IsAnswerable, IsOutcome, IsReadOutcome, IsFaultOf, query_turns, ran_of, start_of, start_term, turns_of}
 use Rattle.aql_session.specs.declared.answer.Answer.{Answer}
 use Rattle.aql_session.specs.declared.answer.StepFault.{StepFault}
 use Rattle.aql_session.specs.declared.answer.StepFault.TheVariants as faults
@@ -37,6 +48,7 @@ use Rattle.aql_session.specs.declared.queries.Evaluated.{Evaluated}
 use Rattle.aql_session.specs.declared.readings.Found.{Found}
 use Rattle.aql_session.specs.declared.readings.Read.{Read}
 use Rattle.aql_session.specs.declared.readings.Request.{Request}
+use Rattle.aql_session.specs.declared.runs.Position.{Position}
 use Rattle.aql_session.specs.declared.runs.Run.{Run}
 
 -- n is a position of declarations that were checked, and the outcomes of those before it are at hand, each of its types
@@ -69,7 +81,7 @@ pub record IsEvaluated (d : Declaration) (earlier : Earlier) (budget : ℕ) (q :
   pub turns : q.turns ≡ query_turns d earlier
   pub within : query_turns d earlier ≤ budget
 
--- it was not, for one of two causes
+-- it was not evaluated: its turns pass the budget, or memory was wanting
 abbrev pub IsSpent : Declaration → Earlier → (budget : ℕ) → StepFault → Type 0
 IsSpent d earlier budget (faults.Query start plan trace) =
     (budget < query_turns d earlier) × (term_of start ≡ start_of d earlier) × (term_of plan ≡ term_of start) × (trace ≡ [])
@@ -79,10 +91,6 @@ IsSpent d earlier budget f = ⊥
 -- what a request asks for
 abbrev pub request_asked : Request → Asked
 request_asked r = record { file = r.file; variable = r.variable; start = r.start.items; count = r.count.items; stride = r.stride.items; signed = r.signed }
-
--- numbers and one more, where the value is one
-abbrev pub numbers_with : Option (List ℕ) → Datum → Option (List ℕ)
-numbers_with ns v = ns >>= λ ms. as_natural v >>= λ n. Some (ms ++ n ∷ [])
 
 -- the index of one number, where the value is one
 abbrev pub single_index : Datum → Option (List ℕ)
@@ -113,6 +121,7 @@ pub record IsFileAt (a : Asked) (files : Content) (found : Found) : Type 0 where
   pub size : found.header.bytes ≡ length bytes
   pub is : opened files a ≡ Ok (record { bytes = bytes; head = found.header; variable = variable_at found.header found.variable })
 
+-- what was found of what is asked for: the file's header and its variable, and where the files are told the ones of its bytes
 pub record IsOpened (a : Asked) (holds : Option Content) (found : Found) : Type 0 where
   pub variable : found.variable < length found.header.vars
   pub told : ForSome holds (λ files. IsFileAt a files found)
@@ -124,11 +133,12 @@ pub record IsSlabOf (a : Asked) (holds : Option Content) (t : Table) : Type 0 wh
   pub strides : first_zero 1 a.stride ≡ None
   pub told : ForSome holds (λ files. (read_fault files a ≡ None) × (read_value files a ≡ Some (table_datum t)))
 
+-- what was read of what is asked for, within the budget
 pub record IsReadOf (a : Asked) (budget : ℕ) (holds : Option Content) (t : Table) : Type 0 where
   pub within : cells a ≤ budget
   pub slab : IsSlabOf a holds t
 
--- why it was not read
+-- why the file was not read
 abbrev pub IsFileCause : Asked → Option Content → (before now : ℕ) → StepFault → Type 0
 IsFileCause a holds before now (faults.Query start plan trace) = ⊥
 IsFileCause a holds before now (faults.Cells c) = ⊥
@@ -136,6 +146,7 @@ IsFileCause a holds before now (faults.File f) = IsFaultOf a f × ForSome holds 
 IsFileCause a holds before now faults.Device = Rose before now
 IsFileCause a holds before now faults.Memory = Unit {0}
 
+-- why what is asked for was not read: the cells pass the budget, or the file has a fault
 abbrev pub IsReadCause : Asked → (budget : ℕ) → Option Content → (before now : ℕ) → StepFault → Type 0
 IsReadCause a budget holds before now (faults.Query start plan trace) = ⊥
 IsReadCause a budget holds before now (faults.Cells c) = (budget < cells a) × (c ≡ min (cells a) (2 ^ 128 - 1))
@@ -162,7 +173,7 @@ pub record IsReadBy (r : Reader) (argument : Option Datum) (budget : ℕ) (holds
   pub file : ForSome (asked_in r argument) (λ a. ForSome holds (λ files. read_fault files a ≡ None))
   pub outcome : IsReadOutcome r argument holds (held_value x.value)
 
--- why it was not read: what is asked for, and the cause
+-- why nothing was read by the outcome of a reader's argument: what is asked for, and the cause
 abbrev pub IsArgumentCause : Reader → (argument : Option Datum) → (budget : ℕ) → Option Content → (before now : ℕ) → StepFault → Type 0
 IsArgumentCause r argument budget holds before now faults.Memory = Unit {0}
 IsArgumentCause r argument budget holds before now f = (a : Asked) × (asked_in r argument ≡ Some a) × IsReadCause a budget holds before now f
@@ -195,3 +206,112 @@ pub record IsAnswerOf (d : Declaration) (sort : Option Sort) (r : Run) (a : Answ
   pub trace : a.trace ≡ []
   pub by : a.by ≡ r.by
   pub turns : a.turns ≡ r.turns
+
+-- Over the values of the code.
+
+-- the numbers of a list, where there is one
+abbrev pub items_of : Option (Vec ℕ) → Option (List ℕ)
+items_of o = option_map (λ v. v.items) o
+
+-- what is asked for by four values and the stride
+abbrev pub asked_by : (rank : ℕ) → (signed : Bool) → (Value × Value × Value × Value) → (stride : Option (List ℕ)) → Option Asked
+asked_by rank signed p stride = asked rank signed (datum p.0) (datum p.1) (datum p.2) (datum p.3) stride
+
+-- the request is one for this, where anything is asked for
+abbrev pub Requests : Option Asked → Option Request → Type 0
+Requests asks r = option_map request_asked r ≡ asks
+
+-- what the outcome of a reader's argument asks for, as they are held
+abbrev pub asked_held : ast.Reader → Option Held → Option Asked
+asked_held reader argument = asked_in (reader_of reader) (held_value argument)
+
+-- the value of a reader's argument, where there is one, is of the type that the reader takes
+abbrev pub ArgumentFits : ast.Reader → Option Held → Type 0
+ArgumentFits reader argument = ForSome (held_value argument) (HasType (argument_type (reader_of reader)))
+
+-- what a reader's argument asks for has more cells than the budget
+abbrev pub AsksTooMuch : ast.Reader → Option Held → (budget : ℕ) → Type 0
+AsksTooMuch reader argument budget = ForSome (asked_held reader argument) (λ a. budget < cells a)
+
+-- what was read by a reader's argument
+abbrev pub ReadsBy : ast.Reader → Option Held → (budget : ℕ) → Option Content → Read → Type 0
+ReadsBy reader argument budget holds x = IsReadBy (reader_of reader) (held_value argument) budget holds x
+
+-- why nothing was read by it over files as they were and are
+abbrev pub ArgumentFails : {F : Type 0} → ast.Reader → Option Held → (budget : ℕ) → files.Ghosts F → (old new : F) → StepFault → Type 0
+ArgumentFails reader argument budget f old new fault =
+    IsArgumentCause (reader_of reader) (held_value argument) budget (f.holds old) (f.faults old) (f.faults new) fault
+
+-- why a request was not read over files as they were and are
+abbrev pub RequestFails : {F : Type 0} → Request → (budget : ℕ) → files.Ghosts F → (old new : F) → StepFault → Type 0
+RequestFails request budget f old new fault = IsReadCause (request_asked request) budget (f.holds old) (f.faults old) (f.faults new) fault
+
+-- why its file was not read
+abbrev pub FileFails : {F : Type 0} → Request → files.Ghosts F → (old new : F) → StepFault → Type 0
+FileFails request f old new fault = IsFileCause (request_asked request) (f.holds old) (f.faults old) (f.faults new) fault
+
+-- Of a position: declaration n of a script that was checked, and how it is run.
+
+-- the declarations of its script
+abbrev pub declarations_of : Position → List Declaration
+declarations_of p = declarations p.decls.now
+
+-- the sorts of these
+abbrev pub sorts_at : Position → List Sort
+sorts_at p = sorts p.typed.now
+
+-- its declaration
+abbrev pub declaration_of : Position → Option Declaration
+declaration_of p = numbered p.decls.now p.n
+
+-- the budget that it is run with
+abbrev pub budget_of : Position → ℕ
+budget_of p = p.options.now.budget
+
+-- the number of workers is one that evaluation takes
+abbrev pub HasWorkers : Position → Type 0
+HasWorkers p = (1 ≤ p.options.now.workers) × (p.options.now.workers ≤ most_workers)
+
+-- it stands over these outcomes
+abbrev pub StandsAt : Position → Outcomes → Type 0
+StandsAt p V = Stands (declarations_of p) (sorts_at p) p.n V
+
+-- its declaration was run
+abbrev pub RunsPosition : Position → Outcomes → Option Content → Run → Type 0
+RunsPosition p V holds r = ForSome (declaration_of p) (λ d. IsRun d (so_far p.decls.now V) (budget_of p) holds r)
+
+-- why its declaration has no answer; the counts of faults are those of the files before and after
+abbrev pub IsPositionCause : Position → Outcomes → Option Content → (before now : ℕ) → StepFault → Type 0
+IsPositionCause p V holds before now f = IsCauseOf p.decls.now p.n V p.options.now holds before now f
+
+-- why it has none over files as they were and are
+abbrev pub PositionFails : {F : Type 0} → Position → Outcomes → files.Ghosts F → (old new : F) → StepFault → Type 0
+PositionFails p V f old new fault = IsPositionCause p V (f.holds old) (f.faults old) (f.faults new) fault
+
+-- this holds where its declaration reads no file
+abbrev pub UnlessReadAt : Position → Outcomes → Type 0 → Type 0
+UnlessReadAt p V P = UnlessRead p.decls.now p.n V p.options.now P
+
+-- the start term of its query
+abbrev pub IsStartAt : Position → Term → Type 0
+IsStartAt p t = ForSome (declaration_of p) (λ d. t ≡ start_term (query d) (before (declarations_of p) p.n))
+
+-- its query was evaluated within the budget
+abbrev pub IsEvaluatedAt : Position → Outcomes → Evaluated → Type 0
+IsEvaluatedAt p V q = ForSome (declaration_of p) (λ d. IsEvaluated d (so_far p.decls.now V) (budget_of p) q)
+
+-- or it was not
+abbrev pub IsSpentAt : Position → Outcomes → StepFault → Type 0
+IsSpentAt p V f = ForSome (declaration_of p) (λ d. IsSpent d (so_far p.decls.now V) (budget_of p) f)
+
+-- the answer of a run of it
+abbrev pub AnswersRun : Position → Run → Answer → Type 0
+AnswersRun p r a = ForSome (declaration_of p) (λ d. IsAnswerOf d (sort_numbered p.typed.now p.n) r a)
+
+-- the name that it binds
+abbrev pub IsNameAt : Position → Name → Type 0
+IsNameAt p name = ForSome (declaration_of p) (λ d. name ≡ declared d)
+
+-- one position more is bound, to the value of a run of it
+abbrev pub BindsRun : Position → Run → (old new : Bound) → Type 0
+BindsRun p r old new = ForSome (declaration_of p) (λ d. new ≡ old ++ (declared d, held_value r.value) ∷ [])

@@ -11,7 +11,6 @@ use Rattle.aql_types.specs.ValueTypes.{HasType}
 use Rattle.aql_types.specs.View.{sort_of}
 use Rattle.aql_syntax.specs.Denotation.{den}
 use Rattle.aql_syntax.specs.Script.{Earlier, globals_of, outcome_after}
-use Rattle.aql_syntax.specs.Size.{expanded_size, expanded_levels}
 use Rattle.aql_syntax.specs.Sound.{declarations_of, OutcomesHave}
 use Rattle.aql_syntax.specs.Tree.{Tree, Reader, plain, signed, strided, records, Declaration, val, mac, read, bare, declared}
 use Rattle.aql_syntax.specs.Typing.{reader_type, scope_of, IsPrincipal}
@@ -36,17 +35,14 @@ use Rattle.aql_session.specs.declared.answer.StepFault.TheVariants as faults
 
 -- Conditions.
 
--- declaration n and those before it, counted from 1, have an expanded size of at most 20,000 and at most 1,000 levels
-abbrev pub AreWithinLimits : List Declaration → ℕ → Type 0
-AreWithinLimits ds n = (m : ℕ) → 1 ≤ m → m ≤ n → (expanded_size ds m ≤ 20000) × (expanded_levels ds m ≤ 1000)
-
--- no readval of records
+-- the reader is none of records
 abbrev pub IsOfArrays : Reader → Type 0
 IsOfArrays (plain k) = Unit {0}
 IsOfArrays (signed k) = Unit {0}
 IsOfArrays (strided k) = Unit {0}
 IsOfArrays (records header ks) = ⊥
 
+-- the declaration is no readval of records
 abbrev pub ReadsNoRecords : Declaration → Type 0
 ReadsNoRecords (val x e) = Unit {0}
 ReadsNoRecords (mac f p body) = Unit {0}
@@ -88,6 +84,7 @@ ran_of (mac f p body) = ran.Declared
 ran_of (read x r e) = ran.Read
 ran_of (bare e) = ran.Plan
 
+-- the answer of a declaration: its name, its type, its start term, the plan, which is that term, and what it took
 pub record IsAnswer (d : Declaration) (earlier : Earlier) (sort : Option Sort) (a : Answer) : Type 0 where
   pub name : a.name ≡ declared d
   -- its type is the one that was found, and principal

@@ -26,8 +26,8 @@ pub struct Answer {
     pub turns: u128,
 }
 
-/// What was evaluated: the plan or the start term of a query, a readval's argument and then its file,
-/// or nothing, for a macro.
+/// What was evaluated: the plan or the start term of a query, a readval's argument and then its
+/// file, or nothing, for a macro.
 #[derive(Clone, Copy, Debug, PartialEq, Eq)]
 pub enum Ran {
     Plan,

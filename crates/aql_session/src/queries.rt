@@ -1,24 +1,17 @@
 //! The evaluation of queries.
-ghost use Rattle.std.specs.Prelude.{◌≡◌, ◌≤◌, ◌-◌, [], length, IfOk, IfErr};
-ghost use Rattle.std.specs.List.{slice_get};
-ghost use Rattle.std.specs.Option.{ForSome};
-ghost use Rattle.aql_constraints.specs.Typed.{ArePrincipal, sorts_of};
-ghost use Rattle.aql_start.specs.Start.{query};
-ghost use Rattle.aql_syntax.specs.Size.{before};
-ghost use Rattle.aql_syntax.specs.View.{decls_of};
+ghost use Rattle.std.specs.Prelude.{◌≡◌, ◌≤◌, [], length, IfOk, IfErr};
+ghost use Rattle.aql_constraints.specs.Typed.{ArePrincipal};
+ghost use Rattle.aql_syntax.specs.Size.{AreWithinLimits};
+ghost use Rattle.aql_words.specs.Words.{most_budget};
 ghost use Rattle.nrca_term.specs.View.{term_of};
-ghost use Rattle.aql_session.specs.Bound.{earlier_of};
-ghost use Rattle.aql_session.specs.Step.{start_term, AreWithinLimits};
-ghost use Rattle.aql_session.specs.Runs.{Stands, IsQuery, TellsStart, IsEvaluated, IsSpent};
+ghost use Rattle.aql_session.specs.Runs.{StandsAt, HasWorkers, budget_of, declaration_of, declarations_of, sorts_at, IsQuery, TellsStart, IsStartAt, IsEvaluatedAt, IsSpentAt};
 
 use crate::answer::StepFault;
-use aql_constraints::typed::Typed;
+use crate::runs::Position;
 use aql_desugar::fault::Fault;
 use aql_desugar::translate::translate;
 use aql_outside::Gate;
-use aql_syntax::ast::Decls;
 use aql_value::Memory;
-use aql_words::Options;
 use nrca_array::Held;
 use nrca_eval::{Done, Globals, evaluate};
 use nrca_par::EvalFault;
@@ -34,35 +27,30 @@ pub(crate) struct Evaluated {
     pub(crate) turns: u128,
 }
 
-/// Evaluates the query of declaration n, of a readval its argument, over the outcomes of the positions
+/// Evaluates the query of a position, of a readval its argument, over the outcomes of the positions
 /// before it, where its turns are within the budget.
 pub(crate) fn run_query<R: Threads + Sync, G: Gate>(
     rt: &R,
     alloc: Global,
     globals: &Globals,
-    decls: &Decls,
-    typed: &Typed,
-    n: u64,
-    options: &Options,
+    at: &Position,
     gate: &G,
 ) -> Result<Evaluated, StepFault>
-    requires stands { Stands (decls_of decls.now.items.items) (sorts_of typed.now.items.items) n globals.now }
-    requires query { IsQuery (slice_get (decls_of decls.now.items.items) (n - 1)) }
-    requires workers { (1 ≤ options.now.workers) × (options.now.workers ≤ 64) }
-    requires budget { options.now.budget ≤ 50000000 }
-    ensures evaluated { IfOk result (λ q. ForSome (slice_get (decls_of decls.now.items.items) (n - 1)) (λ d.
-        IsEvaluated d (earlier_of (decls_of decls.now.items.items) globals.now) options.now.budget q)) }
-    ensures spent { IfErr result (λ f. ForSome (slice_get (decls_of decls.now.items.items) (n - 1)) (λ d.
-        IsSpent d (earlier_of (decls_of decls.now.items.items) globals.now) options.now.budget f)) }
+    requires stands { StandsAt at.now globals.now }
+    requires query { IsQuery (declaration_of at.now) }
+    requires workers { HasWorkers at.now }
+    requires budget { budget_of at.now ≤ most_budget }
+    ensures evaluated { IfOk result (IsEvaluatedAt at.now globals.now) }
+    ensures spent { IfErr result (IsSpentAt at.now globals.now) }
 {
-    let start = start_of_query(alloc, decls, typed, n)?;
+    let start = start_of_query(alloc, at)?;
     match evaluate(
         rt,
         alloc,
         &start,
         globals,
-        options.budget,
-        options.workers,
+        at.options.budget,
+        at.options.workers,
         gate,
     ) {
         Ok(Done { value, turns }) => Ok(Evaluated {
@@ -79,16 +67,15 @@ pub(crate) fn run_query<R: Threads + Sync, G: Gate>(
 }
 
 // The start term of a query. It is within the limits.
-fn start_of_query(alloc: Global, decls: &Decls, typed: &Typed, n: u64) -> Result<Core, Memory>
-    requires first { 1 ≤ n }
-    requires last { n ≤ length decls.now.items.items }
-    requires query { IsQuery (slice_get (decls_of decls.now.items.items) (n - 1)) }
-    requires checked { ArePrincipal [] (decls_of decls.now.items.items) (sorts_of typed.now.items.items) }
-    requires limits { AreWithinLimits (decls_of decls.now.items.items) n }
-    ensures { IfOk result (λ c. ForSome (slice_get (decls_of decls.now.items.items) (n - 1)) (λ d.
-        term_of c ≡ start_term (query d) (before (decls_of decls.now.items.items) n))) }
+fn start_of_query(alloc: Global, at: &Position) -> Result<Core, Memory>
+    requires first { 1 ≤ at.now.n }
+    requires last { at.now.n ≤ length at.now.decls.now.items.items }
+    requires query { IsQuery (declaration_of at.now) }
+    requires checked { ArePrincipal [] (declarations_of at.now) (sorts_at at.now) }
+    requires limits { AreWithinLimits (declarations_of at.now) at.now.n }
+    ensures { IfOk result (λ c. IsStartAt at.now (term_of c)) }
 {
-    match translate(alloc, decls, typed, n) {
+    match translate(alloc, at.decls, at.typed, at.n) {
         Ok(start) => Ok(start),
         Err(Fault::Memory) => Err(Memory),
         Err(Fault::Large { .. }) => unreachable!(),

@@ -1,7 +1,6 @@
 //! Readvals: what a reader's argument asks for, and the reading of files.
 ghost use Rattle.std.specs.Prelude.{◌≡◌, ◌<◌, ◌≤◌, ◌∷◌, [], Some, map, vec_len, IfOk, IsOkAnd, IfErr, IsErrOf, replicate};
-ghost use Rattle.std.specs.Option.{option_map, ForSome};
-ghost use Rattle.aql_outside.specs.Causes.{Blames};
+ghost use Rattle.std.specs.Option.{option_map};
 ghost use Rattle.aql_syntax.specs.Typing.{argument_type, reader_type};
 ghost use Rattle.aql_syntax.specs.View.{reader_of};
 ghost use Rattle.aql_types.specs.Types.{IsWithin};
@@ -9,11 +8,13 @@ ghost use Rattle.aql_types.specs.ValueTypes.{HasType};
 ghost use Rattle.aql_value.specs.Meaning.{datum};
 ghost use Rattle.aql_value.specs.Operations.{as_natural, as_text, as_tuple, index_numbers};
 ghost use Rattle.aql_value.specs.Partial.{each};
+ghost use Rattle.aql_words.specs.Words.{most_budget};
 ghost use Rattle.nrca_array.specs.Held.{held_datum};
-ghost use Rattle.nrca_runs.specs.Scope.{held_value};
-ghost use Rattle.aql_session.specs.Asked.{asked, asked_of, unstrided, with_strides, cells};
+ghost use Rattle.nrca_runs.specs.Parts.{numbers_with};
+ghost use Rattle.aql_session.specs.Asked.{asked_of, unstrided, with_strides, cells};
+ghost use Rattle.aql_session.specs.Device.{BlamesFiles};
+ghost use Rattle.aql_session.specs.Runs.{request_asked, asked_by, items_of, single_index, handed_on, HasRank, IsRequestOf, IsOpened, IsSlabOf, IsReadOf, Requests, ArgumentFits, AsksTooMuch, ReadsBy, ArgumentFails, RequestFails, FileFails};
 ghost use Rattle.aql_session.specs.Step.{IsOfArrays};
-ghost use Rattle.aql_session.specs.Runs.{request_asked, asked_in, numbers_with, single_index, handed_on, HasRank, IsRequestOf, IsReadBy, IsArgumentCause, IsOpened, IsSlabOf, IsFileCause, IsReadOf, IsReadCause};
 
 use crate::answer::StepFault;
 use aql_made::both;
@@ -53,13 +54,14 @@ pub(crate) fn read_argument<F: Files>(
 ) -> Result<Read, StepFault>
     requires arrays { IsOfArrays (reader_of reader.now) }
     requires within { IsWithin (reader_type (reader_of reader.now)) }
-    requires typed { ForSome (held_value argument) (HasType (argument_type (reader_of reader.now))) }
-    requires budget { budget ≤ 50000000 }
-    ensures read { IfOk result (IsReadBy (reader_of reader.now) (held_value argument) budget (F.holds files.old)) }
-    ensures cause { IfErr result (IsArgumentCause (reader_of reader.now) (held_value argument) budget (F.holds files.old) (F.faults files.old) (F.faults files.new)) }
+    requires typed { ArgumentFits reader.now argument }
+    requires budget { budget ≤ most_budget }
+    ensures read { IfOk result (ReadsBy reader.now argument budget (F.holds files.old)) }
+    ensures cause { IfErr result
+        (ArgumentFails reader.now argument budget F.Files files.old files.new) }
     ensures kept { F.holds files.new ≡ F.holds files.old }
-    ensures blamed { Blames F.quiet (IsErrOf result StepFault.Device) (F.faults files.old) (F.faults files.new) }
-    ensures untouched { ForSome (asked_in (reader_of reader.now) (held_value argument)) (λ a. budget < cells a) → files.new ≡ files.old }
+    ensures blamed { BlamesFiles F.Files files.old files.new (IsErrOf result StepFault.Device) }
+    ensures untouched { AsksTooMuch reader.now argument budget → files.new ≡ files.old }
 {
     match argument {
         Some(argument) => read_value(alloc, files, reader, argument, budget),
@@ -81,12 +83,13 @@ fn read_value<F: Files>(
     requires arrays { IsOfArrays (reader_of reader.now) }
     requires within { IsWithin (reader_type (reader_of reader.now)) }
     requires typed { HasType (argument_type (reader_of reader.now)) (held_datum argument) }
-    requires budget { budget ≤ 50000000 }
-    ensures read { IfOk result (IsReadBy (reader_of reader.now) (Some (held_datum argument)) budget (F.holds files.old)) }
-    ensures cause { IfErr result (IsArgumentCause (reader_of reader.now) (Some (held_datum argument)) budget (F.holds files.old) (F.faults files.old) (F.faults files.new)) }
+    requires budget { budget ≤ most_budget }
+    ensures read { IfOk result (ReadsBy reader.now (Some argument) budget (F.holds files.old)) }
+    ensures cause { IfErr result
+        (ArgumentFails reader.now (Some argument) budget F.Files files.old files.new) }
     ensures kept { F.holds files.new ≡ F.holds files.old }
-    ensures blamed { Blames F.quiet (IsErrOf result StepFault.Device) (F.faults files.old) (F.faults files.new) }
-    ensures untouched { ForSome (asked_of (reader_of reader.now) (held_datum argument)) (λ a. budget < cells a) → files.new ≡ files.old }
+    ensures blamed { BlamesFiles F.Files files.old files.new (IsErrOf result StepFault.Device) }
+    ensures untouched { AsksTooMuch reader.now (Some argument) budget → files.new ≡ files.old }
 {
     let request = typed_request(alloc, reader, argument)?;
     match read_request(alloc, files, &request, budget) {
@@ -113,8 +116,8 @@ fn typed_request(alloc: Global, reader: &Reader, argument: Held) -> Result<Reque
 
 /// Reads what is asked for, where its cells are within the budget.
 ///
-/// The cells are counted before any call on the files. Then the header is read, the variable sought and
-/// the hyperslab read.
+/// The cells are counted before any call on the files. Then the header is read, the variable sought
+/// and the hyperslab read.
 pub(crate) fn read_request<F: Files>(
     alloc: Global,
     files: &mut F,
@@ -122,11 +125,11 @@ pub(crate) fn read_request<F: Files>(
     budget: u64,
 ) -> Result<Flat, StepFault>
     requires rank { HasRank (request_asked request.now) }
-    requires budget { budget ≤ 50000000 }
+    requires budget { budget ≤ most_budget }
     ensures read { IfOk result (IsReadOf (request_asked request.now) budget (F.holds files.old)) }
-    ensures cause { IfErr result (IsReadCause (request_asked request.now) budget (F.holds files.old) (F.faults files.old) (F.faults files.new)) }
+    ensures cause { IfErr result (RequestFails request.now budget F.Files files.old files.new) }
     ensures kept { F.holds files.new ≡ F.holds files.old }
-    ensures blamed { Blames F.quiet (IsErrOf result StepFault.Device) (F.faults files.old) (F.faults files.new) }
+    ensures blamed { BlamesFiles F.Files files.old files.new (IsErrOf result StepFault.Device) }
     ensures untouched { budget < cells (request_asked request.now) → files.new ≡ files.old }
 {
     let cells = saturating_product(&request.count);
@@ -149,9 +152,9 @@ pub(crate) struct Found {
 // The header of the file, and the variable of the name.
 fn open<F: Files>(alloc: Global, files: &mut F, request: &Request) -> Result<Found, StepFault>
     ensures opened { IfOk result (IsOpened (request_asked request.now) (F.holds files.old)) }
-    ensures cause { IfErr result (IsFileCause (request_asked request.now) (F.holds files.old) (F.faults files.old) (F.faults files.new)) }
+    ensures cause { IfErr result (FileFails request.now F.Files files.old files.new) }
     ensures kept { F.holds files.new ≡ F.holds files.old }
-    ensures blamed { Blames F.quiet (IsErrOf result StepFault.Device) (F.faults files.old) (F.faults files.new) }
+    ensures blamed { BlamesFiles F.Files files.old files.new (IsErrOf result StepFault.Device) }
 {
     match read_header(alloc, files, &request.file) {
         Ok(header) => match header.find(&request.variable) {
@@ -172,12 +175,12 @@ fn read_found<F: Files>(
     found: &Found,
 ) -> Result<Flat, StepFault>
     requires rank { HasRank (request_asked request.now) }
-    requires cells { cells (request_asked request.now) ≤ 50000000 }
+    requires cells { cells (request_asked request.now) ≤ most_budget }
     requires opened { IsOpened (request_asked request.now) (F.holds files.old) found.now }
     ensures read { IfOk result (IsSlabOf (request_asked request.now) (F.holds files.old)) }
-    ensures cause { IfErr result (IsFileCause (request_asked request.now) (F.holds files.old) (F.faults files.old) (F.faults files.new)) }
+    ensures cause { IfErr result (FileFails request.now F.Files files.old files.new) }
     ensures kept { F.holds files.new ≡ F.holds files.old }
-    ensures blamed { Blames F.quiet (IsErrOf result StepFault.Device) (F.faults files.old) (F.faults files.new) }
+    ensures blamed { BlamesFiles F.Files files.old files.new (IsErrOf result StepFault.Device) }
 {
     match read_slab(
         alloc,
@@ -212,7 +215,7 @@ pub(crate) fn request_of(
     reader: &Reader,
     argument: Held,
 ) -> Result<Option<Request>, Memory>
-    ensures { IfOk result (λ r. option_map request_asked r ≡ asked_of (reader_of reader.now) (held_datum argument)) }
+    ensures { IfOk result (Requests (asked_of (reader_of reader.now) (held_datum argument))) }
 {
     let Some(parts) = parts_of(argument) else {
         return Ok(None);
@@ -243,50 +246,39 @@ fn request_unstrided(
     signed: bool,
     parts: Items,
 ) -> Result<Option<Request>, Memory>
-    ensures { IfOk result (λ r. option_map request_asked r ≡ unstrided rank signed parts) }
+    ensures { IfOk result (Requests (unstrided rank signed parts)) }
 {
     if parts.items.len() != 4 {
         return Ok(None);
     }
     let stride = ones(alloc, rank)?;
-    let (file, variable, start, count) = four(parts.items);
-    make_request(
-        alloc,
-        rank,
-        signed,
-        file,
-        variable,
-        start,
-        count,
-        Ok(Some(stride)),
-    )
+    make_request(alloc, rank, signed, four(parts.items), Ok(Some(stride)))
 }
 
 // What file, variable, start, count and stride ask for.
 fn request_strided(alloc: Global, rank: u64, parts: Items) -> Result<Option<Request>, Memory>
-    ensures { IfOk result (λ r. option_map request_asked r ≡ with_strides rank parts) }
+    ensures { IfOk result (Requests (with_strides rank parts)) }
 {
     if parts.items.len() != 5 {
         return Ok(None);
     }
     let (file, variable, start, count, stride) = five(parts.items);
     let stride = index(alloc, rank, stride);
-    make_request(alloc, rank, false, file, variable, start, count, stride)
+    make_request(alloc, rank, false, (file, variable, start, count), stride)
 }
 
-// The request of these parts, where each is of its kind.
+// The request of a file, a variable, a start and a count, where each is of its kind.
 fn make_request(
     alloc: Global,
     rank: u64,
     signed: bool,
-    file: Value,
-    variable: Value,
-    start: Value,
-    count: Value,
+    parts: (Value, Value, Value, Value),
     stride: Result<Option<Index>, Memory>,
 ) -> Result<Option<Request>, Memory>
-    ensures { IfOk result (λ r. IsOkAnd stride (λ st. option_map request_asked r ≡ asked rank signed (datum file) (datum variable) (datum start) (datum count) (option_map (λ i. i.items) st))) }
+    ensures { IfOk result (λ r. IsOkAnd stride (λ st.
+        Requests (asked_by rank signed parts (option_map (λ i. i.items) st)) r)) }
 {
+    let (file, variable, start, count) = parts;
     let names = text(file).zip(text(variable));
     let corner = both(index(alloc, rank, start), index(alloc, rank, count));
     let (names, ((start, count), stride)) = both(Ok(names), both(corner, stride))?;
@@ -315,7 +307,8 @@ fn text(value: Value) -> Option<Str>
 
 // The index of a rank that a value is: a number, or from rank 2 a tuple of numbers.
 fn index(alloc: Global, rank: u64, value: Value) -> Result<Option<Index>, Memory>
-    ensures { IfOk result (λ i. option_map (λ is. is.items) i ≡ index_numbers rank (datum value)) }
+    ensures { IfOk result (λ i.
+        option_map (λ is. is.items) i ≡ index_numbers rank (datum value)) }
 {
     if rank == 1 {
         return single(alloc, value);
@@ -345,7 +338,7 @@ fn single(alloc: Global, value: Value) -> Result<Option<Index>, Memory>
 // The numbers that values are.
 #[tactic(auto, using(crate::proofs::Asking::numbers_push))]
 fn naturals(alloc: Global, parts: Items) -> Result<Option<Vec<u128>>, Memory>
-    ensures { IfOk result (λ ns. option_map (λ v. v.items) ns ≡ each as_natural parts) }
+    ensures { IfOk result (λ ns. items_of ns ≡ each as_natural parts) }
 {
     let mut numbers = Some(Vec::new(alloc));
     for part in parts.items {
@@ -356,7 +349,7 @@ fn naturals(alloc: Global, parts: Items) -> Result<Option<Vec<u128>>, Memory>
 
 // Numbers and one more, where the value is one.
 fn numbers_and(numbers: Option<Vec<u128>>, part: Value) -> Result<Option<Vec<u128>>, Memory>
-    ensures { IfOk result (λ ns. option_map (λ v. v.items) ns ≡ numbers_with (option_map (λ v. v.items) numbers) (datum part)) }
+    ensures { IfOk result (λ ns. items_of ns ≡ numbers_with (items_of numbers) (datum part)) }
 {
     match (numbers, part) {
         (Some(mut numbers), Value::Nat(n)) => {
@@ -402,7 +395,8 @@ fn two(values: Vec<Value>) -> (Value, Value)
 // The four values.
 fn four(values: Vec<Value>) -> (Value, Value, Value, Value)
     requires { vec_len values ≡ 4 }
-    ensures { map datum values.items ≡ datum result.0 ∷ datum result.1 ∷ datum result.2 ∷ datum result.3 ∷ [] }
+    ensures { map datum values.items
+        ≡ datum result.0 ∷ datum result.1 ∷ datum result.2 ∷ datum result.3 ∷ [] }
 {
     let mut values = values;
     match (values.pop(), values.pop()) {
@@ -417,7 +411,8 @@ fn four(values: Vec<Value>) -> (Value, Value, Value, Value)
 // The five values.
 fn five(values: Vec<Value>) -> (Value, Value, Value, Value, Value)
     requires { vec_len values ≡ 5 }
-    ensures { map datum values.items ≡ datum result.0 ∷ datum result.1 ∷ datum result.2 ∷ datum result.3 ∷ datum result.4 ∷ [] }
+    ensures { map datum values.items ≡ datum result.0 ∷ datum result.1 ∷ datum result.2
+        ∷ datum result.3 ∷ datum result.4 ∷ [] }
 {
     let mut values = values;
     match values.pop() {

@@ -2,13 +2,13 @@
 ghost use Rattle.std.specs.Prelude.{◌≡◌, ◌≤◌, ◌-◌, ℕ, length, Some, Option, IfOk, IfErr, IsErrOf};
 ghost use Rattle.std.specs.List.{slice_get};
 ghost use Rattle.std.specs.Option.{ForSome};
-ghost use Rattle.aql_constraints.specs.Typed.{sorts_of};
-ghost use Rattle.aql_outside.specs.Causes.{Blames};
 ghost use Rattle.aql_outside.specs.Contents.{Content};
 ghost use Rattle.aql_syntax.specs.View.{decl_of, decls_of, reader_of};
-ghost use Rattle.aql_session.specs.Bound.{earlier_of};
-ghost use Rattle.aql_session.specs.Step.{ReadsNoRecords, IsCause, IsOverTurns, ReadsNoFile};
-ghost use Rattle.aql_session.specs.Runs.{Stands, IsQuery, IsPlain, IsReadval, IsRun};
+ghost use Rattle.aql_words.specs.Words.{most_budget};
+ghost use Rattle.aql_session.specs.Device.{BlamesFiles};
+ghost use Rattle.aql_session.specs.Numbered.{declarations, numbered};
+ghost use Rattle.aql_session.specs.Step.{ReadsNoRecords, IsOverTurns};
+ghost use Rattle.aql_session.specs.Runs.{StandsAt, HasWorkers, budget_of, declaration_of, IsQuery, IsPlain, IsReadval, RunsPosition, IsPositionCause, PositionFails, UnlessReadAt};
 
 use crate::answer::{Ran, StepFault};
 use crate::queries::{Evaluated, run_query};
@@ -23,6 +23,16 @@ use nrca_term::Core;
 use std::alloc::Global;
 use std::thread::Threads;
 
+/// Declaration n of a script that was checked, counted from 1, and how it is run.
+#[derive(Drop)]
+pub(crate) struct Position<'a> {
+    pub(crate) decls: &'a Decls,
+    // What the check answered.
+    pub(crate) typed: &'a Typed,
+    pub(crate) n: u64,
+    pub(crate) options: &'a Options,
+}
+
 /// What the run of a declaration came to.
 #[derive(Drop)]
 pub(crate) struct Run {
@@ -32,36 +42,28 @@ pub(crate) struct Run {
     pub(crate) value: Option<Held>,
 }
 
-/// Runs declaration n, counted from 1, over the outcomes of those before it.
+/// Runs the declaration of a position over the outcomes of those before it.
 pub(crate) fn run_declaration<R: Threads + Sync, F: Files, G: Gate>(
     rt: &R,
     alloc: Global,
     globals: &Globals,
-    decls: &Decls,
-    typed: &Typed,
-    n: u64,
-    options: &Options,
+    at: &Position,
     files: &mut F,
     gate: &G,
 ) -> Result<Run, StepFault>
-    requires stands { Stands (decls_of decls.now.items.items) (sorts_of typed.now.items.items) n globals.now }
-    requires arrays { ForSome (slice_get (decls_of decls.now.items.items) (n - 1)) ReadsNoRecords }
-    requires workers { (1 ≤ options.now.workers) × (options.now.workers ≤ 64) }
-    requires budget { options.now.budget ≤ 50000000 }
-    ensures ran { IfOk result (λ r. ForSome (slice_get (decls_of decls.now.items.items) (n - 1)) (λ d.
-        IsRun d (earlier_of (decls_of decls.now.items.items) globals.now) options.now.budget (F.holds files.old) r)) }
-    ensures cause { IfErr result (λ f. ForSome (slice_get (decls_of decls.now.items.items) (n - 1)) (λ d.
-        IsCause d (earlier_of (decls_of decls.now.items.items) globals.now) options.now.budget (F.holds files.old) (F.faults files.old) (F.faults files.new) f)) }
+    requires stands { StandsAt at.now globals.now }
+    requires arrays { ForSome (declaration_of at.now) ReadsNoRecords }
+    requires workers { HasWorkers at.now }
+    requires budget { budget_of at.now ≤ most_budget }
+    ensures ran { IfOk result (RunsPosition at.now globals.now (F.holds files.old)) }
+    ensures cause { IfErr result (PositionFails at.now globals.now F.Files files.old files.new) }
     ensures kept { F.holds files.new ≡ F.holds files.old }
-    ensures blamed { Blames F.quiet (IsErrOf result StepFault.Device) (F.faults files.old) (F.faults files.new) }
-    ensures untouched { ForSome (slice_get (decls_of decls.now.items.items) (n - 1)) (λ d.
-        ReadsNoFile d (earlier_of (decls_of decls.now.items.items) globals.now) options.now.budget → files.new ≡ files.old) }
+    ensures blamed { BlamesFiles F.Files files.old files.new (IsErrOf result StepFault.Device) }
+    ensures untouched { UnlessReadAt at.now globals.now (files.new ≡ files.old) }
     ensures unread { IfErr result (λ f. IsOverTurns f → files.new ≡ files.old) }
 {
-    match declaration(decls, n) {
-        Decl::Val { name: _, expr: _ } => {
-            run_plain(rt, alloc, globals, decls, typed, n, options, gate)
-        }
+    match declaration(at.decls, at.n) {
+        Decl::Val { name: _, expr: _ } => run_plain(rt, alloc, globals, at, gate),
         Decl::Macro {
             name: _,
             pattern: _,
@@ -76,18 +78,16 @@ pub(crate) fn run_declaration<R: Threads + Sync, F: Files, G: Gate>(
             name: _,
             reader,
             expr: _,
-        } => run_readval(
-            rt, alloc, globals, decls, typed, n, reader, options, files, gate,
-        ),
-        Decl::Bare { expr: _ } => run_plain(rt, alloc, globals, decls, typed, n, options, gate),
+        } => run_readval(rt, alloc, globals, at, reader, files, gate),
+        Decl::Bare { expr: _ } => run_plain(rt, alloc, globals, at, gate),
     }
 }
 
 /// Declaration n, counted from 1.
 pub(crate) fn declaration(decls: &Decls, n: u64) -> &Decl
     requires first { 1 ≤ n }
-    requires last { n ≤ length (decls_of decls.now.items.items) }
-    ensures { slice_get (decls_of decls.now.items.items) (n - 1) ≡ Some (decl_of result.now) }
+    requires last { n ≤ length (declarations decls.now) }
+    ensures { numbered decls.now n ≡ Some (decl_of result.now) }
 {
     declaration_at(&decls.items, n)
 }
@@ -105,23 +105,19 @@ fn run_plain<R: Threads + Sync, G: Gate>(
     rt: &R,
     alloc: Global,
     globals: &Globals,
-    decls: &Decls,
-    typed: &Typed,
-    n: u64,
-    options: &Options,
+    at: &Position,
     gate: &G,
 ) -> Result<Run, StepFault>
-    requires stands { Stands (decls_of decls.now.items.items) (sorts_of typed.now.items.items) n globals.now }
-    requires query { IsQuery (slice_get (decls_of decls.now.items.items) (n - 1)) }
-    requires plain { ForSome (slice_get (decls_of decls.now.items.items) (n - 1)) IsPlain }
-    requires workers { (1 ≤ options.now.workers) × (options.now.workers ≤ 64) }
-    requires budget { options.now.budget ≤ 50000000 }
-    ensures ran { (holds : Option Content) → IfOk result (λ r. ForSome (slice_get (decls_of decls.now.items.items) (n - 1)) (λ d.
-        IsRun d (earlier_of (decls_of decls.now.items.items) globals.now) options.now.budget holds r)) }
-    ensures cause { (holds : Option Content) (before now : ℕ) → IfErr result (λ f. ForSome (slice_get (decls_of decls.now.items.items) (n - 1)) (λ d.
-        IsCause d (earlier_of (decls_of decls.now.items.items) globals.now) options.now.budget holds before now f)) }
+    requires stands { StandsAt at.now globals.now }
+    requires query { IsQuery (declaration_of at.now) }
+    requires plain { ForSome (declaration_of at.now) IsPlain }
+    requires workers { HasWorkers at.now }
+    requires budget { budget_of at.now ≤ most_budget }
+    ensures ran { (holds : Option Content) → IfOk result (RunsPosition at.now globals.now holds) }
+    ensures cause { (holds : Option Content) (before now : ℕ) →
+        IfErr result (IsPositionCause at.now globals.now holds before now) }
 {
-    match run_query(rt, alloc, globals, decls, typed, n, options, gate) {
+    match run_query(rt, alloc, globals, at, gate) {
         Ok(
             Evaluated {
                 start,
@@ -143,37 +139,31 @@ fn run_readval<R: Threads + Sync, F: Files, G: Gate>(
     rt: &R,
     alloc: Global,
     globals: &Globals,
-    decls: &Decls,
-    typed: &Typed,
-    n: u64,
+    at: &Position,
     reader: &Reader,
-    options: &Options,
     files: &mut F,
     gate: &G,
 ) -> Result<Run, StepFault>
-    requires stands { Stands (decls_of decls.now.items.items) (sorts_of typed.now.items.items) n globals.now }
-    requires reads { IsReadval (slice_get (decls_of decls.now.items.items) (n - 1)) (reader_of reader.now) }
-    requires arrays { ForSome (slice_get (decls_of decls.now.items.items) (n - 1)) ReadsNoRecords }
-    requires workers { (1 ≤ options.now.workers) × (options.now.workers ≤ 64) }
-    requires budget { options.now.budget ≤ 50000000 }
-    ensures ran { IfOk result (λ r. ForSome (slice_get (decls_of decls.now.items.items) (n - 1)) (λ d.
-        IsRun d (earlier_of (decls_of decls.now.items.items) globals.now) options.now.budget (F.holds files.old) r)) }
-    ensures cause { IfErr result (λ f. ForSome (slice_get (decls_of decls.now.items.items) (n - 1)) (λ d.
-        IsCause d (earlier_of (decls_of decls.now.items.items) globals.now) options.now.budget (F.holds files.old) (F.faults files.old) (F.faults files.new) f)) }
+    requires stands { StandsAt at.now globals.now }
+    requires reads { IsReadval (declaration_of at.now) (reader_of reader.now) }
+    requires arrays { ForSome (declaration_of at.now) ReadsNoRecords }
+    requires workers { HasWorkers at.now }
+    requires budget { budget_of at.now ≤ most_budget }
+    ensures ran { IfOk result (RunsPosition at.now globals.now (F.holds files.old)) }
+    ensures cause { IfErr result (PositionFails at.now globals.now F.Files files.old files.new) }
     ensures kept { F.holds files.new ≡ F.holds files.old }
-    ensures blamed { Blames F.quiet (IsErrOf result StepFault.Device) (F.faults files.old) (F.faults files.new) }
-    ensures untouched { ForSome (slice_get (decls_of decls.now.items.items) (n - 1)) (λ d.
-        ReadsNoFile d (earlier_of (decls_of decls.now.items.items) globals.now) options.now.budget → files.new ≡ files.old) }
+    ensures blamed { BlamesFiles F.Files files.old files.new (IsErrOf result StepFault.Device) }
+    ensures untouched { UnlessReadAt at.now globals.now (files.new ≡ files.old) }
     ensures unread { IfErr result (λ f. IsOverTurns f → files.new ≡ files.old) }
 {
-    match run_query(rt, alloc, globals, decls, typed, n, options, gate) {
+    match run_query(rt, alloc, globals, at, gate) {
         Ok(
             Evaluated {
                 start,
                 value,
                 turns,
             },
-        ) => match read_argument(alloc, files, reader, value, options.budget) {
+        ) => match read_argument(alloc, files, reader, value, at.options.budget) {
             Ok(Read { value, cells }) => Ok(Run {
                 start,
                 by: Ran::Read,

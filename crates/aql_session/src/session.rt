@@ -35,14 +35,12 @@ impl Model for Session {
 
     ghost coded = { coded_list (coded× (coded_list coded_ℕ) (coded_option coded_datum)) };
 
-    ghost use Rattle.std.specs.Prelude.{◌≡◌, ℕ, List, length};
     ghost use Rattle.std.specs.List.{zip};
-    ghost use Rattle.aql_session.specs.Bound.{last_from};
-    ghost use Rattle.aql_session.specs.LatestNames.{latest_in};
+    ghost use Rattle.aql_session.specs.LatestNames.{AreKept};
 
     ghost view = { λ s. zip s.names.items s.globals };
 
-    ghost invariant = { λ s. (length s.names.items ≡ length s.globals) × ((x : List ℕ) → latest_in s.latest x ≡ last_from 1 s.names.items x) };
+    ghost invariant = { λ s. AreKept s.names.items s.globals s.latest };
 }
 
 impl Session {
@@ -143,9 +141,12 @@ fn push_position(
     name: Str,
     value: Option<Held>,
 ) -> Result<(), Memory>
-    ensures pushed { OnOk result ((globals.new ≡ globals.old ++ held_value value ∷ []) × (names.new.items ≡ names.old.items ++ name ∷ [])
-        × GainsName latest.old latest.new name (length names.old.items + 1)) }
-    ensures as_before { OnErr result ((globals.new ≡ globals.old) × (names.new.items ≡ names.old.items) × SameNames latest.old latest.new) }
+    ensures pushed { OnOk result (globals.new ≡ globals.old ++ held_value value ∷ []) }
+    ensures named { OnOk result (names.new.items ≡ names.old.items ++ name ∷ []) }
+    ensures last { OnOk result (GainsName latest.old latest.new name (length names.old.items + 1)) }
+    ensures same_outcomes { OnErr result (globals.new ≡ globals.old) }
+    ensures same_names { OnErr result (names.new.items ≡ names.old.items) }
+    ensures same_last { OnErr result (SameNames latest.old latest.new) }
 {
     let (key, value) = both(name.copy(alloc), Ok(value))?;
     let n = names.len() as u64 + 1;

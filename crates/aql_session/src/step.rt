@@ -1,28 +1,29 @@
 //! One declaration after another.
-ghost use Rattle.std.specs.Prelude.{◌≡◌, ◌≤◌, ◌-◌, ◌++◌, ◌∷◌, [], length, Some, IfOk, IfErr, IsErrOf, OnOk, OnErr};
+ghost use Rattle.std.specs.Prelude.{◌≡◌, ◌≤◌, ◌-◌, [], length, Some, IfOk, IfErr, IsErrOf, OnOk, OnErr};
 ghost use Rattle.std.specs.List.{slice_get};
 ghost use Rattle.std.specs.Option.{ForSome};
 ghost use Rattle.aql_constraints.specs.Typed.{ArePrincipal, sorts_of};
-ghost use Rattle.aql_outside.specs.Causes.{Blames};
+ghost use Rattle.aql_syntax.specs.Size.{AreWithinLimits};
 ghost use Rattle.aql_syntax.specs.Sound.{OutcomesHave};
-ghost use Rattle.aql_syntax.specs.Tree.{declared, it};
-ghost use Rattle.aql_syntax.specs.View.{decl_of, decls_of};
 ghost use Rattle.aql_types.specs.View.{sort_of};
+ghost use Rattle.aql_words.specs.Words.{most_budget, most_workers};
 ghost use Rattle.nrca_runs.specs.Scope.{held_value};
 ghost use Rattle.nrca_term.specs.View.{term_of};
-ghost use Rattle.aql_session.specs.Bound.{AreBound, earlier_of, outcomes};
-ghost use Rattle.aql_session.specs.Step.{AreWithinLimits, ReadsNoRecords, IsAnswer, IsAnswerable, Binds, IsCause, IsOverTurns, ReadsNoFile};
-ghost use Rattle.aql_session.specs.Runs.{Stands, IsRun, IsAnswerOf};
+ghost use Rattle.aql_session.specs.Bound.{AreBound, outcomes};
+ghost use Rattle.aql_session.specs.Device.{BlamesFiles};
+ghost use Rattle.aql_session.specs.Numbered.{declarations, sorts, numbered, sort_numbered, so_far, IsAnswerTo, MayBeAnswered, BindsNext, StepFails, UnlessRead};
+ghost use Rattle.aql_session.specs.Runs.{StandsAt, HasWorkers, budget_of, declaration_of, declarations_of, sorts_at, RunsPosition, PositionFails, UnlessReadAt, AnswersRun, IsNameAt, BindsRun};
+ghost use Rattle.aql_session.specs.Step.{ReadsNoRecords, IsOverTurns};
 
 use crate::answer::{Answer, StepFault};
-use crate::runs::{Run, declaration, run_declaration};
+use crate::runs::{Position, Run, declaration, run_declaration};
 use crate::session::Session;
 use aql_constraints::typed::Typed;
 use aql_made::both;
 use aql_outside::{Files, Gate};
-use aql_syntax::ast::{Decl, Decls};
+use aql_syntax::ast::Decls;
 use aql_types::ty::Scheme;
-use aql_value::{Memory, Str};
+use aql_value::Memory;
 use aql_words::Options;
 use nrca_array::Held;
 use nrca_term::{Core, Trace};
@@ -32,10 +33,10 @@ use std::thread::Threads;
 impl Session {
     /// Answers declaration n, counted from 1, and binds it under its name.
     ///
-    /// A query is evaluated within the budget. Of a readval first the argument is evaluated; where it is
-    /// undefined, so is the readval, and no call is made on the files. Faults come in this order: `Query`
-    /// (the argument of a readval, too), `Cells`, then those of the file. After a fault the session is as
-    /// before.
+    /// A query is evaluated within the budget. Of a readval first the argument is evaluated; where
+    /// it is undefined, so is the readval, and no call is made on the files. Faults come in this
+    /// order: `Query` (the argument of a readval, too), `Cells`, then those of the file. After a
+    /// fault the session is as before.
     pub fn step<R: Threads + Sync, F: Files, G: Gate>(
         &mut self,
         rt: &R,
@@ -50,37 +51,42 @@ impl Session {
         // n is the first position that is not bound, and `typed` is what the check answered.
         requires first { 1 ≤ n }
         requires last { n ≤ length decls.now.items.items }
-        requires bound { AreBound (decls_of decls.now.items.items) n self.old }
-        requires checked { ArePrincipal [] (decls_of decls.now.items.items) (sorts_of typed.now.items.items) }
-        requires types { OutcomesHave (earlier_of (decls_of decls.now.items.items) (outcomes self.old)) }
-        requires limits { AreWithinLimits (decls_of decls.now.items.items) n }
-        requires arrays { ForSome (slice_get (decls_of decls.now.items.items) (n - 1)) ReadsNoRecords }
-        requires workers { (1 ≤ options.now.workers) × (options.now.workers ≤ 64) }
-        requires budget { options.now.budget ≤ 50000000 }
+        requires bound { AreBound (declarations decls.now) n self.old }
+        requires checked { ArePrincipal [] (declarations decls.now) (sorts typed.now) }
+        requires types { OutcomesHave (so_far decls.now (outcomes self.old)) }
+        requires limits { AreWithinLimits (declarations decls.now) n }
+        requires arrays { ForSome (numbered decls.now n) ReadsNoRecords }
+        requires workers { (1 ≤ options.now.workers) × (options.now.workers ≤ most_workers) }
+        requires budget { options.now.budget ≤ most_budget }
 
         // The answer, which comes only within the budget.
-        ensures answer { IfOk result (λ a. ForSome (slice_get (decls_of decls.now.items.items) (n - 1)) (λ d.
-            IsAnswer d (earlier_of (decls_of decls.now.items.items) (outcomes self.old)) (slice_get (sorts_of typed.now.items.items) (n - 1)) a)) }
-        ensures answerable { OnOk result (ForSome (slice_get (decls_of decls.now.items.items) (n - 1)) (λ d.
-            IsAnswerable d (earlier_of (decls_of decls.now.items.items) (outcomes self.old)) options.now.budget (F.holds files.old))) }
+        ensures answer { IfOk result (IsAnswerTo decls.now typed.now n (outcomes self.old)) }
+        ensures answerable { OnOk result
+            (MayBeAnswered decls.now n (outcomes self.old) options.now (F.holds files.old)) }
         // The session has one position more, with the declaration's outcome.
-        ensures binds { OnOk result (ForSome (slice_get (decls_of decls.now.items.items) (n - 1)) (λ d.
-            Binds d (earlier_of (decls_of decls.now.items.items) (outcomes self.old)) (F.holds files.old) self.old self.new)) }
+        ensures binds { OnOk result (BindsNext decls.now n (F.holds files.old) self.old self.new) }
 
         // Each fault has its cause, and leaves the session as it was.
-        ensures cause { IfErr result (λ f. ForSome (slice_get (decls_of decls.now.items.items) (n - 1)) (λ d.
-            IsCause d (earlier_of (decls_of decls.now.items.items) (outcomes self.old)) options.now.budget (F.holds files.old) (F.faults files.old) (F.faults files.new) f)) }
+        ensures cause { IfErr result
+            (StepFails decls.now n (outcomes self.old) options.now F.Files files.old files.new) }
         ensures as_before { OnErr result (self.new ≡ self.old) }
 
-        // The files keep what they hold, their faults end in `Device`, and no call is made on them unless a file is read.
+        // The files keep what they hold, their faults end in `Device`, and no call is made on them
+        // unless a file is read.
         ensures kept { F.holds files.new ≡ F.holds files.old }
-        ensures blamed { Blames F.quiet (IsErrOf result StepFault.Device) (F.faults files.old) (F.faults files.new) }
-        ensures untouched { ForSome (slice_get (decls_of decls.now.items.items) (n - 1)) (λ d.
-            ReadsNoFile d (earlier_of (decls_of decls.now.items.items) (outcomes self.old)) options.now.budget → files.new ≡ files.old) }
+        ensures blamed { BlamesFiles F.Files files.old files.new (IsErrOf result StepFault.Device) }
+        ensures untouched { UnlessRead decls.now n (outcomes self.old) options.now
+            (files.new ≡ files.old) }
         ensures unread { IfErr result (λ f. IsOverTurns f → files.new ≡ files.old) }
     {
-        match self.run_next(rt, alloc, decls, typed, n, options, files, gate) {
-            Ok(run) => Ok(self.keep(alloc, decls, typed, n, run)?),
+        let at = Position {
+            decls,
+            typed,
+            n,
+            options,
+        };
+        match self.run_next(rt, alloc, &at, files, gate) {
+            Ok(run) => Ok(self.keep(alloc, &at, run)?),
             Err(fault) => Err(fault),
         }
     }
@@ -90,59 +96,35 @@ impl Session {
         &self,
         rt: &R,
         alloc: Global,
-        decls: &Decls,
-        typed: &Typed,
-        n: u64,
-        options: &Options,
+        at: &Position,
         files: &mut F,
         gate: &G,
     ) -> Result<Run, StepFault>
-        requires stands { Stands (decls_of decls.now.items.items) (sorts_of typed.now.items.items) n (outcomes self.now) }
-        requires arrays { ForSome (slice_get (decls_of decls.now.items.items) (n - 1)) ReadsNoRecords }
-        requires workers { (1 ≤ options.now.workers) × (options.now.workers ≤ 64) }
-        requires budget { options.now.budget ≤ 50000000 }
-        ensures ran { IfOk result (λ r. ForSome (slice_get (decls_of decls.now.items.items) (n - 1)) (λ d.
-            IsRun d (earlier_of (decls_of decls.now.items.items) (outcomes self.now)) options.now.budget (F.holds files.old) r)) }
-        ensures cause { IfErr result (λ f. ForSome (slice_get (decls_of decls.now.items.items) (n - 1)) (λ d.
-            IsCause d (earlier_of (decls_of decls.now.items.items) (outcomes self.now)) options.now.budget (F.holds files.old) (F.faults files.old) (F.faults files.new) f)) }
+        requires stands { StandsAt at.now (outcomes self.now) }
+        requires arrays { ForSome (declaration_of at.now) ReadsNoRecords }
+        requires workers { HasWorkers at.now }
+        requires budget { budget_of at.now ≤ most_budget }
+        ensures ran { IfOk result (RunsPosition at.now (outcomes self.now) (F.holds files.old)) }
+        ensures cause { IfErr result
+            (PositionFails at.now (outcomes self.now) F.Files files.old files.new) }
         ensures kept { F.holds files.new ≡ F.holds files.old }
-        ensures blamed { Blames F.quiet (IsErrOf result StepFault.Device) (F.faults files.old) (F.faults files.new) }
-        ensures untouched { ForSome (slice_get (decls_of decls.now.items.items) (n - 1)) (λ d.
-            ReadsNoFile d (earlier_of (decls_of decls.now.items.items) (outcomes self.now)) options.now.budget → files.new ≡ files.old) }
+        ensures blamed { BlamesFiles F.Files files.old files.new (IsErrOf result StepFault.Device) }
+        ensures untouched { UnlessReadAt at.now (outcomes self.now) (files.new ≡ files.old) }
         ensures unread { IfErr result (λ f. IsOverTurns f → files.new ≡ files.old) }
     {
-        run_declaration(
-            rt,
-            alloc,
-            &self.globals,
-            decls,
-            typed,
-            n,
-            options,
-            files,
-            gate,
-        )
+        run_declaration(rt, alloc, &self.globals, at, files, gate)
     }
 
     // The answer of a run, with the position bound.
-    fn keep(
-        &mut self,
-        alloc: Global,
-        decls: &Decls,
-        typed: &Typed,
-        n: u64,
-        run: Run,
-    ) -> Result<Answer, Memory>
-        requires first { 1 ≤ n }
-        requires last { n ≤ length (decls_of decls.now.items.items) }
-        requires typed { length (sorts_of typed.now.items.items) ≡ length (decls_of decls.now.items.items) }
-        ensures answer { IfOk result (λ a. ForSome (slice_get (decls_of decls.now.items.items) (n - 1)) (λ d.
-            IsAnswerOf d (slice_get (sorts_of typed.now.items.items) (n - 1)) run a)) }
-        ensures bound { OnOk result (ForSome (slice_get (decls_of decls.now.items.items) (n - 1)) (λ d.
-            self.new ≡ self.old ++ (declared d, held_value run.value) ∷ [])) }
+    fn keep(&mut self, alloc: Global, at: &Position, run: Run) -> Result<Answer, Memory>
+        requires first { 1 ≤ at.now.n }
+        requires last { at.now.n ≤ length (declarations_of at.now) }
+        requires typed { length (sorts_at at.now) ≡ length (declarations_of at.now) }
+        ensures answer { IfOk result (AnswersRun at.now run) }
+        ensures bound { OnOk result (BindsRun at.now run self.old self.new) }
         ensures as_before { OnErr result (self.new ≡ self.old) }
     {
-        let (answer, value) = answer_of(alloc, decls, typed, n, run)?;
+        let (answer, value) = answer_of(alloc, at, run)?;
         let bound = self.bind(alloc, &answer.name, value);
         let (answer, _) = both(Ok(answer), bound)?;
         Ok(answer)
@@ -150,19 +132,12 @@ impl Session {
 }
 
 // The answer of a run, and its value.
-fn answer_of(
-    alloc: Global,
-    decls: &Decls,
-    typed: &Typed,
-    n: u64,
-    run: Run,
-) -> Result<(Answer, Option<Held>), Memory>
-    requires first { 1 ≤ n }
-    requires last { n ≤ length (decls_of decls.now.items.items) }
-    requires typed { length (sorts_of typed.now.items.items) ≡ length (decls_of decls.now.items.items) }
-    ensures answer { IfOk result (λ x. ForSome (slice_get (decls_of decls.now.items.items) (n - 1)) (λ d.
-        IsAnswerOf d (slice_get (sorts_of typed.now.items.items) (n - 1)) run x.0)) }
-    ensures name { IfOk result (λ x. ForSome (slice_get (decls_of decls.now.items.items) (n - 1)) (λ d. x.0.name ≡ declared d)) }
+fn answer_of(alloc: Global, at: &Position, run: Run) -> Result<(Answer, Option<Held>), Memory>
+    requires first { 1 ≤ at.now.n }
+    requires last { at.now.n ≤ length (declarations_of at.now) }
+    requires typed { length (sorts_at at.now) ≡ length (declarations_of at.now) }
+    ensures answer { IfOk result (λ x. AnswersRun at.now run x.0) }
+    ensures name { IfOk result (λ x. IsNameAt at.now x.0.name) }
     ensures value { IfOk result (λ x. held_value x.1 ≡ held_value run.value) }
 {
     let Run {
@@ -171,8 +146,8 @@ fn answer_of(
         turns,
         value,
     } = run;
-    let name = name_of(alloc, declaration(decls, n));
-    let head = both(name, scheme(typed, n).copy(alloc));
+    let name = declaration(at.decls, at.n).name_copy(alloc);
+    let head = both(name, scheme(at.typed, at.n).copy(alloc));
     let parts = both(head, with_copy(alloc, start));
     let (value, ((name, ty), (start, plan))) = both(Ok(value), parts)?;
     let answer = Answer {
@@ -198,8 +173,8 @@ fn with_copy(alloc: Global, term: Core) -> Result<(Core, Core), Memory>
 // The scheme of declaration n.
 fn scheme(typed: &Typed, n: u64) -> &Scheme
     requires first { 1 ≤ n }
-    requires last { n ≤ length (sorts_of typed.now.items.items) }
-    ensures { slice_get (sorts_of typed.now.items.items) (n - 1) ≡ Some (sort_of result.now) }
+    requires last { n ≤ length (sorts typed.now) }
+    ensures { sort_numbered typed.now n ≡ Some (sort_of result.now) }
 {
     scheme_at(&typed.items, n)
 }
@@ -210,32 +185,4 @@ fn scheme_at(schemes: &[Scheme], n: u64) -> &Scheme
     ensures { slice_get (sorts_of schemes.now) (n - 1) ≡ Some (sort_of result.now) }
 {
     &schemes[(n - 1) as usize]
-}
-
-// The name that a declaration binds.
-fn name_of(alloc: Global, decl: &Decl) -> Result<Str, Memory>
-    ensures { IfOk result (λ s. s ≡ declared (decl_of decl.now)) }
-{
-    match decl {
-        Decl::Val { name, expr: _ } => name.copy(alloc),
-        Decl::Macro {
-            name,
-            pattern: _,
-            body: _,
-        } => name.copy(alloc),
-        Decl::Read {
-            name,
-            reader: _,
-            expr: _,
-        } => name.copy(alloc),
-        Decl::Bare { expr: _ } => bare_name(alloc),
-    }
-}
-
-// The name of a bare expression.
-fn bare_name(alloc: Global) -> Result<Str, Memory>
-    ensures { IfOk result (λ s. s ≡ it) }
-{
-    let bytes = Vec::from_slice(alloc, b"it")?;
-    Ok(Str { bytes })
 }

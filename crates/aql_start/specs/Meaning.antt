@@ -2,14 +2,12 @@
 use Rattle.std.proofs.Common.{◌≡◌, List, [], length, Option, Some, None, refl, ap, ◌∙◌, arith, suc}
 use Rattle.aql_value.specs.Datum.{Datum, set, nil}
 use Rattle.aql_value.specs.Operations.{as_truth, as_set, set_of, sum_of, union_all, walked}
-use Rattle.aql_value.specs.Partial.{◌>>=◌, each}
+use Rattle.aql_value.specs.Partial.{◌>>=◌, or_else, each}
 use Rattle.aql_value.specs.Strict.{Strict, strict_value}
 use Rattle.aql_syntax.specs.Tree.{Tree, name, op, members, comp, tab, bindings, choice, conjunction, disjunction, negation, default, apply, function, summap, Trees, no_tree, tree, Axes, no_axis, axis, Quals, no_qual, from, cells, same, test, Defs, no_def, def, axes, count_axes}
 use Rattle.aql_syntax.specs.Matching.{Env, Globals, on_match, match}
-use Rattle.aql_syntax.specs.Denotation as denotation
 use Rattle.aql_syntax.specs.Denotation.{den, dens, bound_values, rows, defs}
 use Rattle.nrca_term.specs.Term.{Term}
-use Rattle.nrca_term.specs.Meaning as core
 use Rattle.nrca_term.specs.Meaning.{Outcomes, cden}
 use Rattle.nrca_term.specs.Nodes.{bottom_term, empty_term}
 use Rattle.nrca_term.specs.Variants.{cden-strict}
@@ -25,10 +23,9 @@ pub length-bound_terms : (xs : Axes) (known : Knowns) (s : Scope) → length (bo
 length-bound_terms no_axis known s = refl
 length-bound_terms (axis x e rest) known s = ap suc (length-bound_terms rest known s)
 
--- the surface and the core mean the same by a first value and else a second
-or_else-same : (o p q r : Option Datum) → o ≡ q → p ≡ r → core.or_else o p ≡ denotation.or_else q r
-or_else-same o p None r h i = rw (h, i) refl
-or_else-same o p (Some v) r h i = rw h refl
+-- a first value and else a second
+or_else-same : (o p q r : Option Datum) → o ≡ q → p ≡ r → or_else o p ≡ or_else q r
+or_else-same o p q r h k = λ i. or_else (h i) (k i)
 
 mutual
   pub cden-start : (V : Outcomes) (globals : Globals) (known : Knowns) → Stand V globals known → (e : Tree) → IsWorth V (start e known) (den e globals)

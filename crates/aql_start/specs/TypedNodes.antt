@@ -6,7 +6,7 @@ use Rattle.aql_value.specs.Lists.{Every, Every-take, Every-drop}
 use Rattle.aql_value.specs.Strict.{Strict}
 use Rattle.aql_value.specs.declared.ops.CompareOp.TheVariants as compare_op
 use Rattle.aql_types.specs.Types as types
-use Rattle.aql_types.specs.Types.{Ty, natural, truth, Tys, no_type, type, Subst, IsType, AreTypes, IsRank, apply, apply_all, tys_of, count}
+use Rattle.aql_types.specs.Types.{Ty, natural, truth, Tys, no_type, type, Subst, IsType, AreTypes, apply, apply_all, tys_of, count}
 use Rattle.aql_types.specs.TypeLaws.{count_apply}
 use Rattle.aql_types.specs.OperationTypes.{strict_rule}
 use Rattle.aql_syntax.specs.Tree as tree
@@ -19,7 +19,7 @@ use Rattle.nrca_term.specs.Nodes.{variable, bottom_term, empty_term, let_term, i
 use Rattle.aql_start.specs.Start as start_term
 use Rattle.aql_start.specs.Start.{Known, Knowns, index_of, position_term, name_term, macro_term, call_term, constant_term, bound, bounds, grown, growns, equal_term, match_term, parts_term, matching, united}
 use Rattle.aql_start.specs.Scopes.{env_of, Leads, leads, fits, further, rejoined}
-use Rattle.aql_start.specs.Laws.{IsWrittenForm}
+use Rattle.aql_syntax.specs.Written.{IsWrittenForm}
 
 -- the types of positions
 abbrev pub Given : Type 1

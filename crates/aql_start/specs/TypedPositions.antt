@@ -12,7 +12,8 @@ use Rattle.nrca_term.specs.Typing.{instances, ctyped}
 use Rattle.nrca_term.specs.Nodes.{bottom_term}
 use Rattle.aql_start.specs.Start.{Known, numbered, inlined, Knowns, position_term, macro_term, hidden, inline, start, knowns_of}
 use Rattle.aql_start.specs.Positions.{length-hidden, env_of-hidden}
-use Rattle.aql_start.specs.Laws.{IsWritten, IsWrittenDecl, EachPrincipal, value_type, types_of, StartTyped}
+use Rattle.aql_syntax.specs.Written.{IsWritten, DeclWritten}
+use Rattle.aql_start.specs.Laws.{EachPrincipal, value_type, types_of, StartTyped}
 use Rattle.aql_start.specs.TypedNodes.{Given, Typed, apply-type, typed-bottom, typed-matching}
 use Rattle.aql_start.specs.Types.{typed-start}
 
@@ -156,7 +157,7 @@ typed-positions (d ∷ ds) sorts h later u proper =
         (apply-type u proper T t, [], (refl, (value_type h.0, r.0, last_type (types_of h.1) later (value_type h.0) (length ds) (length-types ds h.1 h.5), r.1)), refl))
         (λ A B a b k env. absurd (no-macro d (scope_of ds) n A B k))
 
-    one : (d : Declaration) → IsWrittenDecl d → IsPrincipal d (scope_of ds) h.0 → Before h.0 h.1 ds later → Typed (instances (types_of h.1 ++ (value_type h.0 ∷ later))) (scope_of (d ∷ ds)) (knowns_of (d ∷ ds)) u
+    one : (d : Declaration) → DeclWritten d → IsPrincipal d (scope_of ds) h.0 → Before h.0 h.1 ds later → Typed (instances (types_of h.1 ++ (value_type h.0 ∷ later))) (scope_of (d ∷ ds)) (knowns_of (d ∷ ds)) u
     one (val x e) w i before = position (val x e) i (λ s t k. k) before
     one (mac f p body) w i before =
         one_more _ (scope_of ds) (knowns_of ds) u (mac f p body) (inlined (inline p body (knowns_of ds))) (before u proper)

@@ -6,9 +6,9 @@ use Rattle.std.specs.List.{slice_get}
 use Rattle.aql_value.specs.Lists.{Every}
 use Rattle.aql_value.specs.Strict.{Strict}
 use Rattle.aql_types.specs.Types as types
-use Rattle.aql_types.specs.Types.{Ty, natural, truth, Subst, apply, IsType, IsRank, tys_of, index_type}
+use Rattle.aql_types.specs.Types.{Ty, natural, truth, Subst, apply, IsType, IsRank, tys_of}
 use Rattle.aql_syntax.specs.Tree as tree
-use Rattle.aql_syntax.specs.Tree.{Pat, Pats, no_pat, pat, Tree, name, op, members, comp, tab, bindings, choice, conjunction, disjunction, negation, default, function, summap, Trees, no_tree, Axes, no_axis, axis, Quals, no_qual, from, cells, same, test, Defs, no_def, def, count_pats, count_axes, axes}
+use Rattle.aql_syntax.specs.Tree.{Pats, no_pat, pat, Tree, name, op, members, comp, tab, bindings, choice, conjunction, disjunction, negation, default, function, summap, Trees, no_tree, Axes, no_axis, axis, Quals, no_qual, from, cells, same, test, Defs, no_def, def, count_pats, count_axes, axes}
 use Rattle.aql_syntax.specs.Names.{find}
 use Rattle.aql_syntax.specs.Typing.{Scope, Locals, FitsAxes, with_indices, Has, HasAll, HasEach, BoundsHave, Rows, Binds}
 use Rattle.aql_syntax.specs.Sound.{rule-instance}
@@ -19,7 +19,7 @@ use Rattle.aql_start.specs.Start as start_term
 use Rattle.aql_start.specs.Start.{Knowns, index_of, call_term, bound, grown, matching, axes_term, dimension, loops_term, under, bound_axes, grown_axes, index_terms, cell_term, cell_scope, array_term, under_axes, start, starts, bound_terms, quals_term, defs_term}
 use Rattle.aql_start.specs.Scopes.{env_of, length-bound, length-bound_axes, past}
 use Rattle.aql_start.specs.Meaning.{length-bound_terms}
-use Rattle.aql_start.specs.Laws.{IsWritten, AllWritten, AxesWritten, QualsWritten, DefsWritten}
+use Rattle.aql_syntax.specs.Written.{IsWritten, AreWritten, AxesWritten, QualsWritten, DefsWritten}
 use Rattle.aql_start.specs.TypedNodes.{Given, Typed, apply-type, typed-leaf, typed-one, typed-choose, typed-binding, typed-let, typed-big_union, typed-variable, typed-bottom, typed-empty, TermsTyped, typed-strict, typed-united, local_instances, typed-name, typed-call, takes-type, Inside, typed-inside_next, typed-match_term, HasIn, typed-matching, part-types}
 
 -- Array generators.
@@ -188,8 +188,8 @@ mutual
   typed-start G g known u all (comp head quals) w locals T k h s env l v =
       let p : IsType h.0 = subst IsType h.2 k in
       subst (λ U. ctyped G env (start (comp head quals) known s) (apply u U)) (sym h.2)
-      (typed-quals_term G g known u all quals w.1 locals h.1 h.3 (start head known) (apply u h.0) (apply-type u all.proper h.0 p)
-      (typed-start G g known u all head w.0 h.1 h.0 p h.4) s env l v)
+      (typed-quals_term G g known u all quals w.0 locals h.1 h.3 (start head known) (apply u h.0) (apply-type u all.proper h.0 p)
+      (typed-start G g known u all head w.1 h.1 h.0 p h.4) s env l v)
   typed-start G g known u all (tab xs body) w locals T k h s env l v =
       let p : IsType (types.array_of (count_axes xs) h.0) = subst IsType h.2 k in
       let e = length-bound_terms xs known s in
@@ -236,7 +236,7 @@ mutual
       (λ m. typed-bottom G m natural tt) (typed-start G g known u all body w.0 h.1 natural tt h.6))
       (apply u h.0, refl, refl))
 
-  typed-starts : (G : Given) (g : Scope) (known : Knowns) (u : Subst) → Typed G g known u → (es : Trees) → AllWritten es → (locals : Locals) (Ts : List Ty) → Every IsType Ts → HasAll es g locals Ts →
+  typed-starts : (G : Given) (g : Scope) (known : Knowns) (u : Subst) → Typed G g known u → (es : Trees) → AreWritten es → (locals : Locals) (Ts : List Ty) → Every IsType Ts → HasAll es g locals Ts →
       (s : start_term.Scope) (env : List Ty) → length s ≡ length env → env_of s env ≡ local_instances u locals → TermsTyped G env (starts es known s) (map (apply u) Ts)
   typed-starts G g known u all no_tree w locals Ts k h s env l v = ap (map (apply u)) h
   typed-starts G g known u all (tree.tree e es) w locals Ts k h s env l v =
@@ -248,7 +248,7 @@ mutual
         typed-starts G g known u all es w.1 locals h.1 p.1 h.4 s env l v,
       )
 
-  typed-each : (G : Given) (g : Scope) (known : Knowns) (u : Subst) → Typed G g known u → (es : Trees) → AllWritten es → (locals : Locals) (A : Ty) → IsType A → HasEach es g locals A →
+  typed-each : (G : Given) (g : Scope) (known : Knowns) (u : Subst) → Typed G g known u → (es : Trees) → AreWritten es → (locals : Locals) (A : Ty) → IsType A → HasEach es g locals A →
       (s : start_term.Scope) (env : List Ty) → length s ≡ length env → env_of s env ≡ local_instances u locals → Every (λ t. ctyped G env t (apply u A)) (starts es known s)
   typed-each G g known u all no_tree w locals A k h s env l v = tt
   typed-each G g known u all (tree.tree e es) w locals A k h s env l v =

@@ -39,6 +39,7 @@ status_at (suc (suc (suc (suc (suc (suc (suc (suc (suc (suc (suc (suc zero))))))
 status_at (suc (suc (suc (suc (suc (suc (suc (suc (suc (suc (suc (suc (suc zero))))))))))))) = status.Files
 status_at (suc (suc (suc (suc (suc (suc (suc (suc (suc (suc (suc (suc (suc (suc n)))))))))))))) = status.Unbuilt
 
+-- the status with the number of a status is that one
 back : (s : Status) → status_at (code_of s) ≡ s
 back status.Done = refl
 back status.Memory = refl

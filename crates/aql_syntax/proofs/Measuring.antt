@@ -1,9 +1,8 @@
 -- Sizes along the code's lists.
-use Rattle.std.proofs.Common.{ℕ, zero, suc, ◌≡◌, ◌+◌, ◌<◌, ◌≤◌, ◌*◌, ◌/◌, ◌==◌, ◌&&◌, ◌≢◌, max, Bool, true, false, List, [], ◌∷◌, ◌++◌, Some, None, refl, sym, ap, ◌∙◌, arith, length, take, get_or, reverse, append_assoc, if◌then◌else◌, nat_eq}
+use Rattle.std.proofs.Common.{ℕ, zero, suc, ◌≡◌, ◌+◌, ◌<◌, ◌≤◌, ◌*◌, ◌/◌, ◌==◌, ◌≢◌, max, Bool, true, false, List, [], ◌∷◌, ◌++◌, Some, None, refl, sym, ap, ◌∙◌, arith, length, take, get_or, reverse, append_assoc, if◌then◌else◌}
 use Rattle.std.proofs.lemmas.Bool.{eqb-true, eq-eqb}
 use Rattle.std.specs.List.{slice_get}
 use Rattle.std.proofs.lemmas.List.{reverse-append}
-use Rattle.std.specs.Cmp.Lexicographic.{pointwise}
 use Rattle.aql_syntax.specs.Names.{names_equal, find}
 use Rattle.aql_syntax.specs.Tree as tree
 use Rattle.aql_syntax.specs.Tree.{Name, Declaration, declared, Quals}
@@ -28,17 +27,6 @@ use Rattle.aql_syntax.specs.declared.ast.LetBind.{LetBind}
 use Rattle.aql_syntax.specs.declared.ast.Decl.{Decl}
 use Rattle.aql_syntax.specs.declared.ast.Qual as code_qual
 use Rattle.aql_syntax.specs.declared.ast.Qual.{Qual}
-
-both_equal : (c p q : Bool) → p ≡ q → (c && p) ≡ (if c then q else false)
-both_equal true p q e = e
-both_equal false p q e = refl
-
--- names are equal where their bytes are
-pub names_equal_pointwise : (a b : List ℕ) → pointwise nat_eq a b ≡ names_equal a b
-names_equal_pointwise [] [] = refl
-names_equal_pointwise [] (y ∷ b) = refl
-names_equal_pointwise (x ∷ a) [] = refl
-names_equal_pointwise (x ∷ a) (y ∷ b) = both_equal (nat_eq x y) _ _ (names_equal_pointwise a b)
 
 onto_last : (ds : List Decl) (d : Decl) (acc : List Declaration) → onto (ds ++ d ∷ []) acc ≡ decl_of d ∷ onto ds acc
 onto_last [] d acc = refl

@@ -3,7 +3,7 @@ use Rattle.std.specs.Prelude.{ℕ, true, false, List, [], ◌∷◌, Option, Som
 use Rattle.aql_value.specs.Datum.{Datum, natural, truth}
 use Rattle.aql_value.specs.Indices.{indices}
 use Rattle.aql_value.specs.Lists.{below}
-use Rattle.aql_value.specs.Partial.{◌>>=◌, each, concat}
+use Rattle.aql_value.specs.Partial.{◌>>=◌, or_else, each, concat}
 use Rattle.aql_value.specs.Operations.{as_natural, as_truth, as_set, dims_of, set_of, cell_of, sum_of, array_of}
 use Rattle.aql_value.specs.Strict.{strict_value}
 use Rattle.aql_syntax.specs.Tree.{Tree, name, op, members, comp, tab, bindings, choice, conjunction, disjunction, negation, default, apply, function, summap, Trees, no_tree, tree, Axes, no_axis, axis, Quals, no_qual, from, cells, same, test, Defs, no_def, def, count_pats, axes}
@@ -20,11 +20,6 @@ call (Some (macro f turns)) w = f w
 abbrev pub in_head : Option Datum → Option Global → Option Global
 in_head (Some w) g = None
 in_head None g = g
-
--- the first outcome's value, where it has one, and else the second outcome
-abbrev pub or_else : Option Datum → Option Datum → Option Datum
-or_else (Some w) o = Some w
-or_else None o = o
 
 -- the lists that f gives at each index below the dimensions, in row-major order, one after another
 abbrev pub over_indices : {A : Type 0} → List ℕ → (List ℕ → Option (List A)) → Option (List A)

@@ -1,7 +1,7 @@
 -- Laws of names, macros, rows and turns.
-use Rattle.std.proofs.Common.{◌≡◌, ℕ, ◌+◌, Bool, true, false, ◌==◌, List, [], ◌∷◌, ◌++◌, length, Option, Some, None, refl, sym, ap, ◌∙◌, if◌then◌else◌, append_assoc}
+use Rattle.std.proofs.Common.{◌≡◌, ℕ, ◌+◌, Bool, true, false, List, [], ◌∷◌, ◌++◌, length, Option, Some, None, refl, sym, ap, ◌∙◌, if◌then◌else◌, append_assoc}
 use Rattle.std.proofs.Math.Path.{fun_ext}
-use Rattle.std.proofs.lemmas.Bool.{eqb-true, eq-eqb}
+use Rattle.std.proofs.lemmas.Slice.Eq.{bytes_eq-Decides}
 use Rattle.aql_value.specs.Datum.{Datum}
 use Rattle.aql_value.specs.Partial.{◌>>=◌, each, concat, total, if_some}
 use Rattle.aql_value.specs.Operations.{as_truth, as_set, dims_of, cell_of}
@@ -16,18 +16,10 @@ use Rattle.aql_syntax.specs.Script.{Earlier, globals_of}
 -- Names.
 
 pub names_equal-self : (x : Name) → names_equal x x ≡ true
-names_equal-self [] = refl
-names_equal-self (a ∷ x) = rw (eq-eqb a a refl) (names_equal-self x)
+names_equal-self x = (bytes_eq-Decides x x).1 refl
 
 pub names_equal-true : (x y : Name) → names_equal x y ≡ true → x ≡ y
-names_equal-true [] [] e = refl
-names_equal-true [] (b ∷ y) e = cc
-names_equal-true (a ∷ x) [] e = cc
-names_equal-true (a ∷ x) (b ∷ y) e = go (a == b) refl (names_equal-true x y) e
-  where
-    go : (c : Bool) → (a == b) ≡ c → (names_equal x y ≡ true → x ≡ y) → (if c then names_equal x y else false) ≡ true → a ∷ x ≡ b ∷ y
-    go true h f k = let p : a ≡ b = eqb-true a b h in let q : x ≡ y = f k in cc
-    go false h f k = cc
+names_equal-true x y e = (bytes_eq-Decides x y).0 e
 
 -- the first entry of a name is found
 pub find-here : {A : Type 0} (x : Name) (a : A) (rest : List (Name × A)) → find x ((x, a) ∷ rest) ≡ Some a

@@ -1,5 +1,5 @@
 -- The lexis: which blanks and tokens a script is made of. The longest token counts.
-use Rattle.std.specs.Prelude.{ℕ, ◌≡◌, ◌≢◌, ◌+◌, ◌-◌, ◌*◌, ◌^◌, ◌<◌, List, [], ◌∷◌, ◌++◌, Bool, true, false, ◌&&◌, ◌||◌, ◌==◌, nat_lt, length, if◌then◌else◌}
+use Rattle.std.specs.Prelude.{ℕ, ◌≡◌, ◌≢◌, ◌+◌, ◌-◌, ◌*◌, ◌^◌, ◌<◌, List, [], ◌∷◌, ◌++◌, Bool, true, false, ◌&&◌, ◌||◌, ◌==◌, nat_lt, length, Option, Some, None, if◌then◌else◌}
 use Rattle.aql_syntax.specs.declared.sign.Sign.{Sign}
 use Rattle.aql_syntax.specs.declared.token.Token.{Token}
 use Rattle.aql_syntax.specs.declared.token.TokenKind.{TokenKind}
@@ -19,6 +19,12 @@ kind_of (named x) = kinds.Name
 kind_of (numeral n) = kinds.Number
 kind_of (quoted s) = kinds.Text
 kind_of (mark s) = if is_word s then kinds.Reserved else kinds.Sign
+
+-- what follows p, where it stands at the front
+abbrev pub behind : List ℕ → List ℕ → Option (List ℕ)
+behind [] s = Some s
+behind (a ∷ p) [] = None
+behind (a ∷ p) (b ∷ s) = if b == a then behind p s else None
 
 -- a byte from a to b
 abbrev pub is_between : ℕ → ℕ → ℕ → Bool

@@ -20,3 +20,5 @@ pub mod View
 pub mod ViewLaws
 pub mod Weakening
 pub mod Work
+pub mod Written
+pub mod WrittenLaws

@@ -1,12 +1,11 @@
 -- Names and what they stand for.
-use Rattle.std.specs.Prelude.{Bool, true, false, ◌==◌, List, [], ◌∷◌, Option, Some, None, if◌then◌else◌}
+use Rattle.std.specs.Prelude.{Bool, List, [], ◌∷◌, Option, Some, None, if◌then◌else◌}
+use Rattle.std.specs.Str.{bytes_eq}
 use Rattle.aql_syntax.specs.Tree.{Name}
 
+-- whether two names are the same bytes
 abbrev pub names_equal : Name → Name → Bool
-names_equal [] [] = true
-names_equal [] (b ∷ y) = false
-names_equal (a ∷ x) [] = false
-names_equal (a ∷ x) (b ∷ y) = if a == b then names_equal x y else false
+names_equal = bytes_eq
 
 -- the first entry of that name: the innermost local name, or the latest position
 abbrev pub find : {A : Type 0} → Name → List (Name × A) → Option A

@@ -1,5 +1,5 @@
 -- The size and the levels of a declaration in which every application of a macro has the macro's pattern and body in it.
-use Rattle.std.specs.Prelude.{ℕ, zero, suc, ◌+◌, ◌-◌, ◌*◌, ◌/◌, ◌==◌, max, List, [], ◌∷◌, Option, Some, None, if◌then◌else◌, reverse, take}
+use Rattle.std.specs.Prelude.{ℕ, zero, suc, ◌+◌, ◌-◌, ◌*◌, ◌/◌, ◌==◌, ◌≤◌, ◌<◌, ◌⊎◌, max, List, [], ◌∷◌, Option, Some, None, if◌then◌else◌, reverse, take}
 use Rattle.std.specs.List.{slice_get}
 use Rattle.aql_syntax.specs.Tree.{Name, Pat, bind, any, equals, refers, tuple, Pats, no_pat, pat, Tree, name, op, members, comp, tab, bindings, choice, conjunction, disjunction, negation, default, apply, function, summap, Trees, no_tree, tree, Axes, no_axis, axis, Quals, no_qual, from, cells, same, test, Defs, no_def, def, Declaration, val, mac, read, bare, declared, count_trees, count_axes}
 use Rattle.aql_syntax.specs.Names.{find}
@@ -188,3 +188,33 @@ expanded_size ds n = size_at (slice_get ds (n - 1)) (extents_of (before ds n))
 -- the expanded levels of declaration n, counted from 1
 abbrev pub expanded_levels : List Declaration → ℕ → ℕ
 expanded_levels ds n = levels_at (slice_get ds (n - 1)) (extents_of (before ds n))
+
+-- The limits.
+
+-- the most nodes of a declaration, every macro in its place
+abbrev pub most_nodes : ℕ
+most_nodes = 20000
+
+-- the most levels of it
+abbrev pub most_levels : ℕ
+most_levels = 1000
+
+-- a size and levels within the limits
+abbrev pub AreWithin : (size levels : ℕ) → Type 0
+AreWithin size levels = (size ≤ most_nodes) × (levels ≤ most_levels)
+
+-- one of the two passes its limit
+abbrev pub PassLimits : (size levels : ℕ) → Type 0
+PassLimits size levels = (most_nodes < size) ⊎ (most_levels < levels)
+
+-- declaration n, counted from 1, is within the limits
+abbrev pub IsWithinLimits : List Declaration → ℕ → Type 0
+IsWithinLimits ds n = AreWithin (expanded_size ds n) (expanded_levels ds n)
+
+-- each declaration from 1 up to n
+abbrev pub AreWithinLimits : List Declaration → ℕ → Type 0
+AreWithinLimits ds n = (k : ℕ) → 1 ≤ k → k ≤ n → IsWithinLimits ds k
+
+-- declaration n, counted from 1, passes a limit
+abbrev pub IsLarge : List Declaration → ℕ → Type 0
+IsLarge ds n = PassLimits (expanded_size ds n) (expanded_levels ds n)

@@ -4,12 +4,12 @@ use Rattle.std.specs.List.{slice_get}
 use Rattle.std.specs.Ordering.{is_eq}
 use Rattle.std.proofs.lemmas.List.{length-map}
 use Rattle.aql_value.specs.Datum as datum
-use Rattle.aql_value.specs.Datum.{Datum, Table}
+use Rattle.aql_value.specs.Datum.{Datum}
 use Rattle.aql_value.specs.Order.{datum_cmp}
 use Rattle.aql_value.specs.Indices.{indices}
 use Rattle.aql_value.specs.RowMajorLaws.{indices_lengths}
 use Rattle.aql_value.specs.Lists.{Every, Every-all, Every-lists, below}
-use Rattle.aql_value.specs.Partial.{◌>>=◌, each, concat}
+use Rattle.aql_value.specs.Partial.{◌>>=◌, each, concat, or_else}
 use Rattle.aql_value.specs.PartialLaws.{then-is, each-values, each-length}
 use Rattle.aql_value.specs.Operations.{as_natural, as_truth, as_set, as_array, part_of, in_range, sum_of, array_of, dims_of, cell_of, set_of}
 use Rattle.aql_value.specs.Indices.{cell}
@@ -21,11 +21,11 @@ use Rattle.aql_types.specs.OperationTypes.{strict_rule}
 use Rattle.aql_types.specs.ValueTypes.{HasType, HaveTypes}
 use Rattle.aql_types.specs.OperationLaws.{some-list, set-members, has-set, has-array, array-table, strict-sound, part-sound, cell-found}
 use Rattle.aql_syntax.specs.Tree as tree
-use Rattle.aql_syntax.specs.Tree.{Name, Constant, Pat, Pats, Tree, Trees, Axes, Quals, Defs, Declaration, count_pats, count_axes, axes}
+use Rattle.aql_syntax.specs.Tree.{Name, Pat, Pats, Tree, Trees, Axes, Quals, Defs, Declaration, count_pats, count_axes, axes}
 use Rattle.aql_syntax.specs.Names.{names_equal, find}
 use Rattle.aql_syntax.specs.Matching.{Env, Global, outcome, Globals, outcome_of, innermost, lookup, Match, hit, miss, undefined, on_match, with_value, compare_with, constant_value, match, match_parts, match_axes}
 use Rattle.aql_syntax.specs.Matching as matching
-use Rattle.aql_syntax.specs.Denotation.{call, in_head, or_else, over_indices, at_index, den, dens, bound_values, rows, defs}
+use Rattle.aql_syntax.specs.Denotation.{call, in_head, over_indices, at_index, den, dens, bound_values, rows, defs}
 use Rattle.std.specs.Option.{option_map}
 use Rattle.aql_syntax.specs.declared.ast.Kind.{Kind}
 use Rattle.aql_syntax.specs.declared.ast.Kind.TheVariants as kinds

@@ -3,13 +3,13 @@ use Rattle.std.proofs.Common.{◌≡◌, ℕ, suc, ◌+◌, true, false, List, [
 use Rattle.std.proofs.Math.Path.{fun_ext}
 use Rattle.aql_value.specs.Datum.{Datum, natural, truth}
 use Rattle.aql_value.specs.Indices.{indices}
-use Rattle.aql_value.specs.Partial.{◌>>=◌, each, concat, total, if_some}
+use Rattle.aql_value.specs.Partial.{◌>>=◌, each, concat, total, if_some, or_else}
 use Rattle.aql_value.specs.Operations.{as_natural, as_truth, as_set, dims_of, cell_of, set_of, sum_of, array_of, part_of}
 use Rattle.aql_value.specs.Strict.{strict_value, strict_turns}
 use Rattle.aql_syntax.specs.Tree.{Name, Pat, bind, any, equals, refers, tuple, Pats, no_pat, pat, Tree, name, op, members, comp, tab, bindings, choice, conjunction, disjunction, negation, default, apply, function, summap, Trees, no_tree, tree, Axes, no_axis, axis, Quals, no_qual, from, cells, same, test, Defs, no_def, def, count_pats, axes}
 use Rattle.aql_syntax.specs.Names.{names_equal, find}
 use Rattle.aql_syntax.specs.Matching.{Env, Global, Globals, innermost, Match, miss, undefined, on_match, with_value, compare_with, match, match_parts, match_axes}
-use Rattle.aql_syntax.specs.Denotation.{call, in_head, or_else, over_indices, at_index, den, dens, bound_values, rows, defs}
+use Rattle.aql_syntax.specs.Denotation.{call, in_head, over_indices, at_index, den, dens, bound_values, rows, defs}
 use Rattle.aql_syntax.specs.Work.{turns_of_call, if_none, turns_over, work, works, work_bounds, work_rows, work_defs}
 
 abbrev mutual

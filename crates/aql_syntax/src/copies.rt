@@ -7,8 +7,8 @@ ghost use Rattle.aql_syntax.specs.View.{tree_of, trees_of, quals_of, qual_of, ax
 use crate::ast::{Bind, CsvReader, Decl, Expr, Kind, Kinds, LetBind, Pattern, Qual, Reader};
 use crate::build::tuple_pattern;
 use crate::nodes::{
-    Binary, Functional, Unary, application, bound, choice, comprehended, function, listed, on_one,
-    on_two, set, subscripted, tabulated, tuple,
+    Functional, Operation, Operator, application, bound, choice, comprehended, defaulted, function,
+    length, listed, negated, on_one, on_two, set, subscripted, tabulated, tuple,
 };
 use aql_made::{both, boxed};
 use aql_value::Memory;
@@ -70,21 +70,21 @@ impl Expr {
                 subscripted(copied(alloc, array), copy_exprs(alloc, &at.items))
             }
             Expr::If(c, a, b) => choice(copied(alloc, c), copied(alloc, a), copied(alloc, b)),
-            Expr::And(a, b) => on_two(Binary::And, copied(alloc, a), copied(alloc, b)),
-            Expr::Or(a, b) => on_two(Binary::Or, copied(alloc, a), copied(alloc, b)),
-            Expr::Not(a) => on_one(Unary::Not, copied(alloc, a)),
+            Expr::And(a, b) => on_two(Operator::And, copied(alloc, a), copied(alloc, b)),
+            Expr::Or(a, b) => on_two(Operator::Or, copied(alloc, a), copied(alloc, b)),
+            Expr::Not(a) => negated(copied(alloc, a)),
             Expr::Compare(o, a, b) => on_two(
-                Binary::Compare(*o),
+                Operator::Compare(*o),
                 copied(alloc, a),
                 copied(alloc, b),
             ),
-            Expr::Arith(o, a, b) => on_two(Binary::Arith(*o), copied(alloc, a), copied(alloc, b)),
-            Expr::Union(a, b) => on_two(Binary::Union, copied(alloc, a), copied(alloc, b)),
-            Expr::Gen(a) => on_one(Unary::Gen, copied(alloc, a)),
-            Expr::Get(a) => on_one(Unary::Get, copied(alloc, a)),
-            Expr::Len(a) => on_one(Unary::Len, copied(alloc, a)),
-            Expr::Dim { rank, array } => on_one(Unary::Dim(*rank), copied(alloc, array)),
-            Expr::Index { rank, pairs } => on_one(Unary::Index(*rank), copied(alloc, pairs)),
+            Expr::Arith(o, a, b) => on_two(Operator::Arith(*o), copied(alloc, a), copied(alloc, b)),
+            Expr::Union(a, b) => on_two(Operator::Union, copied(alloc, a), copied(alloc, b)),
+            Expr::Gen(a) => on_one(Operation::Gen, copied(alloc, a)),
+            Expr::Get(a) => on_one(Operation::Get, copied(alloc, a)),
+            Expr::Len(a) => length(copied(alloc, a)),
+            Expr::Dim { rank, array } => on_one(Operation::Dim(*rank), copied(alloc, array)),
+            Expr::Index { rank, pairs } => on_one(Operation::Index(*rank), copied(alloc, pairs)),
             Expr::Apply { name, argument } => application(
                 name.copy(alloc),
                 copied(alloc, argument),
@@ -109,7 +109,7 @@ impl Expr {
                 copied(alloc, body),
                 copied(alloc, over),
             ),
-            Expr::Default(a, b) => on_two(Binary::Default, copied(alloc, a), copied(alloc, b)),
+            Expr::Default(a, b) => defaulted(copied(alloc, a), copied(alloc, b)),
         }
     }
 }

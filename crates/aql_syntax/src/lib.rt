@@ -1,7 +1,7 @@
 //! The surface language: its trees, tokens and grammar, and what its queries mean.
 //!
 //! `size` and `levels` measure a declaration with every macro put in place; the copies are equal trees;
-//! `build` makes trees of parts. All else is definitions: read `specs/Tree`, `specs/Lexis`, `specs/Scan`, `specs/Grammar` for the text,
+//! `build` and `nodes` make trees of parts; `name` of a declaration is what it binds. All else is definitions: read `specs/Tree`, `specs/Lexis`, `specs/Scan`, `specs/Grammar` for the text,
 //! `specs/Typing` for types, `specs/Matching`, `specs/Denotation`, `specs/Work` for values and turns,
 //! `specs/Script` for whole scripts, and `specs/Size`.
 #![tactic(auto)]
@@ -9,7 +9,8 @@
 pub mod ast;
 pub mod build;
 pub mod copies;
-mod nodes;
+mod names;
+pub mod nodes;
 pub mod sign;
 pub mod sizes;
 pub mod token;

@@ -1,39 +1,37 @@
-//! Expressions of parts as they were made, where memory may have been wanting for one.
+//! Expressions of parts, and of parts as they were made, where memory may have been wanting for one.
 //!
-//! Each call takes its parts as they were made, so that no early end of its caller stands between two of them.
+//! `joined`, `operated` and `function_in_place` make an expression of its parts. The others take their parts as they were made, so
+//! that no early end of the caller stands between two of them.
 
 ghost use Rattle.std.specs.Prelude.{◌≡◌, IfOk, IsOkAnd};
 ghost use Rattle.aql_value.specs.Strict.{Strict};
 ghost use Rattle.aql_syntax.specs.Tree as tree;
 ghost use Rattle.aql_syntax.specs.Tree.{count_trees, append};
-ghost use Rattle.aql_syntax.specs.View.{tree_of, trees_of, quals_of, axes_in, defs_in, pat_of};
-ghost use Rattle.aql_syntax.specs.Nodes.{unary_of, binary_of, functional_of};
+ghost use Rattle.aql_syntax.specs.View.{tree_of, trees_of, quals_of, axes_in, defs_in, pat_of, of_one};
+ghost use Rattle.aql_syntax.specs.Nodes.{strict_of, joined_of, functional_of};
 
 use crate::ast::{Bind, Expr, LetBind, Pattern, Qual};
 use crate::build::{comprehension, let_in, literal, members, row, subscript, tabulation};
 use aql_made::both;
 use aql_value::{ArithOp, CompareOp, Memory, Str};
 
-/// An operation on one part.
+/// An operator between two expressions.
 #[derive(Clone, Copy)]
-pub enum Unary {
-    Not,
-    Gen,
-    Get,
-    Len,
-    Dim(u64),
-    Index(u64),
-}
-
-/// An operation on two parts.
-#[derive(Clone, Copy)]
-pub enum Binary {
-    And,
-    Or,
-    Compare(CompareOp),
+pub enum Operator {
     Arith(ArithOp),
     Union,
-    Default,
+    Compare(CompareOp),
+    And,
+    Or,
+}
+
+/// An operation on one part, that a reserved word in head position names.
+#[derive(Clone, Copy)]
+pub enum Operation {
+    Gen,
+    Get,
+    Dim(u64),
+    Index(u64),
 }
 
 /// A function written in place, or a sum over one.
@@ -43,38 +41,93 @@ pub enum Functional {
     Sum,
 }
 
-/// An operation on one part.
-pub fn on_one(op: Unary, a: Result<Box<Expr>, Memory>) -> Result<Expr, Memory>
-    ensures { IfOk result (λ made. IsOkAnd a (λ x. tree_of made ≡ unary_of op (tree_of x.value))) }
+/// An operator applied.
+pub fn joined(operator: Operator, left: Box<Expr>, right: Box<Expr>) -> Expr
+    ensures { tree_of result ≡ joined_of operator (tree_of left.value) (tree_of right.value) }
 {
-    let a = a?;
-    Ok(match op {
-        Unary::Not => Expr::Not(a),
-        Unary::Gen => Expr::Gen(a),
-        Unary::Get => Expr::Get(a),
-        Unary::Len => Expr::Len(a),
-        Unary::Dim(rank) => Expr::Dim { rank, array: a },
-        Unary::Index(rank) => Expr::Index { rank, pairs: a },
-    })
+    match operator {
+        Operator::Arith(op) => Expr::Arith(op, left, right),
+        Operator::Union => Expr::Union(left, right),
+        Operator::Compare(op) => Expr::Compare(op, left, right),
+        Operator::And => Expr::And(left, right),
+        Operator::Or => Expr::Or(left, right),
+    }
 }
 
-/// An operation on two parts.
+/// An operation applied.
+pub fn operated(operation: Operation, part: Box<Expr>) -> Expr
+    ensures { tree_of result ≡ of_one (strict_of operation) (tree_of part.value) }
+{
+    match operation {
+        Operation::Gen => Expr::Gen(part),
+        Operation::Get => Expr::Get(part),
+        Operation::Dim(rank) => Expr::Dim { rank, array: part },
+        Operation::Index(rank) => Expr::Index { rank, pairs: part },
+    }
+}
+
+/// A function written in place applied, or summed over a set.
+pub fn function_in_place(
+    functional: Functional,
+    pattern: Pattern,
+    body: Box<Expr>,
+    over: Box<Expr>,
+) -> Expr
+    ensures { tree_of result ≡ functional_of functional (pat_of pattern) (tree_of body.value) (tree_of over.value) }
+{
+    match functional {
+        Functional::Plain => Expr::Fun {
+            pattern,
+            body,
+            argument: over,
+        },
+        Functional::Sum => Expr::SumMap {
+            pattern,
+            body,
+            over,
+        },
+    }
+}
+
+/// An operation on one part.
+pub fn on_one(op: Operation, a: Result<Box<Expr>, Memory>) -> Result<Expr, Memory>
+    ensures { IfOk result (λ made. IsOkAnd a (λ x. tree_of made ≡ of_one (strict_of op) (tree_of x.value))) }
+{
+    Ok(operated(op, a?))
+}
+
+/// An operator between two parts.
 pub fn on_two(
-    op: Binary,
+    op: Operator,
     a: Result<Box<Expr>, Memory>,
     b: Result<Box<Expr>, Memory>,
 ) -> Result<Expr, Memory>
-    ensures { IfOk result (λ made. IsOkAnd a (λ x. IsOkAnd b (λ y. tree_of made ≡ binary_of op (tree_of x.value) (tree_of y.value)))) }
+    ensures { IfOk result (λ made. IsOkAnd a (λ x. IsOkAnd b (λ y. tree_of made ≡ joined_of op (tree_of x.value) (tree_of y.value)))) }
 {
     let (a, b) = both(a, b)?;
-    Ok(match op {
-        Binary::And => Expr::And(a, b),
-        Binary::Or => Expr::Or(a, b),
-        Binary::Compare(o) => Expr::Compare(o, a, b),
-        Binary::Arith(o) => Expr::Arith(o, a, b),
-        Binary::Union => Expr::Union(a, b),
-        Binary::Default => Expr::Default(a, b),
-    })
+    Ok(joined(op, a, b))
+}
+
+/// A negation.
+pub fn negated(a: Result<Box<Expr>, Memory>) -> Result<Expr, Memory>
+    ensures { IfOk result (λ made. IsOkAnd a (λ x. tree_of made ≡ tree.negation (tree_of x.value))) }
+{
+    Ok(Expr::Not(a?))
+}
+
+/// The length of an array.
+pub fn length(a: Result<Box<Expr>, Memory>) -> Result<Expr, Memory>
+    ensures { IfOk result (λ made. IsOkAnd a (λ x. tree_of made ≡ of_one (Strict.dim 1) (tree_of x.value))) }
+{
+    Ok(Expr::Len(a?))
+}
+
+/// A value and the one in its stead.
+pub fn defaulted(a: Result<Box<Expr>, Memory>, b: Result<Box<Expr>, Memory>) -> Result<Expr, Memory>
+    ensures { IfOk result (λ made. IsOkAnd a (λ x. IsOkAnd b (λ y. tree_of made ≡ tree.default (tree_of x.value) (tree_of y.value)))) }
+{
+    let (a, b) = both(a, b)?;
+    Ok(Expr::Default(a, b))
 }
 
 /// A choice by a test.
@@ -110,18 +163,7 @@ pub fn function(
     ensures { IfOk result (λ made. IsOkAnd pattern (λ p. IsOkAnd body (λ x. IsOkAnd over (λ y. tree_of made ≡ functional_of functional (pat_of p) (tree_of x.value) (tree_of y.value))))) }
 {
     let (pattern, (body, over)) = both(pattern, both(body, over))?;
-    Ok(match functional {
-        Functional::Plain => Expr::Fun {
-            pattern,
-            body,
-            argument: over,
-        },
-        Functional::Sum => Expr::SumMap {
-            pattern,
-            body,
-            over,
-        },
-    })
+    Ok(function_in_place(functional, pattern, body, over))
 }
 
 /// A tuple.

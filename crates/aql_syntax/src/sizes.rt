@@ -1,22 +1,37 @@
 //! The size and the levels of a declaration with every macro put in place.
 
-ghost use Rattle.std.specs.Prelude.{◌≡◌, ◌-◌, ◌+◌, ◌^◌, ◌≤◌, min, max, length, take, reverse, ◌<◌, Option, Some, None};
+ghost use Rattle.std.specs.Prelude.{◌≡◌, ◌-◌, ◌+◌, ◌^◌, ◌≤◌, min, max, length, take, reverse, ◌<◌, Some, true, false};
 ghost use Rattle.std.specs.List.{slice_get};
-ghost use Rattle.aql_syntax.specs.Names.{names_equal, find};
-ghost use Rattle.aql_syntax.specs.Tree.{declared};
+ghost use Rattle.aql_syntax.specs.Names.{find};
 ghost use Rattle.aql_syntax.specs.View.{tree_of, trees_of, quals_of, axes_in, defs_in, pat_of, pats_of, decl_of, decls_of};
 ghost use Rattle.aql_syntax.specs.Size as sizes;
-ghost use Rattle.aql_syntax.specs.Size.{pat_nodes, pats_nodes, quals_patterns, defs_patterns, binary_digits, expanded_size, expanded_levels, extents_of, extent_of, decl_size, decl_levels, size_at, levels_at};
+ghost use Rattle.aql_syntax.specs.Size.{pat_nodes, pats_nodes, quals_patterns, defs_patterns, binary_digits, expanded_size, expanded_levels, extents_of, extent_of, decl_size, decl_levels, size_at, levels_at, IsWithinLimits, IsLarge};
 ghost use Rattle.aql_syntax.specs.Measured.{latest, qual_part, qual_pattern};
 
 use crate::ast::{Bind, Decl, Decls, Expr, LetBind, Pattern, Qual};
 use aql_value::Str;
+
+/// The most nodes of a declaration, with every macro put in place.
+pub const MOST_NODES: u64 = 20_000;
+
+/// The most levels of it.
+pub const MOST_LEVELS: u64 = 1_000;
 
 /// A size and levels, each the greatest number of 64 bits where it passes it.
 #[derive(Clone, Copy, Debug)]
 pub struct Counts {
     pub size: u64,
     pub levels: u64,
+}
+
+/// Whether declaration n, counted from 1, passes a limit.
+pub fn is_large(decls: &Decls, n: u64) -> bool
+    requires first { 1 ≤ n }
+    requires last { n ≤ length decls.now.items.items }
+    ensures large { result ≡ true → IsLarge (decls_of decls.now.items.items) n }
+    ensures within { result ≡ false → IsWithinLimits (decls_of decls.now.items.items) n }
+{
+    size(decls, n) > MOST_NODES || levels(decls, n) > MOST_LEVELS
 }
 
 /// The expanded size of declaration n, counted from 1.
@@ -254,7 +269,7 @@ fn measure_macro(name: &Str, earlier: &[Decl]) -> (u64, Counts)
 {
     let mut rest = earlier;
     while let Some((last, before)) = rest.split_last() {
-        if declares(last, name) {
+        if last.declares(name) {
             return measure_declared(last, before);
         }
         rest = before;
@@ -282,33 +297,6 @@ fn measure_declared(d: &Decl, before: &[Decl]) -> (u64, Counts)
         } => (0, nothing()),
         Decl::Bare { expr: _ } => (0, nothing()),
     }
-}
-
-// Whether the declaration binds that name.
-fn declares(d: &Decl, name: &Str) -> bool
-    ensures { result ≡ names_equal name.now (declared (decl_of d.now)) }
-{
-    match d {
-        Decl::Val { name: x, expr: _ } => same_bytes(&name.bytes, &x.bytes),
-        Decl::Macro {
-            name: x,
-            pattern: _,
-            body: _,
-        } => same_bytes(&name.bytes, &x.bytes),
-        Decl::Read {
-            name: x,
-            reader: _,
-            expr: _,
-        } => same_bytes(&name.bytes, &x.bytes),
-        Decl::Bare { expr: _ } => same_bytes(&name.bytes, b"it"),
-    }
-}
-
-#[tactic(auto, using(crate::proofs::Measuring::names_equal_pointwise))]
-fn same_bytes(a: &[u8], b: &[u8]) -> bool
-    ensures { result ≡ names_equal a.now b.now }
-{
-    a == b
 }
 
 fn nothing() -> Counts

@@ -7,8 +7,9 @@ use aql_outside::{Failed, Files};
 use std::io::{self, ErrorKind, Read, Seek, SeekFrom};
 use std::{fs, rt};
 
-/// The file system as files by name: relative names stand in the folder that the program runs in. What
-/// is no regular file, as a folder, a pipe or a device, has no size: it fails before it is opened.
+/// The file system as files by name: relative names stand in the folder that the program runs in.
+/// What is no regular file, as a folder, a pipe or a device, has no size: it fails before it is
+/// opened.
 #[derive(Drop)]
 pub struct FileSystem<'a, R> {
     rt: &'a R,

@@ -1,4 +1,4 @@
--- The names of variables and positions in a text.
+-- The names of variables in a text.
 use Rattle.std.specs.Prelude.{ℕ, ◌-◌, List, ◌++◌, codes, decimal}
 
 -- a bound variable, by the number of binders around its own binder
@@ -8,7 +8,3 @@ bound_text n = codes "x" ++ decimal n
 -- variable i where d binders stand around it: d - 1 - i of them stand around its own
 abbrev pub variable_text : (d i : ℕ) → List ℕ
 variable_text d i = bound_text (d - 1 - i)
-
--- a position, by the number of its declaration: the first 24 positions are those of the prelude
-abbrev pub position_text : ℕ → List ℕ
-position_text n = codes "@" ++ decimal (n - 24)

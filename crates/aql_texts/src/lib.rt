@@ -12,5 +12,5 @@ mod names;
 mod value;
 
 pub use bytes::{put, put_before, put_number, put_quoted};
-pub use names::{put_bound, put_position, put_variable};
+pub use names::{put_bound, put_variable};
 pub use value::{print_value, put_dims};

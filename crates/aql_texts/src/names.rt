@@ -1,7 +1,7 @@
-//! The names of variables and positions.
+//! The names of variables.
 
 ghost use Rattle.std.specs.Prelude.{◌≡◌, ◌++◌, OnOk};
-ghost use Rattle.aql_texts.specs.Names.{bound_text, variable_text, position_text};
+ghost use Rattle.aql_texts.specs.Names.{bound_text, variable_text};
 
 use crate::bytes::{put, put_number};
 use aql_value::Memory;
@@ -20,13 +20,4 @@ pub fn put_variable(depth: u64, i: u64, out: &mut Vec<u8>) -> Result<(), Memory>
     ensures { OnOk result (out.new.items ≡ out.old.items ++ variable_text depth i) }
 {
     put_bound(depth.saturating_sub(1).saturating_sub(i), out)
-}
-
-/// Appends a position, by the number of its declaration.
-#[inline(never)]
-pub fn put_position(n: u64, out: &mut Vec<u8>) -> Result<(), Memory>
-    ensures { OnOk result (out.new.items ≡ out.old.items ++ position_text n) }
-{
-    put(b"@", out)?;
-    put_number(u128::from(n.saturating_sub(24)), out)
 }

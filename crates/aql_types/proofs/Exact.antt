@@ -1,28 +1,16 @@
 -- Solving answers a most general unifier within the limits, and none where there is none.
 use Rattle.std.proofs.Common.{ℕ, zero, suc, ◌≡◌, ◌+◌, ◌<◌, ◌≤◌, Bool, true, false, ◌==◌, ◌&&◌, List, [], ◌∷◌, ◌++◌, Option, Some, None, refl, sym, ap, ◌∙◌, subst, arith, if◌then◌else◌, length}
+use Rattle.std.specs.Cmp.{first_so, second_so}
+use Rattle.std.specs.Cmp.Derive.{both_true}
 use Rattle.std.proofs.lemmas.Bool.{eq-eqb}
-use Rattle.aql_types.specs.TypeLaws.{types, apply_var, respects_single, absent_single, within_before, fits_within, within_fits}
+use Rattle.aql_types.specs.TypeLaws.{row_is, apply_var, respects_single, absent_single, within_before, fits_within, within_fits}
 use Rattle.aql_types.proofs.Applying.{applied_is}
 use Rattle.aql_types.proofs.Moves.{Meets, move_meets, meets_move, MoveWithin, move_within}
-use Rattle.aql_types.proofs.Variables.{In, AllIn, StepIn, steps_in, replace_in, member, without, without_lt, member_without, variables, few_variables, its_variables, member_left, member_right}
+use Rattle.aql_types.proofs.Occurrences.{In, AllIn, StepIn, steps_in, replace_in, member, without, without_lt, member_without, variables, few_variables, its_variables, member_left, member_right}
 use Rattle.aql_types.proofs.Settling.{nodes_pos, size-append, Shrinks, move_shrinks}
 use Rattle.aql_types.specs.Solving.{Move, clash, more, binds, asks, Step, done, bound, went, act, steps, settle, size, replace, all_fit, sides_fit, then_bind, next, solve, solved}
 use Rattle.aql_types.specs.Types.{Ty, var, Tys, no_type, type, Subst, apply, apply_all, occurs, nodes, IsWithin, fits, single}
 use Rattle.aql_types.specs.Unifiers.{Equations, Bindings, applied, as_subst, AllUnify, AllWithin, SidesWithin, IsSolution, IsBest, Unifies, IsMostGeneral}
-
--- The limits as tests.
-
-and_left : (a b : Bool) → (a && b) ≡ true → a ≡ true
-and_left true b e = refl
-and_left false b e = cc
-
-and_right : (a b : Bool) → (a && b) ≡ true → b ≡ true
-and_right true b e = e
-and_right false b e = cc
-
-both : (a b : Bool) → a ≡ true → b ≡ true → (a && b) ≡ true
-both true b e f = f
-both false b e f = cc
 
 -- u makes both sides of each binding equal
 abbrev pub Respects : Subst → Bindings → Type 0
@@ -149,7 +137,7 @@ solve_none (suc n) vs le w us all e u k =
         } in
         after rest x t r i.0 (replace_in (λ x. member x vs) (λ y. member y (without x vs)) x t r i.1 i.2 (λ y. member_without x vs y) i.3) a
         (all_fit (apply_all (single x t) us) && sides_fit (replace x t r))
-        (both _ _ (uses_fit u (apply_all (single x t) us) a.uses) (sides_fits u (replace x t r) a.sides))
+        (both_true (uses_fit u (apply_all (single x t) us) a.uses) (sides_fits u (replace x t r) a.sides))
         (solve n (replace x t r) (apply_all (single x t) us)) refl e
 
 -- the bindings have the same unifiers as the equations
@@ -208,11 +196,11 @@ bound_first x s bs t = applied_is ((x, s) ∷ bs) t ∙ sym (applied_is bs (appl
 all_bound_first : (x : ℕ) (s : Ty) (bs : Bindings) (ts : Tys) →
     apply_all (as_subst ((x, s) ∷ bs)) ts ≡ apply_all (as_subst bs) (apply_all (single x s) ts)
 all_bound_first x s bs no_type = refl
-all_bound_first x s bs (type t ts) = types (bound_first x s bs t) (all_bound_first x s bs ts)
+all_bound_first x s bs (type t ts) = row_is (bound_first x s bs t) (all_bound_first x s bs ts)
 
 all_var : (ts : Tys) → apply_all (as_subst []) ts ≡ ts
 all_var no_type = refl
-all_var (type t ts) = types (apply_var t) (all_var ts)
+all_var (type t ts) = row_is (apply_var t) (all_var ts)
 
 -- a type without x
 passes : (x : ℕ) (s : Ty) (bs : Bindings) (t : Ty) → occurs x t ≡ false →
@@ -265,7 +253,7 @@ solve_some (suc n) v w us all bs e =
           solves = record {
             forward = λ u a. let m = f u a in (m.0, k.solves.forward u (replaced u x t r m.0 m.1));
             back = λ u a. g u (a.0, unreplaced u x t r a.0 (k.solves.back u a.1));
-            fit = λ _. subst (λ ts. all_fit ts ≡ true) (sym (all_bound_first x t bs' us)) (k.solves.fit (and_left _ _ h));
+            fit = λ _. subst (λ ts. all_fit ts ≡ true) (sym (all_bound_first x t bs' us)) (k.solves.fit (first_so _ _ h));
           };
           ordered = record {
             inside = (i.0, i.1, weaken v x bs' k.ordered.inside);
@@ -289,7 +277,7 @@ solve_some (suc n) v w us all bs e =
 all_within : (s : Subst) (us : Tys) → all_fit (apply_all s us) ≡ true → AllWithin s us
 all_within s no_type e = tt
 all_within s (type t us) e =
-    (fits_within (apply s t) (and_left (fits (apply s t)) (all_fit (apply_all s us)) e), all_within s us (and_right (fits (apply s t)) (all_fit (apply_all s us)) e))
+    (fits_within (apply s t) (first_so (fits (apply s t)) (all_fit (apply_all s us)) e), all_within s us (second_so (fits (apply s t)) (all_fit (apply_all s us)) e))
 
 pub solved_best : (n : ℕ) (v : ℕ → Bool) (w : Equations) (us : Tys) → AllIn v w → all_fit us ≡ true → (bs : Bindings) → solve n w us ≡ Some bs →
     IsBest w us (as_subst bs)
@@ -340,7 +328,7 @@ solved_none w us e u k =
     (equations_in w (equation_variables w) (λ x h. h)) (go (all_fit us && sides_fit w) fit e) u k
   where
     fit : (all_fit us && sides_fit w) ≡ true
-    fit = both (all_fit us) (sides_fit w) (uses_fit u us k.uses) (sides_fits u w k.sides)
+    fit = both_true (uses_fit u us k.uses) (sides_fits u w k.sides)
 
     go : (b : Bool) → b ≡ true → (if b then solve (size w + 1) w us else None) ≡ None → solve (size w + 1) w us ≡ None
     go true f e = e
@@ -352,7 +340,7 @@ solved_some w us bs e = go (all_fit us && sides_fit w) refl e
     go : (b : Bool) → (all_fit us && sides_fit w) ≡ b → (if b then solve (size w + 1) w us else None) ≡ Some bs → IsBest w us (as_subst bs)
     go true f e =
         solved_best (size w + 1) (λ x. member x (equation_variables w)) w us (equations_in w (equation_variables w) (λ x h. h))
-        (and_left (all_fit us) (sides_fit w) f) bs e
+        (first_so (all_fit us) (sides_fit w) f) bs e
     go false f e = cc
 
 pub ruleset solve_answers = (solved_none, solved_some)

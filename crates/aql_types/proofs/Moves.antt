@@ -1,10 +1,10 @@
 -- What one equation asks for is what it says.
-use Rattle.std.proofs.Common.{ℕ, ◌≡◌, ◌+◌, ◌≤◌, Bool, true, false, ◌==◌, [], Option, Some, None, refl, sym, ap, ◌∙◌, arith, if◌then◌else◌}
+use Rattle.std.proofs.Common.{ℕ, ◌≡◌, Bool, true, false, ◌==◌, [], Option, Some, None, refl, sym, ap, ◌∙◌, arith, if◌then◌else◌}
 use Rattle.std.proofs.lemmas.Bool.{eqb-true, eq-eqb}
-use Rattle.aql_types.specs.TypeLaws.{types, count_apply, member_within, cell_within, PartsWithin, parts_within, first_within, rest_within}
+use Rattle.aql_types.specs.TypeLaws.{row_is, count_apply, member_within, cell_within, PartsWithin, parts_within, first_within, rest_within}
 use Rattle.aql_types.proofs.Occurs.{occurs_clash}
 use Rattle.aql_types.specs.Solving.{Move, clash, more, binds, is_var, bind, zipped, asks, asked, as_var, same_form, same_part}
-use Rattle.aql_types.specs.Types.{Ty, natural, truth, var, product, set_of, Tys, no_type, type, Subst, apply, apply_all, occurs, nodes_all, levels_all, IsWithin, count, text, array_of}
+use Rattle.aql_types.specs.Types.{Ty, natural, truth, var, product, set_of, Tys, no_type, type, Subst, apply, apply_all, occurs, IsWithin, count, text, array_of}
 use Rattle.aql_types.specs.Unifiers.{AllUnify, SidesWithin}
 
 abbrev pub Meets : Subst → Move → Type 0
@@ -61,7 +61,7 @@ meets_zip : (u : Subst) (a b : Tys) → count a ≡ count b → AllUnify u (zipp
 meets_zip u no_type no_type e h = refl
 meets_zip u no_type (type b bs) e h = let bad : ⊥ = omega (arith, e) in absurd bad
 meets_zip u (type a as') no_type e h = let bad : ⊥ = omega (arith, e) in absurd bad
-meets_zip u (type a as') (type b bs) e h = types h.0 (meets_zip u as' bs (omega (arith, e)) h.1)
+meets_zip u (type a as') (type b bs) e h = row_is h.0 (meets_zip u as' bs (omega (arith, e)) h.1)
 
 form_meets : (u : Subst) (a b : Ty) → as_var a ≡ None → as_var b ≡ None → apply u a ≡ apply u b → Meets u (same_form a b)
 form_meets u (var x) b n m e = cc

@@ -6,5 +6,6 @@ pub mod TypeLaws
 pub mod Types
 pub mod Unifiers
 pub mod ValueTypes
+pub mod Variables
 pub mod View
 pub mod ViewLaws

@@ -1,11 +1,14 @@
 -- Laws on types: instances of instances, types without a variable, and parts of types within the limits.
 use Rattle.std.proofs.Common.{ℕ, ◌≡◌, ◌+◌, ◌≤◌, Bool, true, false, ◌==◌, ◌||◌, ◌&&◌, refl, sym, ap, ◌∙◌, arith, if◌then◌else◌, max}
+use Rattle.std.specs.Cmp.{first_so, second_so}
+use Rattle.std.specs.Cmp.Derive.{both_true}
 use Rattle.std.proofs.Math.Dec.{leb}
 use Rattle.std.proofs.lemmas.Bool.{eqb-true, leb-true, le-leb}
 use Rattle.aql_types.specs.Types.{Ty, natural, truth, text, var, product, set_of, array_of, Tys, no_type, type, Subst, apply, apply_all, occurs, occurs_all, nodes, nodes_all, levels, levels_all, IsType, AreTypes, is_type, are_types, IsWithin, fits, count, single, append, Sort, value, macro, apply_sort}
 
-pub types : {a c : Ty} {b d : Tys} → a ≡ c → b ≡ d → type a b ≡ type c d
-types e f = cc
+-- tuples' parts are the same where the first and the others are
+pub row_is : {a c : Ty} {b d : Tys} → a ≡ c → b ≡ d → type a b ≡ type c d
+row_is e f = cc
 
 mutual
   pub apply-apply : (u s : Subst) (t : Ty) → apply u (apply s t) ≡ apply (λ x. apply u (s x)) t
@@ -19,7 +22,7 @@ mutual
 
   pub apply-apply_all : (u s : Subst) (ts : Tys) → apply_all u (apply_all s ts) ≡ apply_all (λ x. apply u (s x)) ts
   apply-apply_all u s no_type = refl
-  apply-apply_all u s (type t ts) = types (apply-apply u s t) (apply-apply_all u s ts)
+  apply-apply_all u s (type t ts) = row_is (apply-apply u s t) (apply-apply_all u s ts)
 
 mutual
   pub apply_same : (u v : Subst) → ((x : ℕ) → u x ≡ v x) → (t : Ty) → apply u t ≡ apply v t
@@ -33,7 +36,7 @@ mutual
 
   pub apply_all_same : (u v : Subst) → ((x : ℕ) → u x ≡ v x) → (ts : Tys) → apply_all u ts ≡ apply_all v ts
   apply_all_same u v h no_type = refl
-  apply_all_same u v h (type t ts) = types (apply_same u v h t) (apply_all_same u v h ts)
+  apply_all_same u v h (type t ts) = row_is (apply_same u v h t) (apply_all_same u v h ts)
 
 mutual
   pub apply_var : (t : Ty) → apply var t ≡ t
@@ -47,7 +50,7 @@ mutual
 
   pub apply_all_var : (ts : Tys) → apply_all var ts ≡ ts
   apply_all_var no_type = refl
-  apply_all_var (type t ts) = types (apply_var t) (apply_all_var ts)
+  apply_all_var (type t ts) = row_is (apply_var t) (apply_all_var ts)
 
 mutual
   pub respects_single : (u : Subst) (x : ℕ) (s : Ty) → u x ≡ apply u s → (t : Ty) → apply u (apply (single x s) t) ≡ apply u t
@@ -65,7 +68,7 @@ mutual
 
   pub respects_all : (u : Subst) (x : ℕ) (s : Ty) → u x ≡ apply u s → (ts : Tys) → apply_all u (apply_all (single x s) ts) ≡ apply_all u ts
   respects_all u x s e no_type = refl
-  respects_all u x s e (type t ts) = types (respects_single u x s e t) (respects_all u x s e ts)
+  respects_all u x s e (type t ts) = row_is (respects_single u x s e t) (respects_all u x s e ts)
 
 pub apply_sort-apply : (u s : Subst) (o : Sort) → apply_sort u (apply_sort s o) ≡ apply_sort (λ x. apply u (s x)) o
 apply_sort-apply u s (value t) = ap value (apply-apply u s t)
@@ -96,21 +99,9 @@ mutual
   pub absent_all : (x : ℕ) (s : Ty) (ts : Tys) → occurs_all x ts ≡ false → apply_all (single x s) ts ≡ ts
   absent_all x s no_type e = refl
   absent_all x s (type t ts) e =
-      let h = or_false (occurs x t) (occurs_all x ts) e in types (absent_single x s t h.0) (absent_all x s ts h.1)
+      let h = or_false (occurs x t) (occurs_all x ts) e in row_is (absent_single x s t h.0) (absent_all x s ts h.1)
 
 -- The limits.
-
-and_left : (a b : Bool) → (a && b) ≡ true → a ≡ true
-and_left true b e = refl
-and_left false b e = cc
-
-and_right : (a b : Bool) → (a && b) ≡ true → b ≡ true
-and_right true b e = e
-and_right false b e = cc
-
-both : (a b : Bool) → a ≡ true → b ≡ true → (a && b) ≡ true
-both true b e f = f
-both false b e f = cc
 
 mutual
   pub is_type_true : (t : Ty) → is_type t ≡ true → IsType t
@@ -119,18 +110,18 @@ mutual
   is_type_true text e = tt
   is_type_true (var x) e = tt
   is_type_true (product ts) e =
-      (leb-true _ _ (and_left (leb 2 (count ts)) (are_types ts) e), are_types_true ts (and_right (leb 2 (count ts)) (are_types ts) e))
+      (leb-true _ _ (first_so (leb 2 (count ts)) (are_types ts) e), are_types_true ts (second_so (leb 2 (count ts)) (are_types ts) e))
   is_type_true (set_of t) e = is_type_true t e
   is_type_true (array_of k t) e =
-      let h = and_left (leb 1 k && leb k 8) (is_type t) e in (
-        (leb-true _ _ (and_left (leb 1 k) (leb k 8) h), leb-true _ _ (and_right (leb 1 k) (leb k 8) h)),
-        is_type_true t (and_right (leb 1 k && leb k 8) (is_type t) e),
+      let h = first_so (leb 1 k && leb k 8) (is_type t) e in (
+        (leb-true _ _ (first_so (leb 1 k) (leb k 8) h), leb-true _ _ (second_so (leb 1 k) (leb k 8) h)),
+        is_type_true t (second_so (leb 1 k && leb k 8) (is_type t) e),
       )
 
   pub are_types_true : (ts : Tys) → are_types ts ≡ true → AreTypes ts
   are_types_true no_type e = tt
   are_types_true (type t ts) e =
-      (is_type_true t (and_left (is_type t) (are_types ts) e), are_types_true ts (and_right (is_type t) (are_types ts) e))
+      (is_type_true t (first_so (is_type t) (are_types ts) e), are_types_true ts (second_so (is_type t) (are_types ts) e))
 
 mutual
   pub true_is_type : (t : Ty) → IsType t → is_type t ≡ true
@@ -138,28 +129,28 @@ mutual
   true_is_type truth h = refl
   true_is_type text h = refl
   true_is_type (var x) h = refl
-  true_is_type (product ts) h = both (leb 2 (count ts)) (are_types ts) (le-leb _ _ h.0) (true_are_types ts h.1)
+  true_is_type (product ts) h = both_true (le-leb _ _ h.0) (true_are_types ts h.1)
   true_is_type (set_of t) h = true_is_type t h
   true_is_type (array_of k t) h =
-      both (leb 1 k && leb k 8) (is_type t) (both (leb 1 k) (leb k 8) (le-leb _ _ h.0.0) (le-leb _ _ h.0.1)) (true_is_type t h.1)
+      both_true (both_true (le-leb _ _ h.0.0) (le-leb _ _ h.0.1)) (true_is_type t h.1)
 
   pub true_are_types : (ts : Tys) → AreTypes ts → are_types ts ≡ true
   true_are_types no_type h = refl
-  true_are_types (type t ts) h = both (is_type t) (are_types ts) (true_is_type t h.0) (true_are_types ts h.1)
+  true_are_types (type t ts) h = both_true (true_is_type t h.0) (true_are_types ts h.1)
 
 -- the test says what the limits say
 pub fits_within : (t : Ty) → fits t ≡ true → IsWithin t
 fits_within t e =
-    let h = and_left (leb (nodes t) 10000 && leb (levels t) 400) (is_type t) e in (
-      leb-true _ _ (and_left (leb (nodes t) 10000) (leb (levels t) 400) h),
-      leb-true _ _ (and_right (leb (nodes t) 10000) (leb (levels t) 400) h),
-      is_type_true t (and_right (leb (nodes t) 10000 && leb (levels t) 400) (is_type t) e),
+    let h = first_so (leb (nodes t) 10000 && leb (levels t) 400) (is_type t) e in (
+      leb-true _ _ (first_so (leb (nodes t) 10000) (leb (levels t) 400) h),
+      leb-true _ _ (second_so (leb (nodes t) 10000) (leb (levels t) 400) h),
+      is_type_true t (second_so (leb (nodes t) 10000 && leb (levels t) 400) (is_type t) e),
     )
 
 pub within_fits : (t : Ty) → IsWithin t → fits t ≡ true
 within_fits t h =
-    both (leb (nodes t) 10000 && leb (levels t) 400) (is_type t)
-    (both (leb (nodes t) 10000) (leb (levels t) 400) (le-leb _ _ h.0) (le-leb _ _ h.1)) (true_is_type t h.2)
+    both_true
+    (both_true (le-leb _ _ h.0) (le-leb _ _ h.1)) (true_is_type t h.2)
 
 pub natural_within : IsWithin natural
 natural_within = (omega arith, omega arith, tt)

@@ -4,6 +4,7 @@
 //! each other such substitution can be taken; it answers `Clash` exactly where there is none.
 //! `solve` is the same for many equations. Read `specs/Types`, `specs/Unifiers`, then `ty`, `subst`,
 //! `solve`; the steps of solving stand in `step` and `specs/Solving`.
+//! `variables` lists the variables of a type by first appearance.
 #![tactic(auto)]
 
 pub mod equation;
@@ -13,3 +14,4 @@ pub mod solve;
 pub mod step;
 pub mod subst;
 pub mod ty;
+pub mod variables;

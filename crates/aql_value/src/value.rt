@@ -1,6 +1,7 @@
 ghost use Rattle.std.specs.Prelude.{◌≡◌, IfOk, if◌then◌else◌, nat_lt, length};
 ghost use Rattle.std.specs.Prelude.{◌≤◌};
 ghost use Rattle.std.specs.Option.{option_map};
+ghost use Rattle.std.specs.Str.{bytes_eq};
 ghost use Rattle.aql_value.specs.Indices.{table, cell, IsTable};
 ghost use Rattle.aql_value.specs.Canon.{IsAscending};
 ghost use Rattle.aql_value.specs.Meaning.{datum};
@@ -23,6 +24,15 @@ impl Model for Str {
     ghost Value = { List ℕ };
 
     ghost view = { λ s. s.bytes.items };
+}
+
+impl Str {
+    /// Whether the string is these bytes.
+    pub fn is(&self, bytes: &[u8]) -> bool
+        ensures { result ≡ bytes_eq self.now bytes.now }
+    {
+        self.bytes.as_slice() == bytes
+    }
 }
 
 /// The dimensions of an array, the outermost first.

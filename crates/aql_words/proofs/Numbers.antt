@@ -9,7 +9,7 @@ use Rattle.clap.specs.ValueTests.{accepts}
 use Rattle.clap.specs.Words.{Row, Text, one_of}
 use Rattle.clap.specs.declared.builder.value_parser.ValueParser.TheVariants as parsers
 use Rattle.clap.proofs.ValueTestLemmas.{accepts-Accepts, Accepts-accepts}
-use Rattle.aql_words.specs.Words.{AreInRange, number_at, number_of, options_in, up_to}
+use Rattle.aql_words.specs.Words.{AreInRange, number_at, number_of, options_in, up_to, most_workers, most_budget, most_sample}
 
 module _ {E : Type 0} (G : List ℕ → Result ℕ E → Type 0) (only : (t : List ℕ) (x : Result ℕ E) → G t x → ParsesUnsigned 64 10 t x) where
   -- a text that is read as a number of 64 bits
@@ -44,7 +44,7 @@ default_range most d (Some n) low high h = h
 
 pub in_range : (rows : List Row) → AreInRange (options_in rows)
 in_range rows = record {
-  workers = default_range 64 1 (number_at 64 (codes "workers") rows) (omega arith) (omega arith) (up_to_range 64 (option_and_then number_of (one_of (codes "workers") rows)));
-  budget = default_range 50000000 10000000 (number_at 50000000 (codes "budget") rows) (omega arith) (omega arith) (up_to_range 50000000 (option_and_then number_of (one_of (codes "budget") rows)));
-  sample = up_to_range 1000000 (option_and_then number_of (one_of (codes "sample") rows));
+  workers = default_range most_workers 1 (number_at most_workers (codes "workers") rows) (omega arith) (omega arith) (up_to_range most_workers (option_and_then number_of (one_of (codes "workers") rows)));
+  budget = default_range most_budget 10000000 (number_at most_budget (codes "budget") rows) (omega arith) (omega arith) (up_to_range most_budget (option_and_then number_of (one_of (codes "budget") rows)));
+  sample = up_to_range most_sample (option_and_then number_of (one_of (codes "sample") rows));
 }

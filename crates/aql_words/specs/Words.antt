@@ -16,13 +16,25 @@ number_rule name most = record (new_rule name) { long = Some name; action = Some
 abbrev pub flag_rule : Text → Rule
 flag_rule name = record (new_rule name) { long = Some name; action = Some SetTrue }
 
+-- the most threads that a run may have
+abbrev pub most_workers : ℕ
+most_workers = 64
+
+-- the most turns that a declaration may take
+abbrev pub most_budget : ℕ
+most_budget = 50000000
+
+-- the greatest size of a sample script
+abbrev pub most_sample : ℕ
+most_sample = 1000000
+
 -- aql [--workers N] [--budget N] [--plan] [--sample N]
 abbrev pub aql : App
 aql = with_rule (with_rule (with_rule (with_rule (new_app (codes "aql"))
-    (number_rule (codes "workers") 64))
-    (number_rule (codes "budget") 50000000))
+    (number_rule (codes "workers") most_workers))
+    (number_rule (codes "budget") most_budget))
     (flag_rule (codes "plan")))
-    (number_rule (codes "sample") 1000000)
+    (number_rule (codes "sample") most_sample)
 
 -- the command reads the words: no step of the reading fails, and none asks for help or for a version
 abbrev pub HasReading : List Text → Type 0
@@ -50,10 +62,10 @@ is_true_text None = false
 -- the options of a reading, with the defaults of those that are not given
 abbrev pub options_in : List Row → Options
 options_in rows = record {
-  workers = unwrap_or (number_at 64 (codes "workers") rows) 1;
-  budget = unwrap_or (number_at 50000000 (codes "budget") rows) 10000000;
+  workers = unwrap_or (number_at most_workers (codes "workers") rows) 1;
+  budget = unwrap_or (number_at most_budget (codes "budget") rows) 10000000;
   plan = is_true_text (first_of (codes "plan") rows);
-  sample = number_at 1000000 (codes "sample") rows;
+  sample = number_at most_sample (codes "sample") rows;
 }
 
 -- what the words ask for
@@ -62,6 +74,6 @@ options_of words = options_in (matches_of aql words)
 
 -- each number lies in its range
 pub record AreInRange (options : Options) : Type 0 where
-  pub workers : (1 ≤ options.workers) × (options.workers ≤ 64)
-  pub budget : (1 ≤ options.budget) × (options.budget ≤ 50000000)
-  pub sample : IfSome options.sample (λ n. (1 ≤ n) × (n ≤ 1000000))
+  pub workers : (1 ≤ options.workers) × (options.workers ≤ most_workers)
+  pub budget : (1 ≤ options.budget) × (options.budget ≤ most_budget)
+  pub sample : IfSome options.sample (λ n. (1 ≤ n) × (n ≤ most_sample))

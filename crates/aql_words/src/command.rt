@@ -8,12 +8,14 @@ use clap::builder::ValueParser;
 use clap::{Arg, ArgAction, Command};
 use std::alloc::{AllocError, Global};
 
-/// The greatest numbers that the options take; each takes 1 as its least.
-pub(crate) const MOST_WORKERS: u64 = 64;
+/// The most threads that a run may have. Each option takes 1 as its least number.
+pub const MOST_WORKERS: u64 = 64;
 
-pub(crate) const MOST_BUDGET: u64 = 50_000_000;
+/// The most turns that a declaration may take.
+pub const MOST_BUDGET: u64 = 50_000_000;
 
-pub(crate) const MOST_SAMPLE: u64 = 1_000_000;
+/// The greatest size of a sample script.
+pub const MOST_SAMPLE: u64 = 1_000_000;
 
 /// The command, which has the four options and no subcommand.
 pub(crate) fn command<'a>(alloc: Global) -> Result<Command<'a>, AllocError>

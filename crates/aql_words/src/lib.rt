@@ -11,5 +11,6 @@ mod command;
 mod fault;
 mod words;
 
+pub use command::{MOST_BUDGET, MOST_SAMPLE, MOST_WORKERS};
 pub use fault::WordFault;
 pub use words::{Options, read_words};

@@ -1,23 +1,17 @@
 -- The front of a file grows until its header is read.
-use Rattle.std.proofs.Common.{◌≡◌, ℕ, zero, suc, ◌+◌, ◌-◌, ◌<◌, ◌≤◌, min, List, [], ◌∷◌, ◌++◌, length, take, drop, Option, Some, None, Result, Ok, Err, refl, sym, ap, subst, ◌∙◌, arith, length-take, length-append, length-drop}
+use Rattle.std.proofs.Common.{◌≡◌, ℕ, ◌+◌, ◌-◌, ◌≤◌, min, List, ◌++◌, length, take, drop, Result, Err, sym, ap, subst, ◌∙◌, arith, length-take, length-append}
 use Rattle.std.proofs.Math.Seq.{take-add, take-append-add}
 use Rattle.std.proofs.lemmas.List.{take-append-drop, take_min}
-use Rattle.aql_outside.specs.Contents.{Content, bytes_in, GivesAt}
-use Rattle.cdf_header.specs.File.{IsFront, IsOutside, Answers}
+use Rattle.cdf_header.specs.File.{most_header_bytes, IsFront, IsOutside, IsAnswered}
 use Rattle.cdf_header.specs.declared.fault.CdfFault.{CdfFault}
 use Rattle.cdf_header.specs.declared.fault.CdfFault.TheVariants as faults
 use Rattle.cdf_header.specs.declared.fault.ReadError.{ReadError}
 use Rattle.cdf_header.specs.declared.fault.ReadError.TheVariants as errors
-use Rattle.cdf_header.specs.Gives.{Leads, Stops}
+use Rattle.cdf_header.specs.Gives.{Stops}
 use Rattle.cdf_header.specs.declared.fault.Fault.{Fault}
 use Rattle.cdf_header.specs.Header.{Head}
 use Rattle.cdf_header.specs.Format.{Format, Reads, run}
 use Rattle.cdf_header.proofs.Formats.{IsShort, run_more}
-
-pub told_at : (E : Type 0) (holds : Option Content) (name bytes piece : List ℕ) (at count : ℕ) → bytes_in holds name ≡ Some bytes → GivesAt {E = E} holds name at (Ok count) piece
-    → (count ≡ min (length piece) (length bytes - at)) × (take count piece ≡ take count (drop at bytes))
-told_at E None name bytes piece at count there told = absurd cc
-told_at E (Some files) name bytes piece at count there told = rw there at told
 
 pub front_grows : (bytes front piece new : List ℕ) (count room : ℕ) → IsFront bytes front → new ≡ front ++ take count piece → length piece ≡ room → length front + room ≤ length bytes
     → count ≡ min (length piece) (length bytes - length front) → take count piece ≡ take count (drop (length front) bytes) → (count ≡ room) × IsFront bytes new
@@ -33,23 +27,24 @@ take_past : (n : ℕ) (front rest : List ℕ) → length front ≤ n → take n 
 take_past n front rest le = let n-is : n ≡ length front + (n - length front) = omega arith in ap (λ k. take k (front ++ rest)) n-is ∙ take-append-add front rest (n - length front)
 
 -- the first bytes are the front and more
-limited : (bytes front : List ℕ) → IsFront bytes front → length front ≤ 16777216 → take 16777216 bytes ≡ front ++ take (16777216 - length front) (drop (length front) bytes)
-limited bytes front is le = ap (take 16777216) (IsFront-rest bytes front is) ∙ take_past 16777216 front (drop (length front) bytes) le
+limited : (bytes front : List ℕ) → IsFront bytes front → length front ≤ most_header_bytes → take most_header_bytes bytes ≡ front ++ take (most_header_bytes - length front) (drop (length front) bytes)
+limited bytes front is le = ap (take most_header_bytes) (IsFront-rest bytes front is) ∙ take_past most_header_bytes front (drop (length front) bytes) le
 
 -- what is answered of the front is answered of the first bytes
-pub final : (f : Format) (bytes front : List ℕ) (k : ℕ) (r : Result Head Fault) → IsFront bytes front → length front ≤ 16777216 → run f front k ≡ r → (IsShort r → ⊥)
-    → run f (take 16777216 bytes) k ≡ r
+pub final : (f : Format) (bytes front : List ℕ) (k : ℕ) (r : Result Head Fault) → IsFront bytes front → length front ≤ most_header_bytes → run f front k ≡ r → (IsShort r → ⊥)
+    → run f (take most_header_bytes bytes) k ≡ r
 final f bytes front k r is le e h =
-    ap (λ x. run f x k) (limited bytes front is le) ∙ run_more f front (take (16777216 - length front) (drop (length front) bytes)) k (λ s. h (subst IsShort e s)) ∙ e
+    ap (λ x. run f x k) (limited bytes front is le) ∙ run_more f front (take (most_header_bytes - length front) (drop (length front) bytes)) k (λ s. h (subst IsShort e s)) ∙ e
 
 -- a front of all the first bytes is those
-pub whole : (f : Format) (bytes front : List ℕ) (k : ℕ) (r : Result Head Fault) → IsFront bytes front → length front ≡ min 16777216 (length bytes) → run f front k ≡ r
-    → run f (take 16777216 bytes) k ≡ r
+pub whole : (f : Format) (bytes front : List ℕ) (k : ℕ) (r : Result Head Fault) → IsFront bytes front → length front ≡ min most_header_bytes (length bytes) → run f front k ≡ r
+    → run f (take most_header_bytes bytes) k ≡ r
 whole f bytes front k r is all e =
-    let same : front ≡ take 16777216 bytes = is ∙ ap (λ n. take n bytes) all ∙ take_min 16777216 bytes in
+    let same : front ≡ take most_header_bytes bytes = is ∙ ap (λ n. take n bytes) all ∙ take_min most_header_bytes bytes in
     ap (λ x. run f x k) (sym same) ∙ e
 
-pub outside_answers : (read : Result Head Fault) (e : CdfFault) → IsOutside e → Answers read (Err e)
+-- a fault of the device or want of memory is answered whatever is meant
+pub outside_answers : (read : Result Head CdfFault) (e : CdfFault) → IsOutside e → IsAnswered read (Err e)
 outside_answers read faults.Absent h = absurd h
 outside_answers read faults.NotClassic h = absurd h
 outside_answers read (faults.Version v) h = absurd h

@@ -1,13 +1,14 @@
 -- Variables one after the other: the least begin, the first of a name, and records past the file.
-use Rattle.std.proofs.Common.{◌≡◌, ℕ, zero, suc, ◌+◌, ◌-◌, ◌/◌, ◌^◌, ◌<◌, ◌≤◌, min, Bool, true, false, cond, inl, inr, List, [], ◌∷◌, length, drop, map, get_or, Option, Some, None, refl, sym, ap, subst, ◌∙◌, arith, add-one, drop-cons, eqb, eq-eqb}
-use Rattle.std.proofs.lemmas.Bool.{cases_lt, ne_eqb, eqb-true}
+use Rattle.std.proofs.Common.{◌≡◌, ℕ, zero, suc, ◌+◌, ◌-◌, ◌/◌, ◌<◌, ◌≤◌, min, Bool, true, false, cond, inl, inr, List, [], ◌∷◌, length, drop, map, get_or, Option, Some, None, refl, sym, ap, subst, ◌∙◌, arith, add-one, drop-cons, eqb}
+use Rattle.std.proofs.lemmas.Bool.{cases_lt, ne_eqb}
 use Rattle.cdf_header.specs.declared.header.Variable.{Variable}
-use Rattle.std.specs.Prelude.{nat_eq, ◌&&◌}
+use Rattle.std.specs.Prelude.{nat_eq}
 use Rattle.std.specs.Cmp.Lexicographic.{pointwise}
-use Rattle.std.proofs.lemmas.List.{length-map}
+use Rattle.std.proofs.lemmas.List.{drop_all}
 use Rattle.std.proofs.Math.Nat.{div-eq_of_lt}
 use Rattle.cdf_header.specs.Header.{Dim, Var, Head, var}
-use Rattle.cdf_header.specs.Places.{nearer, with_begin, least, is_record, streamed, var_in, recsize, all_bits, records}
+use Rattle.std.specs.List.{position_from}
+use Rattle.cdf_header.specs.Places.{find_from, find_in, nearer, with_begin, least, is_record, streamed, var_in, recsize, all_bits, records}
 
 -- the begins found so far, and those of the rest
 abbrev pub merged : Option ℕ → Option ℕ → Option ℕ
@@ -83,41 +84,30 @@ records_streamed h size begin m result all small size-is begin-is result-is =
     ∙ streamed_sat h.bytes (recsize h.dims h.vars) m (least h.dims h.vars) small
     ∙ sym (ap (λ t. cond t (streamed h.bytes (recsize h.dims h.vars) (least h.dims h.vars)) h.numrecs) all)
 
-both_true : (a b : Bool) → (a && b) ≡ true → (a ≡ true) × (b ≡ true)
-both_true true b e = (refl, e)
-both_true false b e = absurd cc
+-- the search from the variable at i on: this one, or the search behind it
+from_here : (P : Var → Bool) (vs : List Variable) (i : ℕ) (v : Variable) → i < length vs → v ≡ get_or vs i v
+    → position_from P i (map var (drop i vs)) ≡ cond (P (var v)) (Some i) (position_from P (i + 1) (map var (drop (i + 1) vs)))
+from_here P vs i v lt is =
+    let e : drop i vs ≡ v ∷ drop (i + 1) vs = (rw (add-one, drop-cons vs i v lt) (ap (λ x. x ∷ drop (suc i) vs) (sym is))) in
+    ap (λ xs. position_from P i (map var xs)) e
 
-same_bytes : (xs ys : List ℕ) → pointwise eqb xs ys ≡ true → xs ≡ ys
-same_bytes [] [] e = refl
-same_bytes [] (y ∷ ys) e = absurd cc
-same_bytes (x ∷ xs) [] e = absurd cc
-same_bytes (x ∷ xs) (y ∷ ys) e =
-    let p = both_true (eqb x y) (pointwise eqb xs ys) e in
-    ap (λ n. n ∷ xs) (eqb-true x y p.0) ∙ ap (λ zs. y ∷ zs) (same_bytes xs ys p.1)
+-- the variable at i has the name
+pub name_found : (vs : List Variable) (name text : List ℕ) (i : ℕ) (v : Variable) (same : Bool) → i < length vs → v ≡ get_or vs i v → text ≡ v.name.items
+    → same ≡ pointwise eqb text name → same ≡ true → find_in (map var vs) name ≡ find_from i (map var (drop i vs)) name → Some i ≡ find_in (map var vs) name
+name_found vs name text i v same lt is text-is same-is equal so_far =
+    let P : Var → Bool = λ u. pointwise eqb u.name name in
+    let here : P (var v) ≡ true = ap (λ x. pointwise eqb x name) (sym text-is) ∙ sym same-is ∙ equal in
+    sym (so_far ∙ from_here P vs i v lt is ∙ ap (λ b. cond b (Some i) (position_from P (i + 1) (map var (drop (i + 1) vs)))) here)
 
-bytes_same : (xs : List ℕ) → pointwise eqb xs xs ≡ true
-bytes_same [] = refl
-bytes_same (x ∷ xs) = ap (λ b. b && pointwise eqb xs xs) (eq-eqb x x refl) ∙ bytes_same xs
+-- it has another
+pub name_missed : (vs : List Variable) (name text : List ℕ) (i : ℕ) (v : Variable) (same : Bool) → i < length vs → v ≡ get_or vs i v → text ≡ v.name.items
+    → same ≡ pointwise eqb text name → same ≡ false → find_in (map var vs) name ≡ find_from i (map var (drop i vs)) name
+    → find_in (map var vs) name ≡ find_from (i + 1) (map var (drop (i + 1) vs)) name
+name_missed vs name text i v same lt is text-is same-is unequal so_far =
+    let P : Var → Bool = λ u. pointwise eqb u.name name in
+    let here : P (var v) ≡ false = ap (λ x. pointwise eqb x name) (sym text-is) ∙ sym same-is ∙ unequal in
+    so_far ∙ from_here P vs i v lt is ∙ ap (λ b. cond b (Some i) (position_from P (i + 1) (map var (drop (i + 1) vs)))) here
 
--- the name of the variable at i is this one
-pub name_found : (vs : List Variable) (name text : List ℕ) (i : ℕ) (v : Variable) (same : Bool) → i < length vs → v ≡ get_or vs i v → text ≡ (get_or vs i v).name.items
-    → same ≡ pointwise eqb text name → same ≡ true → get_or (map (λ u. u.name) (map var vs)) i [] ≡ name
-name_found vs name text i v same lt is text-is same-is yes' =
-    sym (name_known vs i v lt is) ∙ ap (λ (u : Variable). u.name.items) is ∙ sym text-is ∙ same_bytes text name (sym same-is ∙ yes')
-
--- no variable up to i has this name
-pub name_missed : (vs : List Variable) (name text : List ℕ) (i : ℕ) (v : Variable) (same : Bool) → i < length vs → v ≡ get_or vs i v → text ≡ (get_or vs i v).name.items
-    → same ≡ pointwise eqb text name → same ≡ false → ((j : ℕ) → j < i → get_or (map (λ u. u.name) (map var vs)) j [] ≡ name → ⊥)
-    → (j : ℕ) → j < i + 1 → get_or (map (λ u. u.name) (map var vs)) j [] ≡ name → ⊥
-name_missed vs name text i v same lt is text-is same-is unequal before j j-lt named =
-    elim (cases_lt j i) [
-      | inl earlier ↦ before j earlier named
-      | inr later ↦
-          let here : j ≡ i = omega (arith, later, j-lt) in
-          let text-name : text ≡ name = text-is ∙ ap (λ (u : Variable). u.name.items) (sym is) ∙ name_known vs i v lt is ∙ subst (λ k. get_or (map (λ u. u.name) (map var vs)) k [] ≡ name) here named in
-          let yes' : pointwise eqb text name ≡ true = ap (λ x. pointwise eqb x name) text-name ∙ bytes_same name in
-          absurd (let contra : false ≡ true = sym unequal ∙ same-is ∙ yes' in cc)
-    ]
-
-pub length_vars : (vs : List Variable) → length (map var vs) ≡ length vs
-length_vars vs = length-map vs var
+-- no variable has the name
+pub none_named : (vs : List Variable) (name : List ℕ) (i : ℕ) → length vs ≤ i → find_in (map var vs) name ≡ find_from i (map var (drop i vs)) name → None ≡ find_in (map var vs) name
+none_named vs name i le so_far = sym (so_far ∙ ap (λ xs. find_from i (map var xs) name) (drop_all i vs le))

@@ -1,9 +1,7 @@
 -- Reading the items of a list one after the other.
-use Rattle.std.proofs.Common.{◌≡◌, ℕ, zero, suc, ◌+◌, ◌-◌, ◌<◌, ◌≤◌, List, [], ◌∷◌, ◌++◌, length, Result, Ok, Err, refl, sym, ap, ◌∙◌, arith}
-use Rattle.cdf_header.specs.declared.fault.Fault.{Fault}
+use Rattle.std.proofs.Common.{◌≡◌, ℕ, suc, ◌+◌, ◌-◌, ◌<◌, ◌≤◌, List, [], ◌∷◌, ◌++◌, length, ap, ◌∙◌, arith}
 use Rattle.cdf_header.specs.declared.fault.ReadError.{ReadError}
 use Rattle.cdf_header.specs.declared.fault.ReadError.TheVariants as errors
-use Rattle.cdf_header.specs.Header.{Head}
 use Rattle.cdf_header.specs.Format.{Format, Reads, run, many, times}
 use Rattle.cdf_header.specs.Gives.{Leads, Stops}
 

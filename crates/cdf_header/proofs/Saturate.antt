@@ -1,7 +1,7 @@
 -- Sums and products that stop at a greatest number.
-use Rattle.std.proofs.Common.{◌≡◌, ℕ, zero, suc, ◌+◌, ◌*◌, ◌<◌, ◌≤◌, ◌-◌, ◌^◌, min, List, [], ◌∷◌, length, refl, sym, ap, subst, ◌∙◌, arith, eq-eqb, cond, eqb, Bool, true, false, inl, inr}
+use Rattle.std.proofs.Common.{◌≡◌, ℕ, zero, suc, ◌+◌, ◌*◌, ◌<◌, ◌≤◌, ◌-◌, ◌^◌, min, List, [], ◌∷◌, length, refl, sym, ap, subst, ◌∙◌, arith, eq-eqb, cond, eqb, true, false, inl, inr}
 use Rattle.std.proofs.lemmas.Bool.{cases_lt, ne_eqb}
-use Rattle.std.proofs.Math.Nat.{mul-le-mul, mul_comm, add-mul, zero-mul}
+use Rattle.std.proofs.Math.Nat.{mul_comm, add-mul}
 use Rattle.std.proofs.Common.{take, length-drop, drop, map, get_or, add-one, drop-cons}
 use Rattle.std.proofs.Math.Nat.{mul_assoc}
 use Rattle.std.proofs.lemmas.List.{drop_all, length-map, take_all}

@@ -1,43 +1,91 @@
 -- What the reader of a file answers.
-use Rattle.std.specs.Prelude.{◌≡◌, ◌≤◌, ℕ, List, length, take, get_or, Some, Result, Ok, Err, ◌⊎◌}
-use Rattle.cdf_header.specs.Format.{header, done, Field, Kind, Spells, Fails, fault_at}
+use Rattle.std.specs.Prelude.{◌≡◌, ◌≤◌, ℕ, Bool, true, ◌&&◌, ◌||◌, nat_le, nat_eq, List, length, take, get_or, Some, Result, Ok, Err, IfOk, IsErrOf, ◌⊎◌, if◌then◌else◌}
+use Rattle.cdf_header.specs.Format.{header, done, run, Field, Kind, Spells, Fails, fault_at}
 use Rattle.cdf_header.specs.declared.fault.Fault.{Fault}
 use Rattle.cdf_header.specs.declared.fault.Fault.TheVariants.{Short, Malformed, TooMany}
 use Rattle.cdf_header.specs.declared.fault.CdfFault.{CdfFault}
 use Rattle.cdf_header.specs.declared.fault.CdfFault.TheVariants as faults
 use Rattle.cdf_header.specs.Header.{Head}
 
-abbrev pub IsFront : List ℕ → List ℕ → Type 0
+-- the most bytes that a header may take
+abbrev pub most_header_bytes : ℕ
+most_header_bytes = 16777216
+
+-- these bytes are the front of the file's
+abbrev pub IsFront : (bytes front : List ℕ) → Type 0
 IsFront bytes front = front ≡ take (length front) bytes
 
--- what is answered, where reading the fields gives this
-abbrev pub Answers : Result Head Fault → Result Head CdfFault → Type 0
-Answers read (Ok h) = read ≡ Ok h
-Answers read (Err faults.Device) = Unit {0}
-Answers read (Err faults.Memory) = Unit {0}
-Answers read (Err (faults.Malformed k)) = (read ≡ Err (Short k)) ⊎ (read ≡ Err (Malformed k))
-Answers read (Err (faults.TooMany l)) = read ≡ Err (TooMany l)
-Answers read (Err e) = ⊥
+-- a read towards a length keeps the front of these bytes one, and comes whole, where there are so many
+abbrev pub StaysFront : (bytes : List ℕ) → (target : ℕ) → (before now : List ℕ) → Result Bool CdfFault → Type 0
+StaysFront bytes target before now result =
+    target ≤ length bytes → IsFront bytes before → IfOk result (λ whole. (whole ≡ true) × IsFront bytes now)
 
+-- a fault of the device, or want of memory
 abbrev pub IsOutside : CdfFault → Type 0
 IsOutside faults.Device = Unit {0}
 IsOutside faults.Memory = Unit {0}
 IsOutside e = ⊥
 
--- ---- the relation between a file and its header
+-- the device is answered to have failed
+abbrev pub IsDevice : {T : Type 0} → Result T CdfFault → Type 0
+IsDevice result = IsErrOf result faults.Device
 
-abbrev pub IsClassic : List ℕ → Type 0
-IsClassic bytes = (4 ≤ length bytes) × (get_or bytes 0 0 ≡ 67) × (get_or bytes 1 0 ≡ 68) × (get_or bytes 2 0 ≡ 70)
+-- ---- the header of a file, as a function of its bytes
 
-abbrev pub IsKnown : ℕ → Type 0
-IsKnown v = (v ≡ 1) ⊎ ((v ≡ 2) ⊎ (v ≡ 5))
+-- whether there are four bytes or more, of which the first three are `CDF`
+abbrev pub is_classic : List ℕ → Bool
+is_classic bytes = nat_le 4 (length bytes) && (nat_eq (get_or bytes 0 0) 67 && (nat_eq (get_or bytes 1 0) 68 && nat_eq (get_or bytes 2 0) 70))
 
+-- whether the version is one that is read
+abbrev pub is_known : ℕ → Bool
+is_known v = nat_eq v 1 || (nat_eq v 2 || nat_eq v 5)
+
+-- the version that the fourth byte is
 abbrev pub version : List ℕ → ℕ
 version bytes = get_or bytes 3 0
 
 -- the bytes that a header may take
 abbrev pub first : List ℕ → List ℕ
-first bytes = take 16777216 bytes
+first bytes = take most_header_bytes bytes
+
+-- the fault of a file whose first field that fails has this one
+abbrev pub field_fault : Fault → CdfFault
+field_fault (Short k) = faults.Malformed k
+field_fault (Malformed k) = faults.Malformed k
+field_fault (TooMany l) = faults.TooMany l
+
+-- the same beside a header that was read
+abbrev pub fields_answer : Result Head Fault → Result Head CdfFault
+fields_answer (Ok h) = Ok h
+fields_answer (Err f) = Err (field_fault f)
+
+-- what the fields behind the first four bytes of a file say, of so many bytes and of a version, or the fault of the first that fails
+abbrev pub fields_of : (size v : ℕ) → List ℕ → Result Head CdfFault
+fields_of size v bytes = fields_answer (run (header size v done) (first bytes) 4)
+
+-- the header of a file of these bytes, or the first fault: NotClassic, Version, then that of the first field that fails
+abbrev pub header_of : List ℕ → Result Head CdfFault
+header_of bytes =
+    if is_classic bytes
+    then (if is_known (version bytes) then fields_of (length bytes) (version bytes) bytes else Err (faults.Version (version bytes)))
+    else Err faults.NotClassic
+
+-- this is answered, unless the device fails or memory is wanting
+abbrev pub IsAnswered : (meant : Result Head CdfFault) → Result Head CdfFault → Type 0
+IsAnswered meant (Ok h) = meant ≡ Ok h
+IsAnswered meant (Err faults.Device) = Unit {0}
+IsAnswered meant (Err faults.Memory) = Unit {0}
+IsAnswered meant (Err e) = meant ≡ Err e
+
+-- ---- the relation between a file and its header
+
+-- four bytes or more, of which the first three are `CDF`
+abbrev pub IsClassic : List ℕ → Type 0
+IsClassic bytes = (4 ≤ length bytes) × (get_or bytes 0 0 ≡ 67) × (get_or bytes 1 0 ≡ 68) × (get_or bytes 2 0 ≡ 70)
+
+-- the versions that are read
+abbrev pub IsKnown : ℕ → Type 0
+IsKnown v = (v ≡ 1) ⊎ ((v ≡ 2) ⊎ (v ≡ 5))
 
 -- good fields behind the first four bytes spell the header
 pub record IsHeader (bytes : List ℕ) (h : Head) : Type 0 where
@@ -83,8 +131,3 @@ IsOfHeader (faults.TooMany l) = Unit {0}
 IsOfHeader faults.Device = Unit {0}
 IsOfHeader faults.Memory = Unit {0}
 IsOfHeader e = ⊥
-
--- this header is answered, unless memory or the device fails
-abbrev pub Finds : Head → Result Head CdfFault → Type 0
-Finds h (Ok found) = found ≡ h
-Finds h (Err e) = IsOutside e

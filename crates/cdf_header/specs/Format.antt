@@ -1,5 +1,5 @@
 -- A format says, by the contents of the fields so far, which field must come next.
-use Rattle.std.specs.Prelude.{◌≡◌, ℕ, zero, suc, ◌+◌, ◌*◌, ◌/◌, ◌≤◌, Bool, true, false, cond, ◌&&◌, nat_lt, nat_eq, not, List, [], ◌∷◌, ◌++◌, length, take, drop, get_or, map, Option, Some, None, Result, Ok, Err}
+use Rattle.std.specs.Prelude.{◌≡◌, ℕ, zero, suc, ◌+◌, ◌*◌, ◌/◌, ◌≤◌, Bool, true, false, cond, nat_lt, nat_eq, List, [], ◌∷◌, ◌++◌, length, take, drop, Option, Some, None, Result, Ok, Err}
 use Rattle.byteorder.specs.Endian.{big_number}
 use Rattle.cdf_header.specs.declared.fault.Fault.{Fault}
 use Rattle.cdf_header.specs.declared.fault.Fault.TheVariants.{Short, Malformed, TooMany}
@@ -12,29 +12,35 @@ pub data Kind : Type 0 where
   number : ℕ → Test → Kind
   text : ℕ → Kind
 
+-- the fields that must come, one after the other, and the header that they say
 pub data Format : Type 0 where
   done : Head → Format
   ask : Kind → (List ℕ → Format) → Format
 
+-- so many bytes with padding to a multiple of four
 abbrev pub padded : ℕ → ℕ
 padded n = (n + 3) / 4 * 4
 
--- the bytes of a field's content, and those that it takes
+-- the bytes of a field's content
 abbrev pub own : Kind → ℕ
 own (number w t) = w
 own (text n) = n
 
+-- those that it takes
 abbrev pub room : Kind → ℕ
 room (number w t) = w
 room (text n) = padded n
 
+-- the content of a field of a kind that stands at k
 abbrev pub content : Kind → List ℕ → ℕ → List ℕ
 content kind bytes k = take (own kind) (drop k bytes)
 
+-- whether this is the number of the dimension that there is
 abbrev pub is_at : Option ℕ → ℕ → Bool
 is_at None n = false
 is_at (Some i) n = nat_eq n i
 
+-- the greatest number of a type
 abbrev pub most_type : ℕ → ℕ
 most_type version = cond (nat_eq version 5) 11 6
 
@@ -47,6 +53,7 @@ flaw (Extent has) k n = cond has (cond (nat_eq n 0) (Some (Malformed k)) None) N
 flaw (Id dims unlimited first) k n = cond (nat_lt n dims) (cond first None (cond (is_at unlimited n) (Some (Malformed k)) None)) (Some (Malformed k))
 flaw (NcType version) k n = cond (nat_eq n 0) (Some (Malformed k)) (cond (nat_lt (most_type version) n) (Some (Malformed k)) None)
 
+-- why the content of a field at k is no good
 abbrev pub flaw_of : Kind → ℕ → List ℕ → Option Fault
 flaw_of (number w test) k bytes = flaw test k (big_number w bytes)
 flaw_of (text n) k bytes = None
@@ -55,6 +62,7 @@ flaw_of (text n) k bytes = None
 abbrev pub fault_at : Kind → List ℕ → ℕ → Option Fault
 fault_at kind bytes k = cond (nat_lt (length bytes) (k + room kind)) (Some (Short k)) (flaw_of kind k (content kind bytes k))
 
+-- a fault, or where there is none what is read behind it
 abbrev pub unless : Option Fault → Result Head Fault → Result Head Fault
 unless None r = r
 unless (Some f) r = Err f
@@ -66,6 +74,7 @@ run (ask kind next) bytes k = unless (fault_at kind bytes k) (run (next (content
 
 -- ---- the relation
 
+-- a field: its kind, where it stands, and the bytes of its content
 pub record Field : Type 0 where
   pub kind : Kind
   pub at : ℕ
@@ -98,25 +107,32 @@ Fails (ask asked next) bytes k (x ∷ xs) at kind =
 abbrev pub Reads : Type 0 → Type 0
 Reads X = (X → Format) → Format
 
+-- a part, and then one that depends on what it gave
 infixl 10 ◌>>=◌
 abbrev pub ◌>>=◌ : {X Y : Type 0} → Reads X → (X → Reads Y) → Reads Y
 (part >>= f) next = part (λ x. f x next)
 
+-- a value for which no field must come
 abbrev pub give : {X : Type 0} → X → Reads X
 give x next = next x
 
+-- a number of so many bytes that passes a test
 unfoldable pub num : ℕ → Test → Reads ℕ
 num w test next = ask (number w test) (λ bytes. next (big_number w bytes))
 
+-- so many bytes, padded to a multiple of four
 unfoldable pub str : ℕ → Reads (List ℕ)
 str n next = ask (text n) next
 
+-- the bytes of a number that counts
 abbrev pub wide : ℕ → ℕ
 wide version = cond (nat_eq version 5) 8 4
 
+-- the bytes of an offset
 abbrev pub far : ℕ → ℕ
 far version = cond (nat_eq version 1) 4 8
 
+-- a name: how many bytes, and they
 unfoldable pub name : ℕ → Reads (List ℕ)
 name v = do
   n ← num (wide v) Any
@@ -133,9 +149,11 @@ abbrev pub record_from : ℕ → List Dim → Option ℕ
 record_from i [] = None
 record_from i (d ∷ ds) = cond (nat_eq d.len 0) (Some i) (record_from (i + 1) ds)
 
+-- the number of the record dimension, where there is one
 abbrev pub record_of : List Dim → Option ℕ
 record_of ds = record_from 0 ds
 
+-- whether there is one
 abbrev pub is_some : {X : Type 0} → Option X → Bool
 is_some None = false
 is_some (Some x) = true
@@ -147,31 +165,37 @@ many item (suc n) xs = do
   x ← item xs
   many item n (xs ++ x ∷ [])
 
+-- so many items whose values are of no matter
 unfoldable pub times : Reads (Unit {0}) → ℕ → Reads (Unit {0})
 times item zero = give tt
 times item (suc n) = do
   x ← item
   times item n
 
+-- a dimension behind others: its name, and its length, which is 0 for one of them at most
 unfoldable pub dimension : ℕ → List Dim → Reads Dim
 dimension v ds = do
   s ← name v
   len ← num (wide v) (Extent (is_some (record_of ds)))
   give (record { name = s; len = len })
 
+-- the list of the dimensions
 unfoldable pub dims : ℕ → Reads (List Dim)
 dims v = do
   n ← list v 10 1 1024
   many (dimension v) n []
 
+-- the bytes of a value of a type
 abbrev pub type_size : ℕ → ℕ
 type_size kind =
     cond (nat_lt kind 3) 1 (cond (nat_eq kind 3) 2 (cond (nat_lt kind 6) 4 (cond (nat_eq kind 6) 8
     (cond (nat_eq kind 7) 1 (cond (nat_eq kind 8) 2 (cond (nat_eq kind 9) 4 8))))))
 
+-- so many bytes whose content is of no matter, padded to a multiple of four
 unfoldable pub skip : ℕ → Reads (Unit {0})
 skip n next = ask (text n) (λ bytes. next tt)
 
+-- an attribute: its name, the number of its type, how many values, and they
 unfoldable pub attribute : ℕ → Reads (Unit {0})
 attribute v = do
   n ← num (wide v) Any
@@ -180,19 +204,23 @@ attribute v = do
   m ← num (wide v) Any
   skip (m * type_size kind)
 
+-- a list of attributes
 unfoldable pub attributes : ℕ → Reads (Unit {0})
 attributes v = do
   n ← list v 12 2 8192
   times (attribute v) n
 
+-- the number of a dimension of a variable, behind those of others; the record dimension stands first
 unfoldable pub id : ℕ → List Dim → List ℕ → Reads ℕ
 id v ds is = num (wide v) (Id (length ds) (record_of ds) (nat_eq (length is) 0))
 
+-- the numbers of the dimensions of a variable
 unfoldable pub ids : ℕ → List Dim → Reads (List ℕ)
 ids v ds = do
   rank ← num (wide v) (Count 1 4 1024)
   many (id v ds) rank []
 
+-- a variable: its name, its dimensions, its attributes, its type, a size that is of no matter, and where it begins
 unfoldable pub variable : ℕ → List Dim → List Var → Reads Var
 variable v ds vs = do
   s ← name v
@@ -203,6 +231,7 @@ variable v ds vs = do
   begin ← num (far v) Any
   give (record { name = s; ids = shape; kind = kind; begin = begin })
 
+-- the list of the variables
 unfoldable pub vars : ℕ → List Dim → Reads (List Var)
 vars v ds = do
   n ← list v 11 3 8192

@@ -1,6 +1,5 @@
 -- What a function of the reader gives.
 use Rattle.std.specs.Prelude.{◌≡◌, ℕ, ◌≤◌, List, length, Result, Ok, Err}
-use Rattle.cdf_header.specs.declared.fault.Fault.{Fault}
 use Rattle.cdf_header.specs.declared.fault.ReadError.{ReadError}
 use Rattle.cdf_header.specs.declared.fault.ReadError.TheVariants as errors
 use Rattle.cdf_header.specs.Format.{Format, Reads, run}
@@ -15,6 +14,7 @@ abbrev pub Stops : {X : Type 0} → Reads X → List ℕ → ℕ → ReadError �
 Stops part bytes k errors.Memory = Unit {0}
 Stops {X = X} part bytes k (errors.Fault f) = (next : X → Format) → run (part next) bytes k ≡ Err f
 
-abbrev pub Gives : {X Y : Type 0} → (Y → X × ℕ) → Reads X → List ℕ → ℕ → Result Y ReadError → Type 0
-Gives view part bytes k (Ok y) = Leads part bytes k (view y).0 (view y).1
+-- a value and the place behind it are given where reading the part at k leads to them, and an error where reading fails so
+abbrev pub Gives : {X Y : Type 0} → (Y → X) → Reads X → List ℕ → ℕ → Result (Y × ℕ) ReadError → Type 0
+Gives view part bytes k (Ok y) = Leads part bytes k (view y.0) y.1
 Gives view part bytes k (Err e) = Stops part bytes k e

@@ -1,5 +1,6 @@
 -- What a header says.
-use Rattle.std.specs.Prelude.{ℕ, List}
+use Rattle.std.specs.Global.{Vec}
+use Rattle.std.specs.Prelude.{ℕ, List, map}
 use Rattle.cdf_header.specs.declared.header.Dimension.{Dimension}
 use Rattle.cdf_header.specs.declared.header.Variable.{Variable}
 
@@ -23,8 +24,18 @@ pub record Head : Type 0 where
   pub dims : List Dim
   pub vars : List Var
 
+-- what the code holds as such a dimension
 abbrev pub dim : Dimension → Dim
 dim d = record { name = d.name.items; len = d.len }
 
+-- what the code holds as such a variable
 abbrev pub var : Variable → Var
 var v = record { name = v.name.items; ids = v.ids.items; kind = v.kind; begin = v.begin }
+
+-- the dimensions that the code holds in a vector
+abbrev pub dims_in : Vec Dimension → List Dim
+dims_in ds = map dim ds.items
+
+-- the variables
+abbrev pub vars_in : Vec Variable → List Var
+vars_in vs = map var vs.items

@@ -1,14 +1,21 @@
 -- Where the cells of a variable stand, and how many records there are. Numbers without end.
-use Rattle.std.specs.Prelude.{◌≡◌, ℕ, ◌+◌, ◌-◌, ◌*◌, ◌/◌, ◌^◌, ◌<◌, min, Bool, cond, nat_eq, false, List, [], ◌∷◌, length, map, get_or, Option, Some, None}
+use Rattle.std.specs.Cmp.Lexicographic.{pointwise}
+use Rattle.std.specs.List.{position_from}
+use Rattle.std.specs.Prelude.{ℕ, ◌+◌, ◌-◌, ◌*◌, ◌/◌, ◌^◌, min, Bool, cond, nat_eq, false, List, [], ◌∷◌, map, get_or, Option, Some, None}
 use Rattle.aql_value.specs.Indices.{product}
 use Rattle.aql_value.specs.IndicesLaws.{offset}
 use Rattle.cdf_header.specs.Header.{Dim, Var, Head}
 use Rattle.cdf_header.specs.Format.{padded, type_size, wide}
 
+-- a number, or 2^128-1 where it is larger
+abbrev pub saturated : ℕ → ℕ
+saturated n = min n (2 ^ 128 - 1)
+
 -- the length in the header of the dimension with this number
 abbrev pub len_at : List Dim → ℕ → ℕ
 len_at ds i = get_or (map (λ d. d.len) ds) i 0
 
+-- the lengths of the dimensions with these numbers
 abbrev pub lens : List Dim → List ℕ → List ℕ
 lens ds is = map (len_at ds) is
 
@@ -80,6 +87,7 @@ records h = cond (nat_eq h.numrecs (all_bits h.version)) (streamed h.bytes (recs
 abbrev pub var_in : List Var → ℕ → Var
 var_in vs v = get_or vs v (record { name = []; ids = []; kind = 0; begin = 0 })
 
+-- the variable of a header with this number
 abbrev pub variable_at : Head → ℕ → Var
 variable_at h v = var_in h.vars v
 
@@ -98,6 +106,7 @@ place_of ds vs v (r ∷ at) = cond (is_record ds v)
     (r * recsize ds vs + v.begin + offset (lens ds (inner v.ids)) at * type_size v.kind)
     (offset (lens ds v.ids) (r ∷ at) * type_size v.kind + v.begin)
 
+-- the same by the header
 abbrev pub place : Head → Var → List ℕ → ℕ
 place h v at = place_of h.dims h.vars v at
 
@@ -110,13 +119,10 @@ weights_in size (d ∷ ds) = (product ds * size) ∷ weights_in size ds
 abbrev pub weights : List Dim → List Var → Var → List ℕ
 weights ds vs v = cond (is_record ds v) (recsize ds vs ∷ weights_in (type_size v.kind) (lens ds (inner v.ids))) (weights_in (type_size v.kind) (lens ds v.ids))
 
--- a number is that of the first variable of a name
-pub record IsFirstOf (vs : List Var) (name : List ℕ) (i : ℕ) : Type 0 where
-  pub there : i < length vs
-  pub named : get_or (map (λ v. v.name) vs) i [] ≡ name
-  pub first : (j : ℕ) → j < i → get_or (map (λ v. v.name) vs) j [] ≡ name → ⊥
+-- the number of the first of these variables of a name, counted from i, where there is one
+abbrev pub find_from : (i : ℕ) → List Var → (name : List ℕ) → Option ℕ
+find_from i vs name = position_from (λ v. pointwise nat_eq v.name name) i vs
 
--- the first variable of a name, and none exactly where there is none
-abbrev pub FindsFirst : List Var → List ℕ → Option ℕ → Type 0
-FindsFirst vs name None = (j : ℕ) → j < length vs → get_or (map (λ v. v.name) vs) j [] ≡ name → ⊥
-FindsFirst vs name (Some i) = IsFirstOf vs name i
+-- the number of the first variable of a name, where there is one
+abbrev pub find_in : List Var → (name : List ℕ) → Option ℕ
+find_in vs name = find_from 0 vs name

@@ -1,31 +1,32 @@
 // The fields of a header, one at a time.
 ghost use Rattle.std.specs.Prelude.{◌≡◌, ◌⊎◌, ◌≤◌, ◌<◌, ◌*◌, ◌^◌, List, length, IfOk, None};
-ghost use Rattle.cdf_header.specs.Format.{num, flaw, str, name, list, wide, skip};
+ghost use Rattle.cdf_header.specs.Format.{num, flaw, str, name, list, skip};
 ghost use Rattle.cdf_header.specs.Gives.{Gives};
 ghost use Rattle.cdf_header.specs.declared.test.Test.TheVariants.{NcType};
 
 use crate::fault::{Fault, ReadError};
+use crate::front::Front;
 use crate::test::{Test, flaw_of};
 use byteorder::{BigEndian, ByteOrder};
 use std::alloc::Global;
 
 #[tactic(auto, unfolding(crate::specs::Format::num))]
 pub(crate) fn number(
-    bytes: &[u8],
+    front: &Front,
     at: usize,
     width: usize,
     test: Test,
 ) -> Result<(u64, usize), ReadError>
     requires width { (width ≡ 4) ⊎ (width ≡ 8) }
-    requires at { at ≤ length bytes.now }
-    ensures read { Gives (λ x. x) (num width test) bytes.now at result }
+    requires at { at ≤ length front.now.bytes.now }
+    ensures read { Gives (λ x. x) (num width test) front.now.bytes.now at result }
     ensures good { IfOk result (λ x. flaw test at x.0 ≡ None) }
     ensures narrow { IfOk result (λ x. width ≡ 4 → x.0 < 2 ^ 32) }
 {
-    if bytes.len() - at < width {
+    if front.bytes.len() - at < width {
         return Err(ReadError::Fault(Fault::Short { at }));
     }
-    let part = &bytes[at..at + width];
+    let part = &front.bytes[at..at + width];
     let n = if width == 4 {
         u64::from(BigEndian::read_u32(part))
     } else {
@@ -38,69 +39,67 @@ pub(crate) fn number(
 }
 
 // The number of a type.
-pub(crate) fn type_of(bytes: &[u8], at: usize, v: u8) -> Result<(u32, usize), ReadError>
-    requires at { at ≤ length bytes.now }
-    ensures { Gives (λ x. x) (num 4 (NcType v)) bytes.now at result }
+pub(crate) fn type_of(front: &Front, at: usize) -> Result<(u32, usize), ReadError>
+    requires at { at ≤ length front.now.bytes.now }
+    ensures { Gives (λ x. x) (num 4 (NcType front.now.version)) front.now.bytes.now at result }
 {
-    let (kind, at) = number(bytes, at, 4, Test::NcType { version: v })?;
+    let (kind, at) = number(
+        front,
+        at,
+        4,
+        Test::NcType {
+            version: front.version,
+        },
+    )?;
     Ok((kind as u32, at))
 }
 
 #[tactic(auto, unfolding(crate::specs::Format::str))]
-fn text(alloc: Global, bytes: &[u8], at: usize, len: u64) -> Result<(Vec<u8>, usize), ReadError>
-    requires at { at ≤ length bytes.now }
-    requires small { length bytes.now ≤ 16777216 }
-    ensures { Gives (λ x. (x.0.items, x.1)) (str len) bytes.now at result }
+fn text(alloc: Global, front: &Front, at: usize, len: u64) -> Result<(Vec<u8>, usize), ReadError>
+    requires at { at ≤ length front.now.bytes.now }
+    ensures { Gives (λ x. x.items) (str len) front.now.bytes.now at result }
 {
-    let left = (bytes.len() - at) as u64;
+    let left = (front.bytes.len() - at) as u64;
     if left < len || left < len.div_ceil(4) * 4 {
         return Err(ReadError::Fault(Fault::Short { at }));
     }
     let len = len as usize;
-    let text = Vec::from_slice(alloc, &bytes[at..at + len])?;
+    let text = Vec::from_slice(alloc, &front.bytes[at..at + len])?;
     Ok((text, at + (len + 3) / 4 * 4))
 }
 
 #[tactic(auto, unfolding(crate::specs::Format::name))]
 pub(crate) fn name_of(
     alloc: Global,
-    bytes: &[u8],
+    front: &Front,
     at: usize,
-    width: usize,
-    v: u8,
 ) -> Result<(Vec<u8>, usize), ReadError>
-    requires width { (width ≡ 4) ⊎ (width ≡ 8) }
-    requires is { width ≡ wide v }
-    requires at { at ≤ length bytes.now }
-    requires small { length bytes.now ≤ 16777216 }
-    ensures { Gives (λ x. (x.0.items, x.1)) (name v) bytes.now at result }
+    requires at { at ≤ length front.now.bytes.now }
+    ensures { Gives (λ x. x.items) (name front.now.version) front.now.bytes.now at result }
 {
-    let (len, at) = number(bytes, at, width, Test::Any)?;
-    text(alloc, bytes, at, len)
+    let (len, at) = number(front, at, front.wide(), Test::Any)?;
+    text(alloc, front, at, len)
 }
 
 // The count of a list, which may be absent.
 #[tactic(auto, unfolding(crate::specs::Format::list))]
 pub(crate) fn list_of(
-    bytes: &[u8],
+    front: &Front,
     at: usize,
-    width: usize,
-    v: u8,
     own: u64,
     which: u8,
     most: u64,
 ) -> Result<(u64, usize), ReadError>
-    requires width { (width ≡ 4) ⊎ (width ≡ 8) }
-    requires is { width ≡ wide v }
-    requires at { at ≤ length bytes.now }
-    ensures read { Gives (λ x. x) (list v own which most) bytes.now at result }
+    requires at { at ≤ length front.now.bytes.now }
+    ensures read { Gives (λ x. x) (list front.now.version own which most)
+        front.now.bytes.now at result }
     ensures limit { IfOk result (λ x. x.0 ≤ most) }
 {
-    let (before, at) = number(bytes, at, 4, Test::Tag { own })?;
+    let (before, at) = number(front, at, 4, Test::Tag { own })?;
     number(
-        bytes,
+        front,
         at,
-        width,
+        front.wide(),
         Test::Count {
             before,
             list: which,
@@ -112,17 +111,16 @@ pub(crate) fn list_of(
 // A field of a count of values, whatever they are.
 #[tactic(auto, unfolding(crate::specs::Format::skip))]
 pub(crate) fn skip_over(
-    bytes: &[u8],
+    front: &Front,
     at: usize,
     count: u64,
     size: u64,
 ) -> Result<((), usize), ReadError>
-    requires at { at ≤ length bytes.now }
+    requires at { at ≤ length front.now.bytes.now }
     requires size { (1 ≤ size) × (size ≤ 8) }
-    requires small { length bytes.now ≤ 16777216 }
-    ensures { Gives (λ x. (tt, x.1)) (skip (count * size)) bytes.now at result }
+    ensures { Gives (λ _. tt) (skip (count * size)) front.now.bytes.now at result }
 {
-    let left = (bytes.len() - at) as u64;
+    let left = (front.bytes.len() - at) as u64;
     if left < count {
         return Err(ReadError::Fault(Fault::Short { at }));
     }

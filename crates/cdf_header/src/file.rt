@@ -1,13 +1,12 @@
 // Reading the header of a file.
-ghost use Rattle.std.specs.Prelude.{◌≡◌, ◌≤◌, ◌<◌, List, ℕ, Some, None, true, min, length, take, vec_len, IfOk, IfErr, IsErr, IsErrOf, IsTrue};
-ghost use Rattle.aql_outside.specs.Causes.{Blames};
-ghost use Rattle.aql_outside.specs.Contents.{bytes_in, IsAbsent};
-ghost use Rattle.cdf_header.specs.Header.{Head};
-ghost use Rattle.cdf_header.specs.Format.{header, done, run};
+ghost use Rattle.std.specs.Prelude.{◌≡◌, ◌≤◌, ◌<◌, min, length, IfOk, IfErr, IsErr, IsTrue, Err, true};
 ghost use Rattle.std.specs.Str.{IsUtf8};
-ghost use Rattle.cdf_header.specs.File.{IsFront, IsOutside, Answers, IsClassic, IsKnown, IsLost, IsOfHeader, Reading, IsHeader, Finds};
+ghost use Rattle.aql_outside.specs.Contents.{WhereTold, IsAbsent};
+ghost use Rattle.aql_outside.specs.Frames.{Leaves};
+ghost use Rattle.cdf_header.specs.File.{most_header_bytes, IsFront, StaysFront, IsOutside, IsDevice, IsAnswered, IsClassic, IsKnown, IsLost, IsOfHeader, fields_of, header_of};
 
 use crate::fault::{CdfFault, Fault, ReadError};
+use crate::front::Front;
 use crate::header::Header;
 use crate::lists::header_of;
 use aql_outside::Files;
@@ -15,7 +14,11 @@ use aql_value::Str;
 use std::alloc::Global;
 use std::str;
 
+/// The most bytes that one read asks for.
 const PIECE: usize = 4096;
+
+/// The most bytes that a header may take.
+const MOST_HEADER_BYTES: u64 = 16_777_216;
 
 // Takes the next piece of the file, and says whether it came whole.
 fn read_piece<F: Files>(
@@ -25,15 +28,15 @@ fn read_piece<F: Files>(
     target: usize,
 ) -> Result<bool, CdfFault>
     requires room { length front.old.items < target }
-    requires limit { target ≤ 16777216 }
-    ensures kept { F.holds files.new ≡ F.holds files.old }
-    ensures blamed { Blames F.quiet (IsErrOf result CdfFault.Device) (F.faults files.old) (F.faults files.new) }
+    requires limit { target ≤ most_header_bytes }
+    ensures frame { Leaves F.holds F.faults F.quiet (IsDevice result) files.old files.new }
     ensures causes { IfErr result IsOutside }
     ensures within { IfOk result (λ whole. length front.new.items ≤ target) }
-    ensures grows { IfOk result (λ whole. IsTrue whole → length front.old.items < length front.new.items) }
+    ensures grows { IfOk result
+        (λ whole. IsTrue whole → length front.old.items < length front.new.items) }
     ensures longer { IfOk result (λ whole. length front.old.items ≤ length front.new.items) }
-    ensures told { (bytes : List ℕ) → bytes_in (F.holds files.old) name.now ≡ Some bytes → target ≤ length bytes → IsFront bytes front.old.items
-        → IfOk result (λ whole. (whole ≡ true) × IsFront bytes front.new.items) }
+    ensures told { WhereTold (F.holds files.old) name.now
+        (λ bytes. StaysFront bytes target front.old.items front.new.items result) }
 {
     let mut piece = [0u8; PIECE];
     let room = (target - front.len()).min(PIECE);
@@ -54,15 +57,14 @@ fn grow<F: Files>(
     target: usize,
 ) -> Result<bool, CdfFault>
     requires room { length front.old.items ≤ target }
-    requires limit { target ≤ 16777216 }
-    ensures kept { F.holds files.new ≡ F.holds files.old }
-    ensures blamed { Blames F.quiet (IsErrOf result CdfFault.Device) (F.faults files.old) (F.faults files.new) }
+    requires limit { target ≤ most_header_bytes }
+    ensures frame { Leaves F.holds F.faults F.quiet (IsDevice result) files.old files.new }
     ensures causes { IfErr result IsOutside }
     ensures within { IfOk result (λ whole. length front.new.items ≤ target) }
     ensures whole { IfOk result (λ whole. IsTrue whole → target ≤ length front.new.items) }
     ensures longer { IfOk result (λ whole. length front.old.items ≤ length front.new.items) }
-    ensures told { (bytes : List ℕ) → bytes_in (F.holds files.old) name.now ≡ Some bytes → target ≤ length bytes → IsFront bytes front.old.items
-        → IfOk result (λ whole. (whole ≡ true) × IsFront bytes front.new.items) }
+    ensures told { WhereTold (F.holds files.old) name.now
+        (λ bytes. StaysFront bytes target front.old.items front.new.items result) }
 {
     'pieces: while front.len() < target {
         if !read_piece(files, name, front, target)? {
@@ -81,21 +83,24 @@ fn read_fields<F: Files>(
     whole: bool,
     v: u8,
     size: u64,
-    most: usize,
 ) -> Result<Header, CdfFault>
     requires magic { 4 ≤ length start.items }
-    requires room { length start.items ≤ most }
-    requires limit { most ≤ 16777216 }
-    ensures kept { F.holds files.new ≡ F.holds files.old }
-    ensures blamed { Blames F.quiet (IsErrOf result CdfFault.Device) (F.faults files.old) (F.faults files.new) }
+    requires room { length start.items ≤ min size most_header_bytes }
+    ensures frame { Leaves F.holds F.faults F.quiet (IsDevice result) files.old files.new }
     ensures causes { IfErr result IsOfHeader }
-    ensures told { (bytes : List ℕ) → bytes_in (F.holds files.old) name.now ≡ Some bytes → most ≡ min 16777216 (length bytes) → whole ≡ true → IsFront bytes start.items
-        → Answers (run (header size v done) (take 16777216 bytes) 4) result }
+    ensures told { WhereTold (F.holds files.old) name.now
+        (λ bytes. size ≡ length bytes → whole ≡ true → IsFront bytes start.items
+        → IsAnswered (fields_of size v bytes) result) }
 {
+    let most = size.min(MOST_HEADER_BYTES) as usize;
     let mut front = start;
     let mut ended = !whole;
     'fronts: loop {
-        match header_of(alloc, &front, size, v) {
+        let read = Front {
+            bytes: &front,
+            version: v,
+        };
+        match header_of(alloc, &read, size) {
             Ok((found, _)) => return Ok(found),
             Err(ReadError::Memory) => return Err(CdfFault::Memory),
             Err(ReadError::Fault(Fault::Malformed { at })) => return Err(CdfFault::Malformed {
@@ -135,11 +140,11 @@ fn is_known(v: u8) -> bool
 
 // The header of the file of a name.
 fn header_or_fault<F: Files>(alloc: Global, files: &mut F, name: &str) -> Result<Header, CdfFault>
-    ensures kept { F.holds files.new ≡ F.holds files.old }
-    ensures blamed { Blames F.quiet (IsErrOf result CdfFault.Device) (F.faults files.old) (F.faults files.new) }
+    ensures frame { Leaves F.holds F.faults F.quiet (IsDevice result) files.old files.new }
     ensures causes { IfErr result IsOfHeader }
     // Where the file is told and there.
-    ensures told { (bytes : List ℕ) → bytes_in (F.holds files.old) name.now ≡ Some bytes → Reading bytes result }
+    ensures told { WhereTold (F.holds files.old) name.now
+        (λ bytes. IsAnswered (header_of bytes) result) }
     // Where it is told that the file isn't there.
     ensures absent { IsAbsent (F.holds files.old) name.now → IfErr result IsLost × IsErr result }
 {
@@ -148,7 +153,7 @@ fn header_or_fault<F: Files>(alloc: Global, files: &mut F, name: &str) -> Result
         Ok(None) => return Err(CdfFault::Absent),
         Err(_) => return Err(CdfFault::Device),
     };
-    let most = size.min(16_777_216) as usize;
+    let most = size.min(MOST_HEADER_BYTES) as usize;
     let mut front = Vec::new(alloc);
     let target = most.min(PIECE);
     let whole = grow(files, name, &mut front, target)?;
@@ -159,34 +164,21 @@ fn header_or_fault<F: Files>(alloc: Global, files: &mut F, name: &str) -> Result
     if !is_known(v) {
         return Err(CdfFault::Version { found: v });
     }
-    read_fields(alloc, files, name, front, whole, v, size, most)
-}
-
-// The same, with the header that the bytes spell.
-fn read_named<F: Files>(alloc: Global, files: &mut F, name: &str) -> Result<Header, CdfFault>
-    ensures kept { F.holds files.new ≡ F.holds files.old }
-    ensures blamed { Blames F.quiet (IsErrOf result CdfFault.Device) (F.faults files.old) (F.faults files.new) }
-    ensures causes { IfErr result IsOfHeader }
-    ensures told { (bytes : List ℕ) → bytes_in (F.holds files.old) name.now ≡ Some bytes → Reading bytes result }
-    ensures only { (bytes : List ℕ) (h : Head) → bytes_in (F.holds files.old) name.now ≡ Some bytes → IsHeader bytes h → Finds h result }
-    ensures absent { IsAbsent (F.holds files.old) name.now → IfErr result IsLost × IsErr result }
-{
-    header_or_fault(alloc, files, name)
+    read_fields(alloc, files, name, front, whole, v, size)
 }
 
 /// The header of a file. The faults are tested in the order in which they stand in `CdfFault`. Each
 /// byte is asked for once, and none behind the first 16,777,216. Where the files do not tell their
 /// bytes, a read that gives fewer bytes than asked is the end of the file.
 pub fn read_header<F: Files>(alloc: Global, files: &mut F, name: &Str) -> Result<Header, CdfFault>
-    ensures kept { F.holds files.new ≡ F.holds files.old }
-    // Where `Device` is answered the count of faults rose; of quiet files it is greater only there.
-    ensures blamed { Blames F.quiet (IsErrOf result CdfFault.Device) (F.faults files.old) (F.faults files.new) }
+    // The files hold what they held. Where `Device` is answered the count of faults rose; of quiet
+    // files it is greater only there.
+    ensures frame { Leaves F.holds F.faults F.quiet (IsDevice result) files.old files.new }
     // A fault is one of a header, of the device or of memory, whatever the files tell.
     ensures causes { IfErr result IsOfHeader }
-    // Where the file is told and there, a header is answered that its bytes spell, or the first fault in order.
-    ensures told { (bytes : List ℕ) → IsUtf8 name.now → bytes_in (F.holds files.old) name.now ≡ Some bytes → Reading bytes result }
-    // A header that the bytes spell is answered.
-    ensures only { (bytes : List ℕ) (h : Head) → IsUtf8 name.now → bytes_in (F.holds files.old) name.now ≡ Some bytes → IsHeader bytes h → Finds h result }
+    // Where the file is told and there, the header of its bytes is answered, or the first fault.
+    ensures told { IsUtf8 name.now
+        → WhereTold (F.holds files.old) name.now (λ bytes. IsAnswered (header_of bytes) result) }
     // Where it is told that no file has the name.
     ensures absent { IsAbsent (F.holds files.old) name.now → IfErr result IsLost × IsErr result }
     // A name that is not UTF-8 names no file, and no call is made on the files.
@@ -194,7 +186,7 @@ pub fn read_header<F: Files>(alloc: Global, files: &mut F, name: &Str) -> Result
     ensures untouched { ¬ (IsUtf8 name.now) → files.new ≡ files.old }
 {
     match str::from_utf8(&name.bytes) {
-        Ok(text) => read_named(alloc, files, text),
+        Ok(text) => header_or_fault(alloc, files, text),
         Err(_) => Err(CdfFault::Absent),
     }
 }

@@ -38,5 +38,11 @@ impl Model for Header {
 
     ghost coded = { coded_head };
 
-    ghost view = { λ h. record { bytes = h.bytes; version = h.version; numrecs = h.numrecs; dims = map dim h.dims.items; vars = map var h.vars.items } };
+    ghost view = { λ h. record {
+      bytes = h.bytes;
+      version = h.version;
+      numrecs = h.numrecs;
+      dims = map dim h.dims.items;
+      vars = map var h.vars.items;
+    } };
 }

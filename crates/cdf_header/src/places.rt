@@ -1,6 +1,6 @@
 // Where a cell stands, with the greatest number for every larger place.
-ghost use Rattle.std.specs.Prelude.{◌+◌, drop, ◌≡◌, ◌≤◌, ◌<◌, ◌*◌, ◌^◌, ◌-◌, ℕ, List, length, map, min, get_or, nat_eq, IsTrue};
-ghost use Rattle.cdf_header.specs.Places.{len_at, lens, is_record, inner, slab_size, recsize, place_of, place, var_in, variable_at, shape, nearer, with_begin, least, streamed, all_bits, records, extent, weights, FindsFirst};
+ghost use Rattle.std.specs.Prelude.{◌+◌, drop, ◌≡◌, ◌≤◌, ◌<◌, ◌*◌, ◌^◌, ◌-◌, ℕ, List, length, map, min, get_or, nat_eq, IfSome, IsTrue};
+ghost use Rattle.cdf_header.specs.Places.{len_at, lens, is_record, inner, slab_size, recsize, place_of, place, var_in, variable_at, shape, nearer, with_begin, least, streamed, all_bits, records, extent, weights, find_in, saturated};
 ghost use Rattle.aql_value.specs.Indices.{product};
 ghost use Rattle.aql_value.specs.IndicesLaws.{offset};
 ghost use Rattle.cdf_header.specs.Header.{dim, var};
@@ -18,7 +18,7 @@ fn len_of(dims: &[Dimension], i: u64) -> u64
 }
 
 fn product_of(dims: &[Dimension], ids: &[u64]) -> u128
-    ensures { result ≡ min (product (lens (map dim dims.now) ids.now)) (2 ^ 128 - 1) }
+    ensures { result ≡ saturated (product (lens (map dim dims.now) ids.now)) }
 {
     let mut all = 1u128;
     'ids: for k in 0..ids.len() {
@@ -30,7 +30,7 @@ fn product_of(dims: &[Dimension], ids: &[u64]) -> u128
 
 fn offset_of(dims: &[Dimension], ids: &[u64], at: &[u128]) -> u128
     requires { length ids.now ≡ length at.now }
-    ensures { result ≡ min (offset (lens (map dim dims.now) ids.now) at.now) (2 ^ 128 - 1) }
+    ensures { result ≡ saturated (offset (lens (map dim dims.now) ids.now) at.now) }
 {
     let mut all = 0u128;
     'ids: for k in 0..ids.len() {
@@ -50,7 +50,7 @@ fn over_records(dims: &[Dimension], v: &Variable) -> bool
 }
 
 fn padded_to(n: u128) -> u128
-    ensures { result ≡ min (padded n) (2 ^ 128 - 1) }
+    ensures { result ≡ saturated (padded n) }
 {
     if n > u128::MAX - 3 {
         u128::MAX
@@ -60,7 +60,7 @@ fn padded_to(n: u128) -> u128
 }
 
 fn slab_of(dims: &[Dimension], v: &Variable) -> u128
-    ensures { result ≡ min (slab_size (map dim dims.now) (var v.now)) (2 ^ 128 - 1) }
+    ensures { result ≡ saturated (slab_size (map dim dims.now) (var v.now)) }
 {
     let all = match v.ids.as_slice() {
         [] => 1,
@@ -70,7 +70,7 @@ fn slab_of(dims: &[Dimension], v: &Variable) -> u128
 }
 
 fn record_bytes(dims: &[Dimension], vars: &[Variable]) -> u128
-    ensures { result ≡ min (recsize (map dim dims.now) (map var vars.now)) (2 ^ 128 - 1) }
+    ensures { result ≡ saturated (recsize (map dim dims.now) (map var vars.now)) }
 {
     let mut count = 0usize;
     let mut plain = 0u128;
@@ -89,7 +89,8 @@ fn record_bytes(dims: &[Dimension], vars: &[Variable]) -> u128
 // The offset of the first byte of a cell.
 pub(crate) fn place_in(dims: &[Dimension], vars: &[Variable], v: &Variable, at: &[u128]) -> u128
     requires { length v.now.ids.items ≡ length at.now }
-    ensures { result ≡ min (place_of (map dim dims.now) (map var vars.now) (var v.now) at.now) (2 ^ 128 - 1) }
+    ensures { result ≡ saturated
+        (place_of (map dim dims.now) (map var vars.now) (var v.now) at.now) }
 {
     let begin = u128::from(v.begin);
     let size = u128::from(size_of(v.kind));
@@ -179,7 +180,13 @@ fn is_streaming(version: u8, numrecs: u64) -> bool
 
 // The number of records.
 fn records_in(bytes: u64, version: u8, numrecs: u64, dims: &[Dimension], vars: &[Variable]) -> u64
-    ensures { result ≡ records (record { bytes = bytes; version = version; numrecs = numrecs; dims = map dim dims.now; vars = map var vars.now }) }
+    ensures { result ≡ records (record {
+      bytes = bytes;
+      version = version;
+      numrecs = numrecs;
+      dims = map dim dims.now;
+      vars = map var vars.now;
+    }) }
 {
     if is_streaming(version, numrecs) {
         streamed_in(bytes, record_bytes(dims, vars), least_begin(dims, vars))
@@ -190,7 +197,8 @@ fn records_in(bytes: u64, version: u8, numrecs: u64, dims: &[Dimension], vars: &
 
 // The number of the first variable of a name.
 fn first_named(vars: &[Variable], name: &[u8]) -> Option<u64>
-    ensures { FindsFirst (map var vars.now) name.now result }
+    ensures which { result ≡ find_in (map var vars.now) name.now }
+    ensures within { IfSome result (λ i. i < length vars.now) }
 {
     'vars: for i in 0..vars.len() {
         if vars[i].name.as_slice() == name {
@@ -203,7 +211,8 @@ fn first_named(vars: &[Variable], name: &[u8]) -> Option<u64>
 // The bytes from one index of a dimension to the next, where the cells stand in row-major order.
 fn row_weight(dims: &[Dimension], v: &Variable, j: usize) -> u128
     requires { j < length v.now.ids.items }
-    ensures { result ≡ min (product (lens (map dim dims.now) (drop (j + 1) v.now.ids.items)) * type_size v.now.kind) (2 ^ 128 - 1) }
+    ensures { result ≡ saturated
+        (product (lens (map dim dims.now) (drop (j + 1) v.now.ids.items)) * type_size v.now.kind) }
 {
     product_of(dims, &v.ids[j + 1..]).saturating_mul(u128::from(size_of(v.kind)))
 }
@@ -211,7 +220,8 @@ fn row_weight(dims: &[Dimension], v: &Variable, j: usize) -> u128
 // The bytes from one index of a dimension to the next.
 fn weight_in(dims: &[Dimension], vars: &[Variable], v: &Variable, j: usize) -> u128
     requires { j < length v.now.ids.items }
-    ensures { result ≡ min (get_or (weights (map dim dims.now) (map var vars.now) (var v.now)) j 0) (2 ^ 128 - 1) }
+    ensures { result ≡ saturated
+        (get_or (weights (map dim dims.now) (map var vars.now) (var v.now)) j 0) }
 {
     if j > 0 {
         return row_weight(dims, v, j);
@@ -233,7 +243,8 @@ impl Header {
 
     /// The number of the first variable of a name.
     pub fn find(&self, name: &Str) -> Option<u64>
-        ensures { FindsFirst self.now.vars name.now result }
+        ensures which { result ≡ find_in self.now.vars name.now }
+        ensures within { IfSome result (λ i. i < length self.now.vars) }
     {
         first_named(&self.vars, &name.bytes)
     }
@@ -269,7 +280,7 @@ impl Header {
     pub fn place(&self, v: u64, at: &Index) -> u128
         requires variable { v < length self.now.vars }
         requires rank { length (variable_at self.now v).ids ≡ length at.now.items }
-        ensures { result ≡ min (place self.now (variable_at self.now v) at.now.items) (2 ^ 128 - 1) }
+        ensures { result ≡ saturated (place self.now (variable_at self.now v) at.now.items) }
     {
         place_in(&self.dims, &self.vars, variable_in(&self.vars, v), at)
     }
@@ -291,11 +302,13 @@ impl Header {
         size_of(variable_in(&self.vars, v).kind)
     }
 
-    /// The bytes from one index of a variable's dimension to the next, or 2^128-1 where there are more.
+    /// The bytes from one index of a variable's dimension to the next, or 2^128-1 where there are
+    /// more.
     pub fn weight(&self, v: u64, j: u64) -> u128
         requires variable { v < length self.now.vars }
         requires dimension { j < length (variable_at self.now v).ids }
-        ensures { result ≡ min (get_or (weights self.now.dims self.now.vars (variable_at self.now v)) j 0) (2 ^ 128 - 1) }
+        ensures { result ≡ saturated
+            (get_or (weights self.now.dims self.now.vars (variable_at self.now v)) j 0) }
     {
         weight_in(
             &self.dims,

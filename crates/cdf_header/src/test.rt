@@ -22,7 +22,8 @@ pub enum Test {
     Extent {
         has: bool,
     },
-    /// How many dimensions there are, which of them is the record dimension, and whether it is the first of a shape.
+    /// How many dimensions there are, which of them is the record dimension, and whether it is the
+    /// first of a shape.
     Id {
         dims: u64,
         unlimited: Option<u64>,

@@ -6,7 +6,7 @@ use Rattle.std.proofs.lemmas.List.{length-map}
 use Rattle.aql_value.specs.Indices.{indices, product}
 use Rattle.aql_value.specs.IndicesLaws.{length_indices}
 use Rattle.aql_value.specs.Datum.{Datum, Table}
-use Rattle.aql_value.specs.Partial.{◌>>=◌, each}
+use Rattle.aql_value.specs.Partial.{◌>>=◌, each, or_else}
 use Rattle.cdf_header.specs.declared.fault.CdfFault.{CdfFault}
 use Rattle.cdf_header.specs.declared.fault.CdfFault.TheVariants as faults
 use Rattle.cdf_header.specs.Format.{type_size}
@@ -14,8 +14,8 @@ use Rattle.cdf_header.specs.Header.{Head, Var}
 use Rattle.cdf_header.specs.Places.{place, weights}
 use Rattle.cdf_slab.specs.declared.axes.Axis.{Axis}
 use Rattle.cdf_slab.specs.Numbers.{Number, number_at, cell_of}
-use Rattle.cdf_slab.specs.Slab.{point, cell_places, slab_numbers, slab, or_else, first_cut, index_fault, cut_fault, early_fault, negative_fault, slab_fault, Answers, AnswersEarly}
-use Rattle.cdf_slab.specs.Walk.{steps_of, steps, walk, capped, capped_weights, first_past, AreWithin}
+use Rattle.cdf_slab.specs.Slab.{point, cell_places, slab_numbers, slab, first_cut, index_fault, cut_fault, early_fault, negative_fault, slab_fault, Answers, AnswersEarly}
+use Rattle.cdf_slab.specs.Walk.{steps_of, steps, walk, capped, first_past, AreWithin}
 use Rattle.cdf_slab.specs.Going.{Goes}
 use Rattle.cdf_slab.proofs.Walking.{walk_places, capped-weights}
 use Rattle.cdf_slab.proofs.Cuts.{cut_capped, uncut_within, same_within}
@@ -26,7 +26,7 @@ use Rattle.cdf_slab.proofs.Goings.{none_negative}
 pub record Leads (h : Head) (v : Var) (ss cs ts : List ℕ) (axes : List Axis) : Type 0 where
   pub same : capped (walk (steps_of axes) v.begin) ≡ capped (cell_places h v ss cs ts)
 
-pub leads : (h : Head) (v : Var) (ss cs ts : List ℕ) (axes : List Axis) → steps_of axes ≡ steps ss cs ts (capped_weights (weights h.dims h.vars v)) →
+pub leads : (h : Head) (v : Var) (ss cs ts : List ℕ) (axes : List Axis) → steps_of axes ≡ steps ss cs ts (capped (weights h.dims h.vars v)) →
     length cs ≡ length ss → length ts ≡ length ss → length v.ids ≡ length ss → Leads h v ss cs ts axes
 leads h v ss cs ts axes e a b c =
     let ws : List ℕ = weights h.dims h.vars v in

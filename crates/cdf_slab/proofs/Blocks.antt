@@ -109,10 +109,6 @@ count_late signed rest a base i size end here now before total e s t lt late =
 pub count_done : (rest : List Step) (a : Step) (base i now before total : ℕ) → CountSoFar rest a base i now before total → a.count ≤ i → now ≡ before + total
 count_done rest a base i now before total s le = omega (arith, s.many, ap length (blocks_done (λ j. walk rest (along a base j)) i a.count le))
 
-pub none_is : {X : Type 0} (xs : List X) → length xs < 1 → xs ≡ []
-none_is [] lt = refl
-none_is (x ∷ xs) lt = absurd (omega (arith, lt))
-
 pub one_is : {X : Type 0} (xs : List X) (d : X) → 1 ≤ length xs → length xs < 2 → xs ≡ get_or xs 0 d ∷ []
 one_is [] d le lt = absurd (omega (arith, le))
 one_is (x ∷ []) d le lt = refl

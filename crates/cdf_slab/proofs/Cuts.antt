@@ -3,7 +3,8 @@ use Rattle.std.proofs.Common.{◌≡◌, ℕ, suc, ◌+◌, ◌*◌, ◌-◌, �
 use Rattle.std.specs.List.{flat_map, range_with_len}
 use Rattle.std.proofs.lemmas.Bool.{cases_lt, lt-ltb, ltb-false}
 use Rattle.aql_value.specs.SaturationLaws.{saturating_product}
-use Rattle.cdf_slab.specs.Slab.{first_cut, or_else}
+use Rattle.cdf_slab.specs.Slab.{first_cut}
+use Rattle.aql_value.specs.Partial.{or_else}
 use Rattle.cdf_slab.specs.Walk.{Step, along, walk, capped, first_past, AreWithin}
 use Rattle.cdf_slab.proofs.Walking.{map-append, capped-walk}
 

@@ -10,7 +10,8 @@ use Rattle.std.specs.Prelude.{IfOk, IfErr}
 use Rattle.aql_value.specs.Lists.{Every, Every-append}
 use Rattle.cdf_slab.specs.Numbers.{Number, IsCell, cell_of}
 use Rattle.cdf_slab.specs.Slab.{first_negative, IsLate}
-use Rattle.cdf_slab.specs.Window.{IsOutside, IsOfPiece}
+use Rattle.cdf_header.specs.File.{IsOutside}
+use Rattle.cdf_slab.specs.Window.{IsOfPiece}
 use Rattle.cdf_slab.specs.Going.{Goes}
 
 pub goes-none : (signed : Bool) (before : List Datum) → Goes signed [] before (Ok before)

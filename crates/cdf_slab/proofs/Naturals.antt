@@ -11,7 +11,7 @@ use Rattle.cdf_header.specs.declared.fault.CdfFault.TheVariants as faults
 use Rattle.cdf_slab.specs.Numbers.{Number, has_sign, twos, number_of, cell_of}
 use Rattle.cdf_slab.specs.Run.{lowest, IsNatural}
 use Rattle.cdf_slab.specs.Slab.{first_negative}
-use Rattle.cdf_slab.specs.Window.{IsOutside}
+use Rattle.cdf_header.specs.File.{IsOutside}
 use Rattle.cdf_slab.specs.Going.{Goes}
 use Rattle.std.proofs.lemmas.Bool.{lt-ltb, le-ltb}
 use Rattle.cdf_slab.proofs.Goings.{goes-then, goes-fails}

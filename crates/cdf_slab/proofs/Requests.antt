@@ -4,7 +4,8 @@ use Rattle.cdf_header.specs.declared.fault.CdfFault.{CdfFault}
 use Rattle.cdf_header.specs.declared.fault.CdfFault.TheVariants as faults
 use Rattle.cdf_header.specs.Header.{Head, Var}
 use Rattle.cdf_header.specs.Places.{shape}
-use Rattle.cdf_slab.specs.Slab.{or_else, first_zero, first_outside, passes, is_floating, wrong_variable, index_fault, IsOfRequest}
+use Rattle.cdf_slab.specs.Slab.{first_zero, first_outside, passes, is_floating, wrong_variable, index_fault, IsOfRequest}
+use Rattle.aql_value.specs.Partial.{or_else}
 
 -- the first of two that there is
 one_of : (x y : Option CdfFault) (f : CdfFault) → or_else x y ≡ Some f → (x ≡ Some f) ⊎ (y ≡ Some f)

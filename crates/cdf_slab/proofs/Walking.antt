@@ -9,7 +9,7 @@ use Rattle.cdf_header.specs.Header.{Dim, Var, Head}
 use Rattle.cdf_header.specs.Format.{type_size}
 use Rattle.cdf_header.specs.Places.{lens, inner, is_record, recsize, place_of, weights_in, weights}
 use Rattle.cdf_slab.specs.Slab.{point, cell_places}
-use Rattle.cdf_slab.specs.Walk.{Step, steps, along, walk, capped, capped_weights}
+use Rattle.cdf_slab.specs.Walk.{Step, steps, along, walk, capped}
 
 -- lists by a function that is the same at each element
 pub same_map : {X Y : Type 0} (f g : X → Y) (xs : List X) → ((x : X) → f x ≡ g x) → map f xs ≡ map g xs
@@ -128,11 +128,11 @@ weight_stops x w b c m e =
     omega (arith, e, p)
 
 -- so do weights that have stopped
-pub capped-weights : (ss cs ts ws : List ℕ) (b c : ℕ) → min b (2 ^ 128 - 1) ≡ min c (2 ^ 128 - 1) → capped (walk (steps ss cs ts (capped_weights ws)) b) ≡ capped (walk (steps ss cs ts ws) c)
+pub capped-weights : (ss cs ts ws : List ℕ) (b c : ℕ) → min b (2 ^ 128 - 1) ≡ min c (2 ^ 128 - 1) → capped (walk (steps ss cs ts (capped ws)) b) ≡ capped (walk (steps ss cs ts ws) c)
 capped-weights [] cs ts ws b c e = ap (λ p. p ∷ []) e
 capped-weights (s ∷ ss) [] ts ws b c e = ap (λ p. p ∷ []) e
 capped-weights (s ∷ ss) (n ∷ cs) [] ws b c e = ap (λ p. p ∷ []) e
 capped-weights (s ∷ ss) (n ∷ cs) (t ∷ ts) [] b c e = ap (λ p. p ∷ []) e
 capped-weights (s ∷ ss) (n ∷ cs) (t ∷ ts) (w ∷ ws) b c e =
-    same_capped (λ i. walk (steps ss cs ts (capped_weights ws)) (b + (s + i * t) * min w (2 ^ 128 - 1))) (λ i. walk (steps ss cs ts ws) (c + (s + i * t) * w)) (range_with_len 0 n)
+    same_capped (λ i. walk (steps ss cs ts (capped ws)) (b + (s + i * t) * min w (2 ^ 128 - 1))) (λ i. walk (steps ss cs ts ws) (c + (s + i * t) * w)) (range_with_len 0 n)
     (λ i. capped-weights ss cs ts ws (b + (s + i * t) * min w (2 ^ 128 - 1)) (c + (s + i * t) * w) (weight_stops (s + i * t) w b c (2 ^ 128 - 1) e))

@@ -1,11 +1,15 @@
 -- What reading numbers one after another makes of the cells so far.
-use Rattle.std.specs.Prelude.{◌≡◌, Bool, false, List, ◌++◌, length, Some, Result, Ok, Err}
+use Rattle.std.specs.Prelude.{◌≡◌, ℕ, ◌+◌, ◌≤◌, Bool, false, List, ◌++◌, length, map, Some, Result, Ok, Err, IfOk}
 use Rattle.aql_value.specs.Datum.{Datum}
+use Rattle.aql_value.specs.Lists.{Every}
 use Rattle.aql_value.specs.Partial.{each}
 use Rattle.cdf_header.specs.declared.fault.CdfFault.{CdfFault}
 use Rattle.cdf_header.specs.declared.fault.CdfFault.TheVariants as faults
-use Rattle.cdf_slab.specs.Numbers.{Number, cell_of}
+use Rattle.cdf_slab.specs.Numbers.{Number, IsCell, cell_of, number_at}
 use Rattle.cdf_slab.specs.Slab.{first_negative}
+use Rattle.cdf_slab.specs.Window.{IsPiece}
+use Rattle.cdf_slab.specs.declared.reading.Reading.{Reading}
+use Rattle.cdf_slab.specs.declared.window.Window.{Window}
 
 -- a cell more for each number, up to the first that gives none
 abbrev pub Goes : (signed : Bool) → List Number → (before : List Datum) → Result (List Datum) CdfFault → Type 0
@@ -14,3 +18,17 @@ Goes signed ns before (Err (faults.Negative c)) = (signed ≡ false) × (first_n
 Goes signed ns before (Err faults.Device) = Unit {0}
 Goes signed ns before (Err faults.Memory) = Unit {0}
 Goes signed ns before (Err e) = ⊥
+
+-- how many cells there are with those of these places behind them
+abbrev pub count_with : List Datum → (places : List ℕ) → ℕ
+count_with cells places = length cells + length places
+
+-- where those so far are cells of numbers, so are all
+abbrev pub StaysKind : (signed : Bool) → (before : List Datum) → Result (List Datum) CdfFault → Type 0
+StaysKind signed before result = Every (IsCell signed) before → IfOk result (Every (IsCell signed))
+
+-- where the bytes reach to the end of what is read and the piece is one of them: a cell more for each number at these places, and the piece stays one
+abbrev pub ReadsPlaces : (bytes : List ℕ) → Reading → (before now : Window) → (places : List ℕ) → (cells : List Datum) → Result (List Datum) CdfFault → Type 0
+ReadsPlaces bytes reading before now places cells result =
+    reading.end ≤ length bytes → IsPiece bytes before
+    → Goes reading.signed (map (number_at bytes reading.kind) places) cells result × IfOk result (λ _. IsPiece bytes now)

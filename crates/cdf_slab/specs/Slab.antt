@@ -1,16 +1,20 @@
 -- The hyperslab of a variable: its cells, and why it has none.
-use Rattle.std.specs.Prelude.{◌≡◌, ◌≢◌, ℕ, ◌+◌, ◌-◌, ◌*◌, ◌^◌, ◌≤◌, ◌<◌, min, Bool, false, not, ◌||◌, nat_eq, nat_lt, List, [], ◌∷◌, length, map, Option, Some, None, option_map, Result, Ok, Err, ◌⊎◌, if◌then◌else◌}
+use Rattle.std.specs.Prelude.{◌≡◌, ◌≢◌, ℕ, ◌+◌, ◌-◌, ◌*◌, ◌≤◌, ◌<◌, Bool, false, not, ◌||◌, nat_eq, nat_lt, List, [], ◌∷◌, length, map, Option, Some, None, option_map, Result, Ok, Err, IfErr, ◌⊎◌, if◌then◌else◌}
 use Rattle.std.specs.Str.{IsUtf8}
 use Rattle.aql_value.specs.Datum.{Table}
 use Rattle.aql_value.specs.Indices.{indices, product}
 use Rattle.aql_value.specs.Lists.{Every}
-use Rattle.aql_value.specs.Partial.{◌>>=◌, each}
+use Rattle.aql_value.specs.Partial.{◌>>=◌, each, or_else}
 use Rattle.cdf_header.specs.declared.fault.CdfFault.{CdfFault}
 use Rattle.cdf_header.specs.declared.fault.CdfFault.TheVariants as faults
 use Rattle.cdf_header.specs.Format.{type_size}
 use Rattle.cdf_header.specs.Header.{Head, Var}
-use Rattle.cdf_header.specs.Places.{place, shape}
+use Rattle.cdf_header.specs.Places.{place, shape, saturated}
 use Rattle.cdf_slab.specs.Numbers.{Number, IsCell, number_at, cell_of}
+
+-- the most cells of a hyperslab
+abbrev pub most_cells : ℕ
+most_cells = 50000000
 
 -- start + i * stride, dimension by dimension
 abbrev pub point : (start stride at : List ℕ) → List ℕ
@@ -29,11 +33,6 @@ slab_numbers bytes h v start count stride = map (number_at bytes v.kind) (cell_p
 abbrev pub slab : (bytes : List ℕ) → Head → Var → (start count stride : List ℕ) → (signed : Bool) → Option Table
 slab bytes h v start count stride signed =
     each (cell_of signed) (slab_numbers bytes h v start count stride) >>= λ cells. Some (record { dims = count; cells = cells })
-
--- the first that there is
-abbrev pub or_else : {A : Type 0} → Option A → Option A → Option A
-or_else None y = y
-or_else (Some x) y = Some x
 
 -- float and double
 abbrev pub is_floating : ℕ → Bool
@@ -56,7 +55,7 @@ first_outside k ns ss cs ts = None
 -- the first offset where a number of so many bytes passes the end, or 2^128-1 where it is larger
 abbrev pub first_cut : (size end : ℕ) → List ℕ → Option ℕ
 first_cut size end [] = None
-first_cut size end (p ∷ ps) = if nat_lt end (p + size) then Some (min p (2 ^ 128 - 1)) else first_cut size end ps
+first_cut size end (p ∷ ps) = if nat_lt end (p + size) then Some (saturated p) else first_cut size end ps
 
 -- the first number below 0, counted from k
 abbrev pub first_negative : ℕ → List Number → Option ℕ
@@ -98,6 +97,16 @@ Answers fault array (Err faults.Device) = Unit {0}
 Answers fault array (Err faults.Memory) = Unit {0}
 Answers fault array (Err e) = fault ≡ Some e
 
+-- the same by the file's bytes and what is asked for
+abbrev pub AnswersSlab : (bytes : List ℕ) → Head → Var → (start count stride : List ℕ) → (signed : Bool) → Result Table CdfFault → Type 0
+AnswersSlab bytes h v start count stride signed result =
+    h.bytes ≡ length bytes → Answers (slab_fault bytes h v start count stride signed) (slab bytes h v start count stride signed) result
+
+-- the same where the variable, the strides and the indices are right
+abbrev pub AnswersRead : (bytes : List ℕ) → Head → Var → (start count stride : List ℕ) → (signed : Bool) → Result Table CdfFault → Type 0
+AnswersRead bytes h v start count stride signed result =
+    h.bytes ≡ length bytes → Answers (or_else (cut_fault h v start count stride) (negative_fault signed (slab_numbers bytes h v start count stride))) (slab bytes h v start count stride signed) result
+
 -- a fault that the header tells is answered, memory apart
 abbrev pub AnswersEarly : Option CdfFault → Result Table CdfFault → Type 0
 AnswersEarly None result = Unit {0}
@@ -117,6 +126,11 @@ IsLate signed many (faults.Negative c) = (signed ≡ false) × (c < many)
 IsLate signed many faults.Device = Unit {0}
 IsLate signed many faults.Memory = Unit {0}
 IsLate signed many e = ⊥
+
+-- where the variable, the strides and the indices are right, no other fault comes than these
+abbrev pub IsLateOf : Head → Var → (start count stride : List ℕ) → (signed : Bool) → Result Table CdfFault → Type 0
+IsLateOf h v start count stride signed result =
+    index_fault h v start count stride ≡ None → IfErr result (IsLate signed (product count))
 
 -- what a fault says of what is asked for, whatever the files tell
 abbrev pub IsOfRequest : (start count stride : List ℕ) → (signed : Bool) → CdfFault → Type 0

@@ -1,6 +1,7 @@
 -- The offsets of the cells, dimension after dimension.
-use Rattle.std.specs.Prelude.{◌≡◌, ℕ, ◌+◌, ◌-◌, ◌*◌, ◌^◌, ◌≤◌, min, cond, nat_lt, List, [], ◌∷◌, map, Option, Some, None}
+use Rattle.std.specs.Prelude.{◌≡◌, ℕ, ◌+◌, ◌-◌, ◌*◌, ◌≤◌, cond, nat_lt, List, [], ◌∷◌, map, Option, Some, None}
 use Rattle.std.specs.List.{flat_map, range_with_len}
+use Rattle.cdf_header.specs.Places.{saturated}
 use Rattle.cdf_slab.specs.declared.axes.Axis.{Axis}
 
 -- one dimension of a hyperslab: where it starts, how many, how far apart, and the bytes from one index to the next
@@ -10,9 +11,11 @@ pub record Step : Type 0 where
   pub stride : ℕ
   pub weight : ℕ
 
+-- what the code holds as such a dimension
 abbrev pub step_of : Axis → Step
 step_of a = record { start = a.start; count = a.count; stride = a.stride; weight = a.weight }
 
+-- the same of each
 abbrev pub steps_of : List Axis → List Step
 steps_of axes = map step_of axes
 
@@ -42,11 +45,7 @@ AreWithin size end (p ∷ ps) = (p + size ≤ end) × AreWithin size end ps
 
 -- each that is larger than 2^128-1 as that number
 abbrev pub capped : List ℕ → List ℕ
-capped ps = map (λ p. min p (2 ^ 128 - 1)) ps
-
--- weights of at most 2^128-1
-abbrev pub capped_weights : List ℕ → List ℕ
-capped_weights ws = map (λ w. min w (2 ^ 128 - 1)) ws
+capped ps = map saturated ps
 
 -- the first place whose number passes the end
 abbrev pub first_past : (size end : ℕ) → List ℕ → Option ℕ

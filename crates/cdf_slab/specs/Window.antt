@@ -1,5 +1,6 @@
 -- A piece of a file.
-use Rattle.std.specs.Prelude.{◌≡◌, ℕ, ◌+◌, ◌≤◌, List, length, take, drop, false}
+use Rattle.std.specs.Prelude.{◌≡◌, ℕ, ◌+◌, ◌≤◌, List, length, take, drop, false, Result, IfOk, IfErr}
+use Rattle.cdf_header.specs.File.{IsOutside}
 use Rattle.cdf_header.specs.declared.fault.CdfFault.{CdfFault}
 use Rattle.cdf_header.specs.declared.fault.CdfFault.TheVariants as faults
 use Rattle.cdf_slab.specs.declared.window.Window.{Window}
@@ -14,11 +15,15 @@ pub record Holds (w : Window) (place size : ℕ) : Type 0 where
   pub behind : w.at ≤ place
   pub before : place + size ≤ w.at + length w.bytes.items
 
--- a fault of the device, or want of memory
-abbrev pub IsOutside : CdfFault → Type 0
-IsOutside faults.Device = Unit {0}
-IsOutside faults.Memory = Unit {0}
-IsOutside e = ⊥
+-- where the bytes reach so far, so many at an offset are read
+abbrev pub IsLoaded : (bytes : List ℕ) → (at room : ℕ) → Result Window CdfFault → Type 0
+IsLoaded bytes at room result =
+    at + room ≤ length bytes → IfOk result (λ w. IsPiece bytes w × (w.at ≡ at) × (length w.bytes.items ≡ room))
+
+-- where the bytes reach to the end and the piece is one of them, it stays one, and no fault is of the file
+abbrev pub StaysPiece : {T : Type 0} → (bytes : List ℕ) → (end : ℕ) → (before now : Window) → Result T CdfFault → Type 0
+StaysPiece bytes end before now result =
+    end ≤ length bytes → IsPiece bytes before → IfErr result IsOutside × IfOk result (λ _. IsPiece bytes now)
 
 -- a fault of reading a piece: fewer bytes came than were asked, the device failed, or memory was wanting
 abbrev pub IsOfPiece : CdfFault → Type 0

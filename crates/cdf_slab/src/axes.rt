@@ -3,7 +3,7 @@
 ghost use Rattle.std.specs.Prelude.{◌≡◌, ◌<◌, ◌^◌, IfOk, length};
 ghost use Rattle.std.specs.List.{All};
 ghost use Rattle.cdf_header.specs.Places.{variable_at, weights};
-ghost use Rattle.cdf_slab.specs.Walk.{steps_of, steps, capped_weights};
+ghost use Rattle.cdf_slab.specs.Walk.{steps_of, steps, capped};
 
 use aql_value::Memory;
 use cdf_header::Header;
@@ -33,7 +33,8 @@ pub(crate) fn axes_of(
     requires counts { length count.now ≡ length start.now }
     requires strides { length stride.now ≡ length start.now }
     requires fit { All (λ c. c < 2 ^ 64) count.now }
-    ensures { IfOk result (λ axes. steps_of axes.items ≡ steps start.now count.now stride.now (capped_weights (weights header.now.dims header.now.vars (variable_at header.now v)))) }
+    ensures { IfOk result (λ axes. steps_of axes.items ≡ steps start.now count.now stride.now
+        (capped (weights header.now.dims header.now.vars (variable_at header.now v)))) }
 {
     let mut axes = Vec::new(alloc);
     'axes: for j in 0..start.len() {

@@ -1,7 +1,7 @@
 //! The faults of a hyperslab that the header tells.
 
-ghost use Rattle.std.specs.Prelude.{◌≡◌, ◌+◌, ◌-◌, ◌<◌, ◌≤◌, ◌^◌, min, length};
-ghost use Rattle.cdf_header.specs.Places.{variable_at, shape};
+ghost use Rattle.std.specs.Prelude.{◌≡◌, ◌+◌, ◌<◌, ◌≤◌, min, length};
+ghost use Rattle.cdf_header.specs.Places.{variable_at, shape, saturated};
 ghost use Rattle.cdf_slab.specs.Slab.{first_zero, first_outside, passes, wrong_variable, is_floating};
 ghost use Rattle.cdf_slab.specs.Walk.{steps_of, walk, last_place, first_past, capped, AreWithin};
 
@@ -67,7 +67,8 @@ pub(crate) fn outside_dimension(
     requires rank { length (variable_at header.now v).ids ≡ length start.now }
     requires counts { length count.now ≡ length start.now }
     requires strides { length stride.now ≡ length start.now }
-    ensures { result ≡ first_outside 1 (shape header.now (variable_at header.now v)) start.now count.now stride.now }
+    ensures { result ≡ first_outside 1 (shape header.now (variable_at header.now v))
+        start.now count.now stride.now }
 {
     'dimensions: for j in 0..start.len() {
         let length = header.length(v, j as u64);
@@ -105,7 +106,7 @@ pub(crate) fn last_end(end: u64, size: u64, axes: &[Axis], base: u128) -> u64
 
 // The place of the last index of each dimension, or 2^128-1 where it is larger.
 fn last_from(axes: &[Axis], base: u128) -> u128
-    ensures { result ≡ min (last_place (steps_of axes.now) base) (2 ^ 128 - 1) }
+    ensures { result ≡ saturated (last_place (steps_of axes.now) base) }
 {
     match axes {
         [] => base,

@@ -1,30 +1,14 @@
 //! The numbers of a variable out of their bytes.
 
-ghost use Rattle.std.specs.Prelude.{◌≡◌, ℕ, ◌+◌, ◌<◌, ◌≤◌, ◌⊎◌, true, length, drop, slice_index};
-ghost use Rattle.byteorder.specs.Endian.{big_number};
-ghost use Rattle.cdf_slab.specs.Numbers.{number_of, twos};
+ghost use Rattle.std.specs.Prelude.{◌≡◌, ℕ, ◌<◌, ◌≤◌, true, length, slice_index};
+ghost use Rattle.cdf_slab.specs.Numbers.{number_of, twos, IsWidth};
 ghost use Rattle.cdf_slab.specs.Run.{run, HasRun, lowest, IsNatural};
 
 use byteorder::{BigEndian, ByteOrder};
 
-/// The number whose bytes stand at a place, the highest first.
-pub(crate) fn spelled_at(bytes: &[u8], size: u64, at: usize) -> u64
-    requires size { (size ≡ 1) ⊎ ((size ≡ 2) ⊎ ((size ≡ 4) ⊎ (size ≡ 8))) }
-    requires room { at + size ≤ length bytes.now }
-    ensures { result ≡ big_number size (drop at bytes.now) }
-{
-    let part = &bytes[at..];
-    match size {
-        1 => u64::from(part[0]),
-        2 => u64::from(BigEndian::read_u16(part)),
-        4 => u64::from(BigEndian::read_u32(part)),
-        _ => BigEndian::read_u64(part),
-    }
-}
-
 /// The numbers that stand in these bytes a step apart, as many as there is room for.
 pub(crate) fn decode(bytes: &[u8], size: u64, step: usize, numbers: &mut [u64])
-    requires size { (size ≡ 1) ⊎ ((size ≡ 2) ⊎ ((size ≡ 4) ⊎ (size ≡ 8))) }
+    requires size { IsWidth size }
     requires room { HasRun bytes.now size step (length numbers.old) }
     ensures { numbers.new ≡ run size step (length numbers.old) bytes.now }
 {
@@ -76,7 +60,8 @@ fn decode_longs(bytes: &[u8], step: usize, numbers: &mut [u64])
 pub(crate) fn naturals_before(kind: u32, numbers: &[u64]) -> usize
     ensures within { result ≤ length numbers.now }
     ensures naturals { (k : ℕ) → k < result → IsNatural kind (slice_index numbers.now k) }
-    ensures negative { result < length numbers.now → (number_of kind (slice_index numbers.now result)).0 ≡ true }
+    ensures negative { result < length numbers.now
+        → (number_of kind (slice_index numbers.now result)).0 ≡ true }
 {
     match lowest_below(kind) {
         Some(limit) => before(limit, numbers),
@@ -126,7 +111,7 @@ pub(crate) fn number(kind: u32, x: u64) -> (bool, u64)
 
 // The number that so many bytes are as two's complement.
 fn signed_number(size: u64, x: u64) -> (bool, u64)
-    requires { (size ≡ 1) ⊎ ((size ≡ 2) ⊎ ((size ≡ 4) ⊎ (size ≡ 8))) }
+    requires { IsWidth size }
     ensures { result ≡ twos size x }
 {
     match size {

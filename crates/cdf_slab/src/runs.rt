@@ -1,24 +1,16 @@
 //! Runs of numbers, as cells.
 
-ghost use Rattle.std.specs.Prelude.{◌≡◌, ◌+◌, ◌⊎◌, [], ◌∷◌, false, length, map, IfOk, IsErrOf};
+ghost use Rattle.std.specs.Prelude.{◌≡◌, ◌+◌, [], ◌∷◌, false, length, map, IfOk};
+ghost use Rattle.cdf_header.specs.File.{IsDevice};
 ghost use Rattle.cdf_slab.specs.Going.{Goes};
-ghost use Rattle.cdf_slab.specs.Numbers.{number_of};
+ghost use Rattle.cdf_slab.specs.Numbers.{number_of, IsWidth};
 ghost use Rattle.cdf_slab.specs.Run.{run, HasRun};
 
 use crate::numbers::{decode, naturals_before, number};
+use crate::reading::Reading;
 use cdf_header::CdfFault;
 use nrca_array::Builder;
 use std::alloc::Global;
-
-/// What is read: numbers of a type and so many bytes, before an end; as pairs of whether they are
-/// below 0 and how far from 0, or as naturals.
-#[derive(Clone, Copy, Debug, PartialEq, Eq)]
-pub(crate) struct Reading {
-    pub kind: u32,
-    pub size: u64,
-    pub signed: bool,
-    pub end: u64,
-}
 
 /// One cell more, of a number as its bytes spell it.
 pub(crate) fn push_number(
@@ -29,7 +21,7 @@ pub(crate) fn push_number(
 ) -> Result<Builder, CdfFault>
     ensures goes { Goes reading.signed (number_of reading.kind x ∷ []) cells result }
     ensures many { IfOk result (λ all. length all ≡ length cells + 1) }
-    ensures own { IsErrOf result CdfFault.Device → ⊥ }
+    ensures own { IsDevice result → ⊥ }
 {
     let (below, far) = number(reading.kind, x);
     if reading.signed {
@@ -43,7 +35,8 @@ pub(crate) fn push_number(
     Ok(cells.push_natural(alloc, u128::from(far))?)
 }
 
-/// So many cells more, of the numbers that stand in these bytes a step apart, decoded into a buffer.
+/// So many cells more, of the numbers that stand in these bytes a step apart, decoded into a
+/// buffer.
 pub(crate) fn push_run(
     alloc: Global,
     reading: Reading,
@@ -53,11 +46,12 @@ pub(crate) fn push_run(
     numbers: &mut Vec<u64>,
     cells: Builder,
 ) -> Result<Builder, CdfFault>
-    requires size { (reading.size ≡ 1) ⊎ ((reading.size ≡ 2) ⊎ ((reading.size ≡ 4) ⊎ (reading.size ≡ 8))) }
+    requires size { IsWidth reading.size }
     requires room { HasRun bytes.now reading.size step count }
-    ensures goes { Goes reading.signed (map (number_of reading.kind) (run reading.size step count bytes.now)) cells result }
+    ensures goes { Goes reading.signed
+        (map (number_of reading.kind) (run reading.size step count bytes.now)) cells result }
     ensures many { IfOk result (λ all. length all ≡ length cells + count) }
-    ensures own { IsErrOf result CdfFault.Device → ⊥ }
+    ensures own { IsDevice result → ⊥ }
 {
     match numbers.resize(count, 0) {
         Ok(()) => {
@@ -81,7 +75,7 @@ fn push_each(
 ) -> Result<Builder, CdfFault>
     ensures goes { Goes reading.signed (map (number_of reading.kind) numbers.now) cells result }
     ensures many { IfOk result (λ all. length all ≡ length cells + length numbers.now) }
-    ensures own { IsErrOf result CdfFault.Device → ⊥ }
+    ensures own { IsDevice result → ⊥ }
 {
     let mut all = cells;
     'numbers: for x in numbers {
@@ -102,7 +96,7 @@ fn push_naturals(
 ) -> Result<Builder, CdfFault>
     ensures goes { Goes false (map (number_of kind) numbers.now) cells result }
     ensures many { IfOk result (λ all. length all ≡ length cells + length numbers.now) }
-    ensures own { IsErrOf result CdfFault.Device → ⊥ }
+    ensures own { IsDevice result → ⊥ }
 {
     let count = naturals_before(kind, numbers);
     let all = cells.push_naturals(alloc, &numbers[..count])?;

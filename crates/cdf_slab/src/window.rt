@@ -1,14 +1,14 @@
 //! A piece of a file, read where its numbers are asked for.
 
-ghost use Rattle.std.specs.Prelude.{◌≡◌, ◌+◌, ◌-◌, ◌^◌, ◌≤◌, ◌<◌, ◌⊎◌, List, ℕ, Some, false, length, drop, min, IfOk, IfErr, IsErrOf, IsTrue};
-ghost use Rattle.aql_outside.specs.Causes.{Blames};
-ghost use Rattle.aql_outside.specs.Contents.{bytes_in};
-ghost use Rattle.byteorder.specs.Endian.{big_number};
+ghost use Rattle.std.specs.Prelude.{◌≡◌, ◌+◌, ◌-◌, ◌^◌, ◌≤◌, ◌<◌, List, ℕ, length, drop, IfOk, IfErr, IsTrue};
+ghost use Rattle.aql_outside.specs.Contents.{WhereTold};
+ghost use Rattle.aql_outside.specs.Frames.{Leaves};
+ghost use Rattle.cdf_header.specs.File.{IsDevice, IsOutside};
+ghost use Rattle.cdf_slab.specs.Numbers.{IsWidth};
 ghost use Rattle.cdf_slab.specs.Run.{HoldsRun};
-ghost use Rattle.cdf_slab.specs.Window.{IsPiece, Holds, IsOutside, IsOfPiece};
+ghost use Rattle.cdf_slab.specs.Window.{IsPiece, Holds, IsLoaded, StaysPiece, IsOfPiece};
 
-use crate::numbers::spelled_at;
-use crate::runs::Reading;
+use crate::reading::Reading;
 use aql_outside::Files;
 use cdf_header::CdfFault;
 use std::alloc::Global;
@@ -16,7 +16,8 @@ use std::alloc::Global;
 /// The most bytes that one read asks for.
 const PIECE: u64 = 65536;
 
-/// The bytes of a file from an offset on that were read last, and whether fewer came than were asked.
+/// The bytes of a file from an offset on that were read last, and whether fewer came than were
+/// asked.
 #[derive(Drop)]
 pub(crate) struct Window {
     pub at: u64,
@@ -50,15 +51,6 @@ impl Window {
         }
     }
 
-    // The number of so many bytes at an offset.
-    fn get(&self, place: u64, size: u64) -> u64
-        requires size { (size ≡ 1) ⊎ ((size ≡ 2) ⊎ ((size ≡ 4) ⊎ (size ≡ 8))) }
-        requires holds { Holds self.now place size }
-        ensures told { (bytes : List ℕ) → IsPiece bytes self.now → result ≡ big_number size (drop place bytes) }
-    {
-        spelled_at(&self.bytes, size, (place - self.at) as usize)
-    }
-
     /// The bytes of the piece from an offset on.
     pub fn from(&self, place: u64) -> &[u8]
         requires behind { self.now.at ≤ place }
@@ -68,7 +60,8 @@ impl Window {
         &self.bytes[(place - self.at) as usize..]
     }
 
-    // How many numbers of so many bytes, a step apart from an offset on, stand in the piece, at most so many.
+    // How many numbers of so many bytes, a step apart from an offset on, stand in the piece, at
+    // most so many.
     fn many(&self, place: u64, size: u64, step: u64, most: u64) -> u64
         requires size { 1 ≤ size }
         requires holds { Holds self.now place size }
@@ -92,11 +85,9 @@ fn load<F: Files>(
     room: usize,
 ) -> Result<Window, CdfFault>
     requires { room ≤ 65536 }
-    ensures kept { F.holds files.new ≡ F.holds files.old }
-    ensures blamed { Blames F.quiet (IsErrOf result CdfFault.Device) (F.faults files.old) (F.faults files.new) }
+    ensures frame { Leaves F.holds F.faults F.quiet (IsDevice result) files.old files.new }
     ensures causes { IfErr result IsOutside }
-    ensures told { (bytes : List ℕ) → bytes_in (F.holds files.old) name.now ≡ Some bytes → at + room ≤ length bytes
-        → IfOk result (λ w. IsPiece bytes w × (w.at ≡ at) × (length w.bytes.items ≡ room)) }
+    ensures told { WhereTold (F.holds files.old) name.now (λ bytes. IsLoaded bytes at room result) }
 {
     let mut piece = [0u8; 65536];
     match files.read_at(name, at, &mut piece[..room]) {
@@ -115,11 +106,10 @@ fn load<F: Files>(
     }
 }
 
-// Makes the piece one in which a number of so many bytes at an offset stands. Reads on where it does not
-// stand in it yet, and never past the end. A read that gives fewer bytes than asked is the end of the
-// file: `Cut`.
+// Makes the piece one in which a number of so many bytes at an offset stands. Reads on where it
+// does not stand in it yet, and never past the end. A read that gives fewer bytes than asked is the
+// end of the file: `Cut`.
 fn hold<F: Files>(
-    alloc: Global,
     files: &mut F,
     name: &str,
     window: &mut Window,
@@ -127,14 +117,13 @@ fn hold<F: Files>(
     place: u64,
     size: u64,
 ) -> Result<(), CdfFault>
-    requires size { (size ≡ 1) ⊎ ((size ≡ 2) ⊎ ((size ≡ 4) ⊎ (size ≡ 8))) }
+    requires size { IsWidth size }
     requires within { place + size ≤ end }
-    ensures kept { F.holds files.new ≡ F.holds files.old }
-    ensures blamed { Blames F.quiet (IsErrOf result CdfFault.Device) (F.faults files.old) (F.faults files.new) }
+    ensures frame { Leaves F.holds F.faults F.quiet (IsDevice result) files.old files.new }
     ensures late { IfErr result IsOfPiece }
     ensures holds { IfOk result (λ _. Holds window.new place size) }
-    ensures told { (bytes : List ℕ) → bytes_in (F.holds files.old) name.now ≡ Some bytes → end ≤ length bytes → IsPiece bytes window.old
-        → IfErr result IsOutside × IfOk result (λ _. IsPiece bytes window.new) }
+    ensures told { WhereTold (F.holds files.old) name.now
+        (λ bytes. StaysPiece bytes end window.old window.new result) }
 {
     if window.has(place, size) {
         return Ok(());
@@ -145,6 +134,7 @@ fn hold<F: Files>(
         });
     }
     let room = (end - place).min(PIECE);
+    let alloc = *window.bytes.allocator();
     *window = load(alloc, files, name, place, room as usize)?;
     if window.has(place, size) {
         Ok(())
@@ -155,34 +145,9 @@ fn hold<F: Files>(
     }
 }
 
-/// The number of so many bytes at an offset.
-pub(crate) fn number_in<F: Files>(
-    alloc: Global,
-    files: &mut F,
-    name: &str,
-    window: &mut Window,
-    end: u64,
-    place: u64,
-    size: u64,
-) -> Result<u64, CdfFault>
-    requires size { (size ≡ 1) ⊎ ((size ≡ 2) ⊎ ((size ≡ 4) ⊎ (size ≡ 8))) }
-    requires within { place + size ≤ end }
-    ensures kept { F.holds files.new ≡ F.holds files.old }
-    ensures blamed { Blames F.quiet (IsErrOf result CdfFault.Device) (F.faults files.old) (F.faults files.new) }
-    ensures late { IfErr result IsOfPiece }
-    ensures told { (bytes : List ℕ) → bytes_in (F.holds files.old) name.now ≡ Some bytes → end ≤ length bytes → IsPiece bytes window.old
-        → IfErr result IsOutside × IfOk result (λ x. (x ≡ big_number size (drop place bytes)) × IsPiece bytes window.new) }
-{
-    match hold(alloc, files, name, window, end, place, size) {
-        Ok(()) => Ok(window.get(place, size)),
-        Err(fault) => Err(fault),
-    }
-}
-
-/// How many numbers of so many bytes, a step apart from an offset on, stand in one piece: one at least,
-/// and at most so many.
+/// How many numbers of so many bytes, a step apart from an offset on, stand in one piece: one at
+/// least, and at most so many.
 pub(crate) fn run_in<F: Files>(
-    alloc: Global,
     files: &mut F,
     name: &str,
     window: &mut Window,
@@ -191,20 +156,19 @@ pub(crate) fn run_in<F: Files>(
     step: u64,
     most: u64,
 ) -> Result<u64, CdfFault>
-    requires size { (reading.size ≡ 1) ⊎ ((reading.size ≡ 2) ⊎ ((reading.size ≡ 4) ⊎ (reading.size ≡ 8))) }
+    requires size { IsWidth reading.size }
     requires within { place + reading.size ≤ reading.end }
     requires some { 1 ≤ most }
-    ensures kept { F.holds files.new ≡ F.holds files.old }
-    ensures blamed { Blames F.quiet (IsErrOf result CdfFault.Device) (F.faults files.old) (F.faults files.new) }
+    ensures frame { Leaves F.holds F.faults F.quiet (IsDevice result) files.old files.new }
     ensures late { IfErr result IsOfPiece }
     ensures some { IfOk result (λ n. 1 ≤ n) }
     ensures most { IfOk result (λ n. n ≤ most) }
     ensures near { IfOk result (λ n. 2 ≤ n → step < 2 ^ 64 - 1) }
     ensures run { IfOk result (HoldsRun window.new place reading.size step) }
-    ensures told { (bytes : List ℕ) → bytes_in (F.holds files.old) name.now ≡ Some bytes → reading.end ≤ length bytes → IsPiece bytes window.old
-        → IfErr result IsOutside × IfOk result (λ _. IsPiece bytes window.new) }
+    ensures told { WhereTold (F.holds files.old) name.now
+        (λ bytes. StaysPiece bytes reading.end window.old window.new result) }
 {
-    match hold(alloc, files, name, window, reading.end, place, reading.size) {
+    match hold(files, name, window, reading.end, place, reading.size) {
         Ok(()) => Ok(window.many(place, reading.size, step, most)),
         Err(fault) => Err(fault),
     }

@@ -1,6 +1,8 @@
 -- What the bytes and lists that are kept stand for.
-use Rattle.std.specs.Prelude.{◌≡◌, ℕ, zero, suc, ◌*◌, ◌^◌, ◌<◌, Bool, nat_eq, List, [], ◌∷◌, ◌++◌, length, map, drop}
-use Rattle.byteorder.specs.Endian.{little_number}
+use Rattle.std.specs.Prelude.{◌≡◌, ℕ, zero, suc, ◌*◌, ◌^◌, ◌<◌, max, Bool, nat_eq, List, [], ◌∷◌, ◌++◌, length, map, drop}
+use Rattle.std.specs.declared.vec.Vec.{Vec}
+use Rattle.std.proofs.Common.{Global}
+use Rattle.byteorder.specs.Endian.{little_number, little_bytes}
 use Rattle.nrca_array.specs.Packing.{greatest, width_for, spelled, truth_byte}
 use Rattle.nrca_array.specs.declared.width.Width.{Width}
 use Rattle.nrca_array.specs.declared.width.Width.TheVariants.{One, Two, Four, Eight, Sixteen}
@@ -18,6 +20,25 @@ abbrev pub numbers_at : (w n : ℕ) → List ℕ → List ℕ
 numbers_at w zero bytes = []
 numbers_at w (suc n) bytes = little_number w bytes ∷ numbers_at w n (drop w bytes)
 
+-- the first n numbers of that width
+abbrev pub numbers_in : Width → ℕ → List ℕ → List ℕ
+numbers_in w n bytes = numbers_at (width_bytes w) n bytes
+
+-- a number, and each of some numbers, in as many bytes as the width has
+abbrev pub little_in : Width → ℕ → List ℕ
+little_in w x = little_bytes (width_bytes w) x
+
+abbrev pub spelled_in : Width → List ℕ → List ℕ
+spelled_in w ns = spelled (width_bytes w) ns
+
+-- the first n numbers of the bytes, written in another width
+abbrev pub Respells : Width → ℕ → Vec ℕ Global → Width × Vec ℕ Global → Type 0
+Respells w n bytes r = r.1.items ≡ spelled_in r.0 (numbers_in w n bytes.items)
+
+-- the greater of two widths
+abbrev pub IsWider : (w least r : Width) → Type 0
+IsWider w least r = width_bytes r ≡ max (width_bytes w) (width_bytes least)
+
 -- whether a byte says true
 abbrev pub byte_truth : ℕ → Bool
 byte_truth b = nat_eq b 1
@@ -33,6 +54,10 @@ pub record IsSpelled (w : ℕ) (bytes ns : List ℕ) : Type 0 where
   pub least : w ≡ width_for ns
   pub small : greatest ns < 2 ^ 128
   pub spells : bytes ≡ spelled w ns
+
+-- the first n numbers of these bytes, in the least of the widths, and nothing else
+abbrev pub AreNumbers : Width → ℕ → List ℕ → Type 0
+AreNumbers w n bytes = IsSpelled (width_bytes w) bytes (numbers_in w n bytes)
 
 -- bytes that are 0 or 1
 abbrev pub AreTruths : List ℕ → Type 0

@@ -1,6 +1,6 @@
 -- The cells that a builder and an array keep.
-use Rattle.std.specs.Prelude.{◌≡◌, ◌≤◌, List, length, map, None}
-use Rattle.aql_value.specs.Datum.{Datum, natural, truth}
+use Rattle.std.specs.Prelude.{◌≡◌, ℕ, ◌≤◌, Bool, List, length, map, None}
+use Rattle.aql_value.specs.Datum.{Datum, Table, natural, truth}
 use Rattle.nrca_array.specs.Packing.{pair_datum, packing}
 use Rattle.nrca_array.specs.Kept.{paired_up}
 use Rattle.nrca_array.specs.declared.builder.Store.{Store}
@@ -8,12 +8,16 @@ use Rattle.nrca_array.specs.declared.builder.Store.TheVariants as store
 use Rattle.nrca_array.specs.declared.flat.Kept.{Kept}
 use Rattle.nrca_array.specs.declared.flat.Kept.TheVariants as kept
 
+-- the pairs of truth values and naturals, as values
+abbrev pub pair_cells : List Bool → List ℕ → List Datum
+pair_cells bs ns = map pair_datum (paired_up bs ns)
+
 -- the cells of a builder
 abbrev pub stored : Store → List Datum
 stored (store.Plain items) = items
 stored (store.Naturals ns) = map natural ns
 stored (store.Truths bs) = map truth bs
-stored (store.Pairs ns bs) = map pair_datum (paired_up bs ns)
+stored (store.Pairs ns bs) = pair_cells bs ns
 
 -- cells that are packed where they can be
 abbrev pub IsStored : Store → Type 0
@@ -35,3 +39,7 @@ IsKept (kept.Plain items) = packing items ≡ None
 IsKept (kept.Naturals ns) = 1 ≤ length ns
 IsKept (kept.Truths bs) = 1 ≤ length bs
 IsKept (kept.Pairs ps) = 1 ≤ length ps
+
+-- the array of these dimensions and cells
+abbrev pub kept_table : List ℕ → Kept → Table
+kept_table ds cells = record { dims = ds; cells = kept_cells cells }

@@ -5,7 +5,7 @@ ghost use Rattle.aql_value.specs.Meaning.{datum};
 ghost use Rattle.aql_value.specs.Indices.{table, IsTable};
 ghost use Rattle.nrca_array.specs.Packing.{as_pair, pair_datum, packing};
 ghost use Rattle.nrca_array.specs.Kept.{paired_up};
-ghost use Rattle.nrca_array.specs.Stored.{stored, IsStored, kept_cells, IsKept};
+ghost use Rattle.nrca_array.specs.Stored.{stored, IsStored, kept_cells, IsKept, pair_cells};
 
 use crate::flat::{Flat, Kept};
 use crate::numbers::Numbers;
@@ -274,7 +274,7 @@ fn pair_pushed(
     n: u128,
 ) -> Result<Builder, Memory>
     requires { length truths ≡ length numbers }
-    ensures { IfOk result (λ cells. cells ≡ map pair_datum (paired_up truths numbers) ++ pair_datum (b, n) ∷ []) }
+    ensures { IfOk result (λ cells. cells ≡ pair_cells truths numbers ++ pair_datum (b, n) ∷ []) }
 {
     let truths = truths.push(b)?;
     let numbers = numbers.push(alloc, n)?;
@@ -293,7 +293,7 @@ fn pairs_appended(
     requires some { 1 ≤ length pairs.0 }
     requires same { length pairs.1 ≡ length pairs.0 }
     requires others { length more.1 ≡ length more.0 }
-    ensures { IfOk result (λ cells. cells ≡ map pair_datum (paired_up pairs.1 pairs.0) ++ map pair_datum (paired_up more.1 more.0)) }
+    ensures { IfOk result (λ all. all ≡ pair_cells pairs.1 pairs.0 ++ pair_cells more.1 more.0) }
 {
     let (numbers, truths) = pairs;
     let (more_numbers, more_truths) = more;

@@ -1,9 +1,9 @@
 //! Numbers in bytes, the lowest byte first.
 
 ghost use Rattle.std.specs.Prelude.{◌≡◌, ◌+◌, ◌*◌, ◌^◌, ◌<◌, ◌≤◌, ◌++◌, length, drop, IfSome, OnOk, OnErr};
-ghost use Rattle.byteorder.specs.Endian.{little_number, little_bytes};
+ghost use Rattle.byteorder.specs.Endian.{little_number};
 ghost use Rattle.nrca_array.specs.Packing.{greatest, spelled};
-ghost use Rattle.nrca_array.specs.Kept.{width_bytes};
+ghost use Rattle.nrca_array.specs.Kept.{width_bytes, little_in, spelled_in};
 
 use crate::width::Width;
 use byteorder::{ByteOrder, LittleEndian};
@@ -34,7 +34,7 @@ fn first_number(width: Width, part: &[u8]) -> u128
 /// Adds a number's bytes at the end.
 pub(crate) fn put(bytes: &mut Vec<u8>, width: Width, x: u128) -> Result<(), AllocError>
     requires { x < 256 ^ width_bytes width }
-    ensures ok { OnOk result (bytes.new.items ≡ bytes.old.items ++ little_bytes (width_bytes width) x) }
+    ensures ok { OnOk result (bytes.new.items ≡ bytes.old.items ++ little_in width x) }
     ensures err { OnErr result (bytes.new.items ≡ bytes.old.items) }
 {
     let mut buffer = [0u8; 16];
@@ -45,7 +45,7 @@ pub(crate) fn put(bytes: &mut Vec<u8>, width: Width, x: u128) -> Result<(), Allo
 /// Adds the bytes of many numbers at the end.
 pub(crate) fn put_all(bytes: &mut Vec<u8>, width: Width, xs: &[u64]) -> Result<(), AllocError>
     requires { greatest xs.now < 256 ^ width_bytes width }
-    ensures { OnOk result (bytes.new.items ≡ bytes.old.items ++ spelled (width_bytes width) xs.now) }
+    ensures { OnOk result (bytes.new.items ≡ bytes.old.items ++ spelled_in width xs.now) }
 {
     let from = bytes.len();
     let end = end_of(from, width, xs.len()).ok_or(AllocError)?;

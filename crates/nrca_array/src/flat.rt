@@ -39,13 +39,13 @@ impl Model for Flat {
 
     ghost coded = { coded_table };
 
-    ghost use Rattle.nrca_array.specs.Stored.{kept_cells, IsKept};
+    ghost use Rattle.nrca_array.specs.Stored.{kept_cells, kept_table, IsKept};
 
     ghost view = { λ a. record { dims = a.dims; cells = kept_cells a.cells } };
 
     ghost use Rattle.aql_value.specs.Indices.{IsTable};
 
-    ghost invariant = { λ a. IsTable (record { dims = a.dims; cells = kept_cells a.cells }) × IsKept a.cells };
+    ghost invariant = { λ a. IsTable (kept_table a.dims a.cells) × IsKept a.cells };
 }
 
 impl Flat {

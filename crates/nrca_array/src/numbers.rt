@@ -1,6 +1,6 @@
-ghost use Rattle.std.specs.Prelude.{◌≡◌, ◌+◌, ◌*◌, ◌^◌, ◌<◌, ◌≤◌, max, [], ◌∷◌, ◌++◌, length, slice_index, IfOk};
+ghost use Rattle.std.specs.Prelude.{◌≡◌, ◌+◌, ◌*◌, ◌^◌, ◌<◌, [], ◌∷◌, ◌++◌, length, slice_index, IfOk};
 ghost use Rattle.nrca_array.specs.Packing.{greatest, spelled, width_for};
-ghost use Rattle.nrca_array.specs.Kept.{width_bytes, numbers_at};
+ghost use Rattle.nrca_array.specs.Kept.{width_bytes, numbers_at, IsWider, Respells, numbers_in, spelled_in};
 
 use crate::bytes::{number_at, put, put_all};
 use crate::width::Width;
@@ -18,13 +18,13 @@ pub(crate) struct Numbers {
 
 impl Model for Numbers {
     ghost use Rattle.std.specs.Prelude.{List, ℕ};
-    ghost use Rattle.nrca_array.specs.Kept.{width_bytes, numbers_at, IsSpelled};
+    ghost use Rattle.nrca_array.specs.Kept.{width_bytes, numbers_at, AreNumbers};
 
     ghost Value = { List ℕ };
 
     ghost view = { λ a. numbers_at (width_bytes a.width) a.count a.bytes.items };
 
-    ghost invariant = { λ a. IsSpelled (width_bytes a.width) a.bytes.items (numbers_at (width_bytes a.width) a.count a.bytes.items) };
+    ghost invariant = { λ a. AreNumbers a.width a.count a.bytes.items };
 }
 
 impl Numbers {
@@ -168,10 +168,10 @@ fn widened(
     bytes: Vec<u8>,
     least: Width,
 ) -> Result<(Width, Vec<u8>), Memory>
-    requires spells { bytes.items ≡ spelled (width_bytes width) (numbers_at (width_bytes width) count bytes.items) }
-    requires fits { greatest (numbers_at (width_bytes width) count bytes.items) < 256 ^ width_bytes width }
-    ensures width { IfOk result (λ r. width_bytes r.0 ≡ max (width_bytes width) (width_bytes least)) }
-    ensures bytes { IfOk result (λ r. r.1.items ≡ spelled (width_bytes r.0) (numbers_at (width_bytes width) count bytes.items)) }
+    requires spells { bytes.items ≡ spelled_in width (numbers_in width count bytes.items) }
+    requires fits { greatest (numbers_in width count bytes.items) < 256 ^ width_bytes width }
+    ensures width { IfOk result (λ r. IsWider width least r.0) }
+    ensures bytes { IfOk result (λ r. Respells width count bytes r) }
 {
     if least.bytes() <= width.bytes() {
         return Ok((width, bytes));

@@ -7,6 +7,7 @@ use Rattle.nrca_term.specs.declared.term.Core.{Core}
 use Rattle.nrca_term.specs.declared.trace.Rule.TheVariants.{A6}
 use Rattle.nrca_term.specs.View.{term_of}
 use Rattle.nrca_term.specs.Term.{Term, Parts, none, plain}
+use Rattle.nrca_term.specs.Firm.{number_of}
 use Rattle.nrca_term.specs.Nodes.{number, dim_term, literal_term}
 use Rattle.nrca_term.specs.Rules.{in_first, sizes_term, constant_literal}
 use Rattle.aql_value.specs.Lists.{below}
@@ -42,6 +43,10 @@ count-step ts i all n u l e h t = (
   take_more ts i u l ∙ ap (λ x. take i ts ++ x ∷ []) (sym e ∙ h) ∙ ap (λ xs. xs ++ number n ∷ []) t.1 ∙ sym (map-append number t.0 (n ∷ [])),
   ap (λ a. min (a * n) (2 ^ 128 - 1)) t.2 ∙ times (product t.0) n (2 ^ 128 - 1) ∙ ap (λ a. min a (2 ^ 128 - 1)) (sym (product-more t.0 n)),
 )
+
+-- a term that is not written as a number is none
+pub no-number : (t : Term) → number_of t ≡ None → (n : ℕ) → t ≡ number n → ⊥
+no-number t e n h = let z : Some n ≡ None = ap number_of (sym h) ∙ e in cc
 
 -- no count where one dimension is no number
 pub count-none : (ts : List Term) (i : ℕ) (u : Term) → i < length ts → u ≡ get_or ts i u → ((n : ℕ) → u ≡ number n → ⊥) → CountsCells ts None

@@ -4,11 +4,6 @@ use Rattle.aql_value.specs.Indices.{product}
 use Rattle.nrca_term.specs.Term.{Term}
 use Rattle.nrca_term.specs.Nodes.{number}
 
--- the number that a term is, or none where it is no number
-abbrev pub NumberOf : Term → Option ℕ → Type 0
-NumberOf t (Some n) = t ≡ number n
-NumberOf t None = (n : ℕ) → t ≡ number n → ⊥
-
 -- the product of the numbers that the dimensions are, or 2^128-1 where it is larger; none where one of them is no number
 abbrev pub CountsCells : List Term → Option ℕ → Type 0
 CountsCells ds (Some p) = (ns : List ℕ) × (ds ≡ map number ns) × (p ≡ min (product ns) (2 ^ 128 - 1))

@@ -5,7 +5,7 @@ ghost use Rattle.nrca_term.specs.View.{term_of, terms_of};
 ghost use Rattle.nrca_term.specs.Rules.{sizes_term};
 ghost use Rattle.nrca_term.specs.declared.trace.Rule.TheVariants.{A3, A6};
 ghost use Rattle.nrca_laws.specs.Fitting.{Fits, IsRight};
-ghost use Rattle.nrca_arrayrules.specs.Constants.{NumberOf, CountsCells, IsConstantArray};
+ghost use Rattle.nrca_arrayrules.specs.Constants.{CountsCells, IsConstantArray};
 
 use nrca_term::{Core, Terms};
 use std::mem;
@@ -113,20 +113,10 @@ fn cell_count(dims: &Terms) -> Option<u128>
 {
     let mut all: u128 = 1;
     for i in 0..dims.0.len() {
-        match number(&dims.0[i]) {
+        match dims.0[i].number() {
             Some(n) => all = all.saturating_mul(n),
             None => return None,
         }
     }
     Some(all)
-}
-
-// The number that the term is.
-fn number(term: &Core) -> Option<u128>
-    ensures { NumberOf (term_of term.now) result }
-{
-    match term {
-        Core::Nat(n) => Some(*n),
-        _ => None,
-    }
 }

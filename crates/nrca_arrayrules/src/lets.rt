@@ -8,8 +8,7 @@ ghost use Rattle.nrca_term.specs.declared.trace.Rule.TheVariants.{A7};
 ghost use Rattle.nrca_laws.specs.Fitting.{Fits, IsInside, IsRight};
 
 use nrca_subst::shift;
-use nrca_term::{Core, Terms};
-use std::mem;
+use nrca_term::{Core, Terms, open, put};
 
 /// Whether the term is a subscript or the dimensions of a let.
 pub fn fits_a7(term: &Core) -> bool
@@ -76,20 +75,4 @@ fn shift_all(terms: Terms) -> Terms
         Core::Tuple(deeper) => deeper,
         _ => unreachable!(),
     }
-}
-
-// The box, and the term that was in it: the box is used again for another node.
-fn open(mut part: Box<Core>) -> (Box<Core>, Core)
-    ensures { result.1 ≡ part.value }
-{
-    let inner = mem::replace(&mut *part, Core::Bottom);
-    (part, inner)
-}
-
-// The box with another term in it.
-fn put(mut part: Box<Core>, with: Core) -> Box<Core>
-    ensures { result.value ≡ with }
-{
-    *part = with;
-    part
 }

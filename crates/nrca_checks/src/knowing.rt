@@ -2,9 +2,8 @@
 
 ghost use Rattle.std.specs.Prelude.{◌≡◌, ◌↔◌, IsTrue};
 ghost use Rattle.nrca_term.specs.View.{term_of};
-ghost use Rattle.nrca_term.specs.Facts.{LiterallyKnown};
-ghost use Rattle.nrca_ranges.specs.Context.{known_of, fact_of, context_of};
-ghost use Rattle.nrca_checks.specs.Knowing.{IsKnown, IsFactOf};
+ghost use Rattle.nrca_ranges.specs.Context.{known_of, context_of};
+ghost use Rattle.nrca_checks.specs.Knowing.{IsKnown, IsKeptFact, IsKnownAs};
 
 use nrca_ranges::{Ctx, Fact, Known};
 use nrca_subst::same_shifted;
@@ -29,7 +28,7 @@ pub fn literally(ctx: &Ctx, term: &Core) -> Option<Known>
 
 // Whether the term is literally a fact of this kind.
 fn is_known(ctx: &Ctx, term: &Core, known: Known) -> bool
-    ensures { IsTrue result ↔ LiterallyKnown (known_of known) (context_of ctx.now) (term_of term.now) }
+    ensures { IsTrue result ↔ IsKnownAs known ctx.now term.now }
 {
     for fact in &ctx.facts {
         if is_fact(fact, ctx.depth, term, known) {
@@ -41,7 +40,7 @@ fn is_known(ctx: &Ctx, term: &Core, known: Known) -> bool
 
 // Whether the term is this fact, shifted to a place with `depth` variables.
 fn is_fact(fact: &Fact, depth: u64, term: &Core, known: Known) -> bool
-    ensures { IsTrue result ↔ IsFactOf (known_of known) depth (term_of term.now) (fact_of fact.now) }
+    ensures { IsTrue result ↔ IsKeptFact known depth term.now fact.now }
 {
     same_known(fact.known, known)
         && same_shifted(&fact.comparison, depth.saturating_sub(fact.depth), term)

@@ -1,12 +1,14 @@
 -- Firm terms and spans in a context, and the walk over the parts of a node that tells whether they are firm.
-use Rattle.std.proofs.Common.{◌≡◌, ℕ, zero, suc, ◌+◌, ◌<◌, Bool, true, false, not, ◌&&◌, ◌||◌, Option, Some, None, List, [], ◌++◌, refl, sym, ap, subst, ◌∙◌, arith, add-one, if◌then◌else◌, append-nil}
+use Rattle.std.proofs.Common.{◌≡◌, ℕ, zero, suc, ◌+◌, Bool, true, false, not, ◌&&◌, ◌||◌, Option, Some, List, [], ◌++◌, refl, sym, ap, subst, ◌∙◌, arith, add-one, if◌then◌else◌, append-nil}
 use mathlib.Core.Bool.{beq}
 use Rattle.aql_value.specs.declared.ops.ArithOp.{ArithOp}
 use Rattle.aql_value.specs.Strict.{Strict}
-use Rattle.nrca_term.specs.Term.{Term, Parts, node, none, part, Form, form_of, parts_of, child_of, binders_of, count, Closed, WellFormed}
+use Rattle.nrca_term.specs.declared.term.Core.{Core}
+use Rattle.nrca_term.specs.View.{term_of}
+use Rattle.nrca_term.specs.Term.{Term, Parts, none, part, Form, form_of, parts_of, child_of, binders_of, count, WellFormed}
 use Rattle.nrca_term.specs.Nodes.{arith_term}
 use Rattle.nrca_term.specs.Facts.{Fact, Facts, enter_facts}
-use Rattle.nrca_term.specs.Firm.{Span, span, number_of, arith_span, arith_firm, form_sure, form_firm, wants_all, firm, all_firm, some_firm}
+use Rattle.nrca_term.specs.Firm.{Span, span, number_of, arith_span, arith_firm, wants_all, firm, all_firm, some_firm}
 use Rattle.nrca_ranges.specs.declared.context.Ctx.{Ctx}
 use Rattle.nrca_ranges.specs.Context.{context_of, Inside}
 use Rattle.nrca_ranges.specs.Entered.{is_shaped, inside-part}
@@ -18,6 +20,10 @@ firm_at c t = firm (is_shaped c.globals.items) (context_of c) t
 -- the span of the term at the place of the context
 abbrev pub span_at : Ctx → Term → Span
 span_at c t = span (context_of c) t
+
+-- an arithmetic node of terms of the code
+abbrev pub arith_of : ArithOp → Core → Core → Term
+arith_of op a b = arith_term op (term_of a) (term_of b)
 
 -- a form that is not arithmetic
 abbrev pub IsOther : Form → Type 0
@@ -81,40 +87,6 @@ rest-end D c t all i ps e = ap (λ j. rest_firm D c t all i (later_parts j ps)) 
     at true = refl
     at false = refl
 
--- a node that is not arithmetic is firm where its form is sure and its parts are firm
-pub other-firm : (D : ℕ → Bool) (c : Facts) (t : Term) → IsOther (form_of t) → firm D c t ≡ (form_sure D (form_of t) && parts_are_firm D c t)
-other-firm D c (node f ps) h = ap (λ b. b && parts_are_firm D c (node f ps)) (at f h)
-  where
-    strict-at : (s : Strict) → IsOther (Form.strict s) → form_firm D (Form.strict s) (span c (node f ps)) ps ≡ form_sure D (Form.strict s)
-    strict-at (Strict.nat n) h = refl
-    strict-at (Strict.bool b) h = refl
-    strict-at (Strict.text s) h = refl
-    strict-at Strict.bottom h = refl
-    strict-at Strict.tuple h = refl
-    strict-at (Strict.proj at of) h = refl
-    strict-at (Strict.arith op) h = absurd h
-    strict-at (Strict.compare op) h = refl
-    strict-at Strict.empty h = refl
-    strict-at Strict.single h = refl
-    strict-at Strict.union h = refl
-    strict-at Strict.gen h = refl
-    strict-at Strict.get h = refl
-    strict-at Strict.sub h = refl
-    strict-at (Strict.dim rank) h = refl
-    strict-at (Strict.index rank) h = refl
-    strict-at (Strict.literal rank) h = refl
-
-    at : (g : Form) → IsOther g → form_firm D g (span c (node f ps)) ps ≡ form_sure D g
-    at (Form.var i) h = refl
-    at (Form.global n) h = refl
-    at Form.bind h = refl
-    at Form.choose h = refl
-    at Form.default h = refl
-    at Form.big_union h = refl
-    at Form.sum h = refl
-    at (Form.tab rank) h = refl
-    at (Form.strict s) h = strict-at s h
-
 -- contexts with the same facts and as many variables
 facts-same : (F G : List Fact) (d e : ℕ) → F ≡ G → d ≡ e → (let x : Facts = record { facts = F; depth = d } in x) ≡ (let y : Facts = record { facts = G; depth = e } in y)
 facts-same F G d e p q = ap (λ l. let x : Facts = record { facts = l; depth = d } in x) p ∙ ap (λ n. let x : Facts = record { facts = G; depth = n } in x) q
@@ -132,12 +104,6 @@ pub arith-firm : (D : ℕ → Bool) (c : Facts) (op : ArithOp) (a b : Term) →
 arith-firm D c op a b =
     ap (λ x. arith_firm op (span c (arith_term op a b)) (number_of b) && (firm D x a && (firm D (enter_facts c (arith_term op a b) 1) b && true))) (side-first c op a b)
     ∙ ap (λ x. arith_firm op (span c (arith_term op a b)) (number_of b) && (firm D c a && (firm D x b && true))) (side-second c op a b)
-
--- the sides have their variables among those of the node's place
-pub sides-inside : (n : ℕ) (op : ArithOp) (a b : Term) → Inside n (arith_term op a b) → Inside n a × Inside n b
-sides-inside n op a b h =
-    let z : n + 0 ≡ n = omega arith in
-    ((subst (λ m. Closed m a) z h.0.1.0, omega (arith, h.1)), (subst (λ m. Closed m b) z h.0.1.1.0, omega (arith, h.1)))
 
 -- the span of a node, from what was answered for its sides
 pub sides-span : (c d : Facts) (op : ArithOp) (a b : Term) (x y s : Span) (n : Option ℕ) → s ≡ arith_span op x y n → n ≡ number_of b → x ≡ span c a → y ≡ span d b → d ≡ c →
@@ -161,12 +127,6 @@ part-firm D E c d p t i u b e f g h = e ∙ ap (λ x. firm x p u) h ∙ ap (λ x
 -- the walk from the first part on is the answer for all
 pub rest-is : (D : ℕ → Bool) (c : Facts) (t : Term) (all x : Bool) → all ≡ wants_all (form_of t) → rest_firm D c t all 0 (parts_of t) ≡ x → x ≡ parts_are_firm D c t
 rest-is D c t all x e k = sym k ∙ ap (λ a. rest_firm D c t a 0 (parts_of t)) e
-
--- below the number of parts there is a part
-pub child-there : (ps : Parts) (i : ℕ) → i < count ps → None ≡ child_of ps i → ⊥
-child-there none i l e = omega (arith, l)
-child-there (part k t ps) zero l e = cc
-child-there (part k t ps) (suc i) l e = child-there ps i (omega (arith, l)) e
 
 -- an entered part has its variables among those of the context
 pub entered-inside : (m n : ℕ) (c d p : Facts) (t : Term) (i : ℕ) (u : Term) → WellFormed t → child_of (parts_of t) i ≡ Some u → Inside n t → p ≡ enter_facts d t i → d ≡ c → c.depth ≡ n → p.depth ≡ m → Inside m u

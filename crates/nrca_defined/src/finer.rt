@@ -1,11 +1,10 @@
 //! Terms that are sure to have a value: those that are firm, and arithmetic by the intervals of its sides.
 
 ghost use Rattle.std.specs.Prelude.{◌≡◌, true, IfOk, OnOk};
-ghost use Rattle.nrca_term.specs.Nodes.{arith_term};
 ghost use Rattle.nrca_term.specs.View.{term_of};
 ghost use Rattle.nrca_ranges.specs.Context.{context_of, Inside};
 ghost use Rattle.nrca_defined.specs.Defined.{IsDefinedIn, AlwaysFits};
-ghost use Rattle.nrca_defined.specs.Walk.{firm_at};
+ghost use Rattle.nrca_defined.specs.Walk.{firm_at, arith_of};
 
 use crate::firm::firmness;
 use aql_value::{ArithOp, Memory};
@@ -54,10 +53,10 @@ fn finer_arith(
     b: &Core,
     ctx: &mut Ctx,
 ) -> Result<bool, Memory>
-    requires inside { Inside ctx.old.depth (arith_term op (term_of a.now) (term_of b.now)) }
+    requires inside { Inside ctx.old.depth (arith_of op a.now b.now) }
     ensures back { OnOk result (context_of ctx.new ≡ context_of ctx.old) }
     ensures globals { ctx.new.globals ≡ ctx.old.globals }
-    ensures sound { IfOk result (λ d. d ≡ true → IsDefinedIn ctx.old (arith_term op (term_of a.now) (term_of b.now))) }
+    ensures sound { IfOk result (λ d. d ≡ true → IsDefinedIn ctx.old (arith_of op a.now b.now)) }
 {
     let left = number_of(alloc, a, ctx)?;
     let right = number_of(alloc, b, ctx)?;

@@ -1,17 +1,16 @@
 //! Whether a term is firm, and its span, both by one recursion.
 
 ghost use Rattle.std.specs.Prelude.{◌≡◌, ◌&&◌, true, is_some, Some, ℕ, IfOk, OnOk};
-ghost use Rattle.nrca_term.specs.Term.{form_of, parts_of};
-ghost use Rattle.nrca_term.specs.Nodes.{arith_term};
+ghost use Rattle.nrca_term.specs.Term.{form_of};
 ghost use Rattle.nrca_term.specs.View.{term_of};
 ghost use Rattle.nrca_term.specs.Firm as pure;
 ghost use Rattle.nrca_ranges.specs.Context.{context_of, Inside};
 ghost use Rattle.nrca_ranges.specs.Entered.{is_shaped};
 ghost use Rattle.nrca_ranges.specs.Spans.{span_of, IsOrdered};
-ghost use Rattle.nrca_defined.specs.Walk.{IsOther, firm_at, span_at, parts_firm_at};
+ghost use Rattle.nrca_defined.specs.Walk.{IsOther, firm_at, span_at, parts_firm_at, arith_of};
 
 use aql_value::{ArithOp, Memory};
-use nrca_ranges::{Ctx, Interval, Shape, arith_span, number, span};
+use nrca_ranges::{Ctx, Interval, Shape, arith_span, span};
 use nrca_term::Core;
 use std::alloc::Global;
 
@@ -128,16 +127,16 @@ fn arith_firmness(
     b: &Core,
     ctx: &mut Ctx,
 ) -> Result<FirmSpan, Memory>
-    requires inside { Inside ctx.old.depth (arith_term op (term_of a.now) (term_of b.now)) }
+    requires inside { Inside ctx.old.depth (arith_of op a.now b.now) }
     ensures back { OnOk result (context_of ctx.new ≡ context_of ctx.old) }
     ensures globals { ctx.new.globals ≡ ctx.old.globals }
-    ensures firm { IfOk result (λ f. f.firm ≡ firm_at ctx.old (arith_term op (term_of a.now) (term_of b.now))) }
-    ensures span { IfOk result (λ f. span_of f.span ≡ span_at ctx.old (arith_term op (term_of a.now) (term_of b.now))) }
+    ensures firm { IfOk result (λ f. f.firm ≡ firm_at ctx.old (arith_of op a.now b.now)) }
+    ensures span { IfOk result (λ f. span_of f.span ≡ span_at ctx.old (arith_of op a.now b.now)) }
     ensures ordered { IfOk result (λ f. IsOrdered f.span) }
 {
     let left = firmness(alloc, a, ctx)?;
     let right = firmness(alloc, b, ctx)?;
-    let n = number(b);
+    let n = b.number();
     let span = arith_span(op, left.span, right.span, n);
     let own = arith_firm(op, span, n);
     let firm = all_of(own, left.firm, right.firm);

@@ -1,14 +1,13 @@
 //! What the forms that evaluate all their parts make of them: the members of `index` run in pieces.
 
-ghost use Rattle.std.specs.Prelude.{◌≡◌, ◌≤◌, ◌∷◌, [], None};
-ghost use Rattle.aql_value.specs.Operations.{as_set, index_of, only};
-ghost use Rattle.aql_value.specs.Strict.{unary, strict_turns, index_turns};
+ghost use Rattle.std.specs.Prelude.{◌≡◌, ◌∷◌, [], None};
+ghost use Rattle.aql_value.specs.Operations.{as_set, only};
 ghost use Rattle.nrca_array.specs.Held.{held_datum};
-ghost use Rattle.nrca_term.specs.Term.{form_of};
-ghost use Rattle.nrca_term.specs.View.{term_of};
-ghost use Rattle.nrca_runs.specs.Parts.{held_values, parts_value, strict_of, strict_in};
+ghost use Rattle.nrca_runs.specs.Parts.{held_values, parts_value};
 ghost use Rattle.nrca_runs.specs.Scope.{boxed_value, held_value};
-ghost use Rattle.nrca_runs.specs.Within.{Within};
+ghost use Rattle.aql_value.specs.Strict.{Strict};
+ghost use Rattle.nrca_eval.specs.Limits.{AreLimits};
+ghost use Rattle.nrca_runs.specs.Evaluates.{Applies, strict_form};
 
 use crate::loops::index_pieces;
 use aql_outside::Gate;
@@ -32,8 +31,8 @@ pub(crate) fn strict_kept<R: Threads + Sync, G: Gate>(
     workers: u64,
     gate: &G,
 ) -> Result<Counted<Option<Box<Held>>>, EvalFault>
-    requires { (budget ≤ 50000000) × (1 ≤ workers) × (workers ≤ 64) }
-    ensures { Within boxed_value budget (strict_in (strict_of (form_of (term_of term.now))) (parts_value parts)) (strict_turns (strict_of (form_of (term_of term.now))) (parts_value parts)) result }
+    requires { AreLimits budget workers }
+    ensures { Applies boxed_value budget (strict_form term.now) (parts_value parts) result }
 {
     let made = strict_pieces(rt, alloc, term, parts, budget, workers, gate)?;
     Ok(Counted {
@@ -52,8 +51,8 @@ fn strict_pieces<R: Threads + Sync, G: Gate>(
     workers: u64,
     gate: &G,
 ) -> Result<Counted<Option<Held>>, EvalFault>
-    requires { (budget ≤ 50000000) × (1 ≤ workers) × (workers ≤ 64) }
-    ensures { Within held_value budget (strict_in (strict_of (form_of (term_of term.now))) (parts_value parts)) (strict_turns (strict_of (form_of (term_of term.now))) (parts_value parts)) result }
+    requires { AreLimits budget workers }
+    ensures { Applies held_value budget (strict_form term.now) (parts_value parts) result }
 {
     match term {
         Core::Index { rank, pairs: _ } => match parts {
@@ -74,7 +73,7 @@ fn undefined() -> Counted<Option<Held>>
     }
 }
 
-#[tactic(auto, using(crate::proofs::Steps::arities))]
+#[tactic(auto, using(nrca_forms::proofs::Arities::arities))]
 fn index_parts<R: Threads + Sync, G: Gate>(
     rt: &R,
     alloc: Global,
@@ -84,8 +83,8 @@ fn index_parts<R: Threads + Sync, G: Gate>(
     workers: u64,
     gate: &G,
 ) -> Result<Counted<Option<Held>>, EvalFault>
-    requires { (budget ≤ 50000000) × (1 ≤ workers) × (workers ≤ 64) }
-    ensures { Within held_value budget (unary (index_of rank) (held_values parts)) (index_turns rank (held_values parts)) result }
+    requires { AreLimits budget workers }
+    ensures { Applies held_value budget (Strict.index rank) (Some (held_values parts)) result }
 {
     match one_part(parts) {
         Some(value) => index_value(rt, alloc, rank, value, budget, workers, gate),
@@ -94,7 +93,7 @@ fn index_parts<R: Threads + Sync, G: Gate>(
 }
 
 // The one part: none where there is another number of parts.
-#[tactic(auto, using(crate::proofs::Steps::parts))]
+#[tactic(auto, using(nrca_forms::proofs::Strictly::parts))]
 fn one_part(parts: Vec<Held>) -> Option<Held>
     ensures { held_value result ≡ only (held_values parts) }
 {
@@ -113,8 +112,8 @@ fn index_value<R: Threads + Sync, G: Gate>(
     workers: u64,
     gate: &G,
 ) -> Result<Counted<Option<Held>>, EvalFault>
-    requires { (budget ≤ 50000000) × (1 ≤ workers) × (workers ≤ 64) }
-    ensures { Within held_value budget (index_of rank (held_datum value)) (index_turns rank (held_datum value ∷ [])) result }
+    requires { AreLimits budget workers }
+    ensures { Applies held_value budget (Strict.index rank) (Some (held_datum value ∷ [])) result }
 {
     let Some(set) = set_of(value) else {
         return Ok(undefined());

@@ -1,9 +1,9 @@
 //! The answers of pieces joined in the order of the pieces, and their turns added.
 
-ghost use Rattle.std.specs.Prelude.{◌≡◌, [], Some, IfOk, fold, sum_by};
+ghost use Rattle.std.specs.Prelude.{◌≡◌, [], Some, IfOk};
 ghost use Rattle.nrca_forms.specs.Indexing.{pairs_of};
 ghost use Rattle.nrca_runs.specs.Runs.{sums_join, sets_join, lists_join};
-ghost use Rattle.nrca_runs.specs.Within.{Within, itself};
+ghost use Rattle.nrca_eval.specs.Gathered.{Gathers, gathered_pairs};
 
 use aql_value::{Ascending, Items, Memory, canon};
 use nrca_array::Builder;
@@ -17,7 +17,7 @@ pub(crate) fn joined_sums(
     parts: &[Counted<Option<u128>>],
     budget: u64,
 ) -> Result<Counted<Option<u128>>, EvalFault>
-    ensures { Within itself budget (fold (λ s d. sums_join s d.answer) (Some 0) parts.now) (sum_by (λ d. d.turns) parts.now) result }
+    ensures { Gathers sums_join (Some 0) budget parts.now result }
 {
     let mut total = Some(0);
     let mut turns = 0;
@@ -40,7 +40,7 @@ pub(crate) fn joined_sets(
     parts: Vec<Counted<Option<Ascending>>>,
     budget: u64,
 ) -> Result<Counted<Option<Ascending>>, EvalFault>
-    ensures { Within itself budget (fold (λ s d. sets_join s d.answer) (Some []) parts.items) (sum_by (λ d. d.turns) parts.items) result }
+    ensures { Gathers sets_join (Some []) budget parts.items result }
 {
     let none = Items {
         items: Vec::new(alloc),
@@ -66,7 +66,7 @@ pub(crate) fn joined_cells(
     parts: Vec<Counted<Option<Builder>>>,
     budget: u64,
 ) -> Result<Counted<Option<Builder>>, EvalFault>
-    ensures { Within itself budget (fold (λ s d. lists_join s d.answer) (Some []) parts.items) (sum_by (λ d. d.turns) parts.items) result }
+    ensures { Gathers lists_join (Some []) budget parts.items result }
 {
     let mut cells = Some(Builder::new(alloc));
     let mut turns = 0;
@@ -88,7 +88,7 @@ pub(crate) fn joined_pairs(
     alloc: Global,
     parts: Vec<Option<Vec<Indexed>>>,
 ) -> Result<Option<Vec<Indexed>>, Memory>
-    ensures { IfOk result (λ ps. pairs_of ps ≡ fold (λ s d. lists_join s (pairs_of d)) (Some []) parts.items) }
+    ensures { IfOk result (λ ps. pairs_of ps ≡ gathered_pairs parts.items) }
 {
     let mut pairs = Some(Vec::new(alloc));
     for part in parts {

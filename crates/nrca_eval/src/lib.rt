@@ -5,7 +5,7 @@
 //! not inside a piece is cut into pieces, each of which runs in a thread of its own; a loop inside
 //! a piece runs there.
 //!
-//! Read `wide.rt`, one function a form, then `index.rt`, `loops.rt` and `joins.rt`.
+//! Read `specs/Limits.antt` and `Gathered`; then `wide.rt`, one function a form, and `index.rt`, `loops.rt` and `joins.rt`.
 #![tactic(auto)]
 
 mod index;
@@ -13,11 +13,9 @@ mod joins;
 mod loops;
 mod wide;
 
-ghost use Rattle.std.specs.Prelude.{[], ◌≤◌};
-ghost use Rattle.nrca_term.specs.Meaning.{cden};
-ghost use Rattle.nrca_term.specs.Turns.{settle};
+ghost use Rattle.std.specs.Prelude.{◌≤◌};
 ghost use Rattle.nrca_term.specs.View.{term_of};
-ghost use Rattle.nrca_runs.specs.Within.{AnswersWithin};
+ghost use Rattle.nrca_runs.specs.Evaluates.{EvaluatesClosed};
 
 use crate::wide::wide;
 use aql_outside::Gate;
@@ -41,7 +39,7 @@ pub fn evaluate<R: Threads + Sync, G: Gate>(
 ) -> Result<Done, EvalFault>
     requires budget { budget ≤ 50000000 }
     requires workers { (1 ≤ workers) × (workers ≤ 64) }
-    ensures { AnswersWithin budget (cden globals.now [] (term_of term.now)) (settle globals.now [] (term_of term.now)) result }
+    ensures { EvaluatesClosed budget globals.now (term_of term.now) result }
 {
     let found = wide(rt, alloc, term, globals, &Env::Empty, budget, workers, gate)?;
     Ok(Done {

@@ -1,16 +1,13 @@
 //! The loops in pieces: each piece runs in a thread of its own, is lent the whole budget, and runs
 //! there as in one thread.
 
-ghost use Rattle.std.specs.Prelude.{◌≡◌, ◌^◌, ◌≤◌, length, IfOk, MatchResult};
+ghost use Rattle.std.specs.Prelude.{◌≡◌, ◌^◌, ◌≤◌, length, IfOk};
 ghost use Rattle.std.specs.Option.{option_map};
 ghost use Rattle.aql_value.specs.Canon.{canon};
 ghost use Rattle.aql_value.specs.Indices.{product};
-ghost use Rattle.nrca_term.specs.View.{term_of};
-ghost use Rattle.nrca_forms.specs.Indexing.{pairs_of, pairs_run};
-ghost use Rattle.nrca_runs.specs.Runs.{member_list, sum_value, union_value};
-ghost use Rattle.nrca_runs.specs.Scope.{values};
-ghost use Rattle.nrca_runs.specs.Within.{Within, itself};
-ghost use Rattle.nrca_serial.specs.Runs.{run_values, run_turns, cell_values, cell_turns};
+ghost use Rattle.nrca_runs.specs.Runs.{member_list};
+ghost use Rattle.nrca_eval.specs.Gathered.{ReadsPairs};
+ghost use Rattle.nrca_serial.specs.Loops.{Fills, Sums, Unites};
 
 use crate::joins::{joined_cells, joined_pairs, joined_sets, joined_sums};
 use aql_outside::Gate;
@@ -40,11 +37,11 @@ pub(crate) fn sum_pieces<R: Threads + Sync, G: Gate>(
     requires length { count ≤ 2 ^ 32 }
     requires within { count ≤ length (member_list members.now) }
     requires workers { (1 ≤ workers) × (workers ≤ 64) }
-    ensures { Within itself budget (sum_value (run_values globals.now (values env.now) (term_of body.now) (member_list members.now) 0 count)) (run_turns globals.now (values env.now) (term_of body.now) (member_list members.now) 0 count) result }
+    ensures { Sums budget globals.now env.now body.now members.now 0 count result }
 {
     let run = move |from: u64, to: u64| -> Result<Counted<Option<u128>>, EvalFault>
         requires { (from ≤ to) × (to ≤ length (member_list members.now)) }
-        ensures { Within itself budget (sum_value (run_values globals.entry.now (values env.entry.now) (term_of body.entry.now) (member_list members.entry.now) from to)) (run_turns globals.entry.now (values env.entry.now) (term_of body.entry.now) (member_list members.entry.now) from to) result }
+        ensures { Sums budget globals.entry.now env.entry.now body.entry.now members.entry.now from to result }
     { sum_run(alloc, body, globals, env, members, from, to, budget) };
     let sums = map_pieces(rt, alloc, count, workers, gate, run)?;
     joined_sums(&sums, budget)
@@ -67,11 +64,11 @@ pub(crate) fn union_pieces<R: Threads + Sync, G: Gate>(
     requires length { count ≤ 2 ^ 32 }
     requires within { count ≤ length (member_list members.now) }
     requires workers { (1 ≤ workers) × (workers ≤ 64) }
-    ensures { Within itself budget (union_value (run_values globals.now (values env.now) (term_of body.now) (member_list members.now) 0 count)) (run_turns globals.now (values env.now) (term_of body.now) (member_list members.now) 0 count) result }
+    ensures { Unites budget globals.now env.now body.now members.now 0 count result }
 {
     let run = move |from: u64, to: u64| -> Result<Counted<Option<Ascending>>, EvalFault>
         requires { (from ≤ to) × (to ≤ length (member_list members.now)) }
-        ensures { Within itself budget (union_value (run_values globals.entry.now (values env.entry.now) (term_of body.entry.now) (member_list members.entry.now) from to)) (run_turns globals.entry.now (values env.entry.now) (term_of body.entry.now) (member_list members.entry.now) from to) result }
+        ensures { Unites budget globals.entry.now env.entry.now body.entry.now members.entry.now from to result }
     { union_piece(rt, alloc, body, globals, env, members, from, to, budget) };
     let sets = map_pieces(rt, alloc, count, workers, gate, run)?;
     joined_sets(alloc, sets, budget)
@@ -91,7 +88,7 @@ fn union_piece<R: Threads + Sync>(
 ) -> Result<Counted<Option<Ascending>>, EvalFault>
     requires order { from ≤ to }
     requires within { to ≤ length (member_list members.now) }
-    ensures { Within itself budget (union_value (run_values globals.now (values env.now) (term_of body.now) (member_list members.now) from to)) (run_turns globals.now (values env.now) (term_of body.now) (member_list members.now) from to) result }
+    ensures { Unites budget globals.now env.now body.now members.now from to result }
 {
     let run = members_run(alloc, body, globals, env, members, from, to, budget)?;
     Ok(Counted {
@@ -131,11 +128,11 @@ pub(crate) fn cells_pieces<R: Threads + Sync, G: Gate>(
     requires length { count ≤ 2 ^ 32 }
     requires within { count ≤ product dims.now }
     requires workers { (1 ≤ workers) × (workers ≤ 64) }
-    ensures { Within itself budget (cell_values globals.now (values env.now) (term_of body.now) dims.now 0 count) (cell_turns globals.now (values env.now) (term_of body.now) dims.now 0 count) result }
+    ensures { Fills budget globals.now env.now body.now dims.now 0 count result }
 {
     let run = move |from: u64, to: u64| -> Result<Counted<Option<Builder>>, EvalFault>
         requires { (from ≤ to) × (to ≤ product dims.now) }
-        ensures { Within itself budget (cell_values globals.entry.now (values env.entry.now) (term_of body.entry.now) dims.entry.now from to) (cell_turns globals.entry.now (values env.entry.now) (term_of body.entry.now) dims.entry.now from to) result }
+        ensures { Fills budget globals.entry.now env.entry.now body.entry.now dims.entry.now from to result }
     { cells_run(alloc, body, globals, env, dims, from, to, budget) };
     let runs = map_pieces(rt, alloc, count, workers, gate, run)?;
     joined_cells(alloc, runs, budget)
@@ -155,11 +152,11 @@ pub(crate) fn index_pieces<R: Threads + Sync, G: Gate>(
     requires length { count ≤ 2 ^ 32 }
     requires within { count ≤ length set.now }
     requires workers { (1 ≤ workers) × (workers ≤ 64) }
-    ensures { MatchResult result (λ ps. pairs_of ps ≡ pairs_run rank set.now 0 count) (λ e. e ≡ EvalFault.Memory) }
+    ensures { ReadsPairs rank set.now 0 count result }
 {
     let run = move |from: u64, to: u64| -> Result<Option<Vec<Indexed>>, EvalFault>
         requires { (from ≤ to) × (to ≤ length set.now) }
-        ensures { MatchResult result (λ ps. pairs_of ps ≡ pairs_run rank set.entry.now from to) (λ e. e ≡ EvalFault.Memory) }
+        ensures { ReadsPairs rank set.entry.now from to result }
     { Ok(index_run(alloc, rank, set, from, to)?) };
     let pairs = map_pieces(rt, alloc, count, workers, gate, run)?;
     Ok(joined_pairs(alloc, pairs)?)

@@ -1,17 +1,11 @@
 //! The evaluation of a term whose loops run in pieces: one function a form.
 
-ghost use Rattle.std.specs.Prelude.{◌≡◌, ◌≤◌, true};
-ghost use Rattle.aql_value.specs.Partial.{each, total};
-ghost use Rattle.nrca_term.specs.Meaning.{cden};
-ghost use Rattle.nrca_term.specs.Nodes.{let_term, if_term, default_term, big_union_term, sum_term, tab_term};
-ghost use Rattle.nrca_term.specs.Term.{form_of, parts_of};
-ghost use Rattle.nrca_term.specs.Turns.{settle};
+ghost use Rattle.std.specs.Prelude.{◌≡◌, true};
+ghost use Rattle.nrca_term.specs.Term.{form_of};
 ghost use Rattle.nrca_term.specs.View.{term_of, terms_of};
-ghost use Rattle.nrca_runs.specs.Parts.{parts_value};
-ghost use Rattle.nrca_runs.specs.Runs.{members_value};
-ghost use Rattle.nrca_runs.specs.Scope.{values, boxed_value, set_in};
-ghost use Rattle.nrca_runs.specs.Within.{Within};
-ghost use Rattle.nrca_serial.specs.Parts.{children, is_strict_form};
+ghost use Rattle.nrca_serial.specs.Parts.{is_strict_form, part_terms};
+ghost use Rattle.nrca_eval.specs.Limits.{AreLimits};
+ghost use Rattle.nrca_runs.specs.Evaluates.{Evaluates, EvaluatesAll, EvaluatesSet, default_of, if_of, let_of, sum_loop, tab_of, union_loop};
 
 use crate::index::strict_kept;
 use crate::loops::{cells_pieces, sum_pieces, union_pieces};
@@ -46,8 +40,8 @@ pub(crate) fn wide<R: Threads + Sync, G: Gate>(
     workers: u64,
     gate: &G,
 ) -> Result<Counted<Option<Box<Held>>>, EvalFault>
-    requires { (budget ≤ 50000000) × (1 ≤ workers) × (workers ≤ 64) }
-    ensures { Within boxed_value budget (cden globals.now (values env.now) (term_of term.now)) (settle globals.now (values env.now) (term_of term.now)) result }
+    requires { AreLimits budget workers }
+    ensures { Evaluates budget globals.now env.now (term_of term.now) result }
 {
     match term {
         Core::Var(_) | Core::Global(_) => leaf(alloc, term, globals, env, budget),
@@ -82,7 +76,7 @@ fn leaf(
     env: &Env,
     budget: u64,
 ) -> Result<Counted<Option<Box<Held>>>, EvalFault>
-    ensures { Within boxed_value budget (cden globals.now (values env.now) (term_of term.now)) (settle globals.now (values env.now) (term_of term.now)) result }
+    ensures { Evaluates budget globals.now env.now (term_of term.now) result }
 {
     let done = eval(alloc, term, globals, env, budget)?;
     Ok(Counted {
@@ -105,8 +99,8 @@ fn wide_strict<R: Threads + Sync, G: Gate>(
     gate: &G,
 ) -> Result<Counted<Option<Box<Held>>>, EvalFault>
     requires form { is_strict_form (form_of (term_of term.now)) ≡ true }
-    requires limits { (budget ≤ 50000000) × (1 ≤ workers) × (workers ≤ 64) }
-    ensures { Within boxed_value budget (cden globals.now (values env.now) (term_of term.now)) (settle globals.now (values env.now) (term_of term.now)) result }
+    requires limits { AreLimits budget workers }
+    ensures { Evaluates budget globals.now env.now (term_of term.now) result }
 {
     let parts = wide_parts(rt, alloc, term, globals, env, budget, workers, gate)?;
     let whole = strict_kept(
@@ -137,8 +131,8 @@ fn wide_parts<R: Threads + Sync, G: Gate>(
     workers: u64,
     gate: &G,
 ) -> Result<Counted<Option<Vec<Held>>>, EvalFault>
-    requires { (budget ≤ 50000000) × (1 ≤ workers) × (workers ≤ 64) }
-    ensures { Within parts_value budget (each (cden globals.now (values env.now)) (children (parts_of (term_of term.now)))) (total (settle globals.now (values env.now)) (children (parts_of (term_of term.now)))) result }
+    requires { AreLimits budget workers }
+    ensures { EvaluatesAll budget globals.now env.now (part_terms term.now) result }
 {
     let mut parts = Some(Vec::new(alloc));
     let mut turns = 0;
@@ -171,8 +165,8 @@ fn wide_all<R: Threads + Sync, G: Gate>(
     workers: u64,
     gate: &G,
 ) -> Result<Counted<Option<Vec<Held>>>, EvalFault>
-    requires { (budget ≤ 50000000) × (1 ≤ workers) × (workers ≤ 64) }
-    ensures { Within parts_value budget (each (cden globals.now (values env.now)) (terms_of terms.now)) (total (settle globals.now (values env.now)) (terms_of terms.now)) result }
+    requires { AreLimits budget workers }
+    ensures { EvaluatesAll budget globals.now env.now (terms_of terms.now) result }
 {
     let mut parts = Some(Vec::new(alloc));
     let mut turns = 0;
@@ -200,8 +194,8 @@ fn wide_let<R: Threads + Sync, G: Gate>(
     workers: u64,
     gate: &G,
 ) -> Result<Counted<Option<Box<Held>>>, EvalFault>
-    requires { (budget ≤ 50000000) × (1 ≤ workers) × (workers ≤ 64) }
-    ensures { Within boxed_value budget (cden globals.now (values env.now) (let_term (term_of bound.now) (term_of body.now))) (settle globals.now (values env.now) (let_term (term_of bound.now) (term_of body.now))) result }
+    requires { AreLimits budget workers }
+    ensures { Evaluates budget globals.now env.now (let_of bound.now body.now) result }
 {
     let Counted { answer, turns } = wide(rt, alloc, bound, globals, env, budget, workers, gate)?;
     match answer {
@@ -243,8 +237,8 @@ fn wide_if<R: Threads + Sync, G: Gate>(
     workers: u64,
     gate: &G,
 ) -> Result<Counted<Option<Box<Held>>>, EvalFault>
-    requires { (budget ≤ 50000000) × (1 ≤ workers) × (workers ≤ 64) }
-    ensures { Within boxed_value budget (cden globals.now (values env.now) (if_term (term_of test.now) (term_of yes.now) (term_of no.now))) (settle globals.now (values env.now) (if_term (term_of test.now) (term_of yes.now) (term_of no.now))) result }
+    requires { AreLimits budget workers }
+    ensures { Evaluates budget globals.now env.now (if_of test.now yes.now no.now) result }
 {
     let Counted { answer, turns } = wide(rt, alloc, test, globals, env, budget, workers, gate)?;
     let left = budget - turns;
@@ -283,8 +277,8 @@ fn wide_default<R: Threads + Sync, G: Gate>(
     workers: u64,
     gate: &G,
 ) -> Result<Counted<Option<Box<Held>>>, EvalFault>
-    requires { (budget ≤ 50000000) × (1 ≤ workers) × (workers ≤ 64) }
-    ensures { Within boxed_value budget (cden globals.now (values env.now) (default_term (term_of first.now) (term_of second.now))) (settle globals.now (values env.now) (default_term (term_of first.now) (term_of second.now))) result }
+    requires { AreLimits budget workers }
+    ensures { Evaluates budget globals.now env.now (default_of first.now second.now) result }
 {
     let Counted { answer, turns } = wide(rt, alloc, first, globals, env, budget, workers, gate)?;
     match answer {
@@ -324,8 +318,8 @@ fn wide_members<R: Threads + Sync, G: Gate>(
     workers: u64,
     gate: &G,
 ) -> Result<Counted<Option<Members>>, EvalFault>
-    requires { (budget ≤ 50000000) × (1 ≤ workers) × (workers ≤ 64) }
-    ensures { Within members_value budget (set_in (cden globals.now (values env.now) (term_of over.now))) (settle globals.now (values env.now) (term_of over.now)) result }
+    requires { AreLimits budget workers }
+    ensures { EvaluatesSet budget globals.now env.now (term_of over.now) result }
 {
     match over {
         Core::Gen(number) => {
@@ -380,8 +374,8 @@ fn wide_sum<R: Threads + Sync, G: Gate>(
     workers: u64,
     gate: &G,
 ) -> Result<Counted<Option<Box<Held>>>, EvalFault>
-    requires { (budget ≤ 50000000) × (1 ≤ workers) × (workers ≤ 64) }
-    ensures { Within boxed_value budget (cden globals.now (values env.now) (sum_term (term_of over.now) (term_of body.now))) (settle globals.now (values env.now) (sum_term (term_of over.now) (term_of body.now))) result }
+    requires { AreLimits budget workers }
+    ensures { Evaluates budget globals.now env.now (sum_loop over.now body.now) result }
 {
     let Counted { answer, turns } = wide_members(
         rt, alloc, over, globals, env, budget, workers, gate,
@@ -432,8 +426,8 @@ fn wide_union<R: Threads + Sync, G: Gate>(
     workers: u64,
     gate: &G,
 ) -> Result<Counted<Option<Box<Held>>>, EvalFault>
-    requires { (budget ≤ 50000000) × (1 ≤ workers) × (workers ≤ 64) }
-    ensures { Within boxed_value budget (cden globals.now (values env.now) (big_union_term (term_of over.now) (term_of body.now))) (settle globals.now (values env.now) (big_union_term (term_of over.now) (term_of body.now))) result }
+    requires { AreLimits budget workers }
+    ensures { Evaluates budget globals.now env.now (union_loop over.now body.now) result }
 {
     let Counted { answer, turns } = wide_members(
         rt, alloc, over, globals, env, budget, workers, gate,
@@ -484,8 +478,8 @@ fn wide_tab<R: Threads + Sync, G: Gate>(
     workers: u64,
     gate: &G,
 ) -> Result<Counted<Option<Box<Held>>>, EvalFault>
-    requires { (budget ≤ 50000000) × (1 ≤ workers) × (workers ≤ 64) }
-    ensures { Within boxed_value budget (cden globals.now (values env.now) (tab_term (terms_of bounds.now) (term_of body.now))) (settle globals.now (values env.now) (tab_term (terms_of bounds.now) (term_of body.now))) result }
+    requires { AreLimits budget workers }
+    ensures { Evaluates budget globals.now env.now (tab_of bounds.now body.now) result }
 {
     let Counted { answer, turns } = wide_all(
         rt, alloc, bounds, globals, env, budget, workers, gate,

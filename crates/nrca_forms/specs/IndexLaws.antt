@@ -1,16 +1,15 @@
 -- The pairs that the members of a set are, and the array that they make.
-use Rattle.std.specs.Prelude.{◌≡◌, ℕ, zero, suc, ◌+◌, ◌≤◌, Bool, true, false, nat_eq, List, [], ◌∷◌, length, map, Option, Some, None, refl, if◌then◌else◌}
+use Rattle.std.specs.Prelude.{◌≡◌, ℕ, zero, suc, ◌+◌, ◌≤◌, Bool, true, false, nat_eq, List, [], ◌∷◌, length, Option, Some, None, refl, if◌then◌else◌}
 use Rattle.std.specs.List.{slice_range, slice_get}
 use Rattle.std.proofs.Common.{ap, sym, ◌∙◌, eqb-true}
 use Rattle.aql_value.specs.Datum.{Datum}
 use Rattle.aql_value.specs.Lists.{Every-all}
-use Rattle.aql_value.specs.Operations.{as_natural, as_tuple, as_set, as_array, as_indexed, part_of, index_numbers, index_of, dims_above, indexed}
-use Rattle.aql_value.specs.Partial.{◌>>=◌, each, if_some}
+use Rattle.aql_value.specs.Operations.{as_natural, as_tuple, as_indexed, part_of, index_numbers}
+use Rattle.aql_value.specs.Partial.{◌>>=◌, each}
 use Rattle.aql_value.specs.PartialLaws.{each-values, then-is}
-use Rattle.aql_value.specs.Strict.{index_turns}
-use Rattle.nrca_forms.specs.Indexing.{pairs_run, pairs_with, pairs_value, pairs_turns, AreRanked}
+use Rattle.nrca_forms.specs.Indexing.{pairs_run, pairs_with, AreRanked}
 use Rattle.nrca_runs.specs.Runs.{lists_join}
-use Rattle.nrca_runs.specs.RunLaws.{range_whole, range_none, range_more, each-range_split, each-more}
+use Rattle.nrca_runs.specs.RunLaws.{range_more, each-range_split, each-more}
 
 checked : (rank : ℕ) (b : Bool) (ns at : List ℕ) → nat_eq (length ns) rank ≡ b → (if b then Some ns else None) ≡ Some at → length at ≡ rank
 checked rank true ns at t e = let z : ns ≡ at = cc in ap length (sym z) ∙ eqb-true (length ns) rank t
@@ -39,29 +38,9 @@ run_ranked rank ms a b None e = tt
 run_ranked rank ms a b (Some ps) e =
     each-values (as_indexed rank) (λ v. Unit {0}) (λ p. length p.0 ≡ rank) (λ v p u k. pair_ranked rank v p k) (slice_range ms a b) ps (Every-all (λ v. Unit {0}) (λ v. tt) (slice_range ms a b)) e
 
-pub pairs_none : (rank : ℕ) (ms : List Datum) (a : ℕ) → pairs_run rank ms a a ≡ Some []
-pairs_none rank ms a = ap (each (as_indexed rank)) (range_none ms a)
-
 -- a member more, and runs that follow each other
 pub pairs_more : (rank : ℕ) (ms : List Datum) (a i : ℕ) (m : Datum) → a ≤ i → slice_get ms i ≡ Some m → pairs_run rank ms a (i + 1) ≡ pairs_with (pairs_run rank ms a i) (as_indexed rank m)
 pairs_more rank ms a i m h e = ap (each (as_indexed rank)) (range_more ms a i m h e) ∙ each-more (as_indexed rank) (slice_range ms a i) m
 
 pub pairs_split : (rank : ℕ) (ms : List Datum) (a m b : ℕ) → a ≤ m → m ≤ b → lists_join (pairs_run rank ms a m) (pairs_run rank ms m b) ≡ pairs_run rank ms a b
 pairs_split rank ms a m b h k = each-range_split ms a m b h k (as_indexed rank)
-
--- `index` of a value, by the pairs that the members are
-pub index_none : (rank : ℕ) (v : Datum) → as_set v ≡ None → index_of rank v ≡ None
-index_none rank v e = ap (λ o. o >>= each (as_indexed rank) >>= λ ps. indexed (dims_above rank (map (λ p. p.0) ps)) ps) e
-
-pub index_idle : (rank : ℕ) (v : Datum) → as_set v ≡ None → index_turns rank (v ∷ []) ≡ 0
-index_idle rank v e = ap (λ o. if_some o length + if_some (o >>= each (as_indexed rank) >>= (λ ps. indexed (dims_above rank (map (λ p. p.0) ps)) ps) >>= as_array) (λ t. length t.cells)) e
-
-pub index_whole : (rank : ℕ) (v : Datum) (ms : List Datum) → as_set v ≡ Some ms → index_of rank v ≡ pairs_value rank (pairs_run rank ms 0 (length ms))
-index_whole rank v ms e =
-    ap (λ o. o >>= each (as_indexed rank) >>= λ ps. indexed (dims_above rank (map (λ p. p.0) ps)) ps) e
-    ∙ ap (λ l. pairs_value rank (each (as_indexed rank) l)) (sym (range_whole ms (length ms) refl))
-
-pub index_taken : (rank : ℕ) (v : Datum) (ms : List Datum) → as_set v ≡ Some ms → index_turns rank (v ∷ []) ≡ length ms + pairs_turns rank (pairs_run rank ms 0 (length ms))
-index_taken rank v ms e =
-    ap (λ o. if_some o length + if_some (index_of rank v >>= as_array) (λ t. length t.cells)) e
-    ∙ ap (λ o. length ms + if_some (o >>= as_array) (λ t. length t.cells)) (index_whole rank v ms e)

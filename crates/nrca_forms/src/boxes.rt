@@ -2,13 +2,12 @@
 
 ghost use Rattle.std.specs.Prelude.{◌≡◌, IfOk};
 ghost use Rattle.aql_value.specs.Operations.{dim_of};
-ghost use Rattle.aql_value.specs.Strict.{strict_turns};
 ghost use Rattle.nrca_array.specs.Held.{held_datum};
-ghost use Rattle.nrca_term.specs.Term.{form_of};
-ghost use Rattle.nrca_term.specs.View.{term_of};
-ghost use Rattle.nrca_runs.specs.Parts.{cell_in, numbers_in, parts_value, strict_of, strict_in};
+ghost use Rattle.nrca_runs.specs.Parts.{parts_value};
 ghost use Rattle.nrca_runs.specs.Scope.{boxed_value};
 ghost use Rattle.nrca_runs.specs.Within.{Within};
+ghost use Rattle.nrca_forms.specs.Made.{kept_cell};
+ghost use Rattle.nrca_runs.specs.Evaluates.{Applies, strict_form};
 
 use crate::forms::strict;
 use crate::operations::{cell_of_parts, dim};
@@ -26,7 +25,7 @@ pub fn cell_boxed(
     array: &Held,
     at: Option<Vec<Held>>,
 ) -> Result<Option<Box<Held>>, Memory>
-    ensures { IfOk result (λ v. boxed_value v ≡ cell_in (held_datum array.now) (numbers_in (parts_value at))) }
+    ensures { IfOk result (λ v. boxed_value v ≡ kept_cell array.now at) }
 {
     let cell = cell_of_parts(alloc, array, at)?;
     boxed(alloc, cell)
@@ -57,7 +56,7 @@ pub fn strict_boxed(
     parts: Option<Vec<Held>>,
     budget: u64,
 ) -> Result<Counted<Option<Box<Held>>>, EvalFault>
-    ensures { Within boxed_value budget (strict_in (strict_of (form_of (term_of term.now))) (parts_value parts)) (strict_turns (strict_of (form_of (term_of term.now))) (parts_value parts)) result }
+    ensures { Applies boxed_value budget (strict_form term.now) (parts_value parts) result }
 {
     let made = strict(alloc, term, parts, budget)?;
     Ok(Counted {

@@ -1,18 +1,14 @@
 //! What a form that evaluates all its parts and binds nothing makes of their values.
 
-ghost use Rattle.std.specs.Prelude.{◌≡◌, ◌∷◌, [], IfOk, IsOkAnd, MatchResult, Some};
-ghost use Rattle.std.specs.Option.{option_map};
+ghost use Rattle.std.specs.Prelude.{◌≡◌, IfOk, Some};
 ghost use Rattle.aql_value.specs.Datum.{text, set, nil};
 ghost use Rattle.aql_value.specs.Meaning.{datum};
-ghost use Rattle.aql_value.specs.Operations.{part_of, get_of, dim_of, arith_of, compare_of, union_of as union_datum, set_of, gen_of, index_of, literal_of, only};
-ghost use Rattle.aql_value.specs.Strict.{nullary, unary, binary, sub_value, strict_value, strict_turns, gen_turns, index_turns};
-ghost use Rattle.nrca_array.specs.Held.{held_datum};
-ghost use Rattle.nrca_par.specs.declared.fault.EvalFault.TheVariants as fault;
-ghost use Rattle.nrca_term.specs.Term.{form_of};
-ghost use Rattle.nrca_term.specs.View.{term_of};
+ghost use Rattle.aql_value.specs.Operations.{part_of, get_of, dim_of, arith_of, compare_of, union_of as union_datum, literal_of, only};
+ghost use Rattle.aql_value.specs.Strict.{nullary, unary, binary, sub_value, Strict};
 ghost use Rattle.nrca_runs.specs.Scope.{held_value};
-ghost use Rattle.nrca_runs.specs.Within.{Within};
-ghost use Rattle.nrca_runs.specs.Parts.{held_values, parts_value, pair_in, strict_of, strict_in};
+ghost use Rattle.nrca_runs.specs.Parts.{held_values, parts_value, pair_in};
+ghost use Rattle.nrca_forms.specs.Made.{IsFreed, Makes, held_pair};
+ghost use Rattle.nrca_runs.specs.Evaluates.{Applies, strict_form};
 
 use crate::index::index_set;
 use crate::operations::{
@@ -36,7 +32,7 @@ pub fn strict(
     parts: Option<Vec<Held>>,
     budget: u64,
 ) -> Result<Counted<Option<Held>>, EvalFault>
-    ensures { Within held_value budget (strict_in (strict_of (form_of (term_of term.now))) (parts_value parts)) (strict_turns (strict_of (form_of (term_of term.now))) (parts_value parts)) result }
+    ensures { Applies held_value budget (strict_form term.now) (parts_value parts) result }
 {
     match parts {
         Some(parts) => made(alloc, term, parts, budget),
@@ -51,7 +47,7 @@ fn made(
     parts: Vec<Held>,
     budget: u64,
 ) -> Result<Counted<Option<Held>>, EvalFault>
-    ensures { Within held_value budget (strict_value (strict_of (form_of (term_of term.now))) (held_values parts)) (strict_turns (strict_of (form_of (term_of term.now))) (Some (held_values parts))) result }
+    ensures { Applies held_value budget (strict_form term.now) (Some (held_values parts)) result }
 {
     match term {
         Core::Gen(_) => made_gen(alloc, parts, budget),
@@ -84,7 +80,7 @@ fn made(
 
 // A value that was made without turns of its own.
 fn freed(value: Result<Option<Held>, Memory>) -> Result<Counted<Option<Held>>, EvalFault>
-    ensures { MatchResult result (λ d. IsOkAnd value (λ v. d.answer ≡ v) × (d.turns ≡ 0)) (λ e. e ≡ fault.Memory) }
+    ensures { IsFreed value result }
 {
     Ok(free(value?))
 }
@@ -101,7 +97,7 @@ fn one_part(parts: Vec<Held>) -> Option<Held>
 // The two parts: none where there is another number of parts.
 #[tactic(auto, using(crate::proofs::Arities::two))]
 fn two_parts(parts: Vec<Held>) -> Option<(Held, Held)>
-    ensures { option_map (λ p. (held_datum p.0, held_datum p.1)) result ≡ pair_in (held_values parts) }
+    ensures { held_pair result ≡ pair_in (held_values parts) }
 {
     let mut parts = parts;
     if parts.len() != 2 {
@@ -124,7 +120,7 @@ fn constant(parts: Vec<Held>, value: Value) -> Option<Held>
 }
 
 fn made_text(alloc: Global, parts: Vec<Held>, bytes: &Str) -> Result<Option<Held>, Memory>
-    ensures { IfOk result (λ r. held_value r ≡ nullary (Some (text bytes.now)) (held_values parts)) }
+    ensures { IfOk result (λ r. Makes (Strict.text bytes.now) parts r) }
 {
     let bytes = bytes.copy(alloc)?;
     Ok(constant(parts, Value::Text(bytes)))
@@ -146,7 +142,7 @@ fn made_gen(
     parts: Vec<Held>,
     budget: u64,
 ) -> Result<Counted<Option<Held>>, EvalFault>
-    ensures { Within held_value budget (unary gen_of (held_values parts)) (gen_turns (held_values parts)) result }
+    ensures { Applies held_value budget Strict.gen (Some (held_values parts)) result }
 {
     match one_part(parts) {
         Some(v) => gen_set(alloc, v, budget),
@@ -161,7 +157,7 @@ fn made_index(
     parts: Vec<Held>,
     budget: u64,
 ) -> Result<Counted<Option<Held>>, EvalFault>
-    ensures { Within held_value budget (unary (index_of rank) (held_values parts)) (index_turns rank (held_values parts)) result }
+    ensures { Applies held_value budget (Strict.index rank) (Some (held_values parts)) result }
 {
     match one_part(parts) {
         Some(v) => index_set(alloc, rank, v, budget),
@@ -181,7 +177,7 @@ fn made_proj(alloc: Global, parts: Vec<Held>, at: u64, of: u64) -> Result<Option
 
 #[tactic(auto, using(crate::proofs::Arities::arities))]
 fn made_single(alloc: Global, parts: Vec<Held>) -> Result<Option<Held>, Memory>
-    ensures { IfOk result (λ r. held_value r ≡ unary (λ v. Some (set_of (v ∷ []))) (held_values parts)) }
+    ensures { IfOk result (λ r. Makes Strict.single parts r) }
 {
     match one_part(parts) {
         Some(v) => Ok(Some(single(alloc, v)?)),

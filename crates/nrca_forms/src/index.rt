@@ -1,18 +1,18 @@
 //! `index`: the array of the sets of values that a set of pairs has at each index.
 
-ghost use Rattle.std.specs.Prelude.{◌≡◌, ◌<◌, ◌≤◌, ◌^◌, ◌∷◌, ◌++◌, [], suc, length, map, max, replicate, Some, None, IfOk, if◌then◌else◌};
+ghost use Rattle.std.specs.Prelude.{◌≡◌, ◌<◌, ◌≤◌, ◌^◌, ◌∷◌, ◌++◌, [], suc, length, map, max, replicate, Some, IfOk};
 ghost use Rattle.std.specs.Option.{option_map};
-ghost use Rattle.aql_value.specs.Indices.{product, indices};
+ghost use Rattle.aql_value.specs.Indices.{product};
 ghost use Rattle.aql_value.specs.Lists.{below};
 ghost use Rattle.aql_value.specs.Meaning.{datum};
-ghost use Rattle.aql_value.specs.Operations.{as_natural, as_tuple, as_indexed, dims_above, greater_each, index_numbers, index_of, set_of as set_datum, values_at, all_in_range};
+ghost use Rattle.aql_value.specs.Operations.{as_natural, as_tuple, as_indexed, dims_above, index_numbers, set_of as set_datum};
 ghost use Rattle.aql_value.specs.Partial.{each};
-ghost use Rattle.aql_value.specs.Strict.{index_turns};
 ghost use Rattle.nrca_array.specs.Held.{held_datum};
-ghost use Rattle.nrca_forms.specs.Indexing.{pair_of, pairs_of, pairs_run, pairs_value, pairs_turns, extent, pairs_with, indexed_pair, AreRanked, push_group, put_group, ranked_numbers, values_of};
+ghost use Rattle.nrca_forms.specs.Indexing.{pair_of, pairs_of, pairs_run, extent, indexed_pair, AreRanked, push_group, ranked_numbers, values_of, AddsPair, MakesArray, groups_in, index_lists, ranged_dims, set_cells, values_by_index, PutsAt, greater_dims, pairs_in};
 ghost use Rattle.nrca_runs.specs.Runs.{lists_join};
 ghost use Rattle.nrca_runs.specs.Scope.{held_value};
-ghost use Rattle.nrca_runs.specs.Within.{Within};
+ghost use Rattle.aql_value.specs.Strict.{Strict};
+ghost use Rattle.nrca_runs.specs.Evaluates.{Applies};
 
 use crate::operations::{free, table_of};
 use aql_value::{
@@ -38,7 +38,7 @@ pub(crate) fn index_set(
     v: Held,
     budget: u64,
 ) -> Result<Counted<Option<Held>>, EvalFault>
-    ensures { Within held_value budget (index_of rank (held_datum v)) (index_turns rank (held_datum v ∷ [])) result }
+    ensures { Applies held_value budget (Strict.index rank) (Some (held_datum v ∷ [])) result }
 {
     let Some(set) = set_of(v) else {
         return Ok(free(None));
@@ -84,7 +84,7 @@ fn pairs_and(
     pairs: Option<Vec<Indexed>>,
     pair: Option<Indexed>,
 ) -> Result<Option<Vec<Indexed>>, Memory>
-    ensures { IfOk result (λ ps. pairs_of ps ≡ pairs_with (pairs_of pairs) (option_map pair_of pair)) }
+    ensures { IfOk result (λ ps. AddsPair pairs pair ps) }
 {
     match pairs.zip(pair) {
         Some((mut pairs, pair)) => {
@@ -205,7 +205,7 @@ pub fn join_pairs(
     first: Option<Vec<Indexed>>,
     second: Option<Vec<Indexed>>,
 ) -> Result<Option<Vec<Indexed>>, Memory>
-    ensures { IfOk result (λ pairs. pairs_of pairs ≡ lists_join (pairs_of first) (pairs_of second)) }
+    ensures { IfOk result (λ ps. pairs_of ps ≡ lists_join (pairs_of first) (pairs_of second)) }
 {
     match (first, second) {
         (Some(mut first), Some(mut second)) => {
@@ -225,7 +225,7 @@ pub fn index_pairs(
     budget: u64,
 ) -> Result<Counted<Option<Held>>, EvalFault>
     requires { AreRanked rank (pairs_of pairs) }
-    ensures { Within held_value budget (pairs_value rank (pairs_of pairs)) (pairs_turns rank (pairs_of pairs)) result }
+    ensures { MakesArray budget rank (pairs_of pairs) result }
 {
     let Some(pairs) = pairs else {
         return Ok(free(None));
@@ -250,7 +250,7 @@ pub fn index_pairs(
 
 // The least dimensions that all the indices are below, where none stands for 2^128.
 fn extents_of(alloc: Global, rank: u64, pairs: &[Indexed]) -> Result<Vec<Option<u128>>, Memory>
-    ensures { IfOk result (λ ds. map extent ds.items ≡ dims_above rank (map (λ p. p.0) (map pair_of pairs.now))) }
+    ensures { IfOk result (λ ds. map extent ds.items ≡ dims_above rank (index_lists pairs.now)) }
 {
     let mut dims = zero_extents(alloc, rank)?;
     let count = pairs.len();
@@ -272,7 +272,7 @@ fn zero_extents(alloc: Global, rank: u64) -> Result<Vec<Option<u128>>, Memory>
 
 // The least dimensions that are no smaller and that one index more is below.
 fn raised(alloc: Global, at: &Dims, dims: &[Option<u128>]) -> Result<Vec<Option<u128>>, Memory>
-    ensures { IfOk result (λ ds. map extent ds.items ≡ greater_each (map suc at.now) (map extent dims.now)) }
+    ensures { IfOk result (λ ds. map extent ds.items ≡ greater_dims at.now dims.now) }
 {
     let mut all = Vec::new(alloc);
     let count = at.dims.len().min(dims.len());
@@ -294,7 +294,7 @@ fn greater(number: u128, dim: Option<u128>) -> Option<u128>
 
 // The dimensions, where none passes 2^128-1.
 fn in_range(alloc: Global, extents: Vec<Option<u128>>) -> Result<Option<Dims>, Memory>
-    ensures { IfOk result (λ ds. ds ≡ (if all_in_range (map extent extents.items) then Some (map extent extents.items) else None)) }
+    ensures { IfOk result (λ ds. ds ≡ ranged_dims (map extent extents.items)) }
 {
     let mut dims = Vec::new(alloc);
     for dim in &extents {
@@ -322,7 +322,7 @@ fn cells_of(
     count: usize,
 ) -> Result<Builder, Memory>
     requires { count ≡ product dims.now }
-    ensures { IfOk result (λ cells. cells ≡ map (λ at. set_datum (values_at at (map pair_of pairs.items))) (indices dims.now)) }
+    ensures { IfOk result (λ cells. cells ≡ set_cells dims.now (pairs_in pairs)) }
 {
     let groups = grouped(alloc, dims, pairs, count)?;
     sets_of(alloc, groups)
@@ -336,7 +336,7 @@ fn grouped(
     count: usize,
 ) -> Result<Vec<Vec<Value>>, Memory>
     requires { count ≡ product dims.now }
-    ensures { IfOk result (λ groups. map values_of groups.items ≡ map (λ at. values_at at (map pair_of pairs.items)) (indices dims.now)) }
+    ensures { IfOk result (λ r. groups_in r ≡ values_by_index dims.now (pairs_in pairs)) }
 {
     let mut groups = empty_groups(alloc, count)?;
     for pair in pairs {
@@ -354,7 +354,7 @@ fn placed(
     value: Value,
 ) -> Result<Vec<Vec<Value>>, Memory>
     requires { length groups.items ≡ product dims.now }
-    ensures { IfOk result (λ more. map values_of more.items ≡ put_group dims.now at.now (datum value) (map values_of groups.items)) }
+    ensures { IfOk result (λ r. PutsAt dims.now at.now value groups r) }
 {
     if !is_below(at.dims.as_slice(), dims.dims.as_slice()) {
         return Ok(groups);
@@ -365,7 +365,7 @@ fn placed(
 
 fn push_at(groups: Vec<Vec<Value>>, place: usize, value: Value) -> Result<Vec<Vec<Value>>, Memory>
     requires { place < length groups.items }
-    ensures { IfOk result (λ more. map values_of more.items ≡ push_group place (datum value) (map values_of groups.items)) }
+    ensures { IfOk result (λ r. groups_in r ≡ push_group place (datum value) (groups_in groups)) }
 {
     let mut groups = groups;
     groups[place].push(value)?;

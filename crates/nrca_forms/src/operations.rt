@@ -1,17 +1,17 @@
 //! What the operations make of values as they are kept.
 
-ghost use Rattle.std.specs.Prelude.{◌≡◌, ◌≤◌, ◌∷◌, [], vec_len, IfOk, Some, None, length, map, nat_eq, if◌then◌else◌};
+ghost use Rattle.std.specs.Prelude.{◌≡◌, ◌≤◌, ◌∷◌, [], vec_len, IfOk, Some, length, map};
 ghost use Rattle.std.specs.Option.{option_map};
 ghost use Rattle.aql_value.specs.Datum.{natural, set, data_of};
-ghost use Rattle.aql_value.specs.Operations.{part_of, get_of, dim_of, arith_of, compare_of, union_of as union_datum, tuple_of, set_of, literal_of, gen_of, as_natural, index_value, cell_of, only, nth};
+ghost use Rattle.aql_value.specs.Operations.{part_of, get_of, dim_of, arith_of, compare_of, union_of as union_datum, tuple_of, set_of, literal_of, cell_of, only, nth};
 ghost use Rattle.aql_value.specs.Indices.{cell};
 ghost use Rattle.aql_value.specs.Lists.{below};
-ghost use Rattle.aql_value.specs.Partial.{if_some};
-ghost use Rattle.aql_value.specs.Strict.{sub_value};
+ghost use Rattle.aql_value.specs.Strict.{sub_value, Strict};
 ghost use Rattle.nrca_array.specs.Held.{held_datum};
 ghost use Rattle.nrca_runs.specs.Scope.{held_value};
-ghost use Rattle.nrca_runs.specs.Within.{Within};
-ghost use Rattle.nrca_runs.specs.Parts.{held_values, parts_value, cell_in, numbers_in, numbers_with, table_in};
+ghost use Rattle.nrca_runs.specs.Parts.{held_values, parts_value, numbers_in, numbers_with, table_in};
+ghost use Rattle.nrca_forms.specs.Made.{dims_datum, items_in, kept_cell};
+ghost use Rattle.nrca_runs.specs.Evaluates.{Applies};
 
 use aql_made::{both, listed};
 use aql_value::{
@@ -39,7 +39,7 @@ pub(crate) fn gen_set(
     v: Held,
     budget: u64,
 ) -> Result<Counted<Option<Held>>, EvalFault>
-    ensures { Within held_value budget (gen_of (held_datum v)) (if_some (as_natural (held_datum v)) (λ n. n)) result }
+    ensures { Applies held_value budget Strict.gen (Some (held_datum v ∷ [])) result }
 {
     let Some(n) = natural(Some(v)) else {
         return Ok(free(None));
@@ -204,7 +204,7 @@ pub(crate) fn cell_of_parts(
     array: &Held,
     at: Option<Vec<Held>>,
 ) -> Result<Option<Held>, Memory>
-    ensures { IfOk result (λ r. held_value r ≡ cell_in (held_datum array.now) (numbers_in (parts_value at))) }
+    ensures { IfOk result (λ r. held_value r ≡ kept_cell array.now at) }
 {
     match numbers(alloc, at)? {
         Some(at) => cell_at(alloc, array, &at),
@@ -282,7 +282,7 @@ fn packed(alloc: Global, cells: Vec<Held>) -> Result<Builder, Memory>
 #[tactic(auto, using(crate::proofs::Strictly::indices))]
 fn dims_value(alloc: Global, dims: &Dims, rank: u64) -> Result<Option<Held>, Memory>
     requires { 1 ≤ length dims.now }
-    ensures { IfOk result (λ r. held_value r ≡ (if nat_eq (length dims.now) rank then Some (index_value dims.now) else None)) }
+    ensures { IfOk result (λ r. held_value r ≡ dims_datum rank dims.now) }
 {
     if dims.dims.len() as u64 != rank {
         return Ok(None);
@@ -308,7 +308,7 @@ fn naturals(alloc: Global, numbers: &[u128]) -> Result<Items, Memory>
 }
 
 fn dims_and(dims: Option<Vec<u128>>, part: Held) -> Result<Option<Vec<u128>>, Memory>
-    ensures { IfOk result (λ ds. option_map (λ v. v.items) ds ≡ numbers_with (option_map (λ v. v.items) dims) (held_datum part)) }
+    ensures { IfOk result (λ ds. items_in ds ≡ numbers_with (items_in dims) (held_datum part)) }
 {
     match (dims, natural(Some(part))) {
         (Some(mut dims), Some(n)) => {

@@ -22,7 +22,7 @@ use Rattle.nrca_term.specs.Nodes.{number, truth_term, arith_term}
 use Rattle.nrca_term.specs.Meaning.{Outcomes, cden}
 use Rattle.nrca_term.specs.Rules.{index_variables}
 use Rattle.nrca_graph.specs.ArrayFree.{equal_term, times, product_term, where_zero, is_filled}
-use Rattle.nrca_graph.specs.Lets.{walked-past}
+use Rattle.nrca_term.specs.Lets.{walked-past}
 
 -- the terms have these numbers
 abbrev pub NumbersAre : Outcomes → List Datum → List Term → List ℕ → Type 0

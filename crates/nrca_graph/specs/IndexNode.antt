@@ -4,7 +4,7 @@ use Rattle.std.proofs.lemmas.List.{length-map}
 use Rattle.std.specs.List.{slice_get, filter}
 use Rattle.std.specs.Cmp.Lexicographic.{pointwise}
 use Rattle.aql_value.specs.Datum as datum
-use Rattle.aql_value.specs.Datum.{Datum, tuple, set, array, data_of, list_of-data_of}
+use Rattle.aql_value.specs.Datum.{Datum, tuple, set, data_of, list_of-data_of}
 use Rattle.aql_value.specs.Indices.{indices}
 use Rattle.aql_value.specs.IndicesLaws.{length_indices}
 use Rattle.aql_value.specs.Lists.{Every, Every-impl, Every-onto, Every-below, below, length-below}
@@ -15,7 +15,7 @@ use Rattle.aql_value.specs.PartialLaws.{each-map, each-ext, each-defined}
 use Rattle.aql_value.specs.RowMajorLaws.{indices_lengths}
 use Rattle.aql_value.specs.Strict.{Strict, strict_value}
 use Rattle.aql_types.specs.Types as types
-use Rattle.aql_types.specs.Types.{Ty, IsRank, tys_of, index_type}
+use Rattle.aql_types.specs.Types.{Ty, IsRank, index_type}
 use Rattle.aql_types.specs.ValueTypes.{HasType, HaveTypes}
 use Rattle.nrca_term.specs.Term.{Term, Parts, none, part}
 use Rattle.nrca_term.specs.Nodes.{variable, bottom_term}
@@ -29,7 +29,7 @@ use Rattle.nrca_graph.specs.Tabulation.{table_term}
 use Rattle.nrca_graph.specs.EncodingOrder.{encoding-order, encoding-set, encodings-list}
 use Rattle.nrca_graph.specs.EncodedSets.{set_of-encoded}
 use Rattle.nrca_graph.specs.KeptForms.{AllMirror}
-use Rattle.nrca_graph.specs.Lets.{onto, onto-naturals, lets-value, walked-append, walked-past, index-value}
+use Rattle.nrca_term.specs.Lets.{onto, onto-naturals, lets-value, walked-append, walked-past, index-value}
 use Rattle.nrca_graph.specs.Nests.{pair_at}
 use Rattle.nrca_graph.specs.Tabulated.{table-value}
 use Rattle.nrca_graph.specs.Paired.{pair_of, chosen, paired-value, equal-indices}

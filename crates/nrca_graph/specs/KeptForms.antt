@@ -4,14 +4,14 @@ use Rattle.std.specs.List.{slice_get}
 use Rattle.aql_value.specs.Datum.{Datum, natural, truth, text, tuple, set, array, list_of-data_of}
 use Rattle.aql_value.specs.Lists.{Every, Every-impl}
 use Rattle.aql_value.specs.Operations.{as_natural, as_truth, as_set, union_all, sum_of, in_range}
-use Rattle.aql_value.specs.Partial.{◌>>=◌, each}
+use Rattle.aql_value.specs.Partial.{◌>>=◌, each, or_else}
 use Rattle.aql_value.specs.PartialLaws.{each-ext, each-map, each-then}
 use Rattle.aql_types.specs.Types as types
 use Rattle.aql_types.specs.Types.{Ty}
 use Rattle.aql_types.specs.ValueTypes.{HasType, HaveTypes}
 use Rattle.nrca_term.specs.Term.{Form}
 use Rattle.nrca_term.specs.Typing.{Arg, arg, form_rule}
-use Rattle.nrca_term.specs.Meaning.{Outcomes, outcome, Part, worth, form_value, or_else}
+use Rattle.nrca_term.specs.Meaning.{Outcomes, outcome, Part, worth, form_value}
 use Rattle.nrca_term.specs.Sound.{AllSound, sound-get, sounds}
 use Rattle.nrca_graph.specs.Encoding.{encoding, encoded}
 use Rattle.nrca_graph.specs.EncodingOrder.{encoding-order, encoding-set}

@@ -3,7 +3,6 @@ pub mod Tabulation
 pub mod ArrayFree
 pub mod GraphTurns
 pub mod IndexOrder
-pub mod Lets
 pub mod EncodingOrder
 pub mod EncodedSets
 pub mod EncodedTypes
@@ -28,3 +27,4 @@ pub mod TypedForms
 pub mod ArrayFreeTypes
 pub mod Means
 pub mod Laws
+pub mod Coded

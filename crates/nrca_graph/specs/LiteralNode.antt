@@ -33,7 +33,7 @@ use Rattle.nrca_graph.specs.ArrayFree.{terms_in, product_term, is_filled, over_r
 use Rattle.nrca_graph.specs.EncodingOrder.{encodings-list}
 use Rattle.nrca_graph.specs.KeptForms.{AllMirror}
 use Rattle.nrca_graph.specs.StrictForms.{numbers-kept}
-use Rattle.nrca_graph.specs.Lets.{onto, onto-naturals, lets-value, walked-append, index-value}
+use Rattle.nrca_term.specs.Lets.{onto, onto-naturals, lets-value, walked-append, index-value}
 use Rattle.nrca_graph.specs.Nests.{pair-value, single-value}
 use Rattle.nrca_graph.specs.SubscriptNode.{sizes-value}
 use Rattle.nrca_graph.specs.Unions.{united-value, united-none}

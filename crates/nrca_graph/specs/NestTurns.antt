@@ -17,7 +17,7 @@ use Rattle.nrca_term.specs.Turns.{settle, parts_settle}
 use Rattle.nrca_term.specs.Rules.{sizes_term, index_variables}
 use Rattle.nrca_graph.specs.Tabulation.{nest}
 use Rattle.nrca_graph.specs.Nests.{no_indices}
-use Rattle.nrca_graph.specs.Lets.{walked-snoc, walked-past}
+use Rattle.nrca_term.specs.Lets.{walked-snoc, walked-past}
 use Rattle.nrca_graph.specs.GraphTurns.{prefix_products}
 use Rattle.std.proofs.lemmas.List.{map-append}
 

@@ -17,7 +17,7 @@ use Rattle.nrca_term.specs.Meaning.{Outcomes, cden}
 use Rattle.nrca_term.specs.Rules.{sizes_term, index_variables}
 use Rattle.nrca_graph.specs.Encoding.{pair}
 use Rattle.nrca_graph.specs.Tabulation.{nest}
-use Rattle.nrca_graph.specs.Lets.{walked-snoc, walked-past, index-value}
+use Rattle.nrca_term.specs.Lets.{walked-snoc, walked-past, index-value}
 
 -- a pair of two terms
 pub pair-value : (V : Outcomes) (vals : List Datum) (i b : Term) (x : Datum) → cden V vals i ≡ Some x →

@@ -2,7 +2,7 @@
 use Rattle.std.proofs.Common.{◌≡◌, ℕ, ◌≤◌, List, [], ◌∷◌, ◌++◌, length, map, replicate, Option, Some, None, refl, sym, ap, ◌∙◌, arith, zip, nat_eq, if◌then◌else◌, true}
 use Rattle.aql_value.specs.Canon.{canon}
 use Rattle.aql_value.specs.Datum as datum
-use Rattle.aql_value.specs.Datum.{Datum, Table, array, set, data_of, list_of-data_of}
+use Rattle.aql_value.specs.Datum.{Datum, set, data_of, list_of-data_of}
 use Rattle.aql_value.specs.Indices.{indices, paired}
 use Rattle.aql_value.specs.Lists.{Every-impl}
 use Rattle.aql_value.specs.Operations.{as_natural, only, part_of, tuple_of, index_value, dim_of, cell_of}
@@ -25,7 +25,7 @@ use Rattle.nrca_graph.specs.ArrayFree.{terms_in, term_at, paired_with, subscript
 use Rattle.nrca_graph.specs.EncodingOrder.{encoding-array, encodings-list}
 use Rattle.nrca_graph.specs.IndexOrder.{indices-ascend}
 use Rattle.nrca_graph.specs.KeptForms.{AllMirror}
-use Rattle.nrca_graph.specs.Lets.{onto, lets-value, plain-each}
+use Rattle.nrca_term.specs.Lets.{onto, lets-value, plain-each}
 use Rattle.nrca_graph.specs.Paired.{chosen, keyed, graph-keyed, paired-value, cell-chosen}
 use Rattle.nrca_graph.specs.StrictForms.{numbers-kept}
 use Rattle.nrca_graph.specs.TranslatedParts.{BindersFit, part-is, all-terms, here-mirror, here-types, numbers-of}

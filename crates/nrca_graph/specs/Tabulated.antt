@@ -20,7 +20,7 @@ use Rattle.nrca_term.specs.Entering.{length-walked}
 use Rattle.nrca_graph.specs.Encoding.{pair, graph, encoding, encoded}
 use Rattle.nrca_graph.specs.Tabulation.{tabulation_graph, table_term}
 use Rattle.nrca_graph.specs.EncodingOrder.{encodings-list}
-use Rattle.nrca_graph.specs.Lets.{onto, onto-naturals, lets-value, walked-append, index-value}
+use Rattle.nrca_term.specs.Lets.{onto, onto-naturals, lets-value, walked-append, index-value}
 use Rattle.nrca_graph.specs.Nests.{pair_at, nest-value, pair-value}
 
 -- the array of a body at the indices below the bounds

@@ -1,7 +1,6 @@
 -- A tabulation whose parts mean encoded values means the encoded array, undefined where a bound is.
-use Rattle.std.proofs.Common.{◌≡◌, ℕ, zero, suc, List, [], ◌∷◌, ◌++◌, length, map, take, replicate, Option, Some, None, refl, sym, ap, ◌∙◌, arith}
+use Rattle.std.proofs.Common.{◌≡◌, ℕ, List, [], ◌∷◌, ◌++◌, length, map, take, replicate, Option, Some, None, refl, sym, ap, ◌∙◌, arith}
 use Rattle.std.proofs.lemmas.List.{length-map, length-replicate}
-use Rattle.std.specs.List.{slice_get}
 use Rattle.aql_value.specs.Datum as datum
 use Rattle.aql_value.specs.Datum.{Datum}
 use Rattle.aql_value.specs.Indices.{indices}
@@ -17,13 +16,13 @@ use Rattle.nrca_term.specs.Term.{Term, Parts}
 use Rattle.nrca_term.specs.Typing.{Arg, arg}
 use Rattle.nrca_term.specs.Meaning.{Outcomes, Part, here, worth, tab_value, cden, part_values}
 use Rattle.nrca_term.specs.Entering.{length-walked}
-use Rattle.nrca_term.specs.Sound.{AllSound, index-have}
+use Rattle.nrca_term.specs.Sound.{AllSound, index-have, body-arg}
 use Rattle.nrca_term.specs.Subst.{shift_term}
 use Rattle.nrca_graph.specs.Encoding.{encoding, encoded}
 use Rattle.nrca_graph.specs.ArrayFree.{terms_in, term_at}
 use Rattle.nrca_graph.specs.Tabulation.{tabulation_graph, table_term}
 use Rattle.nrca_graph.specs.Tabulated.{tabulation-encoded}
-use Rattle.nrca_graph.specs.Lets.{onto, lets-value, walked-append}
+use Rattle.nrca_term.specs.Lets.{onto, lets-value, walked-append}
 use Rattle.nrca_graph.specs.KeptForms.{AllMirror, mirror-get}
 use Rattle.nrca_graph.specs.StrictForms.{numbers-kept}
 use Rattle.nrca_graph.specs.TranslatedParts.{BindersFit, first-terms, body-term, first-mirror, first-types, numbers-of, walked-encoded}
@@ -31,11 +30,6 @@ use Rattle.nrca_graph.specs.TranslatedParts.{BindersFit, first-terms, body-term,
 -- the arguments of a tabulation
 abbrev pub tab_args : ℕ → Ty → List Arg
 tab_args rank A = replicate rank (arg [] types.natural) ++ arg (replicate rank types.natural) A ∷ []
-
--- the argument of the body
-body-arg : (rank : ℕ) (x a : Arg) → slice_get (replicate rank x ++ a ∷ []) rank ≡ Some a
-body-arg zero x a = refl
-body-arg (suc rank) x a = body-arg rank x a
 
 -- the node of a tabulation whose parts are translated
 pub tabulation-node : (W : Outcomes) (around : List Datum) (rank : ℕ) (A : Ty) (ps : List Part) (qs : Parts) → IsRank rank → AllSound (tab_args rank A) ps →

@@ -12,7 +12,7 @@ use Rattle.aql_types.specs.ValueTypes.{HaveTypes}
 use Rattle.nrca_term.specs.Term.{Term, Parts, none, part, count}
 use Rattle.nrca_term.specs.Typing.{Arg, arg, parts_typed}
 use Rattle.nrca_term.specs.Meaning.{Outcomes, Part, here, worth, cden, part_values}
-use Rattle.nrca_term.specs.Sound.{AllSound}
+use Rattle.nrca_term.specs.Sound.{AllSound, has-here}
 use Rattle.nrca_graph.specs.Encoding.{encoding, encoded}
 use Rattle.nrca_graph.specs.ArrayFree.{terms_in, term_at, array_free_parts}
 use Rattle.nrca_graph.specs.KeptForms.{AllMirror}
@@ -117,14 +117,7 @@ here-mirror (T ∷ Ts) (p ∷ ps) (q ∷ qs) m =
 
 -- the values of sound parts that bind nothing have the types
 pub here-types : (Ts : List Ty) (ps : List Part) (vs : List Datum) → AllSound (map (arg []) Ts) ps → each here ps ≡ Some vs → HaveTypes Ts vs
-here-types [] [] vs s e = let z : [] ≡ vs = cc in subst (HaveTypes []) z tt
-here-types [] (p ∷ ps) vs s e = absurd s
-here-types (T ∷ Ts) [] vs s e = absurd s
-here-types (T ∷ Ts) (p ∷ ps) vs s e =
-    let a = then-is (p []) (λ y. each here ps >>= λ ys. Some (y ∷ ys)) vs e in
-    let b = then-is (each here ps) (λ ys. Some (a.0 ∷ ys)) vs a.2 in
-    let z : a.0 ∷ b.0 ≡ vs = some-list (a.0 ∷ b.0) vs b.2 in
-    subst (HaveTypes (T ∷ Ts)) z (s.0 [] a.0 tt a.1, here-types Ts ps b.0 s.1 b.1)
+here-types = has-here
 
 -- the parts behind the first ones, where none binds a variable, as terms
 pub rest-terms : (W : Outcomes) (env : List Datum) (n : ℕ) (x : Arg) (Ts : List Ty) (qs : Parts) → BindersFit (replicate n x ++ map (arg []) Ts) qs →

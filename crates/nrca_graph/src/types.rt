@@ -1,9 +1,10 @@
 //! The types of encoded values.
 
-ghost use Rattle.std.specs.Prelude.{◌≡◌, [], ◌∷◌, IfOk, IsOkAnd};
+ghost use Rattle.std.specs.Prelude.{◌≡◌, IfOk, IsOkAnd};
 ghost use Rattle.aql_types.specs.Types as types;
 ghost use Rattle.aql_types.specs.View.{type_of, types_of};
-ghost use Rattle.nrca_graph.specs.Encoding.{encoding_type, encoding_types, pair_type, array_type, natural_types};
+ghost use Rattle.nrca_graph.specs.Encoding.{encoding_type, encoding_types, array_type, natural_types};
+ghost use Rattle.nrca_graph.specs.Coded.{IsPairType};
 
 use aql_made::{boxed, listed_both};
 use aql_types::ty::{Ty, row};
@@ -65,7 +66,7 @@ fn set_type(alloc: Global, member: Result<Ty, Memory>) -> Result<Ty, Memory>
 }
 
 fn pair_type(alloc: Global, s: Result<Ty, Memory>, t: Result<Ty, Memory>) -> Result<Ty, Memory>
-    ensures { IfOk result (λ made. IsOkAnd s (λ a. IsOkAnd t (λ b. type_of made ≡ pair_type (type_of a) (type_of b)))) }
+    ensures { IfOk result (λ u. IsOkAnd s (λ a. IsOkAnd t (λ b. IsPairType a b u))) }
 {
     let items = listed_both(alloc, s, t)?;
     Ok(row(items))

@@ -1,13 +1,13 @@
 //! The encoding of values.
 
 ghost use Rattle.std.specs.Prelude.{◌≡◌, ◌<◌, ◌≤◌, length, map, IfOk, IsOkAnd};
-ghost use Rattle.std.specs.Prelude.{ℕ};
 ghost use Rattle.aql_value.specs.Datum.{array, data_of, natural};
 ghost use Rattle.aql_value.specs.Indices.{product, indices};
 ghost use Rattle.aql_value.specs.Meaning.{datum};
-ghost use Rattle.aql_value.specs.Operations.{index_value, set_of};
-ghost use Rattle.nrca_graph.specs.Encoding.{encoding, graph, pair, IsPairAt};
+ghost use Rattle.aql_value.specs.Operations.{index_value};
+ghost use Rattle.nrca_graph.specs.Encoding.{encoding, graph, IsPairAt};
 ghost use Rattle.nrca_graph.specs.EncodingOrder.{IsOrderedAs};
+ghost use Rattle.nrca_graph.specs.Coded.{IsPair, graph_set};
 
 use aql_made::listed_both;
 use aql_value::{Ascending, Cells, Items, Memory, Parts, Value, canon};
@@ -71,7 +71,7 @@ fn encode_array(alloc: Global, c: &Cells) -> Result<Value, Memory>
 fn encode_graph(alloc: Global, dims: &[u128], cells: &Items) -> Result<Value, Memory>
     requires some { 1 ≤ length dims.now }
     requires full { product dims.now ≡ length cells.now }
-    ensures { IfOk result (λ w. datum w ≡ set_of (graph (indices dims.now) (map encoding cells.now))) }
+    ensures { IfOk result (λ w. datum w ≡ graph_set dims.now cells.now) }
 {
     let mut at = zeros(alloc, dims.len())?;
     let pairs = encode_pairs(alloc, dims, at.as_mut_slice(), cells)?;
@@ -111,7 +111,7 @@ fn pair_at(
     requires some { 1 ≤ length dims.now }
     requires rank { length at.old ≡ length dims.now }
     requires within { place < product dims.now }
-    ensures { IfOk result (λ made. IsOkAnd cell (λ c. IsPairAt dims.now place (datum c) (datum made))) }
+    ensures { IfOk result (λ w. IsOkAnd cell (λ c. IsPairAt dims.now place (datum c) (datum w))) }
 {
     set_index(dims, place, at);
     pair_value(alloc, index_value(alloc, at), cell)
@@ -123,7 +123,7 @@ fn pair_value(
     v: Result<Value, Memory>,
     w: Result<Value, Memory>,
 ) -> Result<Value, Memory>
-    ensures { IfOk result (λ made. IsOkAnd v (λ a. IsOkAnd w (λ b. datum made ≡ pair (datum a) (datum b)))) }
+    ensures { IfOk result (λ u. IsOkAnd v (λ a. IsOkAnd w (λ b. IsPair a b u))) }
 {
     let items = listed_both(alloc, v, w)?;
     match Parts::new(Items { items }) {

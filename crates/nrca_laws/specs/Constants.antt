@@ -15,6 +15,7 @@ use Rattle.nrca_term.specs.Subst.{shift_form, shift_term, shift_parts, subst_var
 use Rattle.nrca_term.specs.MeasureLaws.{through}
 use Rattle.nrca_term.specs.Rules.{Way, Redex, Folds, arithmetic, numbers, truths, texts, generated, member, misshapen, Subscript, inside, outside, LoopOf, lets, guarded, sizes_term, is_dim_of, replace_dims, replace_dims_parts, number_or_bottom, constant_literal, dimension_terms, index_variables}
 use Rattle.nrca_term.specs.Valid.{FormConstant, HasConstants, PartsHaveConstants}
+use Rattle.nrca_term.specs.ValidLaws.{child-constants}
 
 -- a shift keeps the constant that a form is
 form-shift : (from by : ℕ) (f : Form) → FormConstant f → FormConstant (shift_form from by f)
@@ -224,16 +225,10 @@ rule-constants C4 l r ws x h = subst HasConstants (sym x.1.1) (tt, tt)
 rule-constants N1 l r ws x h = let k = subst HasConstants x.0 h in k.1.1.0
 rule-constants N2 l r ws x h = let k = subst HasConstants x.1 h in k.1.0
 
--- the constants of a part
-constants-child : (ps : Parts) (i : ℕ) (u : Term) → PartsHaveConstants ps → child_of ps i ≡ Some u → HasConstants u
-constants-child none i u h e = cc
-constants-child (part k t ps) zero u h e = let z : t ≡ u = cc in subst HasConstants z h.0
-constants-child (part k t ps) (suc i) u h e = constants-child ps i u h.1 e
-
 -- the constants of the part at a place
 pub constants-place : (path : List ℕ) (t s : Term) → HasConstants t → place_of t path ≡ Some s → HasConstants s
 constants-place [] t s h e = let z : t ≡ s = cc in subst HasConstants z h
-constants-place (i ∷ path) (node f ps) s h e = let r = through ps i path s e in constants-place path r.0 s (constants-child ps i r.0 h.1 r.1) r.2
+constants-place (i ∷ path) (node f ps) s h e = let r = through ps i path s e in constants-place path r.0 s (child-constants ps i r.0 h.1 r.1) r.2
 
 -- the parts with another one
 constants-on_child : (ps : Parts) (i : ℕ) (r : Term) (g : Term → Term) → child_of ps i ≡ Some r → PartsHaveConstants ps → (HasConstants r → HasConstants (g r)) → PartsHaveConstants (on_child ps i g)

@@ -2,7 +2,7 @@
 use Rattle.std.proofs.Common.{◌≡◌, ℕ, zero, suc, ◌+◌, ◌<◌, ◌≤◌, Bool, true, false, List, [], ◌∷◌, ◌++◌, length, map, Option, Some, None, refl, sym, ap, subst, ◌∙◌, arith, if◌then◌else◌}
 use Rattle.std.specs.List.{slice_get}
 use Rattle.aql_value.specs.Datum as datum
-use Rattle.aql_value.specs.Datum.{Datum, natural, truth, data_of, list_of, list_of-data_of}
+use Rattle.aql_value.specs.Datum.{Datum, natural, data_of, list_of-data_of}
 use Rattle.aql_value.specs.Indices.{indices, product, cell}
 use Rattle.aql_value.specs.IndicesLaws.{length_indices}
 use Rattle.aql_value.specs.RowMajorLaws.{cell-offset_of, place_of_index, indices_lengths}
@@ -19,6 +19,7 @@ use Rattle.nrca_term.specs.Term.{Term, Parts, node, none, part, Form}
 use Rattle.nrca_term.specs.Nodes.{variable, let_term, tab_term, sub_term, dim_term}
 use Rattle.nrca_term.specs.Typing.{Arg, ctyped, parts_typed}
 use Rattle.nrca_term.specs.Meaning.{Outcomes, form_value, at_length, cden, part_values}
+use Rattle.nrca_term.specs.Lets.{walked-past}
 use Rattle.nrca_term.specs.Subst.{shift_term}
 use Rattle.nrca_term.specs.Shifting.{cden-shifted, at_length-ext}
 use Rattle.nrca_term.specs.Variants.{numbers_of, numbers_of-length, cden-tab}
@@ -92,11 +93,6 @@ pub cells-again : (ms : List ℕ) (vs : List Datum) → product ms ≡ length vs
 cells-again ms vs full =
     each-by_place (cell_of (datum.array ms (data_of vs))) (indices ms) vs (length_indices ms ∙ full)
     (λ p at e. ap (λ c. cell (record { dims = ms; cells = c }) at) (list_of-data_of vs) ∙ cell-offset_of (record { dims = ms; cells = vs }) at ∙ ap (λ o. o >>= slice_get vs) (place_of_index ms at p e))
-
--- an element past those of an index
-walked-past : (at : List ℕ) (l : List Datum) (j : ℕ) → slice_get (walked at l) (length at + j) ≡ slice_get l j
-walked-past [] l j = let e : 0 + j ≡ j = omega arith in ap (slice_get l) e
-walked-past (i ∷ at) l j = let e : suc (length at) + j ≡ length at + suc j = omega arith in ap (slice_get (walked at (natural i ∷ l))) e ∙ walked-past at (natural i ∷ l) (suc j)
 
 -- the variables of an index are worth the index
 pub indices-named : (V : Outcomes) (at : List ℕ) (front vals : List Datum) → numbers_of V (walked at front ++ vals) (index_variables (length at)) ≡ Some at

@@ -13,19 +13,19 @@ use Rattle.aql_value.specs.Indices.{indices, product}
 use Rattle.aql_value.specs.Lists.{Every, Every-impl, Every-join, Every-map}
 use Rattle.aql_value.specs.Operations.{as_natural, as_truth, as_set, union_all, array_of, walked}
 use Rattle.aql_value.specs.OperationsLaws.{array_of-made}
-use Rattle.aql_value.specs.Partial.{◌>>=◌, each}
+use Rattle.aql_value.specs.Partial.{◌>>=◌, each, or_else}
 use Rattle.aql_value.specs.PartialLaws.{then-is, each-total}
 use Rattle.aql_value.specs.Strict.{Strict, strict_value}
 use Rattle.aql_types.specs.Types as types
-use Rattle.aql_types.specs.Types.{Ty, natural, truth, IsRank}
+use Rattle.aql_types.specs.Types.{Ty, natural, truth}
 use Rattle.aql_types.specs.ValueTypes.{HasType, HaveTypes}
 use Rattle.aql_types.specs.OperationLaws.{has-append, has-length, some-list}
 use Rattle.nrca_term.specs.Term.{Term, Parts, node, none, part, Form, child_of, count, WellFormed}
-use Rattle.nrca_term.specs.Meaning.{Outcomes, outcome, Part, worth, here, form_value, or_else, test_value, members_value, loop_values, bounds_value, cden, part_values}
+use Rattle.nrca_term.specs.Meaning.{Outcomes, outcome, Part, worth, here, form_value, test_value, members_value, loop_values, bounds_value, cden, part_values}
 use Rattle.nrca_term.specs.Places.{branch, otherwise, indices_of, entered}
 use Rattle.nrca_term.specs.Typing.{Arg, arg, form_rule, ctyped, parts_typed, OutcomesHave}
 use Rattle.nrca_term.specs.Entering.{bounds-length, length-part_values}
-use Rattle.nrca_term.specs.Sound.{AllSound, sound-get, sounds, sound-length, length-tab, loop-sound, parts-sound, sound}
+use Rattle.nrca_term.specs.Sound.{AllSound, sound-get, sounds, sound-length, length-tab, loop-sound, parts-sound, sound, has-here}
 use Rattle.nrca_term.specs.TypedForm.{well_formed-typed}
 use Rattle.nrca_term.specs.TypedPlaces.{entered-own}
 use Rattle.nrca_term.specs.Facts.{Facts, enter_facts, Stands}
@@ -134,17 +134,7 @@ form-defined G V D env vals d h (Form.tab rank) args T ps f w r s k =
     (then-valued (array_of ns.0) (each (λ at. worth ps rank (walked at [])) (indices ns.0)) cells.0 cells.1 (datum.array ns.0 (data_of cells.0), array_of-made ns.0 cells.0 (omega (arith, many, r.1.0)) (omega (arith, many, r.1.1)) full))
 form-defined G V D env vals d h (Form.strict c) args T ps f w r s k =
     let v = here-valued ps (λ i l. (k i l).0) in
-    then-valued (strict_value c) (each here ps) v.0 v.1 (strict-defined c r.0 T v.0 f r.2 (have r.0 ps v.0 (sounds args (map (arg []) r.0) ps r.1 s) v.1))
-  where
-    have : (Ts : List Ty) (ps : List Part) (vs : List Datum) → AllSound (map (arg []) Ts) ps → each here ps ≡ Some vs → HaveTypes Ts vs
-    have [] [] vs s e = let z : [] ≡ vs = cc in subst (HaveTypes []) z tt
-    have [] (p ∷ ps) vs s e = absurd s
-    have (A ∷ Ts) [] vs s e = absurd s
-    have (A ∷ Ts) (p ∷ ps) vs s e =
-        let a = then-is (p []) (λ y. each here ps >>= λ ys. Some (y ∷ ys)) vs e in
-        let b = then-is (each here ps) (λ ys. Some (a.0 ∷ ys)) vs a.2 in
-        let z : a.0 ∷ b.0 ≡ vs = some-list (a.0 ∷ b.0) vs b.2 in
-        subst (HaveTypes (A ∷ Ts)) z (s.0 [] a.0 tt a.1, have Ts ps b.0 s.1 b.1)
+    then-valued (strict_value c) (each here ps) v.0 v.1 (strict-defined c r.0 T v.0 f r.2 (has-here r.0 ps v.0 (sounds args (map (arg []) r.0) ps r.1 s) v.1))
 
 -- a successor is not 0
 not-zero : (j : ℕ) → nat_eq (suc j) 0 ≡ false

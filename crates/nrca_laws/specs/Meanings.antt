@@ -4,12 +4,12 @@ use Rattle.aql_value.specs.Datum as datum
 use Rattle.aql_value.specs.Datum.{Datum, natural, truth, data_of, list_of, list_of-data_of}
 use Rattle.aql_value.specs.Lists.{Every-all}
 use Rattle.aql_value.specs.Operations.{as_truth, as_set, union_all, sum_of}
-use Rattle.aql_value.specs.Partial.{◌>>=◌, each}
+use Rattle.aql_value.specs.Partial.{◌>>=◌, each, or_else}
 use Rattle.aql_value.specs.PartialLaws.{then-assoc, then-ext, each-ext, each-map}
 use Rattle.aql_value.specs.Strict.{Strict, strict_value}
 use Rattle.nrca_term.specs.Term.{Term, Parts, node, none, part, Form, form_of, parts_of, child_of}
 use Rattle.nrca_term.specs.Nodes.{number, truth_term, bottom_term, let_term, if_term, default_term, loop_term, big_union_term, sum_term, empty_term, sub_term, text_term, arith_term, compare_term}
-use Rattle.nrca_term.specs.Meaning.{Outcomes, worth, at_length, cden, part_values, or_else}
+use Rattle.nrca_term.specs.Meaning.{Outcomes, worth, at_length, cden, part_values}
 use Rattle.nrca_term.specs.Subst.{shift_term, subst_term, is_strict, strict_uses}
 use Rattle.nrca_term.specs.Shifting.{cden-shift_term, cden-shifted}
 use Rattle.nrca_term.specs.Substituting.{cden-subst_term}

@@ -1,5 +1,6 @@
-ghost use Rattle.std.specs.Prelude.{◌≡◌, ℕ, ◌+◌, ◌-◌, ◌*◌, ◌/◌, ◌^◌, ◌<◌, ◌≤◌, min, map, IfOk, IfErr, Result, vec_len, slice_index_or};
+ghost use Rattle.std.specs.Prelude.{◌≡◌, ℕ, ◌+◌, ◌/◌, ◌^◌, ◌<◌, ◌≤◌, min, map, IfOk, IfErr, vec_len};
 ghost use Rattle.std.specs.List.{Contains};
+ghost use Rattle.nrca_par.specs.declared.fault.EvalFault.TheVariants.{Spent};
 ghost use Rattle.nrca_par.specs.Pieces.{piece_start, Answers, Joins, GivesPieces, SpentSomewhere, SpentOnRun};
 
 use crate::fault::EvalFault;
@@ -42,8 +43,8 @@ pub fn map_pieces<
     ensures count { IfOk result (λ v. vec_len v ≡ min n workers) }
     ensures each { IfOk result (λ v. GivesPieces F.Fn work n (min n workers) v.items) }
     ensures joined { IfOk result (λ v. Joins (λ a b x. Answers F.Fn work a b (Ok x)) 0 n v.items) }
-    ensures spent { IfErr result (λ e. e ≡ EvalFault.Spent → SpentSomewhere F.Fn work n (min n workers)) }
-    ensures ran { IfErr result (λ e. e ≡ EvalFault.Spent → SpentOnRun F.Fn work n) }
+    ensures spent { IfErr result (λ e. e ≡ Spent → SpentSomewhere F.Fn work n (min n workers)) }
+    ensures ran { IfErr result (λ e. e ≡ Spent → SpentOnRun F.Fn work n) }
 {
     let work = &work;
     let run = move |j: usize| -> Result<T, EvalFault>
@@ -62,7 +63,7 @@ pub fn map_pieces<
 // The values, in order, or the first fault.
 fn gathered<T: Drop>(alloc: Global, answers: Vec<Result<T, EvalFault>>) -> Result<Vec<T>, EvalFault>
     ensures values { IfOk result (λ v. answers.items ≡ map Ok v.items) }
-    ensures spent { IfErr result (λ e. e ≡ EvalFault.Spent → Contains answers.items (Err EvalFault.Spent)) }
+    ensures spent { IfErr result (λ e. e ≡ Spent → Contains answers.items (Err Spent)) }
 {
     let mut all = Vec::new(alloc);
     for answer in answers {

@@ -7,7 +7,7 @@ use Rattle.nrca_term.specs.declared.term.Core.TheVariants.{Var, Compare}
 use Rattle.nrca_term.specs.declared.term.Terms.{Terms}
 use Rattle.nrca_term.specs.Equations.{term_of-Var, term_of-Compare, length-terms_of}
 use Rattle.nrca_term.specs.Nodes.{variable, less_term, loop_term, tab_term}
-use Rattle.nrca_term.specs.Term.{Form, form_of, parts_of, parts_weight, Term, Parts, none, part, plain, Closed, PartsClosed, WellFormed, weight_of, list_weight}
+use Rattle.nrca_term.specs.Term.{Form, form_of, parts_of, Term, Parts, none, part, plain, Closed, PartsClosed, WellFormed, weight_of, list_weight}
 use Rattle.nrca_term.specs.Subst.{shift_term, top_var}
 use Rattle.nrca_term.specs.ShiftLaws.{top_var-shift_le}
 use Rattle.nrca_term.specs.TypedForm.{top_var-closed}
@@ -17,6 +17,7 @@ use Rattle.nrca_term.specs.Facts as facts
 use Rattle.nrca_term.specs.Facts.{Facts, fact, bound_facts, tab_facts, added}
 use Rattle.nrca_ranges.specs.declared.context.Fact.{Fact}
 use Rattle.nrca_ranges.specs.Context.{fact_of, facts_in, Inside, HasRoom, HaveRoom, below_bounds}
+use Rattle.nrca_term.specs.Variants.{parts_weight-plain}
 
 -- facts and a number of variables
 abbrev pub context : List facts.Fact → ℕ → Facts
@@ -83,11 +84,6 @@ pub closed-rooms : (n by : ℕ) (xs : List Core) (ps : Parts) → ((c : Core) �
 closed-rooms n by [] ps w c l = tt
 closed-rooms n by (x ∷ xs) ps w c l =
     (closed-room n by (term_of x) (w x) (subst (λ m. Closed m (term_of x)) (omega arith) c.0) (omega (arith, l)), closed-rooms n by xs ps w c.1 (omega (arith, l)))
-
--- parts weigh what their terms and the parts behind them weigh
-parts_weight-plain : (ts : List Term) (ps : Parts) → parts_weight (plain ts ps) ≡ list_weight ts + parts_weight ps
-parts_weight-plain [] ps = omega arith
-parts_weight-plain (t ∷ ts) ps = omega (arith, parts_weight-plain ts ps)
 
 -- the operand of a loop has room for the variable of its body
 pub loop-room : (f : Form) (d : ℕ) (t o b : Term) → t ≡ loop_term f o b → WellFormed o → Inside d t → (d < 2000000) × HasRoom 1 o

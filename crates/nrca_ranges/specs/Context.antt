@@ -1,7 +1,11 @@
 -- The context of a place: the facts that it keeps, and how they grow from a node to a part of it.
-use Rattle.std.specs.Prelude.{◌≡◌, ◌++◌, ℕ, zero, suc, ◌+◌, ◌<◌, ◌≤◌, ◌^◌, List, [], ◌∷◌, map, take}
+use Rattle.std.specs.Prelude.{◌≡◌, ◌++◌, ℕ, zero, suc, ◌+◌, ◌<◌, ◌≤◌, ◌^◌, List, [], ◌∷◌, map, take, vec_len}
+use Rattle.std.specs.declared.vec.Vec.{Vec}
+use Rattle.std.proofs.Common.{Global}
+use Rattle.nrca_term.specs.declared.term.Core.{Core}
+use Rattle.nrca_term.specs.declared.term.Terms.{Terms}
 use Rattle.nrca_term.specs.Term.{Term, none, part, form_of, parts_of, Closed, weight_of}
-use Rattle.nrca_term.specs.View.{term_of}
+use Rattle.nrca_term.specs.View.{term_of, terms_of}
 use Rattle.nrca_term.specs.Nodes.{variable, less_term}
 use Rattle.nrca_term.specs.Subst.{top_var, shift_term}
 use Rattle.nrca_term.specs.Facts as facts
@@ -38,6 +42,9 @@ at_mark m c = record { facts = take m.facts c.facts; depth = m.depth }
 abbrev pub entered : Ctx → Term → ℕ → Facts
 entered c t i = facts.enter_facts (context_of c) t i
 
+abbrev pub IsEntered : Ctx → Core → ℕ → Ctx → Type 0
+IsEntered c t i r = context_of r ≡ entered c (term_of t) i
+
 -- a term whose variables are among n, and which with them weighs at most 1,280,000
 abbrev pub Inside : ℕ → Term → Type 0
 Inside n t = Closed n t × (n + weight_of t ≤ 1280000)
@@ -54,6 +61,9 @@ HaveRoom by (t ∷ ts) = HasRoom by t × HaveRoom by ts
 -- the second list of kept facts is the first with these facts behind it
 abbrev pub Adds : List Fact → List Fact → List facts.Fact → Type 0
 Adds old new fs = facts_in new ≡ facts_in old ++ fs
+
+abbrev pub AddsTo : Vec Fact Global → List facts.Fact → Vec Fact Global → Type 0
+AddsTo old fs new = Adds old.items new.items fs
 
 -- the facts that hold in a part of a term beside those that hold around the term
 abbrev pub facts_inside : ℕ → Term → ℕ → List facts.Fact
@@ -80,3 +90,23 @@ below_bounds (suc left) rank (t ∷ ts) d = below_bound left rank t (d + rank) �
 -- what the n bounds of a tabulation tell in its body
 abbrev pub facts_by_bounds : ℕ → List Term → ℕ → List facts.Fact
 facts_by_bounds n ts d = below_bounds n n ts d
+
+-- the same facts of terms of the code: of a part, a test, an operand, one bound, and all bounds
+abbrev pub part_facts : ℕ → Core → ℕ → List facts.Fact
+part_facts d t i = facts_inside d (term_of t) i
+
+abbrev pub test_facts : Core → Known → ℕ → List facts.Fact
+test_facts t k d = facts_by_test (term_of t) (known_of k) d
+
+abbrev pub loop_facts : Core → ℕ → List facts.Fact
+loop_facts t d = facts_by_loop (term_of t) d
+
+abbrev pub bound_fact : (i rank : ℕ) → Core → ℕ → List facts.Fact
+bound_fact i rank t d = below_bound i rank (term_of t) d ∷ []
+
+abbrev pub bounds_facts : Terms → ℕ → List facts.Fact
+bounds_facts ts d = facts_by_bounds (vec_len ts.0) (terms_of ts) d
+
+-- with the bounds' own variables there are less than 2,000,000, and no bound's variables pass 64 bits where these are added
+abbrev pub LeaveRoom : ℕ → Terms → Type 0
+LeaveRoom d ts = (d + vec_len ts.0 < 2000000) × HaveRoom (vec_len ts.0) (terms_of ts)

@@ -1,10 +1,12 @@
 -- The parts of a term whose variables are among those of a place, and which positions have a shape.
-use Rattle.std.proofs.Common.{◌≡◌, ℕ, zero, suc, ◌+◌, ◌*◌, ◌-◌, ◌<◌, ◌≤◌, Bool, true, false, nat_lt, Some, None, List, [], ◌∷◌, length, refl, ap, subst, ◌∙◌, arith, if◌then◌else◌, Option}
+use Rattle.std.proofs.Common.{◌≡◌, ℕ, zero, suc, ◌+◌, ◌*◌, ◌-◌, ◌<◌, ◌≤◌, Bool, true, false, nat_lt, Some, None, List, [], ◌∷◌, length, refl, ap, subst, arith, if◌then◌else◌, Option}
 use Rattle.std.specs.List.{slice_get}
-use Rattle.nrca_term.specs.Term.{Term, Parts, node, none, part, Form, parts_of, child_of, binders_of, form_weight, form_binders, weight_of, parts_weight, WellFormed, PartsWellFormed, Closed, PartsClosed}
+use Rattle.nrca_term.specs.Term.{Term, Parts, node, none, part, Form, parts_of, child_of, binders_of, form_weight, form_binders, WellFormed, Closed, PartsClosed}
 use Rattle.nrca_term.specs.Meaning.{at_position}
 use Rattle.nrca_ranges.specs.Context.{Inside}
 use Rattle.nrca_ranges.specs.declared.shape.Shape.{Shape}
+use Rattle.nrca_term.specs.MeasureLaws.{parts_weight-child}
+use Rattle.nrca_term.specs.WellFormed.{binders-well_formed}
 
 -- a form binds no more variables than it weighs
 light : (f : Form) (i : ℕ) → form_binders f i ≤ form_weight f
@@ -25,28 +27,16 @@ light (Form.tab rank) i = at (nat_lt i rank)
     at false = omega arith
 light (Form.strict s) i = omega arith
 
--- a part weighs no more than all parts
-child-weight : (ps : Parts) (i : ℕ) (u : Term) → child_of ps i ≡ Some u → weight_of u ≤ parts_weight ps
-child-weight none i u e = cc
-child-weight (part k t ps) zero u e = let z : t ≡ u = cc in omega (arith, ap weight_of z)
-child-weight (part k t ps) (suc i) u e = omega (arith, child-weight ps i u e)
-
 -- a part has its variables among those around the node and those that the node binds there
 child-closed : (n : ℕ) (ps : Parts) (i : ℕ) (u : Term) → child_of ps i ≡ Some u → PartsClosed n ps → Closed (n + binders_of ps i) u
 child-closed n none i u e h = cc
 child-closed n (part k t ps) zero u e h = let z : t ≡ u = cc in subst (Closed (n + k)) z h.0
 child-closed n (part k t ps) (suc i) u e h = child-closed n ps i u e h.1
 
--- of a well-formed term a part has the variables of the form
-bound-there : (f : Form) (j : ℕ) (ps : Parts) (i : ℕ) (u : Term) → child_of ps i ≡ Some u → PartsWellFormed f j ps → binders_of ps i ≡ form_binders f (j + i)
-bound-there f j none i u e h = cc
-bound-there f j (part k t ps) zero u e h = let z : j ≡ j + 0 = omega arith in h.0 ∙ ap (form_binders f) z
-bound-there f j (part k t ps) (suc i) u e h = let z : suc j + i ≡ j + suc i = omega arith in bound-there f (suc j) ps i u e h.2 ∙ ap (form_binders f) z
-
 -- a part has its variables among those of its own place
 pub inside-part : (n : ℕ) (t : Term) (i : ℕ) (u : Term) → WellFormed t → child_of (parts_of t) i ≡ Some u → Inside n t → Inside (n + binders_of (parts_of t) i) u
 inside-part n (node f ps) i u w e h =
-    (child-closed n ps i u e h.0.1, omega (arith, h.1, child-weight ps i u e, bound-there f 0 ps i u e w.1, light f (0 + i)))
+    (child-closed n ps i u e h.0.1, omega (arith, h.1, parts_weight-child ps i u e, binders-well_formed (node f ps) i u w e, light f i))
 
 -- whether a shape is there
 abbrev pub has_value : Option (Option Shape) → Bool

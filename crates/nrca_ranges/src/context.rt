@@ -1,10 +1,10 @@
 //! The context of a place: the comparisons known there, the number of variables, the shapes of positions.
 
-ghost use Rattle.std.specs.Prelude.{◌≡◌, ◌<◌, ◌≤◌, ◌+◌, ◌++◌, ◌∷◌, [], IfOk, OnOk, length, vec_len};
+ghost use Rattle.std.specs.Prelude.{◌≡◌, ◌<◌, IfOk, OnOk};
 ghost use Rattle.nrca_term.specs.Term.{parts_of, count};
-ghost use Rattle.nrca_term.specs.View.{term_of, terms_of};
+ghost use Rattle.nrca_term.specs.View.{term_of};
 ghost use Rattle.nrca_term.specs.Facts.{no_facts};
-ghost use Rattle.nrca_ranges.specs.Context.{known_of, context_of, at_mark, entered, Inside, HasRoom, HaveRoom, Adds, facts_inside, facts_by_test, facts_by_loop, facts_by_bounds, below_bound};
+ghost use Rattle.nrca_ranges.specs.Context.{context_of, at_mark, Inside, HasRoom, AddsTo, IsEntered, LeaveRoom, bound_fact, bounds_facts, loop_facts, part_facts, test_facts};
 
 use crate::shape::Shape;
 use aql_value::{CompareOp, Memory};
@@ -63,7 +63,7 @@ impl Ctx {
     pub fn push(&mut self, alloc: Global, parent: &Core, part: u64) -> Result<Mark, Memory>
         requires has { part < count (parts_of (term_of parent.now)) }
         requires inside { Inside self.old.depth (term_of parent.now) }
-        ensures entered { OnOk result (context_of self.new ≡ entered self.old (term_of parent.now) part) }
+        ensures entered { OnOk result (IsEntered self.old parent.now part self.new) }
         ensures back { IfOk result (λ m. at_mark m (context_of self.new) ≡ context_of self.old) }
         ensures globals { self.new.globals ≡ self.old.globals }
     {
@@ -96,7 +96,7 @@ fn add_facts(
     part: u64,
 ) -> Result<(), Memory>
     requires { Inside depth (term_of parent.now) }
-    ensures { OnOk result (Adds facts.old.items facts.new.items (facts_inside depth (term_of parent.now) part)) }
+    ensures { OnOk result (AddsTo facts.old (part_facts depth parent.now part) facts.new) }
 {
     match parent {
         Core::If(test, _, _) => {
@@ -138,7 +138,7 @@ fn add_test(
     test: &Core,
     known: Known,
 ) -> Result<(), Memory>
-    ensures { OnOk result (Adds facts.old.items facts.new.items (facts_by_test (term_of test.now) (known_of known) depth)) }
+    ensures { OnOk result (AddsTo facts.old (test_facts test.now known depth) facts.new) }
 {
     match test {
         Core::Compare(_, _, _) => {
@@ -157,7 +157,7 @@ fn add_test(
 // A member of a generated set is below the number that generates it.
 fn add_loop(alloc: Global, facts: &mut Vec<Fact>, depth: u64, over: &Core) -> Result<(), Memory>
     requires { (depth < 2000000) × HasRoom 1 (term_of over.now) }
-    ensures { OnOk result (Adds facts.old.items facts.new.items (facts_by_loop (term_of over.now) depth)) }
+    ensures { OnOk result (AddsTo facts.old (loop_facts over.now depth) facts.new) }
 {
     match over {
         Core::Gen(bound) => add_below(alloc, facts, depth + 1, 0, bound, 1),
@@ -175,7 +175,7 @@ fn add_below(
     rank: u64,
 ) -> Result<(), Memory>
     requires { HasRoom rank (term_of bound.now) }
-    ensures { OnOk result (Adds facts.old.items facts.new.items (below_bound index rank (term_of bound.now) depth ∷ [])) }
+    ensures { OnOk result (AddsTo facts.old (bound_fact index rank bound.now depth) facts.new) }
 {
     let copied = bound.copy(alloc)?;
     let shifted = shift(copied, 0, rank);
@@ -196,8 +196,8 @@ fn add_bounds(
     depth: u64,
     bounds: &Terms,
 ) -> Result<(), Memory>
-    requires { (depth + vec_len bounds.now.0 < 2000000) × HaveRoom (vec_len bounds.now.0) (terms_of bounds.now) }
-    ensures { OnOk result (Adds facts.old.items facts.new.items (facts_by_bounds (vec_len bounds.now.0) (terms_of bounds.now) depth)) }
+    requires { LeaveRoom depth bounds.now }
+    ensures { OnOk result (AddsTo facts.old (bounds_facts bounds.now depth) facts.new) }
 {
     let rank = bounds.0.len() as u64;
     let mut index = rank;

@@ -1,11 +1,10 @@
 //! Spans: the least and the greatest number that a term may be, as the facts and its form tell them.
 
-ghost use Rattle.std.specs.Prelude.{◌≡◌, ◌+◌, ◌*◌, ◌≤◌};
+ghost use Rattle.std.specs.Prelude.{◌≡◌};
 ghost use Rattle.nrca_term.specs.View.{term_of};
 ghost use Rattle.nrca_term.specs.Firm as firm;
-ghost use Rattle.nrca_term.specs.Firm.{number_of};
-ghost use Rattle.nrca_ranges.specs.Context.{fact_of, facts_in, context_of};
-ghost use Rattle.nrca_ranges.specs.Spans.{span_of, IsOrdered};
+ghost use Rattle.nrca_ranges.specs.Context.{fact_of, context_of};
+ghost use Rattle.nrca_ranges.specs.Spans.{span_of, IsOrdered, span_of_variable};
 
 use crate::context::{Ctx, Fact, Known};
 use aql_value::{ArithOp, CompareOp};
@@ -16,16 +15,6 @@ use nrca_term::Core;
 pub struct Interval {
     pub low: u128,
     pub high: u128,
-}
-
-/// The number that a term is, where it is written as one.
-pub fn number(term: &Core) -> Option<u128>
-    ensures { result ≡ number_of (term_of term.now) }
-{
-    match term {
-        Core::Nat(n) => Some(*n),
-        _ => None,
-    }
 }
 
 // The number of the variable that a term is.
@@ -134,7 +123,7 @@ fn bounded(i: u64, k: u64, a: &Core, b: &Core) -> Option<Interval>
     ensures ordered { IsOrdered result }
 {
     match as_variable(a) {
-        Some(j) => match number(b) {
+        Some(j) => match b.number() {
             Some(n) => {
                 if i as u128 == j as u128 + k as u128 {
                     Some(Interval {
@@ -170,7 +159,7 @@ fn fact_span(depth: u64, i: u64, fact: &Fact) -> Option<Interval>
 
 /// The span of a variable: what the first fact tells that bounds it.
 pub fn variable_span(ctx: &Ctx, i: u64) -> Option<Interval>
-    ensures exact { span_of result ≡ firm.variable_span ctx.now.depth i (facts_in ctx.now.facts.items) }
+    ensures exact { span_of result ≡ span_of_variable ctx.now i }
     ensures ordered { IsOrdered result }
 {
     for fact in &ctx.facts {
@@ -193,7 +182,7 @@ pub fn span(term: &Core, ctx: &Ctx) -> Option<Interval>
         Core::Arith(op, a, b) => {
             let left = span(a, ctx);
             let right = span(b, ctx);
-            arith_span(*op, left, right, number(b))
+            arith_span(*op, left, right, b.number())
         }
         _ => None,
     }

@@ -12,5 +12,5 @@ mod interval;
 mod shape;
 
 pub use context::{Ctx, Fact, Known, Mark};
-pub use interval::{Interval, arith_span, number, span, variable_span};
+pub use interval::{Interval, arith_span, span, variable_span};
 pub use shape::{Shape, number_interval, number_of, numbers_of, shape_of};

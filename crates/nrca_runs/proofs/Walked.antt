@@ -12,22 +12,13 @@ use Rattle.aql_value.specs.Datum.{Datum, natural}
 use Rattle.aql_value.specs.Indices.{product, indices, offset_of}
 use Rattle.aql_value.specs.Operations.{walked}
 use Rattle.aql_value.specs.RowMajorLaws.{row_major}
-
-pub walked-append : (at : List ℕ) (l vs : List Datum) → walked at l ++ vs ≡ walked at (l ++ vs)
-walked-append [] l vs = refl
-walked-append (i ∷ at) l vs = walked-append at (natural i ∷ l) vs
-
-walked_past : (at : List ℕ) (l : List Datum) (j : ℕ) → slice_get (walked at l) (length at + j) ≡ slice_get l j
-walked_past [] l j = let e : 0 + j ≡ j = omega arith in ap (slice_get l) e
-walked_past (i ∷ at) l j =
-    (let e : suc (length at) + j ≡ length at + suc j = omega arith in ap (slice_get (walked at (natural i ∷ l))) e)
-    ∙ walked_past at (natural i ∷ l) (suc j)
+use Rattle.nrca_term.specs.Lets.{walked-append, walked-past}
 
 walked_at : (at : List ℕ) (l : List Datum) (i k n : ℕ) → k + suc i ≡ length at → slice_get at k ≡ Some n → slice_get (walked at l) i ≡ Some (natural n)
 walked_at [] l i k n h e = absurd (omega (arith, h))
 walked_at (x ∷ at) l i zero n h e =
     let z : i ≡ length at + 0 = omega (arith, h) in
-    ap (slice_get (walked at (natural x ∷ l))) z ∙ walked_past at (natural x ∷ l) 0 ∙ (let y : x ≡ n = cc in ap (λ m. Some (natural m)) y)
+    ap (slice_get (walked at (natural x ∷ l))) z ∙ walked-past at (natural x ∷ l) 0 ∙ (let y : x ≡ n = cc in ap (λ m. Some (natural m)) y)
 walked_at (x ∷ at) l i (suc k) n h e = walked_at at (natural x ∷ l) i k n (omega (arith, h)) e
 
 -- a variable that is a number of the index
@@ -36,7 +27,7 @@ index_variable at vs i k n h e = ap (λ l. slice_get l i) (walked-append at [] v
 
 -- a variable beyond the index
 pub beyond_index : (at : List ℕ) (vs : List Datum) (i j : ℕ) → i ≡ length at + j → slice_get (walked at [] ++ vs) i ≡ slice_get vs j
-beyond_index at vs i j h = ap (λ l. slice_get l i) (walked-append at [] vs) ∙ ap (slice_get (walked at vs)) h ∙ walked_past at vs j
+beyond_index at vs i j h = ap (λ l. slice_get l i) (walked-append at [] vs) ∙ ap (slice_get (walked at vs)) h ∙ walked-past at vs j
 
 -- each dimension is more than 0 where there is a place
 pub dimension_some : (ds : List ℕ) (j p : ℕ) → j < length ds → p < product ds → 0 < get_or ds j 0

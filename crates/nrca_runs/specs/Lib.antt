@@ -5,3 +5,4 @@ pub mod Runs
 pub mod RunLaws
 pub mod Walks
 pub mod Parts
+pub mod Evaluates

@@ -1,5 +1,5 @@
 -- The values of the parts of a node, and the strict forms.
-use Rattle.std.specs.Prelude.{ℕ, List, [], ◌∷◌, ◌++◌, map, Option, Some, None}
+use Rattle.std.specs.Prelude.{◌≡◌, ℕ, List, [], ◌∷◌, ◌++◌, map, Option, Some, None}
 use Rattle.std.specs.Option.{option_map}
 use Rattle.std.specs.declared.vec.Vec.{Vec}
 use Rattle.std.proofs.Common.{Global}
@@ -10,6 +10,7 @@ use Rattle.aql_value.specs.Strict.{Strict, strict_value}
 use Rattle.nrca_array.specs.declared.held.Held.{Held}
 use Rattle.nrca_array.specs.Held.{held_datum}
 use Rattle.nrca_term.specs.Term.{Form}
+use Rattle.nrca_runs.specs.Runs.{list_with}
 
 -- the strict form that a form is; `bottom` of any other
 abbrev pub strict_of : Form → Strict
@@ -22,6 +23,10 @@ held_values vs = map held_datum vs.items
 
 abbrev pub parts_value : Option (Vec Held Global) → Option (List Datum)
 parts_value o = option_map held_values o
+
+-- kept values and one more
+abbrev pub AddsPart : Option (Vec Held Global) → Option Datum → Option (Vec Held Global) → Type 0
+AddsPart parts v r = parts_value r ≡ list_with (parts_value parts) v
 
 -- what a strict form makes of the values, where there are some
 abbrev pub strict_in : Strict → Option (List Datum) → Option Datum

@@ -30,9 +30,6 @@ range_more xs a i x h e =
     ∙ take_more (drop a xs) (i - a) x (omega (arith, length-drop a xs))
     ∙ ap (λ y. take (i - a) (drop a xs) ++ y ∷ []) (get_or-drop a xs (i - a) x ∙ ap (λ k. get_or xs k x) (let k : a + (i - a) ≡ i = omega arith in k) ∙ get_or_from_slice_get xs i x x e)
 
-each-one : {X Y : Type 0} (f : X → Option Y) (x : X) → each f (x ∷ []) ≡ (f x >>= λ y. Some (y ∷ []))
-each-one f x = refl
-
 -- f of one element more
 pub each-push : {X : Type 0} (f : X → Option Datum) (xs : List X) (x : X) → each f (xs ++ x ∷ []) ≡ list_with (each f xs) (f x)
 each-push f xs x = each-append f xs (x ∷ []) ∙ go (each f xs) (f x)

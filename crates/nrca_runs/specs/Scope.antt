@@ -1,8 +1,9 @@
 -- The values that an evaluation stands among.
-use Rattle.std.specs.Prelude.{ℕ, Bool, List, [], ◌∷◌, ◌++◌, Option}
+use Rattle.std.specs.Prelude.{◌≡◌, ℕ, Bool, List, [], ◌∷◌, ◌++◌, Option, Some, Result, MatchResult}
+use Rattle.std.specs.List.{slice_get}
 use Rattle.std.specs.Option.{option_map}
 use Rattle.std.proofs.Common.{Box, Global}
-use Rattle.aql_value.specs.Datum.{Datum}
+use Rattle.aql_value.specs.Datum.{Datum, natural}
 use Rattle.aql_value.specs.Operations.{as_natural, as_truth, as_set, gen_of, union_of, walked}
 use Rattle.aql_value.specs.Partial.{◌>>=◌}
 use Rattle.nrca_array.specs.declared.held.Held.{Held}
@@ -40,3 +41,8 @@ generated o = o >>= gen_of
 
 abbrev pub united : Option Datum → Option Datum → Option Datum
 united o p = o >>= λ v. p >>= union_of v
+
+-- the number of an index that variable `at` is, the last being variable 0, or the variable's number beyond the index
+abbrev pub FindsIndex : List ℕ → ℕ → Result ℕ ℕ → Type 0
+FindsIndex ns at r =
+    MatchResult r (λ n. (vs : List Datum) → slice_get (walked ns [] ++ vs) at ≡ Some (natural n)) (λ j. (vs : List Datum) → slice_get (walked ns [] ++ vs) at ≡ slice_get vs j)

@@ -1,8 +1,7 @@
 //! Values on the heap.
 
 ghost use Rattle.std.specs.Prelude.{◌≡◌, IfOk, OnOk};
-ghost use Rattle.nrca_runs.specs.Parts.{parts_value};
-ghost use Rattle.nrca_runs.specs.Runs.{list_with};
+ghost use Rattle.nrca_runs.specs.Parts.{AddsPart};
 ghost use Rattle.nrca_runs.specs.Scope.{held_value, boxed_value, truth_in};
 
 use crate::members::truth;
@@ -50,7 +49,7 @@ pub fn parts_kept(
     parts: Option<Vec<Held>>,
     value: Option<Box<Held>>,
 ) -> Result<Option<Vec<Held>>, Memory>
-    ensures { IfOk result (λ vs. parts_value vs ≡ list_with (parts_value parts) (boxed_value value)) }
+    ensures { IfOk result (λ vs. AddsPart parts (boxed_value value) vs) }
 {
     parts_and(parts, unboxed(value))
 }
@@ -58,7 +57,7 @@ pub fn parts_kept(
 /// The same in place.
 #[inline(never)]
 pub fn keep_part(parts: &mut Option<Vec<Held>>, value: Option<Box<Held>>) -> Result<(), Memory>
-    ensures { OnOk result (parts_value parts.new ≡ list_with (parts_value parts.old) (boxed_value value)) }
+    ensures { OnOk result (AddsPart parts.old (boxed_value value) parts.new) }
 {
     let before = parts.take();
     *parts = parts_kept(before, value)?;

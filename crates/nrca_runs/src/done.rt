@@ -1,6 +1,6 @@
 //! What an evaluation answers.
 
-ghost use Rattle.std.specs.Prelude.{◌≡◌, IsOkAnd, IsErrAnd, MatchResult};
+ghost use Rattle.nrca_runs.specs.Within.{IsBeside};
 
 use nrca_array::Held;
 use nrca_par::EvalFault;
@@ -21,7 +21,7 @@ pub struct Counted<T> {
 
 /// The value, and the answer where there is one.
 pub fn beside<A: Drop, B: Drop>(value: A, answer: Result<B, EvalFault>) -> Result<(A, B), EvalFault>
-    ensures { MatchResult result (λ x. (x.0 ≡ value) × IsOkAnd answer (λ b. b ≡ x.1)) (λ e. IsErrAnd answer (λ f. f ≡ e)) }
+    ensures { IsBeside value answer result }
 {
     let answer = answer?;
     Ok((value, answer))

@@ -1,14 +1,12 @@
 //! The values among which a term is evaluated: those of the positions and of the variables.
 
-ghost use Rattle.std.specs.Prelude.{◌≡◌, ◌++◌, [], List, Some, IfOk, IfSome, MatchResult, slice_get};
-ghost use Rattle.aql_value.specs.Datum.{Datum, natural};
-ghost use Rattle.aql_value.specs.Operations.{walked};
+ghost use Rattle.std.specs.Prelude.{◌≡◌, List, Some, IfOk, IfSome, slice_get};
+ghost use Rattle.aql_value.specs.Datum.{Datum};
 ghost use Rattle.nrca_array.specs.Held.{held_datum};
-ghost use Rattle.nrca_term.specs.Meaning.{cden, outcome};
-ghost use Rattle.nrca_term.specs.Turns.{settle};
-ghost use Rattle.nrca_term.specs.View.{term_of};
-ghost use Rattle.nrca_runs.specs.Scope.{values, held_value, boxed_value};
+ghost use Rattle.nrca_term.specs.Meaning.{outcome};
+ghost use Rattle.nrca_runs.specs.Scope.{values, held_value, boxed_value, FindsIndex};
 ghost use Rattle.nrca_runs.specs.Within.{Within};
+ghost use Rattle.nrca_runs.specs.Evaluates.{IsWorth, TakesNone};
 
 use crate::boxes::boxed;
 use crate::done::Counted;
@@ -117,7 +115,7 @@ pub fn lookup(alloc: Global, env: &Env, at: u64) -> Result<Option<Held>, Memory>
 // The number of an index that a variable is, the last being variable 0, or the variable's number
 // beyond the index.
 fn index_variable(numbers: &[u128], at: u64) -> Result<u128, u64>
-    ensures { MatchResult result (λ n. (vs : List Datum) → slice_get (walked numbers.now [] ++ vs) at ≡ Some (natural n)) (λ j. (vs : List Datum) → slice_get (walked numbers.now [] ++ vs) at ≡ slice_get vs j) }
+    ensures { FindsIndex numbers.now at result }
 {
     let count = numbers.len() as u64;
     if at < count {
@@ -131,8 +129,8 @@ fn index_variable(numbers: &[u128], at: u64) -> Result<u128, u64>
 /// copied.
 #[inline(never)]
 pub fn lent<'a, 'b>(term: &Core, globals: &'a Globals, env: &'a Env<'b>) -> Option<&'a Held>
-    ensures value { IfSome result (λ h. cden globals.now (values env.now) (term_of term.now) ≡ Some (held_datum h.now)) }
-    ensures turns { IfSome result (λ h. settle globals.now (values env.now) (term_of term.now) ≡ 0) }
+    ensures value { IfSome result (λ h. IsWorth globals.now env.now term.now h.now) }
+    ensures turns { IfSome result (λ h. TakesNone globals.now env.now term.now) }
 {
     match term {
         Core::Var(at) => lent_variable(env, *at),

@@ -3,9 +3,10 @@
 //! its kin the members of a loop, and `Members` each of them by its number. `sum_and` and its kin add
 //! one member or cell to what a run came to; `join_sums` and its kin join runs that follow each
 //! other, by the laws in `specs/RunLaws.antt`. Answers that take turns stand within a budget
-//! (`Within` in `specs/Within.antt`). No term within a term is evaluated here.
+//! (`Within` in `specs/Within.antt`), and those of an evaluation are `Evaluates`, in
+//! `specs/Evaluates.antt`. No term within a term is evaluated here.
 //!
-//! Read `specs/Within.antt`, `Scope`, `Runs`, `Parts`; then `env.rt`, `members.rt`, `walk.rt`,
+//! Read `specs/Within.antt`, `Scope`, `Evaluates`, `Runs`, `Parts`; then `env.rt`, `members.rt`, `walk.rt`,
 //! `runs.rt`, `joins.rt`, `boxes.rt` and `done.rt`.
 #![tactic(auto)]
 

@@ -1,14 +1,13 @@
 //! The members of a loop.
 
-ghost use Rattle.std.specs.Prelude.{◌≡◌, ◌+◌, ◌<◌, IfOk, slice_get, Some, length, option_map};
+ghost use Rattle.std.specs.Prelude.{◌≡◌, ◌<◌, IfOk, slice_get, Some, length, option_map};
 ghost use Rattle.aql_value.specs.Meaning.{datum};
 ghost use Rattle.aql_value.specs.Operations.{as_set, as_tuple};
 ghost use Rattle.nrca_array.specs.Held.{held_datum};
-ghost use Rattle.aql_value.specs.Partial.{if_some};
-ghost use Rattle.nrca_runs.specs.Scope.{held_value, set_in, natural_in, truth_in, generated, united};
-ghost use Rattle.nrca_runs.specs.Within.{Within};
+ghost use Rattle.nrca_runs.specs.Scope.{held_value, set_in, natural_in, truth_in, united};
 ghost use Rattle.nrca_runs.specs.Runs.{member_list, members_value};
-ghost use Rattle.nrca_runs.specs.Walks.{IsAt};
+ghost use Rattle.nrca_runs.specs.Walks.{IsAt, IsNext};
+ghost use Rattle.nrca_runs.specs.Evaluates.{Generates};
 
 use crate::done::Counted;
 use crate::walk::{Sides, count, sides_before, take};
@@ -61,7 +60,7 @@ impl Members {
     pub fn get(&self, alloc: Global, at: u64, sides: Sides) -> Result<Next, Memory>
         requires within { at < length (member_list self.now) }
         requires place { IsAt self.now at sides }
-        ensures { IfOk result (λ n. (slice_get (member_list self.now) at ≡ Some (held_datum n.member)) × IsAt self.now (at + 1) n.sides) }
+        ensures { IfOk result (λ n. IsNext self.now at n) }
     {
         match self {
             Members::Below(_) => {
@@ -109,7 +108,7 @@ pub fn members_below(
     value: Option<Held>,
     budget: u64,
 ) -> Result<Counted<Option<Members>>, EvalFault>
-    ensures { Within members_value budget (set_in (generated (held_value value))) (if_some (natural_in (held_value value)) (λ n. n)) result }
+    ensures { Generates budget (held_value value) result }
 {
     match natural(value) {
         Some(n) => {

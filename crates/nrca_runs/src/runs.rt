@@ -8,7 +8,7 @@ ghost use Rattle.aql_value.specs.Meaning.{datum};
 ghost use Rattle.nrca_array.specs.Held.{held_datum};
 ghost use Rattle.nrca_runs.specs.Scope.{held_value};
 ghost use Rattle.nrca_runs.specs.Runs.{sum_with, members_with, list_with};
-ghost use Rattle.nrca_runs.specs.Parts.{parts_value};
+ghost use Rattle.nrca_runs.specs.Parts.{AddsPart};
 
 use crate::members::{ascending, natural};
 use aql_made::both;
@@ -75,7 +75,7 @@ pub fn with_cell(
 
 /// The parts so far, and one more.
 pub fn parts_and(parts: Option<Vec<Held>>, value: Option<Held>) -> Result<Option<Vec<Held>>, Memory>
-    ensures { IfOk result (λ vs. parts_value vs ≡ list_with (parts_value parts) (held_value value)) }
+    ensures { IfOk result (λ vs. AddsPart parts (held_value value) vs) }
 {
     match parts.zip(value) {
         Some((mut parts, value)) => {

@@ -1,9 +1,9 @@
 //! Walking the members of two sets together, in ascending order and each once.
 
-ghost use Rattle.std.specs.Prelude.{◌≡◌, ◌<◌, ◌≤◌, ◌∷◌, ◌++◌, [], length, drop, slice_get, Some, IfOk, MatchOption};
+ghost use Rattle.std.specs.Prelude.{◌≡◌, ◌<◌, ◌≤◌, ◌++◌, length, drop, slice_get, Some, IfOk};
 ghost use Rattle.aql_value.specs.Canon.{IsAscending, canon};
 ghost use Rattle.aql_value.specs.Meaning.{datum};
-ghost use Rattle.nrca_runs.specs.Walks.{both_rest, first_order, Takes};
+ghost use Rattle.nrca_runs.specs.Walks.{both_rest, first_order, StepsOn, AreBefore, IsFirst};
 
 use aql_value::{Items, Memory, Value, compare};
 use std::alloc::Global;
@@ -36,7 +36,7 @@ pub(crate) struct Member {
 pub(crate) fn step(left: &Items, right: &Items, i: usize, j: usize) -> Option<Taken>
     requires left { IsAscending left.now }
     requires right { IsAscending right.now }
-    ensures { MatchOption result (both_rest left.now right.now i j ≡ []) (λ t. Takes left.now right.now i j t.from_left t.left t.right) }
+    ensures { StepsOn left.now right.now i j result }
 {
     let _lefts = count_of(left);
     let _rights = count_of(right);
@@ -118,7 +118,7 @@ pub(crate) fn count(left: &Items, right: &Items) -> u128
 pub(crate) fn sides_before(left: &Items, right: &Items, number: u64) -> Sides
     requires left { IsAscending left.now }
     requires right { IsAscending right.now }
-    ensures { both_rest left.now right.now result.left result.right ≡ drop number (canon (left.now ++ right.now)) }
+    ensures { AreBefore left.now right.now number result }
 {
     let mut sides = Sides { left: 0, right: 0 };
     for _i in 0..number {
@@ -145,7 +145,7 @@ pub(crate) fn take(
     requires left { IsAscending left.now }
     requires right { IsAscending right.now }
     requires some { 1 ≤ length (both_rest left.now right.now sides.left sides.right) }
-    ensures { IfOk result (λ m. both_rest left.now right.now sides.left sides.right ≡ datum m.member ∷ both_rest left.now right.now m.sides.left m.sides.right) }
+    ensures { IfOk result (λ m. IsFirst left.now right.now sides m) }
 {
     match step(left, right, sides.left, sides.right) {
         Some(taken) => {

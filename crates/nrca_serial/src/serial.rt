@@ -2,19 +2,12 @@
 
 ghost use Rattle.std.specs.Prelude.{◌≡◌, ◌≤◌, true, length};
 ghost use Rattle.aql_value.specs.Indices.{product};
-ghost use Rattle.aql_value.specs.Partial.{each, total};
-ghost use Rattle.nrca_array.specs.Held.{held_datum};
-ghost use Rattle.nrca_term.specs.Meaning.{cden};
-ghost use Rattle.nrca_term.specs.Nodes.{let_term, if_term, default_term, big_union_term, sum_term, tab_term};
-ghost use Rattle.nrca_term.specs.Term.{form_of, parts_of};
-ghost use Rattle.nrca_term.specs.Turns.{settle};
+ghost use Rattle.nrca_term.specs.Term.{form_of};
 ghost use Rattle.nrca_term.specs.View.{term_of, terms_of};
-ghost use Rattle.nrca_runs.specs.Parts.{cell_in, numbers_in, parts_value};
-ghost use Rattle.nrca_runs.specs.Scope.{values, held_value, boxed_value, set_in};
-ghost use Rattle.nrca_runs.specs.Within.{Within, itself};
-ghost use Rattle.nrca_runs.specs.Runs.{member_list, members_value, sum_value, union_value, all_members};
-ghost use Rattle.nrca_serial.specs.Parts.{children, is_strict_form};
-ghost use Rattle.nrca_serial.specs.Runs.{run_values, run_turns, cell_values, cell_turns};
+ghost use Rattle.nrca_runs.specs.Runs.{member_list};
+ghost use Rattle.nrca_serial.specs.Parts.{is_strict_form, part_terms};
+ghost use Rattle.nrca_runs.specs.Evaluates.{Evaluates, EvaluatesAll, EvaluatesHeld, EvaluatesSet, default_of, if_of, let_of, sum_loop, tab_of, union_loop};
+ghost use Rattle.nrca_serial.specs.Loops.{EvaluatesCell, Fills, Lists, Sums, Unites};
 
 use aql_value::{Ascending, Dims, Items, saturating_product};
 use nrca_array::{Builder, Held};
@@ -38,7 +31,7 @@ pub fn eval(
     env: &Env,
     budget: u64,
 ) -> Result<Counted<Option<Held>>, EvalFault>
-    ensures { Within held_value budget (cden globals.now (values env.now) (term_of term.now)) (settle globals.now (values env.now) (term_of term.now)) result }
+    ensures { EvaluatesHeld budget globals.now env.now (term_of term.now) result }
 {
     let done = node(alloc, term, globals, env, budget)?;
     Ok(Counted {
@@ -57,7 +50,7 @@ fn node(
     env: &Env,
     budget: u64,
 ) -> Result<Counted<Option<Box<Held>>>, EvalFault>
-    ensures { Within boxed_value budget (cden globals.now (values env.now) (term_of term.now)) (settle globals.now (values env.now) (term_of term.now)) result }
+    ensures { Evaluates budget globals.now env.now (term_of term.now) result }
 {
     match term {
         Core::Var(at) => variable(alloc, env, *at, budget),
@@ -91,7 +84,7 @@ fn eval_cell(
     env: &Env,
     budget: u64,
 ) -> Result<Counted<Option<Box<Held>>>, EvalFault>
-    ensures { Within boxed_value budget (cell_in (held_datum array.now) (numbers_in (each (cden globals.now (values env.now)) (terms_of at.now)))) (total (settle globals.now (values env.now)) (terms_of at.now)) result }
+    ensures { EvaluatesCell budget globals.now env.now array.now at.now result }
 {
     let at = eval_all(alloc, at, globals, env, budget)?;
     Ok(Counted {
@@ -111,7 +104,7 @@ fn eval_strict(
     budget: u64,
 ) -> Result<Counted<Option<Box<Held>>>, EvalFault>
     requires { is_strict_form (form_of (term_of term.now)) ≡ true }
-    ensures { Within boxed_value budget (cden globals.now (values env.now) (term_of term.now)) (settle globals.now (values env.now) (term_of term.now)) result }
+    ensures { Evaluates budget globals.now env.now (term_of term.now) result }
 {
     let parts = eval_parts(alloc, term, globals, env, budget)?;
     let whole = strict_boxed(alloc, term, parts.answer, budget - parts.turns)?;
@@ -131,7 +124,7 @@ fn eval_parts(
     env: &Env,
     budget: u64,
 ) -> Result<Counted<Option<Vec<Held>>>, EvalFault>
-    ensures { Within parts_value budget (each (cden globals.now (values env.now)) (children (parts_of (term_of term.now)))) (total (settle globals.now (values env.now)) (children (parts_of (term_of term.now)))) result }
+    ensures { EvaluatesAll budget globals.now env.now (part_terms term.now) result }
 {
     let mut parts = Some(Vec::new(alloc));
     let mut turns = 0;
@@ -161,7 +154,7 @@ fn eval_all(
     env: &Env,
     budget: u64,
 ) -> Result<Counted<Option<Vec<Held>>>, EvalFault>
-    ensures { Within parts_value budget (each (cden globals.now (values env.now)) (terms_of terms.now)) (total (settle globals.now (values env.now)) (terms_of terms.now)) result }
+    ensures { EvaluatesAll budget globals.now env.now (terms_of terms.now) result }
 {
     let mut parts = Some(Vec::new(alloc));
     let mut turns = 0;
@@ -186,7 +179,7 @@ fn eval_let(
     env: &Env,
     budget: u64,
 ) -> Result<Counted<Option<Box<Held>>>, EvalFault>
-    ensures { Within boxed_value budget (cden globals.now (values env.now) (let_term (term_of bound.now) (term_of body.now))) (settle globals.now (values env.now) (let_term (term_of bound.now) (term_of body.now))) result }
+    ensures { Evaluates budget globals.now env.now (let_of bound.now body.now) result }
 {
     let Counted { answer, turns } = node(alloc, bound, globals, env, budget)?;
     match answer {
@@ -216,7 +209,7 @@ fn eval_if(
     env: &Env,
     budget: u64,
 ) -> Result<Counted<Option<Box<Held>>>, EvalFault>
-    ensures { Within boxed_value budget (cden globals.now (values env.now) (if_term (term_of test.now) (term_of yes.now) (term_of no.now))) (settle globals.now (values env.now) (if_term (term_of test.now) (term_of yes.now) (term_of no.now))) result }
+    ensures { Evaluates budget globals.now env.now (if_of test.now yes.now no.now) result }
 {
     let Counted { answer, turns } = node(alloc, test, globals, env, budget)?;
     let left = budget - turns;
@@ -252,7 +245,7 @@ fn eval_default(
     env: &Env,
     budget: u64,
 ) -> Result<Counted<Option<Box<Held>>>, EvalFault>
-    ensures { Within boxed_value budget (cden globals.now (values env.now) (default_term (term_of first.now) (term_of second.now))) (settle globals.now (values env.now) (default_term (term_of first.now) (term_of second.now))) result }
+    ensures { Evaluates budget globals.now env.now (default_of first.now second.now) result }
 {
     let Counted { answer, turns } = node(alloc, first, globals, env, budget)?;
     match answer {
@@ -280,7 +273,7 @@ fn eval_members(
     env: &Env,
     budget: u64,
 ) -> Result<Counted<Option<Members>>, EvalFault>
-    ensures { Within members_value budget (set_in (cden globals.now (values env.now) (term_of over.now))) (settle globals.now (values env.now) (term_of over.now)) result }
+    ensures { EvaluatesSet budget globals.now env.now (term_of over.now) result }
 {
     match over {
         Core::Gen(number) => {
@@ -319,7 +312,7 @@ fn eval_sum(
     env: &Env,
     budget: u64,
 ) -> Result<Counted<Option<Box<Held>>>, EvalFault>
-    ensures { Within boxed_value budget (cden globals.now (values env.now) (sum_term (term_of over.now) (term_of body.now))) (settle globals.now (values env.now) (sum_term (term_of over.now) (term_of body.now))) result }
+    ensures { Evaluates budget globals.now env.now (sum_loop over.now body.now) result }
 {
     let Counted { answer, turns } = eval_members(alloc, over, globals, env, budget)?;
     let left = budget - turns;
@@ -354,7 +347,7 @@ fn eval_union(
     env: &Env,
     budget: u64,
 ) -> Result<Counted<Option<Box<Held>>>, EvalFault>
-    ensures { Within boxed_value budget (cden globals.now (values env.now) (big_union_term (term_of over.now) (term_of body.now))) (settle globals.now (values env.now) (big_union_term (term_of over.now) (term_of body.now))) result }
+    ensures { Evaluates budget globals.now env.now (union_loop over.now body.now) result }
 {
     let Counted { answer, turns } = eval_members(alloc, over, globals, env, budget)?;
     let left = budget - turns;
@@ -389,7 +382,7 @@ fn eval_tab(
     env: &Env,
     budget: u64,
 ) -> Result<Counted<Option<Box<Held>>>, EvalFault>
-    ensures { Within boxed_value budget (cden globals.now (values env.now) (tab_term (terms_of bounds.now) (term_of body.now))) (settle globals.now (values env.now) (tab_term (terms_of bounds.now) (term_of body.now))) result }
+    ensures { Evaluates budget globals.now env.now (tab_of bounds.now body.now) result }
 {
     let Counted { answer, turns } = eval_all(alloc, bounds, globals, env, budget)?;
     let left = budget - turns;
@@ -426,7 +419,7 @@ pub fn sum_run(
 ) -> Result<Counted<Option<u128>>, EvalFault>
     requires order { from ≤ to }
     requires within { to ≤ length (member_list members.now) }
-    ensures { Within itself budget (sum_value (run_values globals.now (values env.now) (term_of body.now) (member_list members.now) from to)) (run_turns globals.now (values env.now) (term_of body.now) (member_list members.now) from to) result }
+    ensures { Sums budget globals.now env.now body.now members.now from to result }
 {
     let mut sum = Some(0);
     let mut turns = 0;
@@ -462,7 +455,7 @@ fn union_run(
 ) -> Result<Counted<Option<Ascending>>, EvalFault>
     requires order { from ≤ to }
     requires within { to ≤ length (member_list members.now) }
-    ensures { Within itself budget (union_value (run_values globals.now (values env.now) (term_of body.now) (member_list members.now) from to)) (run_turns globals.now (values env.now) (term_of body.now) (member_list members.now) from to) result }
+    ensures { Unites budget globals.now env.now body.now members.now from to result }
 {
     let run = members_run(alloc, body, globals, env, members, from, to, budget)?;
     Ok(Counted {
@@ -486,7 +479,7 @@ pub fn members_run(
 ) -> Result<Counted<Option<Items>>, EvalFault>
     requires order { from ≤ to }
     requires within { to ≤ length (member_list members.now) }
-    ensures { Within itself budget (all_members (run_values globals.now (values env.now) (term_of body.now) (member_list members.now) from to)) (run_turns globals.now (values env.now) (term_of body.now) (member_list members.now) from to) result }
+    ensures { Lists budget globals.now env.now body.now members.now from to result }
 {
     let mut all = Some(Items {
         items: Vec::new(alloc),
@@ -524,7 +517,7 @@ pub fn cells_run(
 ) -> Result<Counted<Option<Builder>>, EvalFault>
     requires order { from ≤ to }
     requires within { to ≤ product dims.now }
-    ensures { Within itself budget (cell_values globals.now (values env.now) (term_of body.now) dims.now from to) (cell_turns globals.now (values env.now) (term_of body.now) dims.now from to) result }
+    ensures { Fills budget globals.now env.now body.now dims.now from to result }
 {
     let mut at = zeros(alloc, dims.dims.len())?;
     let mut cells = Some(Builder::new(alloc));

@@ -1,8 +1,6 @@
 pub mod BottomSides
 pub mod Counts
 pub mod LetSides
-pub mod ListForms
-pub mod Parts
 pub mod SetSides
 pub mod Sides
 pub mod TestSides

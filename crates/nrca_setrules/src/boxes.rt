@@ -5,24 +5,7 @@ ghost use Rattle.nrca_term.specs.View.{term_of};
 ghost use Rattle.nrca_term.specs.Subst.{shift_term, top_var};
 
 use nrca_subst::shift;
-use nrca_term::Core;
-use std::mem;
-
-// The box, and the term that was in it: the box is used again for another node.
-pub(crate) fn open(mut part: Box<Core>) -> (Box<Core>, Core)
-    ensures { result.1 ≡ part.value }
-{
-    let inner = mem::replace(&mut *part, Core::Bottom);
-    (part, inner)
-}
-
-// The box with another term in it.
-pub(crate) fn put(mut part: Box<Core>, with: Core) -> Box<Core>
-    ensures { result.value ≡ with }
-{
-    *part = with;
-    part
-}
+use nrca_term::{Core, open, put};
 
 // The body of a loop with room for one more variable around it.
 pub(crate) fn shift_body(part: Box<Core>) -> Box<Core>

@@ -5,8 +5,8 @@ ghost use Rattle.nrca_term.specs.View.{term_of};
 ghost use Rattle.nrca_term.specs.declared.trace.Rule.TheVariants.{S1, S2, S3, S4, S5, S6, S7, S8, S9};
 ghost use Rattle.nrca_laws.specs.Fitting.{Fits, IsInside, IsRight};
 
-use crate::boxes::{open, put, shift_body};
-use nrca_term::Core;
+use crate::boxes::shift_body;
+use nrca_term::{Core, open, put};
 
 /// Whether the term is a big union over the empty set.
 pub fn fits_s1(term: &Core) -> bool

@@ -5,8 +5,7 @@ ghost use Rattle.nrca_term.specs.View.{term_of};
 ghost use Rattle.nrca_term.specs.declared.trace.Rule.TheVariants.{I1, I2, N1, N2};
 ghost use Rattle.nrca_laws.specs.Fitting.{Fits, IsRight};
 
-use crate::boxes::{open, put};
-use nrca_term::Core;
+use nrca_term::{Core, open, put};
 
 /// Whether the term is an `if` whose test is a truth value.
 pub fn fits_i1(term: &Core) -> bool

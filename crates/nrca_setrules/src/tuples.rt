@@ -6,8 +6,7 @@ ghost use Rattle.nrca_term.specs.Term.{parts_of, child_of, count};
 ghost use Rattle.nrca_term.specs.declared.trace.Rule.TheVariants.{P1, P2};
 ghost use Rattle.nrca_laws.specs.Fitting.{Fits, IsRight};
 
-use crate::boxes::{open, put};
-use nrca_term::Core;
+use nrca_term::{Core, open, put};
 
 /// Whether the term is a component of a tuple that has it.
 pub fn fits_p1(term: &Core) -> bool

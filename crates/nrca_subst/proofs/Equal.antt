@@ -6,6 +6,7 @@ use Rattle.nrca_term.specs.Nodes.{variable}
 use Rattle.nrca_term.specs.Subst.{shift_form, shift_term, shift_parts}
 use Rattle.nrca_subst.specs.Depth.{IsDepth, TellsShifted}
 use Rattle.nrca_subst.proofs.Deeper.{is_depth-deeper}
+use Rattle.nrca_term.specs.Entering.{child-counted}
 
 -- the first parts of u are those of t, shifted
 abbrev pub FirstShifted : ℕ → ℕ → Term → Term → ℕ → Type 0
@@ -50,11 +51,6 @@ shift_form-other from by Form.big_union e = refl
 shift_form-other from by Form.sum e = refl
 shift_form-other from by (Form.tab rank) e = refl
 shift_form-other from by (Form.strict s) e = refl
-
-child-counted : (ps : Parts) (i : ℕ) (u : Term) → child_of ps i ≡ Some u → i < count ps
-child-counted none i u e = cc
-child-counted (part k t ps) zero u e = omega arith
-child-counted (part k t ps) (suc i) u e = omega (arith, child-counted ps i u e)
 
 pub tells-all : (depth by i : ℕ) (t u : Term) → WellFormed t → WellFormed u → variable_of (form_of t) ≡ None → form_of t ≡ form_of u → count (parts_of t) ≡ count (parts_of u) → count (parts_of t) ≤ i →
     FirstShifted depth by t u i → TellsShifted depth by t u true
@@ -113,8 +109,3 @@ tells-no_variable depth by i u o n d = ((λ x. absurd (not_true x)), (λ e. absu
 
 pub is_depth-zero_from : (n : ℕ) → IsDepth 0 n → n ≡ 0
 is_depth-zero_from n h = omega (arith, h)
-
-pub child-there : (ps : Parts) (i : ℕ) → i < count ps → None ≡ child_of ps i → ⊥
-child-there none i l e = omega (arith, l)
-child-there (part k t ps) zero l e = cc
-child-there (part k t ps) (suc i) l e = child-there ps i (omega (arith, l)) e

@@ -1,7 +1,6 @@
 pub mod Counts
 pub mod Deeper
 pub mod Equal
-pub mod Forms
 pub mod Keeping
 pub mod SubstWalk
 pub mod Walking

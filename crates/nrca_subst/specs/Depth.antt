@@ -1,6 +1,9 @@
 -- Substitution under a number of binders that is kept only as far as variable numbers reach.
 use Rattle.std.specs.Prelude.{◌≡◌, ℕ, ◌+◌, ◌-◌, ◌<◌, ◌^◌, ◌↔◌, min, Bool, IsTrue}
+use Rattle.nrca_term.specs.declared.term.Core.{Core}
+use Rattle.nrca_term.specs.Nodes.{variable}
 use Rattle.nrca_term.specs.Term.{Term}
+use Rattle.nrca_term.specs.View.{term_of}
 use Rattle.nrca_term.specs.Subst.{shift_term, subst_term, uses_of, top_var}
 
 -- a number of binders that is kept as `depth`: the same number below 2^64, and any from there on
@@ -14,6 +17,14 @@ Fits at depth w t = (n : ℕ) × IsDepth depth n × (top_var (subst_term (at + n
 -- for every such number of binders u is t with w put in
 abbrev pub Substitutes : ℕ → ℕ → Term → Term → Term → Type 0
 Substitutes at depth w t u = (n : ℕ) → IsDepth depth n → u ≡ subst_term (at + n) (shift_term 0 n w) t
+
+-- the same of terms of the code
+abbrev pub SubstitutesIn : ℕ → ℕ → Core → Core → Core → Type 0
+SubstitutesIn at depth w t u = Substitutes at depth (term_of w) (term_of t) (term_of u)
+
+-- the same of a variable
+abbrev pub ReplacesVariable : ℕ → ℕ → Core → ℕ → Core → Type 0
+ReplacesVariable at depth w i u = Substitutes at depth (term_of w) (variable i) (term_of u)
 
 -- for every such number of binders the answer says whether u is t shifted
 abbrev pub TellsShifted : ℕ → ℕ → Term → Term → Bool → Type 0

@@ -2,11 +2,13 @@
 use Rattle.std.specs.Prelude.{◌≡◌, ℕ, ◌≤◌, List, ◌∷◌, ◌++◌, length, Some, None}
 use Rattle.aql_value.specs.Datum.{Datum}
 use Rattle.aql_types.specs.Types.{Ty}
+use Rattle.nrca_term.specs.declared.term.Core.{Core}
 use Rattle.nrca_term.specs.Term.{Term}
+use Rattle.nrca_term.specs.View.{term_of}
 use Rattle.nrca_term.specs.Meaning.{Outcomes, cden}
 use Rattle.nrca_term.specs.Turns.{settle}
 use Rattle.nrca_term.specs.Typing.{instances, ctyped}
-use Rattle.nrca_term.specs.Subst.{strict_uses}
+use Rattle.nrca_term.specs.Subst.{subst_term, strict_uses}
 
 -- with `by` values put in at `from` the new term has the value and the turns of the old one
 abbrev pub IsShifted : ℕ → ℕ → Term → Term → Type 0
@@ -32,3 +34,16 @@ IsUndefinedWith at w t u = (V : Outcomes) (pre post : List Datum) → length pre
 abbrev pub KeepsTypesSubstituted : ℕ → Term → Term → Term → Type 0
 KeepsTypesSubstituted at w t u = (given : List Ty) (pre post : List Ty) (A T : Ty) → length pre ≡ at → ctyped (instances given) (pre ++ post) w A →
     ctyped (instances given) (pre ++ (A ∷ post)) t T → ctyped (instances given) (pre ++ post) u T
+
+-- the same of terms of the code, and that the new term is the old one with the other put in
+abbrev pub IsSubst : ℕ → Core → Core → Core → Type 0
+IsSubst at w t u = term_of u ≡ subst_term at (term_of w) (term_of t)
+
+abbrev pub KeepsMeaning : ℕ → Core → Core → Core → Type 0
+KeepsMeaning at w t u = IsSubstituted at (term_of w) (term_of t) (term_of u)
+
+abbrev pub StaysUndefined : ℕ → Core → Core → Core → Type 0
+StaysUndefined at w t u = IsUndefinedWith at (term_of w) (term_of t) (term_of u)
+
+abbrev pub KeepsTypes : ℕ → Core → Core → Core → Type 0
+KeepsTypes at w t u = KeepsTypesSubstituted at (term_of w) (term_of t) (term_of u)

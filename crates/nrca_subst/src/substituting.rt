@@ -5,8 +5,8 @@ ghost use Rattle.nrca_term.specs.Nodes.{variable};
 ghost use Rattle.nrca_term.specs.Subst.{subst_term, top_var};
 ghost use Rattle.nrca_term.specs.Term.{form_of, variable_of};
 ghost use Rattle.nrca_term.specs.View.{term_of};
-ghost use Rattle.nrca_subst.specs.Laws.{IsSubstituted, IsUndefinedWith, KeepsTypesSubstituted};
-ghost use Rattle.nrca_subst.specs.Depth.{Fits, Substitutes};
+ghost use Rattle.nrca_subst.specs.Laws.{IsSubst, KeepsMeaning, StaysUndefined, KeepsTypes};
+ghost use Rattle.nrca_subst.specs.Depth.{Fits, SubstitutesIn, ReplacesVariable};
 
 use crate::shifting::{discard, shift};
 use aql_value::Memory;
@@ -17,10 +17,10 @@ use std::alloc::Global;
 /// variables of the answer: under binders it is shifted. No variable number may pass 64 bits.
 pub fn subst(alloc: Global, term: Core, at: u64, with: &Core) -> Result<Core, Memory>
     requires { top_var (subst_term at (term_of with.now) (term_of term)) < 2 ^ 64 }
-    ensures substituted { IfOk result (λ t. term_of t ≡ subst_term at (term_of with.now) (term_of term)) }
-    ensures meaning { IfOk result (λ t. IsSubstituted at (term_of with.now) (term_of term) (term_of t)) }
-    ensures undefined { IfOk result (λ t. IsUndefinedWith at (term_of with.now) (term_of term) (term_of t)) }
-    ensures types { IfOk result (λ t. KeepsTypesSubstituted at (term_of with.now) (term_of term) (term_of t)) }
+    ensures substituted { IfOk result (λ t. IsSubst at with.now term t) }
+    ensures meaning { IfOk result (λ t. KeepsMeaning at with.now term t) }
+    ensures undefined { IfOk result (λ t. StaysUndefined at with.now term t) }
+    ensures types { IfOk result (λ t. KeepsTypes at with.now term t) }
 {
     let mut whole = term;
     subst_in(alloc, &mut whole, at, 0, with)?;
@@ -31,7 +31,7 @@ pub fn subst(alloc: Global, term: Core, at: u64, with: &Core) -> Result<Core, Me
 #[cycle(subst)]
 fn subst_in(alloc: Global, term: &mut Core, at: u64, depth: u128, with: &Core) -> Result<(), Memory>
     requires { Fits at depth (term_of with.now) (term_of term.old) }
-    ensures { OnOk result (Substitutes at depth (term_of with.now) (term_of term.old) (term_of term.new)) }
+    ensures { OnOk result (SubstitutesIn at depth with.now term.old term.new) }
 {
     match term.variable() {
         Some(i) => subst_variable(alloc, term, i, at, depth, with),
@@ -50,7 +50,7 @@ fn subst_variable(
     with: &Core,
 ) -> Result<(), Memory>
     requires { Fits at depth (term_of with.now) (variable i) }
-    ensures { OnOk result (Substitutes at depth (term_of with.now) (variable i) (term_of term.new)) }
+    ensures { OnOk result (ReplacesVariable at depth with.now i term.new) }
 {
     let replaced = depth.saturating_add(at as u128);
     if (i as u128) < replaced {
@@ -76,7 +76,7 @@ fn subst_parts_in(
 ) -> Result<(), Memory>
     requires other { variable_of (form_of (term_of term.old)) ≡ None }
     requires fits { Fits at depth (term_of with.now) (term_of term.old) }
-    ensures { OnOk result (Substitutes at depth (term_of with.now) (term_of term.old) (term_of term.new)) }
+    ensures { OnOk result (SubstitutesIn at depth with.now term.old term.new) }
 {
     let mut part = Core::Bottom;
     for i in 0..term.parts() {

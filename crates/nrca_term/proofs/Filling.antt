@@ -1,5 +1,5 @@
 -- A hollow node that is filled part by part.
-use Rattle.std.proofs.Common.{◌≡◌, ℕ, zero, suc, ◌+◌, ◌<◌, List, [], ◌∷◌, length, map, Some, None, Box, Global, refl, sym, ap, ◌∙◌, arith, add-one}
+use Rattle.std.proofs.Common.{◌≡◌, ℕ, zero, suc, ◌+◌, List, [], ◌∷◌, length, map, Some, Box, Global, refl, sym, ap, ◌∙◌, add-one}
 use Rattle.std.proofs.lemmas.List.{length-map}
 use Rattle.nrca_term.specs.declared.term.Core.{Core}
 use Rattle.nrca_term.specs.declared.term.Terms.{Terms}
@@ -62,11 +62,6 @@ fill-all (part k t ps) = ap (part k t) (fill-all ps)
 pub filled-end : (n : ℕ) (t s : Term) → s ≡ filled n t → n ≡ count (parts_of t) → s ≡ t
 unfolding filled
 filled-end n (node f ps) s e c = e ∙ ap (λ m. node f (fill m ps)) c ∙ ap (node f) (fill-all ps)
-
-pub child_of-present : (ps : Parts) (i : ℕ) → i < count ps → None ≡ child_of ps i → ⊥
-child_of-present none i h e = omega (arith, h)
-child_of-present (part k t ps) zero h e = cc
-child_of-present (part k t ps) (suc i) h e = child_of-present ps i (omega (arith, h)) e
 
 -- the hollow nodes of the variants with a list
 hollow-plain : (ts : List Core) (ps : Parts) → plain (map (λ t. bottom_term) ts) (hollow_parts ps) ≡ hollow_parts (plain (map term_of ts) ps)

@@ -1,6 +1,6 @@
 pub mod Children
 pub mod ConstantParts
 pub mod Filling
+pub mod FirstParts
 pub mod Swaps
-pub mod WeightLemmas
 mod Examples

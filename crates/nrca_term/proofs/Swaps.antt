@@ -1,13 +1,14 @@
 -- Another part at a number, for the variants that keep a list.
-use Rattle.std.proofs.Common.{◌≡◌, ℕ, zero, suc, ◌+◌, ◌*◌, ◌-◌, ◌<◌, ◌≤◌, List, [], ◌∷◌, length, map, Some, None, slice_set, Box, Global, vec_len, refl, sym, ap, ◌∙◌, arith}
+use Rattle.std.proofs.Common.{◌≡◌, ℕ, zero, suc, ◌+◌, ◌-◌, ◌<◌, ◌≤◌, List, [], ◌∷◌, length, map, Some, slice_set, Box, Global, vec_len, refl, sym, ap, ◌∙◌, arith}
 use Rattle.nrca_term.specs.declared.term.Core.{Core}
 use Rattle.nrca_term.specs.declared.term.Terms.{Terms}
 use Rattle.nrca_term.specs.declared.term.Core.TheVariants.{Tuple, Tab, Sub, Literal}
 use Rattle.nrca_term.specs.View.{term_of, terms_of}
-use Rattle.nrca_term.specs.Term.{Term, Parts, Form, node, none, part, plain, parts_of, form_of, variable_of, form_weight, count, child_of, binders_of, set_child, with_part}
+use Rattle.nrca_term.specs.Term.{Term, Parts, Form, node, none, part, plain, parts_of, count, child_of, set_child, with_part}
 use Rattle.aql_value.specs.Strict.{Strict}
 use Rattle.nrca_term.specs.Equations.{term_of-Tuple, term_of-Tab, term_of-Sub, term_of-Literal, length-terms_of}
 use Rattle.nrca_term.proofs.Children.{child_of_present, child_of-plain_past, numbered}
+use Rattle.nrca_term.specs.Variants.{count-plain}
 
 set_child-plain_below : (ts : List Term) (ps : Parts) (i : ℕ) (u : Term) → i < length ts → plain (slice_set ts i u) ps ≡ set_child (plain ts ps) i u
 set_child-plain_below [] ps i u h = absurd (omega arith)
@@ -30,10 +31,6 @@ map-slice_set f (y ∷ ys) zero x = refl
 map-slice_set f (y ∷ ys) (suc i) x = ap (λ l. f y ∷ l) (map-slice_set f ys i x)
 
 pub ruleset items = (map-slice_set, child_of_present)
-
-count-plain : (ts : List Term) (ps : Parts) → count (plain ts ps) ≡ length ts + count ps
-count-plain [] ps = omega arith
-count-plain (t ∷ ts) ps = omega (arith, count-plain ts ps)
 
 pub count-Tuple : (ts : Terms) → count (parts_of (term_of (Tuple ts))) ≡ vec_len ts.0
 count-Tuple ts = ap (λ t. count (parts_of t)) (term_of-Tuple ts) ∙ omega (arith, count-plain (terms_of ts) none, length-terms_of ts)
@@ -107,70 +104,4 @@ child_of-Tab_body ts b i h k =
     child_of-plain_past (terms_of ts) (part (length (terms_of ts)) (term_of b.value) none) i 0 (omega (arith, length-terms_of ts))
     ∙ ap (λ t. child_of (parts_of t) i) (sym (term_of-Tab ts b))
 
--- how many variables a part has
-binders-plain : (ts : List Term) (i : ℕ) → binders_of (plain ts none) i ≡ 0
-binders-plain [] i = refl
-binders-plain (t ∷ ts) zero = refl
-binders-plain (t ∷ ts) (suc i) = binders-plain ts i
-
-binders-plain_below : (ts : List Term) (ps : Parts) (i : ℕ) → i < length ts → binders_of (plain ts ps) i ≡ 0
-binders-plain_below [] ps i h = absurd (omega arith)
-binders-plain_below (t ∷ ts) ps zero h = refl
-binders-plain_below (t ∷ ts) ps (suc i) h = binders-plain_below ts ps i (omega arith)
-
-binders-plain_past : (ts : List Term) (ps : Parts) (i j : ℕ) → length ts + j ≡ i → binders_of ps j ≡ binders_of (plain ts ps) i
-binders-plain_past [] ps i j e = let same : j ≡ i = omega arith in ap (binders_of ps) same
-binders-plain_past (t ∷ ts) ps zero j e = absurd (omega arith)
-binders-plain_past (t ∷ ts) ps (suc i) j e = binders-plain_past ts ps i j (omega arith)
-
--- a node's parts in a row, none of which binds
-pub binders-node : (f : Form) (ts : List Term) (i : ℕ) → 0 ≡ binders_of (parts_of (node f (plain ts none))) i
-binders-node f ts i = sym (binders-plain ts i)
-
-pub binders-Tuple : (ts : Terms) (i : ℕ) → 0 ≡ binders_of (parts_of (term_of (Tuple ts))) i
-binders-Tuple ts i = binders-node (Form.strict Strict.tuple) (terms_of ts) i ∙ ap (λ t. binders_of (parts_of t) i) (sym (term_of-Tuple ts))
-
-pub binders-Sub : (a : Box Core Global) (ts : Terms) (i : ℕ) → 0 ≡ binders_of (parts_of (term_of (Sub a ts))) i
-binders-Sub a ts i = binders-node (Form.strict Strict.sub) (term_of a.value ∷ terms_of ts) i ∙ ap (λ t. binders_of (parts_of t) i) (sym (term_of-Sub a ts))
-
-binders-two : (ts us : List Term) (i : ℕ) → 0 ≡ binders_of (plain ts (plain us none)) i
-binders-two [] us i = sym (binders-plain us i)
-binders-two (t ∷ ts) us zero = refl
-binders-two (t ∷ ts) us (suc i) = binders-two ts us i
-
-pub binders-Literal : (ds cs : Terms) (i : ℕ) → 0 ≡ binders_of (parts_of (term_of (Literal ds cs))) i
-binders-Literal ds cs i = binders-two (terms_of ds) (terms_of cs) i ∙ ap (λ t. binders_of (parts_of t) i) (sym (term_of-Literal ds cs))
-
-pub binders-Tab_below : (ts : Terms) (b : Box Core Global) (i : ℕ) → i < vec_len ts.0 → 0 ≡ binders_of (parts_of (term_of (Tab ts b))) i
-binders-Tab_below ts b i h =
-    sym (binders-plain_below (terms_of ts) (part (length (terms_of ts)) (term_of b.value) none) i (omega (arith, length-terms_of ts)))
-    ∙ ap (λ t. binders_of (parts_of t) i) (sym (term_of-Tab ts b))
-
-pub binders-Tab_body : (ts : Terms) (b : Box Core Global) (i : ℕ) → vec_len ts.0 ≤ i → i < count (parts_of (term_of (Tab ts b))) → vec_len ts.0 ≡ binders_of (parts_of (term_of (Tab ts b))) i
-binders-Tab_body ts b i h k =
-    sym (length-terms_of ts)
-    ∙ binders-plain_past (terms_of ts) (part (length (terms_of ts)) (term_of b.value) none) i 0 (omega (arith, length-terms_of ts, count-Tab ts b))
-    ∙ ap (λ t. binders_of (parts_of t) i) (sym (term_of-Tab ts b))
-
-pub ruleset bindings = (binders-Tuple, binders-Sub, binders-Literal, binders-Tab_below, binders-Tab_body)
-
 pub ruleset swaps = (child_of-Tab_body, counts, numbered, term_of-Tuple, term_of-Sub, with_part-Tuple, with_part-Tab_below, with_part-Tab_past, with_part-Sub_array, with_part-Sub_at, with_part-Literal_below, with_part-Literal_past)
-
-pub form-Tuple : (ts : Terms) → variable_of (form_of (term_of (Tuple ts))) ≡ None
-form-Tuple ts = ap (λ t. variable_of (form_of t)) (term_of-Tuple ts)
-
-pub form-Tab : (ts : Terms) (b : Box Core Global) → variable_of (form_of (term_of (Tab ts b))) ≡ None
-form-Tab ts b = ap (λ t. variable_of (form_of t)) (term_of-Tab ts b)
-
-pub form-Sub : (a : Box Core Global) (ts : Terms) → variable_of (form_of (term_of (Sub a ts))) ≡ None
-form-Sub a ts = ap (λ t. variable_of (form_of t)) (term_of-Sub a ts)
-
-pub form-Literal : (ds cs : Terms) → variable_of (form_of (term_of (Literal ds cs))) ≡ None
-form-Literal ds cs = ap (λ t. variable_of (form_of t)) (term_of-Literal ds cs)
-
-pub ruleset forms = (form-Tuple, form-Tab, form-Sub, form-Literal)
-
-pub light-Tab : (ts : Terms) (b : Box Core Global) → form_weight (form_of (term_of (Tab ts b))) ≡ 6 * vec_len ts.0 + 6
-light-Tab ts b = ap (λ t. form_weight (form_of t)) (term_of-Tab ts b) ∙ omega (arith, length-terms_of ts)
-
-pub ruleset weights = light-Tab

@@ -5,11 +5,11 @@ use Rattle.aql_value.specs.Datum.{Datum}
 use Rattle.aql_value.specs.Indices.{indices}
 use Rattle.aql_value.specs.Lists.{Every, Every-map}
 use Rattle.aql_value.specs.Operations.{as_natural, as_truth, as_set, union_all, sum_of, array_of, walked}
-use Rattle.aql_value.specs.Partial.{◌>>=◌, each}
+use Rattle.aql_value.specs.Partial.{◌>>=◌, each, or_else}
 use Rattle.aql_value.specs.PartialLaws.{each-ext}
 use Rattle.aql_value.specs.Strict.{strict_value}
 use Rattle.nrca_term.specs.Term.{Form}
-use Rattle.nrca_term.specs.Meaning.{Outcomes, Part, worth, here, form_value, let_value, if_value, default_value, or_else, test_value, members_value, loop_values, tab_value, bounds_value}
+use Rattle.nrca_term.specs.Meaning.{Outcomes, Part, worth, here, form_value, let_value, if_value, default_value, test_value, members_value, loop_values, tab_value, bounds_value}
 use Rattle.nrca_term.specs.Places.{branch, otherwise, indices_of, Agree}
 
 -- what holds of each list in the ways in to a let's body

@@ -92,11 +92,14 @@ literally-true V c vals b t h l =
 pub known-literally : (k : Known) (c : Facts) (t : Term) → LiterallyKnown k c t → Literally c (truth_of k) t
 known-literally k c t h = some-fact (λ f. (f.known ≡ k) × IsFact c t f) (λ f. (truth_of f.known ≡ truth_of k) × IsFact c t f) (λ f p. (ap truth_of p.0, p.1)) c.facts h
 
--- a condition that holds wherever the facts of a part stand holds at the longer path wherever those of its node stand
-pub ready-above : (P : Outcomes → List Datum → Type 0) (c : Facts) (t : Term) (i : ℕ) (u : Term) (path : List ℕ) → WellFormed t → child_of (parts_of t) i ≡ Some u →
-    ((V : Outcomes) (around : List Datum) → Stands V (enter_facts c t i) around → Every (P V) (reach V around u path)) →
-    (V : Outcomes) (around : List Datum) → Stands V c around → Every (P V) (reach V around t (i ∷ path))
-ready-above P c t i u path s e h V around k =
+-- What holds of each list of values at a place of a part, wherever I is kept of the part's context, holds at the longer path of
+-- the node, wherever I is kept of the node's.
+pub ready-above : {C : Type 0} (enter : C → Term → ℕ → C) (I : Outcomes → C → List Datum → Type 0) (P : Outcomes → List Datum → Type 0) (c : C) (t : Term) (i : ℕ) (u : Term) (path : List ℕ) →
+    child_of (parts_of t) i ≡ Some u →
+    ((V : Outcomes) (around : List Datum) → I V c around → Every (λ new. I V (enter c t i) (new ++ around)) (entered_in V around t i)) →
+    ((V : Outcomes) (around : List Datum) → I V (enter c t i) around → Every (P V) (reach V around u path)) →
+    (V : Outcomes) (around : List Datum) → I V c around → Every (P V) (reach V around t (i ∷ path))
+ready-above enter I P c t i u path e step h V around k =
     subst (λ o. Every (P V) (reach_each o (λ r. concat (map (λ new. reach V (new ++ around) r path) (entered_in V around t i))))) (sym e)
     (Every-nested (P V) (λ new. reach V (new ++ around) u path) (entered_in V around t i)
-    (Every-impl (λ new. Stands V (enter_facts c t i) (new ++ around)) (λ new. Every (P V) (reach V (new ++ around) u path)) (λ new m. h V (new ++ around) m) (entered_in V around t i) (stands-enter V c around t i u s e k)))
+    (Every-impl (λ new. I V (enter c t i) (new ++ around)) (λ new. Every (P V) (reach V (new ++ around) u path)) (λ new m. h V (new ++ around) m) (entered_in V around t i) (step V around k)))

@@ -73,3 +73,9 @@ pub child-counted : (ps : Parts) (i : ℕ) (u : Term) → child_of ps i ≡ Some
 child-counted none i u e = cc
 child-counted (part k t ps) zero u e = omega arith
 child-counted (part k t ps) (suc i) u e = omega (arith, child-counted ps i u e)
+
+-- below the number of parts there is a part
+pub child-there : (ps : Parts) (i : ℕ) → i < count ps → None ≡ child_of ps i → ⊥
+child-there none i l e = omega (arith, l)
+child-there (part k t ps) zero l e = cc
+child-there (part k t ps) (suc i) l e = child-there ps i (omega (arith, l)) e

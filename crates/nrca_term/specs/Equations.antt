@@ -10,7 +10,7 @@ use Rattle.nrca_term.specs.declared.term.Core.TheVariants.{rolls-Var, rolls-Glob
 use Rattle.nrca_term.specs.declared.term.Core.TheOpen.{Core-F}
 use Rattle.nrca_term.specs.declared.term.Core.TheFolds.{fold-roll-Core, fold_out-Terms, fold-Terms}
 use Rattle.aql_value.specs.Strict.{Strict}
-use Rattle.nrca_term.specs.Term.{Term, none, part, plain, node, Form}
+use Rattle.nrca_term.specs.Term.{Term, none, part, plain, node, Form, form_of}
 use Rattle.nrca_term.specs.Nodes.{variable, position, number, truth_term, text_term, bottom_term, let_term, if_term, default_term, tuple_term, proj_term, arith_term, compare_term, empty_term, single_term, union_term, big_union_term, sum_term, gen_term, get_term, tab_term, sub_term, dim_term, index_term, literal_term}
 use Rattle.nrca_term.specs.View.{term_of, terms_of, node_term, list_of}
 
@@ -118,3 +118,18 @@ length-terms_of ts = length-map ts.0.items term_of ∙ sym ts.0.ok.0
 
 -- the equations of the four variants that keep a list
 pub ruleset list_variants = (term_of-Tuple, term_of-Literal, term_of-Tab, term_of-Sub, length-terms_of)
+
+-- the forms of these variants
+pub form_of-Tuple : (ts : Terms) → form_of (term_of (core.Tuple ts)) ≡ Form.strict Strict.tuple
+form_of-Tuple ts = ap form_of (term_of-Tuple ts)
+
+pub form_of-Tab : (ts : Terms) (b : Box Core Global) → form_of (term_of (core.Tab ts b)) ≡ Form.tab (vec_len ts.0)
+form_of-Tab ts b = ap form_of (term_of-Tab ts b) ∙ ap Form.tab (length-terms_of ts)
+
+pub form_of-Sub : (a : Box Core Global) (ts : Terms) → form_of (term_of (core.Sub a ts)) ≡ Form.strict Strict.sub
+form_of-Sub a ts = ap form_of (term_of-Sub a ts)
+
+pub form_of-Literal : (ds cs : Terms) → form_of (term_of (core.Literal ds cs)) ≡ Form.strict (Strict.literal (vec_len ds.0))
+form_of-Literal ds cs = ap form_of (term_of-Literal ds cs) ∙ ap (λ n. Form.strict (Strict.literal n)) (length-terms_of ds)
+
+pub ruleset list_forms = (form_of-Tuple, form_of-Tab, form_of-Sub, form_of-Literal)

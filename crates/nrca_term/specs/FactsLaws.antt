@@ -24,6 +24,7 @@ use Rattle.nrca_term.specs.Shifting.{cden-shifted}
 use Rattle.nrca_term.specs.Entering.{length-walked, length-part_values, bounds-length}
 use Rattle.nrca_term.specs.Sound.{at_length-value}
 use Rattle.nrca_term.specs.Facts.{Known, domain, test, denied, truth_of, Fact, fact, compared, test_fact, generated, loop_fact, bound_facts, tab_facts, added, Holds}
+use Rattle.nrca_term.specs.Lets.{walked-past}
 
 -- what the value of an operation's answer says of the value
 pub natural-is : (v : Datum) (n : ℕ) → as_natural v ≡ Some n → v ≡ natural n
@@ -122,15 +123,11 @@ loop-holds V around d (part m (node g qs) ps) =
         (Every-onto _ (λ v. v ∷ []) (map natural (below b.0)) (Every-onto _ natural (below b.0) (Every-below _ b.0 (λ j l. (fact-here V (natural j ∷ around) (d + 1) (less_term (variable 0) (shift_term 0 1 e)) domain (below-bound V (natural j ∷ []) around 0 e j b.0 refl b.1 l), tt)))))
 
 -- the indices of a tabulation
-walked-get : (at : List ℕ) (l : List Datum) (j : ℕ) → slice_get (walked at l) (length at + j) ≡ slice_get l j
-walked-get [] l j = let e : 0 + j ≡ j = omega arith in ap (slice_get l) e
-walked-get (i ∷ at) l j = let e : suc (length at) + j ≡ length at + suc j = omega arith in ap (slice_get (walked at (natural i ∷ l))) e ∙ walked-get at (natural i ∷ l) (suc j)
-
 pub walked-first : (i : ℕ) (at : List ℕ) (l around : List Datum) → slice_get (walked (i ∷ at) l ++ around) (length at) ≡ Some (natural i)
 walked-first i at l around =
     slice_get-append_left (walked at (natural i ∷ l)) around (length at) (omega (arith, length-walked at (natural i ∷ l)))
     ∙ (let e : length at ≡ length at + 0 = omega arith in ap (slice_get (walked at (natural i ∷ l))) e)
-    ∙ walked-get at (natural i ∷ l) 0
+    ∙ walked-past at (natural i ∷ l) 0
 
 both-true : (a b : Bool) → (a && b) ≡ true → (a ≡ true) × (b ≡ true)
 both-true true b e = (refl, e)

@@ -34,3 +34,6 @@ pub mod ShiftLaws
 pub mod SubstTops
 pub mod Valid
 pub mod ValidLaws
+pub mod AsVariant
+pub mod Lets
+pub mod Swapped

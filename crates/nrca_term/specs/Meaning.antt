@@ -4,7 +4,7 @@ use Rattle.std.specs.List.{slice_get}
 use Rattle.aql_value.specs.Datum.{Datum}
 use Rattle.aql_value.specs.Indices.{indices}
 use Rattle.aql_value.specs.Operations.{as_natural, as_truth, as_set, union_all, sum_of, array_of, walked}
-use Rattle.aql_value.specs.Partial.{◌>>=◌, each}
+use Rattle.aql_value.specs.Partial.{◌>>=◌, each, or_else}
 use Rattle.aql_value.specs.Strict.{strict_value}
 use Rattle.nrca_term.specs.Term.{Term, Parts, node, none, part, Form}
 
@@ -46,11 +46,6 @@ test_value ps = worth ps 0 [] >>= as_truth
 -- an if: the branch taken
 abbrev pub if_value : List Part → Option Datum
 if_value ps = test_value ps >>= λ b. if b then worth ps 1 [] else worth ps 2 []
-
--- the first outcome's value, where it has one, and else the second outcome
-abbrev pub or_else : Option Datum → Option Datum → Option Datum
-or_else None o = o
-or_else (Some v) o = Some v
 
 -- a default: the first part's value, where it has one, and else the second part's outcome
 abbrev pub default_value : List Part → Option Datum

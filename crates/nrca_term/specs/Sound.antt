@@ -7,7 +7,7 @@ use Rattle.aql_value.specs.Indices.{indices}
 use Rattle.aql_value.specs.RowMajorLaws.{indices_lengths}
 use Rattle.aql_value.specs.Lists.{Every, Every-impl, Every-lists}
 use Rattle.aql_value.specs.Operations.{as_natural, as_set, in_range, set_of, union_all, sum_of, array_of, walked}
-use Rattle.aql_value.specs.Partial.{◌>>=◌, each, concat}
+use Rattle.aql_value.specs.Partial.{◌>>=◌, each, concat, or_else}
 use Rattle.aql_value.specs.PartialLaws.{then-is, each-values}
 use Rattle.aql_value.specs.Strict.{strict_value}
 use Rattle.aql_types.specs.Types as types
@@ -16,7 +16,7 @@ use Rattle.aql_types.specs.ValueTypes.{HasType, AllHaveTypes, HaveTypes}
 use Rattle.aql_types.specs.OperationLaws.{has-get, has-append, some-has, some-list, as-type, has-set, set-members, has-array, strict-sound}
 use Rattle.nrca_term.specs.Term.{Term, Parts, node, none, part, Form}
 use Rattle.nrca_term.specs.Typing.{Arg, arg, form_rule, ctyped, parts_typed, instances, OutcomesHave}
-use Rattle.nrca_term.specs.Meaning.{Outcomes, at_position, outcome, Part, worth, here, form_value, or_else, test_value, members_value, loop_values, bounds_value, at_length, cden, part_values}
+use Rattle.nrca_term.specs.Meaning.{Outcomes, at_position, outcome, Part, worth, here, form_value, test_value, members_value, loop_values, bounds_value, at_length, cden, part_values}
 use Rattle.nrca_term.specs.Entering.{bounds-length}
 
 -- a part that gives values of its type at values of its own variables' types
@@ -38,7 +38,8 @@ sound-get (b ∷ args) (p ∷ ps) (suc i) a s e = sound-get args ps i a s.1 e
 pub sounds : (args bs : List Arg) (ps : List Part) → args ≡ bs → AllSound args ps → AllSound bs ps
 sounds args bs ps e s = subst (λ x. AllSound x ps) e s
 
-has-here : (Ts : List Ty) (ps : List Part) (vs : List Datum) → AllSound (map (arg []) Ts) ps → each here ps ≡ Some vs → HaveTypes Ts vs
+-- parts that bind nothing have the types of their values
+pub has-here : (Ts : List Ty) (ps : List Part) (vs : List Datum) → AllSound (map (arg []) Ts) ps → each here ps ≡ Some vs → HaveTypes Ts vs
 has-here [] [] vs s e = let z : [] ≡ vs = cc in subst (HaveTypes []) z tt
 has-here [] (p ∷ ps) vs s e = absurd s
 has-here (T ∷ Ts) [] vs s e = absurd s
@@ -67,7 +68,8 @@ walked-have (i ∷ at) n l h =
 pub index-have : (at : List ℕ) (rank : ℕ) → length at ≡ rank → HaveTypes (replicate rank natural) (walked at [])
 index-have at rank e = let z : length at + 0 ≡ rank = omega (arith, e) in subst (λ k. HaveTypes (replicate k natural) (walked at [])) z (walked-have at 0 [] tt)
 
-body-arg : (rank : ℕ) (x a : Arg) → slice_get (replicate rank x ++ a ∷ []) rank ≡ Some a
+-- behind the bounds of a tabulation stands its body
+pub body-arg : (rank : ℕ) (x a : Arg) → slice_get (replicate rank x ++ a ∷ []) rank ≡ Some a
 body-arg zero x a = refl
 body-arg (suc rank) x a = body-arg rank x a
 

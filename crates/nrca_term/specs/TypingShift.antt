@@ -19,7 +19,8 @@ form_rule-shift G pre new post Form.sum args T h = h
 form_rule-shift G pre new post (Form.tab rank) args T h = h
 form_rule-shift G pre new post (Form.strict s) args T h = h
 
-under_types : (own pre : List Ty) (k : ℕ) → length own ≡ k → length (own ++ pre) ≡ length pre + k
+-- types behind others, for a part with variables of its own
+pub under_types : (own pre : List Ty) (k : ℕ) → length own ≡ k → length (own ++ pre) ≡ length pre + k
 under_types own pre k e = omega (arith, length-append own pre)
 
 mutual

@@ -1,13 +1,12 @@
 -- Substitution keeps every type, and typed terms are well formed.
 use Rattle.std.proofs.Common.{◌≡◌, ℕ, suc, ◌+◌, ◌-◌, ◌<◌, ◌≤◌, false, nat_eq, List, [], ◌∷◌, ◌++◌, length, Some, refl, sym, ap, subst, ◌∙◌, arith, append_assoc, inl, inr}
 use Rattle.std.specs.List.{slice_get}
-use Rattle.std.proofs.lemmas.List.{length-append}
 use Rattle.std.proofs.lemmas.Bool.{cases_Bool, cases_lt, lt-ltb, le-ltb, eqb-true, eqb-false}
 use Rattle.aql_value.specs.Lists.{slice_get-append_left, slice_get-append_right}
 use Rattle.aql_types.specs.Types.{Ty, IsType}
 use Rattle.nrca_term.specs.Term.{Term, Parts, node, none, part, Form}
 use Rattle.nrca_term.specs.Typing.{Arg, form_rule, ctyped, parts_typed}
-use Rattle.nrca_term.specs.TypingShift.{ctyped-shift_term}
+use Rattle.nrca_term.specs.TypingShift.{ctyped-shift_term, under_types}
 use Rattle.nrca_term.specs.Subst.{shift_term, subst_var, subst_node, subst_term, subst_parts}
 
 -- a typed term's type is a type
@@ -45,9 +44,6 @@ node-typed G pre post s A T Form.sum args qs y c r p = (y, args, r, p)
 node-typed G pre post s A T (Form.tab rank) args qs y c r p = (y, args, r, p)
 node-typed G pre post s A T (Form.strict x) args qs y c r p = (y, args, r, p)
 
-under_own : (own pre : List Ty) (k : ℕ) → length own ≡ k → length (own ++ pre) ≡ length pre + k
-under_own own pre k e = omega (arith, length-append own pre)
-
 mutual
   pub ctyped-subst_term : (G : ℕ → Ty → Type 0) (pre post : List Ty) (s : Term) (A : Ty) → ctyped G (pre ++ post) s A → (t : Term) (T : Ty) → ctyped G (pre ++ (A ∷ post)) t T →
       ctyped G (pre ++ post) (subst_term (length pre) s t) T
@@ -61,7 +57,7 @@ mutual
     h.1,
     h.2,
     h.3,
-    subst (λ n. ctyped G (h.0.own ++ (pre ++ post)) (subst_term n (shift_term 0 k s) t) h.0.has) (under_own h.0.own pre k h.3)
+    subst (λ n. ctyped G (h.0.own ++ (pre ++ post)) (subst_term n (shift_term 0 k s) t) h.0.has) (under_types h.0.own pre k h.3)
         (subst (λ env. ctyped G env (subst_term (length (h.0.own ++ pre)) (shift_term 0 k s) t) h.0.has) (append_assoc h.0.own pre post)
         (ctyped-subst_term G (h.0.own ++ pre) post (shift_term 0 k s) A
         (subst (λ env. ctyped G env (shift_term 0 k s) A) (sym (append_assoc h.0.own pre post)) (subst (λ n. ctyped G (h.0.own ++ (pre ++ post)) (shift_term 0 n s) A) h.3 (ctyped-shift_term G [] h.0.own (pre ++ post) s A c)))

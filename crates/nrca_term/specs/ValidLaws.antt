@@ -7,13 +7,13 @@ use Rattle.aql_value.specs.Indices.{indices}
 use Rattle.aql_value.specs.RowMajorLaws.{indices_below}
 use Rattle.aql_value.specs.Lists.{Every, Every-impl, Every-append, Every-get, Every-onto, Every-take}
 use Rattle.aql_value.specs.Operations.{as_natural, as_set, union_all, sum_of, array_of, walked}
-use Rattle.aql_value.specs.Partial.{◌>>=◌, each}
+use Rattle.aql_value.specs.Partial.{◌>>=◌, each, or_else}
 use Rattle.aql_value.specs.PartialLaws.{then-is, each-values}
 use Rattle.aql_value.specs.Strict.{strict_value}
 use Rattle.aql_value.specs.Valid.{IsValue}
 use Rattle.aql_value.specs.ValidLaws.{natural-valid, set-valid, union_all-valid, sum_of-valid, array_of-valid, strict-valid}
 use Rattle.nrca_term.specs.Term.{Term, Parts, node, none, part, Form, child_of, parts_of}
-use Rattle.nrca_term.specs.Meaning.{Outcomes, Part, worth, here, form_value, or_else, test_value, members_value, loop_values, bounds_value, cden, part_values}
+use Rattle.nrca_term.specs.Meaning.{Outcomes, Part, worth, here, form_value, test_value, members_value, loop_values, bounds_value, cden, part_values}
 use Rattle.nrca_term.specs.Places.{branch, otherwise, indices_of, entered, entered_in, reach}
 use Rattle.nrca_term.specs.Contexts.{reach-induction}
 use Rattle.nrca_term.specs.Sound.{at_length-value}
@@ -147,8 +147,8 @@ entered-valid (Form.tab rank) ps i h = at (nat_lt i rank)
     at false = all-indices-valid rank ps h (bounds_value rank ps) refl
 entered-valid (Form.strict s) ps i h = (tt, tt)
 
--- the constants of the parts
-child-constants : (ps : Parts) (i : ℕ) (u : Term) → PartsHaveConstants ps → child_of ps i ≡ Some u → HasConstants u
+-- the constants of a part
+pub child-constants : (ps : Parts) (i : ℕ) (u : Term) → PartsHaveConstants ps → child_of ps i ≡ Some u → HasConstants u
 child-constants none i u h e = cc
 child-constants (part k t ps) zero u h e = let z : t ≡ u = cc in subst HasConstants z h.0
 child-constants (part k t ps) (suc i) u h e = child-constants ps i u h.1 e

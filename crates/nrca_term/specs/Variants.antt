@@ -9,13 +9,14 @@ use Rattle.aql_value.specs.Operations.{as_natural, as_truth, as_set, array_of, w
 use Rattle.aql_value.specs.Partial.{◌>>=◌, each, total, if_some}
 use Rattle.aql_value.specs.PartialLaws.{then-ext, each-ext, each-length, then-is, total-map}
 use Rattle.aql_value.specs.Strict.{Strict, strict_value, strict_turns}
-use Rattle.nrca_term.specs.Term.{Term, Parts, node, none, part, plain, Form, parts_of, child_of, count, binders_of, parts_weight, list_weight}
+use Rattle.nrca_term.specs.Term.{Term, Parts, node, none, part, plain, Form, parts_of, child_of, count, parts_weight, list_weight}
 use Rattle.nrca_term.specs.Nodes.{let_term, if_term, default_term, big_union_term, sum_term, tab_term, literal_term}
 use Rattle.nrca_term.specs.Meaning.{Outcomes, Part, worth, here, bounds_value, cden, part_values}
 use Rattle.nrca_term.specs.Places.{entered, indices_of, branch}
 use Rattle.nrca_term.specs.Turns.{settle, parts_settle}
 use Rattle.nrca_term.specs.Entering.{length-walked}
 use Rattle.aql_value.specs.RowMajorLaws.{indices_lengths}
+use Rattle.nrca_term.specs.Lets.{plain-each}
 
 -- parts in a row
 pub plain-append : (ts us : List Term) (ps : Parts) → plain (ts ++ us) ps ≡ plain ts (plain us ps)
@@ -35,22 +36,14 @@ pub child_of-plain_past : (ts : List Term) (ps : Parts) (j : ℕ) → child_of (
 child_of-plain_past [] ps j = let e : 0 + j ≡ j = omega arith in ap (child_of ps) e
 child_of-plain_past (t ∷ ts) ps j = let e : suc (length ts) + j ≡ suc (length ts + j) = omega arith in ap (child_of (plain (t ∷ ts) ps)) e ∙ child_of-plain_past ts ps j
 
-pub binders_of-plain_past : (ts : List Term) (ps : Parts) (j : ℕ) → binders_of (plain ts ps) (length ts + j) ≡ binders_of ps j
-binders_of-plain_past [] ps j = let e : 0 + j ≡ j = omega arith in ap (binders_of ps) e
-binders_of-plain_past (t ∷ ts) ps j = let e : suc (length ts) + j ≡ suc (length ts + j) = omega arith in ap (binders_of (plain (t ∷ ts) ps)) e ∙ binders_of-plain_past ts ps j
-
 pub parts_weight-plain : (ts : List Term) (ps : Parts) → parts_weight (plain ts ps) ≡ list_weight ts + parts_weight ps
 parts_weight-plain [] ps = omega arith
 parts_weight-plain (t ∷ ts) ps = omega (arith, parts_weight-plain ts ps)
 
 -- what they are worth
-pub each-here-plain : (V : Outcomes) (vals : List Datum) (ts : List Term) → each here (part_values V vals (plain ts none)) ≡ each (cden V vals) ts
-each-here-plain V vals [] = refl
-each-here-plain V vals (t ∷ ts) = rw (each-here-plain V vals ts) refl
-
-pub each-here-plain_take : (V : Outcomes) (vals : List Datum) (ts : List Term) (ps : Parts) → each here (take (length ts) (part_values V vals (plain ts ps))) ≡ each (cden V vals) ts
-each-here-plain_take V vals [] ps = refl
-each-here-plain_take V vals (t ∷ ts) ps = rw (each-here-plain_take V vals ts ps) refl
+pub plain-each_take : (V : Outcomes) (vals : List Datum) (ts : List Term) (ps : Parts) → each here (take (length ts) (part_values V vals (plain ts ps))) ≡ each (cden V vals) ts
+plain-each_take V vals [] ps = refl
+plain-each_take V vals (t ∷ ts) ps = rw (plain-each_take V vals ts ps) refl
 
 pub worth-plain_past : (V : Outcomes) (vals : List Datum) (ts : List Term) (ps : Parts) (j : ℕ) (new : List Datum) → worth (part_values V vals (plain ts ps)) (length ts + j) new ≡ worth (part_values V vals ps) j new
 worth-plain_past V vals [] ps j new = let e : 0 + j ≡ j = omega arith in ap (λ n. worth (part_values V vals ps) n new) e
@@ -67,7 +60,7 @@ worth-last V vals ts k b new e =
 
 -- a strict form, by its parts' values
 pub cden-strict : (V : Outcomes) (vals : List Datum) (s : Strict) (ts : List Term) → cden V vals (node (Form.strict s) (plain ts none)) ≡ (each (cden V vals) ts >>= strict_value s)
-cden-strict V vals s ts = ap (λ o. o >>= strict_value s) (each-here-plain V vals ts)
+cden-strict V vals s ts = ap (λ o. o >>= strict_value s) (plain-each V vals ts)
 
 pub literal-parts : (ds cs : List Term) → literal_term ds cs ≡ node (Form.strict (Strict.literal (length ds))) (plain (ds ++ cs) none)
 literal-parts ds cs = ap (node (Form.strict (Strict.literal (length ds)))) (sym (plain-append ds cs none))
@@ -77,7 +70,7 @@ abbrev pub numbers_of : Outcomes → List Datum → List Term → Option (List �
 numbers_of V vals ds = each (cden V vals) ds >>= each as_natural
 
 pub bounds_value-tab : (V : Outcomes) (vals : List Datum) (ds : List Term) (b : Term) → bounds_value (length ds) (part_values V vals (parts_of (tab_term ds b))) ≡ numbers_of V vals ds
-bounds_value-tab V vals ds b = ap (λ o. o >>= each as_natural) (each-here-plain_take V vals ds (part (length ds) b none))
+bounds_value-tab V vals ds b = ap (λ o. o >>= each as_natural) (plain-each_take V vals ds (part (length ds) b none))
 
 pub numbers_of-length : (V : Outcomes) (vals : List Datum) (ds : List Term) (ms : List ℕ) → numbers_of V vals ds ≡ Some ms → length ms ≡ length ds
 numbers_of-length V vals ds ms e =
@@ -107,7 +100,7 @@ parts_settle-plain V vals f worths i (t ∷ ts) ps h =
 pub settle-strict : (V : Outcomes) (vals : List Datum) (s : Strict) (ts : List Term) →
     settle V vals (node (Form.strict s) (plain ts none)) ≡ strict_turns s (each (cden V vals) ts) + total (settle V vals) ts
 settle-strict V vals s ts =
-    omega (arith, ap (strict_turns s) (each-here-plain V vals ts), parts_settle-plain V vals (Form.strict s) (part_values V vals (plain ts none)) 0 ts none (λ j l. refl))
+    omega (arith, ap (strict_turns s) (plain-each V vals ts), parts_settle-plain V vals (Form.strict s) (part_values V vals (plain ts none)) 0 ts none (λ j l. refl))
 
 pub settle-let : (V : Outcomes) (vals : List Datum) (e b : Term) → settle V vals (let_term e b) ≡ settle V vals e + if_some (cden V vals e) (λ v. settle V (v ∷ vals) b)
 settle-let V vals e b = go (cden V vals e)

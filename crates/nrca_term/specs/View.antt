@@ -1,10 +1,15 @@
 -- The term that a `Core` is.
-use Rattle.std.specs.Prelude.{List, [], ◌∷◌, length, map}
+use Rattle.std.specs.Prelude.{List, [], ◌∷◌, length, map, Option, option_map}
+use Rattle.std.proofs.Common.{Bor}
 use Rattle.aql_value.specs.Strict.{Strict}
 use Rattle.nrca_term.specs.declared.term.Core.{Core}
 use Rattle.nrca_term.specs.declared.term.Core.TheOpen.{Core-F, Terms-F}
 use Rattle.nrca_term.specs.declared.term.Core.TheFolds.{fold-Core}
 use Rattle.nrca_term.specs.declared.term.Terms.{Terms}
+use Rattle.nrca_term.specs.declared.form.Form as code
+use Rattle.nrca_term.specs.declared.form.Form.TheVariants as named
+use Rattle.nrca_term.specs.declared.form.Strict as code_strict
+use Rattle.nrca_term.specs.declared.form.Strict.TheVariants as named_strict
 use Rattle.nrca_term.specs.Term.{Term, node, none, part, plain, Form}
 
 -- one node, with the term of each part in its place
@@ -44,3 +49,39 @@ term_of = fold-Core Term (List Term) node_term list_of
 
 abbrev pub terms_of : Terms → List Term
 terms_of ts = map term_of ts.0.items
+
+-- the form that a `Strict` is
+abbrev pub pure_strict : code_strict.Strict → Strict
+pure_strict (named_strict.Nat n) = Strict.nat n
+pure_strict (named_strict.Bool b) = Strict.bool b
+pure_strict (named_strict.Text s) = Strict.text s.now
+pure_strict named_strict.Bottom = Strict.bottom
+pure_strict named_strict.Tuple = Strict.tuple
+pure_strict (named_strict.Proj at of) = Strict.proj at of
+pure_strict (named_strict.Arith op) = Strict.arith op
+pure_strict (named_strict.Compare op) = Strict.compare op
+pure_strict named_strict.Empty = Strict.empty
+pure_strict named_strict.Single = Strict.single
+pure_strict named_strict.Union = Strict.union
+pure_strict named_strict.Gen = Strict.gen
+pure_strict named_strict.Get = Strict.get
+pure_strict named_strict.Sub = Strict.sub
+pure_strict (named_strict.Dim rank) = Strict.dim rank
+pure_strict (named_strict.Index rank) = Strict.index rank
+pure_strict (named_strict.Literal rank) = Strict.literal rank
+
+-- the form that a `Form` is
+abbrev pub pure_form : code.Form → Form
+pure_form (named.Var i) = Form.var i
+pure_form (named.Global n) = Form.global n
+pure_form named.Bind = Form.bind
+pure_form named.Choose = Form.choose
+pure_form named.Default = Form.default
+pure_form named.BigUnion = Form.big_union
+pure_form named.Sum = Form.sum
+pure_form (named.Tab rank) = Form.tab rank
+pure_form (named.Strict s) = Form.strict (pure_strict s)
+
+-- the term of a part that a call lends, where it lends one
+abbrev pub lent : Option (Bor Core) → Option Term
+lent = option_map (λ r. term_of r.now)

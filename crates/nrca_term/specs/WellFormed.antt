@@ -8,7 +8,7 @@ use Rattle.nrca_term.specs.declared.term.Terms.{Terms}
 use Rattle.nrca_term.specs.declared.term.Core.TheOpen.{Core-F, Terms-F}
 use Rattle.nrca_term.specs.declared.term.Core.TheFolds.{ind-Core, fold-roll-Core, fold-Terms, fold-roll-Terms, map-Core, map-Terms}
 use Rattle.nrca_term.specs.declared.term.Core.TheViews.{roll-Core, roll-Terms}
-use Rattle.nrca_term.specs.Term.{Term, Parts, node, none, part, plain, Form, form_of, parts_of, child_of, binders_of, form_binders, LeafIsBare, WellFormed, PartsWellFormed}
+use Rattle.nrca_term.specs.Term.{Term, Parts, node, none, part, plain, Form, form_of, parts_of, child_of, count, binders_of, form_binders, LeafIsBare, WellFormed, PartsWellFormed}
 use Rattle.nrca_term.specs.Subst.{shift_form, shift_term, shift_parts, subst_var, subst_node, subst_term, subst_parts}
 use Rattle.nrca_term.specs.View.{term_of, node_term, list_of}
 
@@ -28,6 +28,15 @@ binders-well_formed (node f ps) i u h e = go 0 ps i h.1 e ∙ (let z : 0 + i ≡
     go j none i k e = cc
     go j (part n t ps) zero k e = k.0 ∙ (let z : j ≡ j + 0 = omega arith in ap (form_binders f) z)
     go j (part n t ps) (suc i) k e = go (suc j) ps i k.2 e ∙ (let z : suc j + i ≡ j + suc i = omega arith in ap (form_binders f) z)
+
+-- below the number of parts the part has the variables that the form binds there
+pub binders-there : (t : Term) (i : ℕ) → WellFormed t → i < count (parts_of t) → binders_of (parts_of t) i ≡ form_binders (form_of t) i
+binders-there (node f ps) i h l = go 0 ps i h.1 l ∙ (let z : 0 + i ≡ i = omega arith in ap (form_binders f) z)
+  where
+    go : (j : ℕ) (ps : Parts) (i : ℕ) → PartsWellFormed f j ps → i < count ps → binders_of ps i ≡ form_binders f (j + i)
+    go j none i k l = absurd (omega (arith, l))
+    go j (part n t ps) zero k l = k.0 ∙ (let z : j ≡ j + 0 = omega arith in ap (form_binders f) z)
+    go j (part n t ps) (suc i) k l = go (suc j) ps i k.2 (omega (arith, l)) ∙ (let z : suc j + i ≡ j + suc i = omega arith in ap (form_binders f) z)
 
 form_binders-shift : (from by : ℕ) (f : Form) (i : ℕ) → form_binders (shift_form from by f) i ≡ form_binders f i
 form_binders-shift from by (Form.var n) i = refl

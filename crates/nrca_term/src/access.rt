@@ -1,14 +1,18 @@
 //! The parts of a node by number, whatever its form.
 
-ghost use Rattle.std.specs.Prelude.{◌≡◌, ◌+◌, ◌<◌, ◌≤◌, ◌-◌, ◌^◌, ℕ, [], ◌∷◌, Some, option_map, vec_len, slice_set, IfSome};
-ghost use Rattle.nrca_term.specs.Term.{plain, form_weight, node, Form, variable_of, form_of, part, none, count, child_of, binders_of, with_part, set_child, parts_of};
-ghost use Rattle.nrca_term.specs.View.{term_of, terms_of};
+ghost use Rattle.std.specs.Prelude.{◌≡◌, ◌+◌, ◌<◌, ◌≤◌, ◌-◌, ◌^◌, ℕ, [], ◌∷◌, Some, vec_len, slice_set, IfSome};
+ghost use Rattle.nrca_term.specs.Firm.{number_of};
+ghost use Rattle.nrca_term.specs.Nodes.{number};
+ghost use Rattle.nrca_term.specs.Swapped.{SwapsOne, SwapsTwo, part_of_two};
+ghost use Rattle.nrca_term.specs.Term.{node, none, plain, Form, form_of, variable_of, form_weight};
+ghost use Rattle.nrca_term.specs.Term.{count, child_of, binders_of, with_part, parts_of};
+ghost use Rattle.nrca_term.specs.View.{term_of, terms_of, lent};
 
 use crate::{Core, Terms};
 use std::mem;
 
 fn one<'a>(a: &'a Core, i: u64) -> Option<&'a Core>
-    ensures { option_map (λ r. term_of r.now) result ≡ child_of (plain (term_of a.now ∷ []) none) i }
+    ensures { lent result ≡ child_of (plain (term_of a.now ∷ []) none) i }
 {
     match i {
         0 => Some(a),
@@ -17,29 +21,18 @@ fn one<'a>(a: &'a Core, i: u64) -> Option<&'a Core>
 }
 
 fn two<'a>(a: &'a Core, b: &'a Core, i: u64) -> Option<&'a Core>
-    ensures { option_map (λ r. term_of r.now) result ≡ child_of (plain (term_of a.now ∷ term_of b.now ∷ []) none) i }
+    ensures { lent result ≡ child_of (plain (term_of a.now ∷ term_of b.now ∷ []) none) i }
 {
     match i {
         0 => Some(a),
         1 => Some(b),
-        _ => None,
-    }
-}
-
-fn three<'a>(a: &'a Core, b: &'a Core, c: &'a Core, i: u64) -> Option<&'a Core>
-    ensures { option_map (λ r. term_of r.now) result ≡ child_of (plain (term_of a.now ∷ term_of b.now ∷ term_of c.now ∷ []) none) i }
-{
-    match i {
-        0 => Some(a),
-        1 => Some(b),
-        2 => Some(c),
         _ => None,
     }
 }
 
 #[tactic(auto, using(crate::proofs::Children::listed))]
 fn of_list(terms: &Terms, i: u64) -> Option<&Core>
-    ensures { option_map (λ r. term_of r.now) result ≡ child_of (plain (terms_of terms.now) none) i }
+    ensures { lent result ≡ child_of (plain (terms_of terms.now) none) i }
 {
     if i < terms.0.len() as u64 {
         Some(&terms.0[i as usize])
@@ -52,11 +45,11 @@ impl Core {
     #[tactic(auto, using(crate::proofs::Children::numbered))]
     /// Part i, in the order written. None where there is no such part.
     pub fn part(&self, i: u64) -> Option<&Core>
-        ensures { option_map (λ r. term_of r.now) result ≡ child_of (parts_of (term_of self.now)) i }
+        ensures { lent result ≡ child_of (parts_of (term_of self.now)) i }
     {
         match self {
             Core::Let(a, b) => two(a, b, i),
-            Core::If(c, a, b) => three(c, a, b, i),
+            Core::If(c, a, b) => { if i < 1 { Some(c) } else { two(a, b, i - 1) } }
             Core::Default(a, b) => two(a, b, i),
             Core::Tuple(ts) => of_list(ts, i),
             Core::Proj { at: _, of: _, part } => one(part, i),
@@ -115,7 +108,7 @@ fn swap_box(mut part: Box<Core>, with: Core) -> (Box<Core>, Core)
 
 fn swap_one(a: Box<Core>, i: u64, with: Core) -> (Box<Core>, Core)
     requires { i < 1 }
-    ensures now { part 0 (term_of result.0.value) none ≡ set_child (part 0 (term_of a.value) none) i (term_of with) }
+    ensures now { SwapsOne a i with result.0 }
     ensures before { Some (term_of result.1) ≡ child_of (plain (term_of a.value ∷ []) none) i }
 {
     match i {
@@ -127,8 +120,8 @@ fn swap_one(a: Box<Core>, i: u64, with: Core) -> (Box<Core>, Core)
 // The second part may have variables of its own.
 fn swap_two(a: Box<Core>, b: Box<Core>, i: u64, with: Core) -> ((Box<Core>, Box<Core>), Core)
     requires { i < 2 }
-    ensures now { (k : ℕ) → part 0 (term_of result.0.0.value) (part k (term_of result.0.1.value) none) ≡ set_child (part 0 (term_of a.value) (part k (term_of b.value) none)) i (term_of with) }
-    ensures before { Some (term_of result.1) ≡ child_of (plain (term_of a.value ∷ term_of b.value ∷ []) none) i }
+    ensures now { SwapsTwo (a, b) i with result.0 }
+    ensures before { Some (term_of result.1) ≡ part_of_two (a, b) i }
 {
     match i {
         0 => {
@@ -154,41 +147,24 @@ fn swap_item(mut terms: Terms, i: u64, with: Core) -> (Terms, Core)
 
 impl Core {
     /// The number of the variable that the term is. None where it is another form.
-    #[tactic(auto, using(crate::proofs::Swaps::forms))]
     pub fn variable(&self) -> Option<u64>
         ensures which { result ≡ variable_of (form_of (term_of self.now)) }
         ensures whole { IfSome result (λ i. term_of self.now ≡ node (Form.var i) none) }
     {
         match self {
             Core::Var(i) => Some(*i),
-            Core::Global(_) => None,
-            Core::Nat(_) => None,
-            Core::Bool(_) => None,
-            Core::Text(_) => None,
-            Core::Bottom => None,
-            Core::Let(_, _) => None,
-            Core::If(_, _, _) => None,
-            Core::Default(_, _) => None,
-            Core::Tuple(_) => None,
-            Core::Proj {
-                at: _,
-                of: _,
-                part: _,
-            } => None,
-            Core::Arith(_, _, _) => None,
-            Core::Compare(_, _, _) => None,
-            Core::Empty => None,
-            Core::Single(_) => None,
-            Core::Union(_, _) => None,
-            Core::BigUnion { over: _, body: _ } => None,
-            Core::Sum { over: _, body: _ } => None,
-            Core::Gen(_) => None,
-            Core::Get(_) => None,
-            Core::Tab { bounds: _, body: _ } => None,
-            Core::Sub { array: _, at: _ } => None,
-            Core::Dim { rank: _, array: _ } => None,
-            Core::Index { rank: _, pairs: _ } => None,
-            Core::Literal { dims: _, cells: _ } => None,
+            _ => None,
+        }
+    }
+
+    /// The number that the term is, where it is written as one. None where it is another form.
+    pub fn number(&self) -> Option<u128>
+        ensures which { result ≡ number_of (term_of self.now) }
+        ensures whole { IfSome result (λ n. term_of self.now ≡ number n) }
+    {
+        match self {
+            Core::Nat(n) => Some(*n),
+            _ => None,
         }
     }
 
@@ -231,46 +207,12 @@ impl Core {
     }
 
     /// The number of variables that part i has beyond those around the node.
-    #[tactic(auto, using(crate::proofs::Swaps::bindings, crate::proofs::Swaps::weights))]
     pub fn binders(&self, i: u64) -> u64
         requires { i < count (parts_of (term_of self.now)) }
         ensures number { result ≡ binders_of (parts_of (term_of self.now)) i }
         ensures light { result ≤ form_weight (form_of (term_of self.now)) }
     {
-        match self {
-            Core::Let(_, _) => i,
-            Core::BigUnion { over: _, body: _ } => i,
-            Core::Sum { over: _, body: _ } => i,
-            Core::Tab { bounds, body: _ } => {
-                let rank = bounds.0.len() as u64;
-                if i < rank { 0 } else { rank }
-            }
-            Core::If(_, _, _) => 0,
-            Core::Default(_, _) => 0,
-            Core::Tuple(_) => 0,
-            Core::Proj {
-                at: _,
-                of: _,
-                part: _,
-            } => 0,
-            Core::Arith(_, _, _) => 0,
-            Core::Compare(_, _, _) => 0,
-            Core::Single(_) => 0,
-            Core::Union(_, _) => 0,
-            Core::Gen(_) => 0,
-            Core::Get(_) => 0,
-            Core::Sub { array: _, at: _ } => 0,
-            Core::Dim { rank: _, array: _ } => 0,
-            Core::Index { rank: _, pairs: _ } => 0,
-            Core::Literal { dims: _, cells: _ } => 0,
-            Core::Var(_) => 0,
-            Core::Global(_) => 0,
-            Core::Nat(_) => 0,
-            Core::Bool(_) => 0,
-            Core::Text(_) => 0,
-            Core::Bottom => 0,
-            Core::Empty => 0,
-        }
+        self.form().binders(i)
     }
 
     /// The term with another part i, and the part that was there.

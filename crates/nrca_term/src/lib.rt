@@ -4,17 +4,21 @@
 //! equal term, and each constant a value of the language (`constants`); and the definitions in
 //! `specs/`: value, type, turns, places, rules, normal terms. Read `term`, `trace`, then
 //! `specs/Term.antt`, `View`, `Meaning`, `Turns`, `Typing`, `Places`, `Subst`, `Rules`, `Valid`;
-//! then `access`, `places`, `weights`, `copies`, `validity`.
+//! then `access`, `form`, `places`, `weights`, `copies`, `boxes`, `validity`.
 #![tactic(auto)]
 
 mod access;
+mod boxes;
 mod copies;
+mod form;
 mod places;
 mod term;
 mod trace;
 mod validity;
 mod weights;
 
+pub use boxes::{open, put};
+pub use form::{Form, Strict};
 pub use places::place;
 pub use term::{Core, Terms};
 pub use trace::{Path, Rule, Step, Trace};

@@ -1,14 +1,14 @@
 //! The parts of a term by their paths.
 
-ghost use Rattle.std.specs.Prelude.{◌≡◌, option_map};
+ghost use Rattle.std.specs.Prelude.{◌≡◌};
 ghost use Rattle.nrca_term.specs.Places.{place_of};
-ghost use Rattle.nrca_term.specs.View.{term_of};
+ghost use Rattle.nrca_term.specs.View.{term_of, lent};
 
 use crate::{Core, Path};
 
 /// The part at a path. None exactly where the path leaves the term.
 pub fn place<'a>(term: &'a Core, path: &Path) -> Option<&'a Core>
-    ensures { option_map (λ r. term_of r.now) result ≡ place_of (term_of term.now) path.now }
+    ensures { lent result ≡ place_of (term_of term.now) path.now }
 {
     let mut at = term;
     for i in &path.0 {

@@ -1,6 +1,7 @@
-use Rattle.std.proofs.Common.{◌≡◌, ◌∙◌, ◌⊎◌, inl, inr, ℕ, ap}
+use Rattle.std.proofs.Common.{◌≡◌, ◌∙◌, ◌⊎◌, inl, inr, ℕ, ap, refl}
 use Rattle.std.specs.Prelude.{map}
 use Rattle.std.specs.String.{string_bytes}
+use Rattle.aql_session.specs.Device.{source_of, sink_of, files_of}
 use Rattle.aql_status.specs.Codes.{code_of, status_is}
 use Rattle.aql_status.specs.declared.status.Status.{Status}
 use Rattle.aql_status.specs.declared.status.Status.TheVariants as status
@@ -15,10 +16,13 @@ one_of s a b n is (inr e) = inr (is ∙ ap code_of e)
 
 pub returns-clause-serves : goal.returns-clause-serves
 returns-clause-serves g c =
-    reports (map string_bytes c.args.words.now) (c.end_of-end.new.files ≡ c.args.files.now) (g.S.Source.faults c.args.input.now) (g.S.Source.faults c.end_of-end.new.input)
-    (g.F.Files.faults c.args.files.now) (g.F.Files.faults c.end_of-end.new.files) (g.F.Files.holds c.args.files.now) c.end_of-end.new.answers.items c.end_of-end.result c.code-status.result
-    (g.S.Source.left c.args.input.now) (g.S.Source.left c.end_of-end.new.input) (g.O.Sink.holds c.args.output.now) (g.O.Sink.holds c.end_of-end.new.output)
-    c.code-status.ensures c.end_of-end.ensures.serves
+    reports (map string_bytes c.args.words.now) (record {
+      source = source_of g.S.Source c.args.input.now c.end_of-end.new.input;
+      sink = sink_of g.O.Sink c.args.output.now c.end_of-end.new.output;
+      files = files_of g.F.Files c.args.files.now c.end_of-end.new.files;
+    }) c.end_of-end.result
+    (record { status = c.code-status.result; answers = record { items = c.end_of-end.new.answers }; stop = c.end_of-end.result.stop })
+    c.code-status.ensures refl c.end_of-end.ensures.serves
 
 pub returns-clause-untouched_input : goal.returns-clause-untouched_input
 returns-clause-untouched_input g c is = c.end_of-end.ensures.untouched_input (status_is c.end_of-end.result.status status.Usage c.code-status.result c.code-status.ensures is)

@@ -2,9 +2,11 @@ use Rattle.std.proofs.Common.{◌≡◌, ◌∙◌, ◌⊎◌, inl, inr, ℕ, ap
 use Rattle.std.specs.Prelude.{map}
 use Rattle.std.specs.String.{string_bytes}
 use Rattle.aql_outside.specs.Causes.{Rose}
+use Rattle.aql_session.specs.Device.{source_of, sink_of, files_of}
 use Rattle.aql_status.specs.Codes.{code_of, status_is}
 use Rattle.aql_status.specs.declared.status.Status.{Status}
 use Rattle.aql_status.specs.declared.status.Status.TheVariants as status
+use Rattle.aql_run.specs.Devices.{Devices}
 use Rattle.aql_run.proofs.Endings.{reported_files, reported_input, reported_sample, reported_serves}
 use Rattle.aql_run.proofs.run.Goals as goal
 
@@ -17,12 +19,13 @@ pub returns : goal.returns
 returns g c =
     let words = map string_bytes c.args.words.now in
     let n = c.reported.result.status in
+    let d : Devices = record {
+      source = source_of g.S.Source c.args.input.now c.reported.new.input;
+      sink = sink_of g.O.Sink c.args.output.now c.reported.new.output;
+      files = files_of g.F.Files c.args.files.now c.reported.new.files;
+    } in
     let (s, is, (taken, written, consumed, appended, few, (cause, complete))) =
-    reported_serves words (c.reported.new.files ≡ c.args.files.now) (g.S.Source.faults c.args.input.now) (g.S.Source.faults c.reported.new.input)
-    (g.F.Files.faults c.args.files.now) (g.F.Files.faults c.reported.new.files) (g.F.Files.holds c.args.files.now)
-    (Rose (g.O.Sink.faults c.args.output.now) (g.O.Sink.faults c.reported.new.output)) c.reported.result.answers.items.items c.reported.result.stop n
-    (g.S.Source.left c.args.input.now) (g.S.Source.left c.reported.new.input) (g.O.Sink.holds c.args.output.now) (g.O.Sink.holds c.reported.new.output)
-    c.lexed.ensures c.reported.ensures.output.failed c.reported.ensures.serves in
+    reported_serves words (Rose d.sink.faults_before d.sink.faults_after) d c.reported.result c.lexed.ensures c.reported.ensures.output.failed c.reported.ensures.serves in
     record {
       status = s;
       number = is;
@@ -37,10 +40,7 @@ returns g c =
       sample = λ m asked. c.reported.ensures.sample m (reported_sample words m asked);
       input = record {
         later = c.reported.ensures.later_input;
-        failed = λ e. reported_input words (c.reported.new.files ≡ c.args.files.now) (g.S.Source.faults c.args.input.now) (g.S.Source.faults c.reported.new.input)
-            (g.F.Files.faults c.args.files.now) (g.F.Files.faults c.reported.new.files) (g.F.Files.holds c.args.files.now) c.reported.result.answers.items.items
-            c.reported.result.stop n (g.S.Source.left c.args.input.now) (g.S.Source.left c.reported.new.input) (g.O.Sink.holds c.args.output.now)
-            (g.O.Sink.holds c.reported.new.output) c.reported.ensures.serves (is ∙ ap code_of e);
+        failed = λ e. reported_input words d c.reported.result c.reported.ensures.serves (is ∙ ap code_of e);
         noticed = λ q less. one_of s status.Input status.Output n is (c.reported.ensures.noticed_input q less);
       };
       output = record {
@@ -50,10 +50,7 @@ returns g c =
       };
       files = record {
         later = c.reported.ensures.later_files;
-        failed = λ e. reported_files words (c.reported.new.files ≡ c.args.files.now) (g.S.Source.faults c.args.input.now) (g.S.Source.faults c.reported.new.input)
-            (g.F.Files.faults c.args.files.now) (g.F.Files.faults c.reported.new.files) (g.F.Files.holds c.args.files.now) c.reported.result.answers.items.items
-            c.reported.result.stop n (g.S.Source.left c.args.input.now) (g.S.Source.left c.reported.new.input) (g.O.Sink.holds c.args.output.now)
-            (g.O.Sink.holds c.reported.new.output) c.reported.ensures.serves (is ∙ ap code_of e);
+        failed = λ e. reported_files words d c.reported.result c.reported.ensures.serves (is ∙ ap code_of e);
         noticed = λ q less. one_of s status.Files status.Output n is (c.reported.ensures.noticed_files q less);
       };
       kept = c.reported.ensures.kept;

@@ -104,16 +104,16 @@ ast::Expr::copy-returns-in-Union t c =
 
 pub ast::Expr::copy-returns-in-Default : goal.ast::Expr::copy-returns-in-Default
 ast::Expr::copy-returns-in-Default t c =
-    two_boxes tree.default _ _ _ _ _ _ c.in-Default.a c.in-Default.b c.on_two-in-Default.ensures
+    two_boxes tree.default _ _ _ _ _ _ c.in-Default.a c.in-Default.b c.defaulted.ensures
     c.copied-in-Default.ensures c.deref-in-Default.ensures c.copied-in-Default-2.ensures c.deref-in-Default-2.ensures (sym (ap tree_of c.in-Default.is))
 
 pub ast::Expr::copy-returns-in-Not : goal.ast::Expr::copy-returns-in-Not
 ast::Expr::copy-returns-in-Not t c =
-    one_box tree.negation _ _ _ _ c.in-Not.a c.on_one.ensures c.copied-in-Not.ensures c.deref-in-Not.ensures (sym (ap tree_of c.in-Not.is))
+    one_box tree.negation _ _ _ _ c.in-Not.a c.negated.ensures c.copied-in-Not.ensures c.deref-in-Not.ensures (sym (ap tree_of c.in-Not.is))
 
 pub ast::Expr::copy-returns-in-Gen : goal.ast::Expr::copy-returns-in-Gen
 ast::Expr::copy-returns-in-Gen t c =
-    one_box (of_one Strict.gen) _ _ _ _ c.in-Gen.a c.on_one-in-Gen.ensures c.copied-in-Gen.ensures c.deref-in-Gen.ensures (sym (ap tree_of c.in-Gen.is))
+    one_box (of_one Strict.gen) _ _ _ _ c.in-Gen.a c.on_one.ensures c.copied-in-Gen.ensures c.deref-in-Gen.ensures (sym (ap tree_of c.in-Gen.is))
 
 pub ast::Expr::copy-returns-in-Get : goal.ast::Expr::copy-returns-in-Get
 ast::Expr::copy-returns-in-Get t c =
@@ -121,7 +121,7 @@ ast::Expr::copy-returns-in-Get t c =
 
 pub ast::Expr::copy-returns-in-Len : goal.ast::Expr::copy-returns-in-Len
 ast::Expr::copy-returns-in-Len t c =
-    one_box (of_one (Strict.dim 1)) _ _ _ _ c.in-Len.a c.on_one-in-Len.ensures c.copied-in-Len.ensures c.deref-in-Len.ensures (sym (ap tree_of c.in-Len.is))
+    one_box (of_one (Strict.dim 1)) _ _ _ _ c.in-Len.a c.length.ensures c.copied-in-Len.ensures c.deref-in-Len.ensures (sym (ap tree_of c.in-Len.is))
 
 pub ast::Expr::copy-returns-in-Dim : goal.ast::Expr::copy-returns-in-Dim
 ast::Expr::copy-returns-in-Dim t c =

@@ -1,6 +1,7 @@
 //! What is asked of a variable of a small file, and what is answered.
 ghost use Rattle.std.specs.Prelude.{◌≡◌, ◌≤◌, ◌<◌, length, IfOk, IfSome, IsTrue};
 ghost use Rattle.aql_value.specs.Indices.{product};
+ghost use Rattle.cdf_slab.specs.Slab.{most_cells};
 
 use crate::tests::files::{index_of, name_of};
 use aql_outside::{Files, SureFiles};
@@ -76,7 +77,7 @@ fn is_asked(start: &[u128], count: &[u128], stride: &[u128]) -> bool
     ensures few { IsTrue result → length start.now ≤ 8 }
     ensures counts { IsTrue result → length count.now ≡ length start.now }
     ensures strides { IsTrue result → length stride.now ≡ length start.now }
-    ensures cells { IsTrue result → product count.now ≤ 50000000 }
+    ensures cells { IsTrue result → product count.now ≤ most_cells }
 {
     let rank = start.len();
     if rank == 0 || rank > 8 || count.len() != rank || stride.len() != rank {

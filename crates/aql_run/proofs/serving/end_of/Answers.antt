@@ -1,38 +1,53 @@
-use Rattle.std.proofs.Common.{refl, ◌≡◌}
+use Rattle.std.proofs.Common.{refl}
+use Rattle.std.proofs.KnownBytes.{Appends-nil, Consumes-nil}
 use Rattle.std.specs.Prelude.{map}
 use Rattle.std.specs.String.{string_bytes}
+use Rattle.aql_session.specs.Device.{source_of, sink_of, files_of}
 use Rattle.aql_answers.specs.Settings.{settings_of}
 use Rattle.aql_run.proofs.Endings.{asks_sample, never_usage, no_memory, options_run, words_refused}
 use Rattle.aql_run.proofs.serving.end_of.Goals as goal
 
 pub returns-in-Ok-clause-serves : goal.returns-in-Ok-clause-serves
 returns-in-Ok-clause-serves g c =
-    options_run (map string_bytes c.args.words.now) c.in-Ok.options (c.serve.new.files ≡ c.args.files.now) (g.S.Source.faults c.args.input.now) (g.S.Source.faults c.serve.new.input)
-    (g.F.Files.faults c.args.files.now) (g.F.Files.faults c.serve.new.files) (g.F.Files.holds c.args.files.now) c.serve.new.answers.items c.serve.result
-    (g.S.Source.left c.args.input.now) (g.S.Source.left c.serve.new.input) (g.O.Sink.holds c.args.output.now) (g.O.Sink.holds c.serve.new.output)
-    c.in-Ok.ensures.asks c.serve.ensures.serves
+    options_run (map string_bytes c.args.words.now) c.in-Ok.options c.serve.new.answers.items (record {
+      source = source_of g.S.Source c.args.input.now c.serve.new.input;
+      sink = sink_of g.O.Sink c.args.output.now c.serve.new.output;
+      files = files_of g.F.Files c.args.files.now c.serve.new.files;
+    }) c.serve.result c.in-Ok.ensures.asks c.serve.ensures.serves
 
 pub returns-in-Ok-clause-untouched_input : goal.returns-in-Ok-clause-untouched_input
 returns-in-Ok-clause-untouched_input g c is =
-    absurd (never_usage (settings_of c.in-Ok.options) (c.serve.new.files ≡ c.args.files.now) (g.S.Source.faults c.args.input.now) (g.S.Source.faults c.serve.new.input)
-    (g.F.Files.faults c.args.files.now) (g.F.Files.faults c.serve.new.files) (g.F.Files.holds c.args.files.now) c.serve.new.answers.items c.serve.result
-    (g.S.Source.left c.args.input.now) (g.S.Source.left c.serve.new.input) (g.O.Sink.holds c.args.output.now) (g.O.Sink.holds c.serve.new.output) c.serve.ensures.serves is)
+    absurd (never_usage (settings_of c.in-Ok.options) c.serve.new.answers.items (record {
+      source = source_of g.S.Source c.args.input.now c.serve.new.input;
+      sink = sink_of g.O.Sink c.args.output.now c.serve.new.output;
+      files = files_of g.F.Files c.args.files.now c.serve.new.files;
+    }) c.serve.result c.serve.ensures.serves is)
 
 pub returns-in-Ok-clause-untouched_output : goal.returns-in-Ok-clause-untouched_output
 returns-in-Ok-clause-untouched_output g c is =
-    absurd (never_usage (settings_of c.in-Ok.options) (c.serve.new.files ≡ c.args.files.now) (g.S.Source.faults c.args.input.now) (g.S.Source.faults c.serve.new.input)
-    (g.F.Files.faults c.args.files.now) (g.F.Files.faults c.serve.new.files) (g.F.Files.holds c.args.files.now) c.serve.new.answers.items c.serve.result
-    (g.S.Source.left c.args.input.now) (g.S.Source.left c.serve.new.input) (g.O.Sink.holds c.args.output.now) (g.O.Sink.holds c.serve.new.output) c.serve.ensures.serves is)
+    absurd (never_usage (settings_of c.in-Ok.options) c.serve.new.answers.items (record {
+      source = source_of g.S.Source c.args.input.now c.serve.new.input;
+      sink = sink_of g.O.Sink c.args.output.now c.serve.new.output;
+      files = files_of g.F.Files c.args.files.now c.serve.new.files;
+    }) c.serve.result c.serve.ensures.serves is)
 
 pub returns-in-Ok-clause-sample : goal.returns-in-Ok-clause-sample
 returns-in-Ok-clause-sample g c n asked = c.serve.ensures.sample n (asks_sample (map string_bytes c.args.words.now) c.in-Ok.options n c.in-Ok.ensures.asks asked)
 
 pub returns-in-Err-Usage-clause-serves : goal.returns-in-Err-Usage-clause-serves
 returns-in-Err-Usage-clause-serves g c =
-    words_refused (map string_bytes c.args.words.now) c.in-Err-Usage.field-0 (c.args.files.now ≡ c.args.files.now) (g.S.Source.faults c.args.input.now) (g.F.Files.faults c.args.files.now) (g.F.Files.holds c.args.files.now)
-    c.args.answers.now.items (g.S.Source.left c.args.input.now) (g.O.Sink.holds c.args.output.now) c.in-Err-Usage.field-0-is c.requires.none refl c.in-Err-Usage.ensures.asks
+    words_refused (map string_bytes c.args.words.now) c.in-Err-Usage.field-0 c.args.answers.now.items (record {
+      source = source_of g.S.Source c.args.input.now c.args.input.now;
+      sink = sink_of g.O.Sink c.args.output.now c.args.output.now;
+      files = files_of g.F.Files c.args.files.now c.args.files.now;
+    }) c.in-Err-Usage.field-0-is c.requires.none
+    (Consumes-nil (g.S.Source.left c.args.input.now), Appends-nil (g.O.Sink.holds c.args.output.now), refl) c.in-Err-Usage.ensures.asks
 
 pub returns-in-Err-Memory-clause-serves : goal.returns-in-Err-Memory-clause-serves
 returns-in-Err-Memory-clause-serves g c =
-    no_memory (map string_bytes c.args.words.now) (c.args.files.now ≡ c.args.files.now) (g.S.Source.faults c.args.input.now) (g.F.Files.faults c.args.files.now) (g.F.Files.holds c.args.files.now)
-    c.args.answers.now.items (g.S.Source.left c.args.input.now) (g.O.Sink.holds c.args.output.now) c.requires.none refl
+    no_memory (map string_bytes c.args.words.now) c.args.answers.now.items (record {
+      source = source_of g.S.Source c.args.input.now c.args.input.now;
+      sink = sink_of g.O.Sink c.args.output.now c.args.output.now;
+      files = files_of g.F.Files c.args.files.now c.args.files.now;
+    }) c.requires.none
+    (Consumes-nil (g.S.Source.left c.args.input.now), Appends-nil (g.O.Sink.holds c.args.output.now), refl)

@@ -1,4 +1,5 @@
-use Rattle.std.proofs.Common.{refl, ◌≡◌}
+use Rattle.std.proofs.Common.{refl}
+use Rattle.aql_session.specs.Device.{sink_of, files_of}
 use Rattle.aql_answers.specs.Settings.{settings_of}
 use Rattle.aql_run.proofs.Endings.{ready_of, responds, responds_refused}
 use Rattle.aql_run.proofs.serving.respond.Goals as goal
@@ -8,10 +9,12 @@ answer-requires-clause-prepared g c κs within = ready_of c.args.script.now c.in
 
 pub returns-in-Ok-clause-written : goal.returns-in-Ok-clause-written
 returns-in-Ok-clause-written g c =
-    responds c.args.script.now c.in-Ok.prepared (settings_of c.args.options.now) (c.answer.new.files ≡ c.args.files.now) (g.F.Files.faults c.args.files.now) (g.F.Files.faults c.answer.new.files) (g.F.Files.holds c.args.files.now)
-    c.answer.new.answers.items c.answer.result (g.O.Sink.holds c.args.output.now) (g.O.Sink.holds c.answer.new.output) c.in-Ok.ensures c.answer.ensures.written
+    responds c.args.script.now c.in-Ok.prepared (settings_of c.args.options.now) c.answer.new.answers.items
+    (sink_of g.O.Sink c.args.output.now c.answer.new.output) (files_of g.F.Files c.args.files.now c.answer.new.files) c.answer.result
+    c.in-Ok.ensures c.answer.ensures.written
 
 pub returns-in-Err-clause-written : goal.returns-in-Err-clause-written
 returns-in-Err-clause-written g c =
-    responds_refused c.args.script.now c.in-Err.fault (settings_of c.args.options.now) (c.args.files.now ≡ c.args.files.now) (g.F.Files.faults c.args.files.now) (g.F.Files.faults c.args.files.now) (g.F.Files.holds c.args.files.now)
-    c.args.answers.now.items c.refuse.result (g.O.Sink.holds c.args.output.now) (g.O.Sink.holds c.refuse.new.output) c.requires.none refl c.in-Err.ensures c.refuse.ensures.written
+    responds_refused c.args.script.now c.in-Err.fault (settings_of c.args.options.now) c.args.answers.now.items
+    (sink_of g.O.Sink c.args.output.now c.refuse.new.output) (files_of g.F.Files c.args.files.now c.args.files.now) c.refuse.result
+    c.requires.none refl c.in-Err.ensures c.refuse.ensures.written

@@ -1,5 +1,7 @@
 use Rattle.std.proofs.Common.{◌∙◌, refl, sym, ap, subst}
+use Rattle.std.proofs.KnownBytes.{Appends-nil}
 use Rattle.std.specs.Prelude.{codes}
+use Rattle.aql_session.specs.Device.{sink_of}
 use Rattle.aql_lines.specs.Lines.{in_declaration, of_file}
 use Rattle.aql_session.specs.declared.answer.StepFault.{StepFault}
 use Rattle.aql_run.specs.Outcome.{stop_of}
@@ -10,26 +12,26 @@ use Rattle.aql_run.proofs.Endings.{stopped_as, stopped_memory}
 use Rattle.aql_run.proofs.serving.stop_at.Goals as goal
 
 pub returns-in-Query-clause-written : goal.returns-in-Query-clause-written
-returns-in-Query-clause-written g c = stopped_as c.args.n c.args.fault (g.O.Sink.holds c.args.output.now) (g.O.Sink.holds c.end_with_made-status.new.output) (in_declaration (codes "budget") c.args.n) status.Spent c.end_with_made-status.result c.kept.result
+returns-in-Query-clause-written g c = stopped_as c.args.n c.args.fault (sink_of g.O.Sink c.args.output.now c.end_with_made-status.new.output) (in_declaration (codes "budget") c.args.n) status.Spent c.end_with_made-status.result c.kept.result
     (ap stop_status c.in-Query.is) (ap (λ f. stop_line c.args.n f) c.in-Query.is) (λ e. absurd cc) (λ e. absurd cc) (c.end_with_made-status.ensures.written (in_declaration (codes "budget") c.args.n) c.declaration_line-line.ensures) c.kept.ensures.status
     (λ x. c.kept.ensures.kept x ∙ sym (ap stop_of c.in-Query.is)) c.kept.ensures.other
 
 pub returns-in-Cells-clause-written : goal.returns-in-Cells-clause-written
-returns-in-Cells-clause-written g c = stopped_as c.args.n c.args.fault (g.O.Sink.holds c.args.output.now) (g.O.Sink.holds c.end_with_made-status-in-Cells.new.output) (in_declaration (codes "budget") c.args.n) status.Spent c.end_with_made-status-in-Cells.result c.kept-in-Cells.result
+returns-in-Cells-clause-written g c = stopped_as c.args.n c.args.fault (sink_of g.O.Sink c.args.output.now c.end_with_made-status-in-Cells.new.output) (in_declaration (codes "budget") c.args.n) status.Spent c.end_with_made-status-in-Cells.result c.kept-in-Cells.result
     (ap stop_status c.in-Cells.is) (ap (λ f. stop_line c.args.n f) c.in-Cells.is) (λ e. absurd cc) (λ e. absurd cc) (c.end_with_made-status-in-Cells.ensures.written (in_declaration (codes "budget") c.args.n) c.declaration_line-line-in-Cells.ensures) c.kept-in-Cells.ensures.status
     (λ x. c.kept-in-Cells.ensures.kept x ∙ sym (ap stop_of c.in-Cells.is)) c.kept-in-Cells.ensures.other
 
 pub returns-in-File-clause-written : goal.returns-in-File-clause-written
-returns-in-File-clause-written g c = stopped_as c.args.n c.args.fault (g.O.Sink.holds c.args.output.now) (g.O.Sink.holds c.end_with_made-status-in-File.new.output) (of_file c.args.n c.in-File.fault) status.File c.end_with_made-status-in-File.result c.kept-in-File.result
+returns-in-File-clause-written g c = stopped_as c.args.n c.args.fault (sink_of g.O.Sink c.args.output.now c.end_with_made-status-in-File.new.output) (of_file c.args.n c.in-File.fault) status.File c.end_with_made-status-in-File.result c.kept-in-File.result
     (ap stop_status c.in-File.is) (ap (λ f. stop_line c.args.n f) c.in-File.is) (λ e. absurd cc) (λ e. absurd cc) (c.end_with_made-status-in-File.ensures.written (of_file c.args.n c.in-File.fault) c.file_line-line.ensures) c.kept-in-File.ensures.status
     (λ x. c.kept-in-File.ensures.kept x ∙ sym (ap stop_of c.in-File.is)) c.kept-in-File.ensures.other
 
 pub returns-in-Device-clause-written : goal.returns-in-Device-clause-written
-returns-in-Device-clause-written g c = stopped_as c.args.n c.args.fault (g.O.Sink.holds c.args.output.now) (g.O.Sink.holds c.end_with.new.output) (codes "fault files\n") status.Files c.end_with.result
+returns-in-Device-clause-written g c = stopped_as c.args.n c.args.fault (sink_of g.O.Sink c.args.output.now c.end_with.new.output) (codes "fault files\n") status.Files c.end_with.result
     (record { status = c.end_with.result; stop = stops.Other }) (ap stop_status c.in-Device.is) (ap (λ f. stop_line c.args.n f) c.in-Device.is) (λ e. absurd cc) (λ e. absurd cc)
     c.end_with.ensures.written refl (λ x. sym (ap stop_of c.in-Device.is)) (λ x. refl)
 
 pub returns-in-Memory-clause-written : goal.returns-in-Memory-clause-written
 returns-in-Memory-clause-written g c =
-    subst (λ (f : StepFault). Stopped c.args.n f (g.O.Sink.holds c.args.output.now) (g.O.Sink.holds c.args.output.now) (record { status = status.Memory; stop = stops.Other })) (sym c.in-Memory.is)
-    (stopped_memory c.args.n (g.O.Sink.holds c.args.output.now))
+    subst (λ (f : StepFault). Stopped c.args.n f (sink_of g.O.Sink c.args.output.now c.args.output.now) (record { status = status.Memory; stop = stops.Other })) (sym c.in-Memory.is)
+    (stopped_memory c.args.n (sink_of g.O.Sink c.args.output.now c.args.output.now) (Appends-nil (g.O.Sink.holds c.args.output.now)))

@@ -1,7 +1,8 @@
 use Rattle.std.specs.Prelude.{◌-◌}
 use Rattle.aql_syntax.specs.View.{decls_of}
+use Rattle.aql_prelude.specs.Prelude.{prelude_count}
 use Rattle.aql_script.specs.Limits.{WithinBetween}
 use Rattle.aql_script.proofs.limits.first_large.Given as goal
 
 abbrev pub invariant-positions : goal.invariant-positions
-invariant-positions l = WithinBetween (decls_of l.decls.items.items) 24 (l.n - 1)
+invariant-positions l = WithinBetween (decls_of l.decls.items.items) prelude_count (l.n - 1)

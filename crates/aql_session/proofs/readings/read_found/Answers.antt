@@ -16,7 +16,7 @@ returns-in-Ok-clause-read g c =
       strides = c.in-Ok.ensures.strides;
       told = λ files e.
           let at = c.requires.opened.told files e in
-          slab-read a files c.args.found.now at c.in-Ok.flat (c.in-Ok.ensures.told at.bytes at.utf8 (ap (λ o. bytes_in o a.file) e ∙ at.there) at.size);
+          slab-read a files c.args.found.now at c.in-Ok.flat (c.in-Ok.ensures.told at.utf8 at.bytes (ap (λ o. bytes_in o a.file) e ∙ at.there) at.size);
     }
 
 pub returns-in-Err-clause-cause : goal.returns-in-Err-clause-cause
@@ -26,7 +26,7 @@ returns-in-Err-clause-cause g c =
     let before = g.F.Files.faults c.args.files.now in
     let now = g.F.Files.faults c.read_slab.new.files in
     subst (IsFileCause a holds before now) (sym c.hand_on.ensures)
-    (handed-cause a holds before now c.in-Err.fault (λ q. c.in-Err.ensures.blamed.failed (ap Err q)) (λ n. (let z = c.in-Err.ensures.unnamed n in cc))
+    (handed-cause a holds before now c.in-Err.fault (λ q. c.in-Err.ensures.frame.blames.failed (ap Err q)) (λ n. (let z = c.in-Err.ensures.unnamed n in cc))
     (slab-version a.file c.args.found.now.header (variable_at c.args.found.now.header c.args.found.now.variable) a.start a.count a.stride a.signed _ c.in-Err.fault c.in-Err.ensures.early c.in-Err.ensures.late (λ n. (let z = c.in-Err.ensures.unnamed n in cc))) c.in-Err.ensures.request (λ u files e.
     let at = c.requires.opened.told files e in
-    slab-failed a files c.args.found.now at c.in-Err.fault u (c.in-Err.ensures.told at.bytes at.utf8 (ap (λ o. bytes_in o a.file) e ∙ at.there) at.size)))
+    slab-failed a files c.args.found.now at c.in-Err.fault u (c.in-Err.ensures.told at.utf8 at.bytes (ap (λ o. bytes_in o a.file) e ∙ at.there) at.size)))

@@ -1,9 +1,9 @@
 use Rattle.std.proofs.Common.{Some, refl, ap, ◌∙◌}
-use Rattle.std.specs.Prelude.{slice_get, ◌-◌}
 use Rattle.aql_outside.specs.CausesLaws.{none_blamed}
 use Rattle.aql_syntax.specs.Tree.{val, bare}
-use Rattle.aql_syntax.specs.View.{decl_of, decls_of, tree_of}
-use Rattle.aql_session.specs.Bound.{earlier_of}
+use Rattle.aql_syntax.specs.View.{decl_of, tree_of}
+use Rattle.aql_session.specs.Numbered.{so_far}
+use Rattle.aql_session.specs.Runs.{budget_of, declaration_of}
 use Rattle.aql_session.proofs.Running.{plain-device}
 use Rattle.aql_session.proofs.runs.run_declaration.Goals as goal
 
@@ -29,10 +29,10 @@ returns-in-Bare-clause-cause g c = c.run_plain-in-Bare.ensures.cause (g.F.Files.
 
 pub returns-in-Val-clause-blamed : goal.returns-in-Val-clause-blamed
 returns-in-Val-clause-blamed g c =
-    none_blamed _ _ _ (plain-device (slice_get (decls_of c.args.decls.now.items.items) (c.args.n - 1)) (decl_of c.declaration.result.now)
-    (earlier_of (decls_of c.args.decls.now.items.items) c.args.globals.now) c.args.options.now.budget c.run_plain.result c.declaration.ensures c.run_plain.ensures.cause)
+    none_blamed _ _ _ (plain-device (declaration_of c.args.at.now) (decl_of c.declaration.result.now) (so_far c.args.at.now.decls.now c.args.globals.now)
+    (budget_of c.args.at.now) c.run_plain.result c.declaration.ensures c.run_plain.ensures.cause)
 
 pub returns-in-Bare-clause-blamed : goal.returns-in-Bare-clause-blamed
 returns-in-Bare-clause-blamed g c =
-    none_blamed _ _ _ (plain-device (slice_get (decls_of c.args.decls.now.items.items) (c.args.n - 1)) (decl_of c.declaration.result.now)
-    (earlier_of (decls_of c.args.decls.now.items.items) c.args.globals.now) c.args.options.now.budget c.run_plain-in-Bare.result c.declaration.ensures c.run_plain-in-Bare.ensures.cause)
+    none_blamed _ _ _ (plain-device (declaration_of c.args.at.now) (decl_of c.declaration.result.now) (so_far c.args.at.now.decls.now c.args.globals.now)
+    (budget_of c.args.at.now) c.run_plain-in-Bare.result c.declaration.ensures c.run_plain-in-Bare.ensures.cause)

@@ -1,11 +1,9 @@
 use Rattle.std.proofs.Common.{◌+◌, ◌<◌, ◌^◌, subst, arith}
-use Rattle.std.specs.Prelude.{slice_get, ◌-◌}
-use Rattle.aql_constraints.specs.Typed.{sorts_of}
 use Rattle.aql_syntax.specs.Tree.{read}
-use Rattle.aql_syntax.specs.View.{decls_of, reader_of}
+use Rattle.aql_syntax.specs.View.{reader_of}
 use Rattle.nrca_runs.specs.Scope.{held_value}
-use Rattle.aql_session.specs.Bound.{earlier_of}
-use Rattle.aql_session.specs.Runs.{IsRun}
+use Rattle.aql_session.specs.Numbered.{so_far}
+use Rattle.aql_session.specs.Runs.{IsRun, budget_of, declaration_of, declarations_of, sorts_at}
 use Rattle.aql_session.specs.Step.{IsCause, ReadsNoFile}
 use Rattle.aql_session.specs.declared.answer.Ran.TheVariants as ran
 use Rattle.aql_session.proofs.Running.{same-position, reader-within, argument-typed, readval-run, readval-fits, readval-cause, readval-unread}
@@ -19,61 +17,69 @@ read_argument-requires-clause-arrays g c =
 pub read_argument-requires-clause-within : goal.read_argument-requires-clause-within
 read_argument-requires-clause-within g c =
     let k = c.requires.reads in
-    reader-within (decls_of c.args.decls.now.items.items) (sorts_of c.args.typed.now.items.items) c.args.n c.args.globals.now c.requires.stands k.0 (reader_of c.args.reader.now) k.1 k.2
+    let p = c.args.at.now in
+    reader-within (declarations_of p) (sorts_at p) p.n c.args.globals.now c.requires.stands k.0 (reader_of c.args.reader.now) k.1 k.2
 
 pub read_argument-requires-clause-typed : goal.read_argument-requires-clause-typed
 read_argument-requires-clause-typed g c =
     let k = c.requires.reads in
+    let p = c.args.at.now in
     let h = c.in-Ok.ensures.evaluated (read k.0 (reader_of c.args.reader.now) k.1) k.2 in
-    argument-typed (decls_of c.args.decls.now.items.items) (sorts_of c.args.typed.now.items.items) c.args.n c.args.globals.now c.requires.stands k.0 (reader_of c.args.reader.now) k.1 k.2
+    argument-typed (declarations_of p) (sorts_at p) p.n c.args.globals.now c.requires.stands k.0 (reader_of c.args.reader.now) k.1 k.2
     (held_value c.in-Ok.field-0.value) h.value
 
 pub overflow_add-result : goal.overflow_add-result
 overflow_add-result g c =
     let k = c.requires.reads in
+    let p = c.args.at.now in
     let h = c.in-Ok.ensures.evaluated (read k.0 (reader_of c.args.reader.now) k.1) k.2 in
-    let l : c.in-Ok.field-0.turns + c.in-Ok-read_argument.field-0.cells < 2 ^ 128 = readval-fits k.0 (reader_of c.args.reader.now) k.1 (earlier_of (decls_of c.args.decls.now.items.items) c.args.globals.now) c.args.options.now.budget c.in-Ok.field-0 h
+    let l : c.in-Ok.field-0.turns + c.in-Ok-read_argument.field-0.cells < 2 ^ 128 =
+    readval-fits k.0 (reader_of c.args.reader.now) k.1 (so_far p.decls.now c.args.globals.now) (budget_of p) c.in-Ok.field-0 h
     (g.F.Files.holds c.args.files.now) c.in-Ok-read_argument.field-0 c.requires.budget c.in-Ok-read_argument.ensures.read in
     omega (arith, l)
 
 pub returns-in-Ok-read_argument-clause-ran : goal.returns-in-Ok-read_argument-clause-ran
 returns-in-Ok-read_argument-clause-ran g c = λ d e.
     let k = c.requires.reads in
+    let p = c.args.at.now in
     let r = reader_of c.args.reader.now in
-    let earlier = earlier_of (decls_of c.args.decls.now.items.items) c.args.globals.now in
+    let earlier = so_far p.decls.now c.args.globals.now in
     let h = c.in-Ok.ensures.evaluated (read k.0 r k.1) k.2 in
-    let z = same-position (slice_get (decls_of c.args.decls.now.items.items) (c.args.n - 1)) (read k.0 r k.1) d k.2 e in
-    let run = readval-run k.0 r k.1 earlier c.args.options.now.budget c.in-Ok.field-0 h (g.F.Files.holds c.args.files.now) c.in-Ok-read_argument.field-0 c.in-Ok-read_argument.ensures.read in
-    subst (λ x. IsRun x earlier c.args.options.now.budget (g.F.Files.holds c.args.files.now)
+    let z = same-position (declaration_of p) (read k.0 r k.1) d k.2 e in
+    let run = readval-run k.0 r k.1 earlier (budget_of p) c.in-Ok.field-0 h (g.F.Files.holds c.args.files.now) c.in-Ok-read_argument.field-0 c.in-Ok-read_argument.ensures.read in
+    subst (λ x. IsRun x earlier (budget_of p) (g.F.Files.holds c.args.files.now)
     (record { start = c.in-Ok.field-0.start; by = ran.Read; turns = c.in-Ok.field-0.turns + c.in-Ok-read_argument.field-0.cells; value = c.in-Ok-read_argument.field-0.value })) z run
 
 pub returns-in-Ok-read_argument-clause-untouched : goal.returns-in-Ok-read_argument-clause-untouched
 returns-in-Ok-read_argument-clause-untouched g c = λ d e u.
     let k = c.requires.reads in
+    let p = c.args.at.now in
     let r = reader_of c.args.reader.now in
-    let earlier = earlier_of (decls_of c.args.decls.now.items.items) c.args.globals.now in
+    let earlier = so_far p.decls.now c.args.globals.now in
     let h = c.in-Ok.ensures.evaluated (read k.0 r k.1) k.2 in
-    let z = same-position (slice_get (decls_of c.args.decls.now.items.items) (c.args.n - 1)) d (read k.0 r k.1) e k.2 in
+    let z = same-position (declaration_of p) d (read k.0 r k.1) e k.2 in
     c.in-Ok-read_argument.ensures.untouched
-    (readval-unread k.0 r k.1 earlier c.args.options.now.budget c.in-Ok.field-0 h (subst (λ x. ReadsNoFile x earlier c.args.options.now.budget) z u))
+    (readval-unread k.0 r k.1 earlier (budget_of p) c.in-Ok.field-0 h (subst (λ x. ReadsNoFile x earlier (budget_of p)) z u))
 
 pub returns-in-Err-read_argument-clause-cause : goal.returns-in-Err-read_argument-clause-cause
 returns-in-Err-read_argument-clause-cause g c = λ d e.
     let k = c.requires.reads in
+    let p = c.args.at.now in
     let r = reader_of c.args.reader.now in
-    let earlier = earlier_of (decls_of c.args.decls.now.items.items) c.args.globals.now in
+    let earlier = so_far p.decls.now c.args.globals.now in
     let h = c.in-Ok.ensures.evaluated (read k.0 r k.1) k.2 in
-    let z = same-position (slice_get (decls_of c.args.decls.now.items.items) (c.args.n - 1)) (read k.0 r k.1) d k.2 e in
-    subst (λ x. IsCause x earlier c.args.options.now.budget (g.F.Files.holds c.args.files.now) (g.F.Files.faults c.args.files.now) (g.F.Files.faults c.read_argument.new.files) c.in-Err-read_argument.fault) z
-    (readval-cause k.0 r k.1 earlier c.args.options.now.budget c.in-Ok.field-0 h (g.F.Files.holds c.args.files.now) (g.F.Files.faults c.args.files.now) (g.F.Files.faults c.read_argument.new.files)
+    let z = same-position (declaration_of p) (read k.0 r k.1) d k.2 e in
+    subst (λ x. IsCause x earlier (budget_of p) (g.F.Files.holds c.args.files.now) (g.F.Files.faults c.args.files.now) (g.F.Files.faults c.read_argument.new.files) c.in-Err-read_argument.fault) z
+    (readval-cause k.0 r k.1 earlier (budget_of p) c.in-Ok.field-0 h (g.F.Files.holds c.args.files.now) (g.F.Files.faults c.args.files.now) (g.F.Files.faults c.read_argument.new.files)
     c.in-Err-read_argument.fault c.in-Err-read_argument.ensures.cause)
 
 pub returns-in-Err-read_argument-clause-untouched : goal.returns-in-Err-read_argument-clause-untouched
 returns-in-Err-read_argument-clause-untouched g c = λ d e u.
     let k = c.requires.reads in
+    let p = c.args.at.now in
     let r = reader_of c.args.reader.now in
-    let earlier = earlier_of (decls_of c.args.decls.now.items.items) c.args.globals.now in
+    let earlier = so_far p.decls.now c.args.globals.now in
     let h = c.in-Ok.ensures.evaluated (read k.0 r k.1) k.2 in
-    let z = same-position (slice_get (decls_of c.args.decls.now.items.items) (c.args.n - 1)) d (read k.0 r k.1) e k.2 in
+    let z = same-position (declaration_of p) d (read k.0 r k.1) e k.2 in
     c.in-Err-read_argument.ensures.untouched
-    (readval-unread k.0 r k.1 earlier c.args.options.now.budget c.in-Ok.field-0 h (subst (λ x. ReadsNoFile x earlier c.args.options.now.budget) z u))
+    (readval-unread k.0 r k.1 earlier (budget_of p) c.in-Ok.field-0 h (subst (λ x. ReadsNoFile x earlier (budget_of p)) z u))

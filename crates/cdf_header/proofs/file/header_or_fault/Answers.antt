@@ -1,11 +1,20 @@
-use Rattle.std.proofs.Common.{rules, arith, ◌≡◌, ◌≤◌, List, ℕ, Some, Ok, Err, min, length, take, ap, subst, refl, sym, ◌∙◌, get_or}
+use Rattle.std.proofs.Common.{rules, arith, ◌≡◌, Err, length, ap, subst, sym, ◌∙◌}
 use Rattle.std.proofs.lemmas.Grind.{common_steps}
 use Rattle.std.proofs.lemmas.Result.{err_from_is_err_and}
 use Rattle.aql_outside.specs.Contents.{bytes_in}
-use Rattle.cdf_header.specs.Format.{header, done, run}
-use Rattle.cdf_header.specs.File.{IsFront, IsClassic, IsKnown, Reading, version, Answers, first}
-use Rattle.cdf_header.proofs.Readings.{outside_of_header, begun, reading, same_byte, classic_on}
+use Rattle.cdf_header.specs.File.{IsClassic, IsKnown, IsAnswered, fields_of, version}
+use Rattle.cdf_header.specs.declared.fault.CdfFault.TheVariants as faults
+use Rattle.cdf_header.specs.HeaderLaws.{header_of-fields, header_of-not_classic, header_of-version}
+use Rattle.cdf_header.proofs.Readings.{outside_of_header, begun, same_byte, classic_on, classic_back}
 use Rattle.cdf_header.proofs.file.header_or_fault.Goals as goal
+
+pub returns-then-not-is_classic-clause-told : goal.returns-then-not-is_classic-clause-told
+returns-then-not-is_classic-clause-told g c = λ bytes there.
+    let b = begun _ (g.F.Files.holds c.args.files.now) (g.F.Files.holds c.size.new.self) c.args.name.now bytes c.new-front.result.items c.grow.new.front.items c.in-Ok-Some.size _ _ c.in-Ok-Some.field-0 _
+    there c.in-Ok-Some.field-0-is c.in-Ok-Some.ensures.told c.in-Ok-Some.ensures.kept c.min-most.ensures c.min-target.ensures c.new-front.ensures.items c.in_ok-whole.ensures.told c.in_ok-whole.ensures.whole c.in_ok-whole.ensures.within in
+    header_of-not_classic bytes (λ k.
+    let front : IsClassic c.grow.new.front.items = classic_back bytes c.grow.new.front.items b.is_front b.long k in
+    let h = c.if-not-is_classic.ensures.no (rw c.deref.ensures.value front) in search (rules, h))
 
 pub returns-then-not-is_known-clause-told : goal.returns-then-not-is_known-clause-told
 returns-then-not-is_known-clause-told g c = λ bytes there.
@@ -13,7 +22,8 @@ returns-then-not-is_known-clause-told g c = λ bytes there.
     there c.in-Ok-Some.field-0-is c.in-Ok-Some.ensures.told c.in-Ok-Some.ensures.kept c.min-most.ensures c.min-target.ensures c.new-front.ensures.items c.in_ok-whole.ensures.told c.in_ok-whole.ensures.whole c.in_ok-whole.ensures.within in
     let here : IsClassic c.grow.new.front.items = rw (← c.deref.ensures.value) (search rules) in
     let v : c.index-v.result.now ≡ version bytes = grind (arith, common_steps, same_byte bytes c.grow.new.front.items 3 b.is_front (omega (arith, here.0))) in
-    (classic_on bytes c.grow.new.front.items b.is_front b.within here, v, λ k. let h = c.if-not-is_known.ensures.no k in search (rules, h))
+    let other : IsKnown (version bytes) → ⊥ = λ k. (let h = c.if-not-is_known.ensures.no (rw v k) in search (rules, h)) in
+    header_of-version bytes (classic_on bytes c.grow.new.front.items b.is_front b.within here) other ∙ ap (λ n. Err (faults.Version n)) (sym v)
 
 pub returns-clause-told : goal.returns-clause-told
 returns-clause-told g c = λ bytes there.
@@ -22,11 +32,11 @@ returns-clause-told g c = λ bytes there.
     let here : IsClassic c.grow.new.front.items = rw (← c.deref.ensures.value) (search rules) in
     let v : c.index-v.result.now ≡ version bytes = grind (arith, common_steps, same_byte bytes c.grow.new.front.items 3 b.is_front (omega (arith, here.0))) in
     let known : IsKnown (version bytes) = rw (← v) (search rules) in
-    let kept : g.F.Files.holds c.grow.new.files ≡ g.F.Files.holds c.args.files.now = c.in_ok-whole.ensures.kept ∙ c.in-Ok-Some.ensures.kept in
-    let told = c.read_fields.ensures.told bytes (ap (λ h. bytes_in h c.args.name.now) kept ∙ there) b.most_is b.full b.is_front in
-    reading bytes c.read_fields.result (classic_on bytes c.grow.new.front.items b.is_front b.within here) known
-    (subst (λ k. Answers (run (header (length bytes) k done) (first bytes) 4) c.read_fields.result) v
-    (subst (λ n. Answers (run (header n c.index-v.result.now done) (first bytes) 4) c.read_fields.result) b.size_is told))
+    let kept : g.F.Files.holds c.grow.new.files ≡ g.F.Files.holds c.args.files.now = c.in_ok-whole.ensures.frame.kept ∙ c.in-Ok-Some.ensures.kept in
+    let told = c.read_fields.ensures.told bytes (ap (λ h. bytes_in h c.args.name.now) kept ∙ there) b.size_is b.full b.is_front in
+    subst (λ m. IsAnswered m c.read_fields.result) (sym (header_of-fields bytes (classic_on bytes c.grow.new.front.items b.is_front b.within here) known))
+    (subst (λ k. IsAnswered (fields_of (length bytes) k bytes) c.read_fields.result) v
+    (subst (λ n. IsAnswered (fields_of n c.index-v.result.now bytes) c.read_fields.result) b.size_is told))
 
 pub returns-in_err-whole-clause-causes : goal.returns-in_err-whole-clause-causes
 returns-in_err-whole-clause-causes g c =

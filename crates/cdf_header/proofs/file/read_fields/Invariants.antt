@@ -1,4 +1,4 @@
-use Rattle.std.proofs.Common.{◌≡◌, ◌≤◌, ◌-◌, ◌+◌, ◌*◌, List, ℕ, Some, length, min, cond, false, true}
+use Rattle.std.proofs.Common.{◌≡◌, ◌≤◌, ◌-◌, ◌+◌, ◌*◌, List, ℕ, Some, length, cond, false, true}
 use Rattle.aql_outside.specs.Causes.{Blames}
 use Rattle.aql_outside.specs.Contents.{bytes_in}
 use Rattle.cdf_header.specs.File.{IsFront}
@@ -10,7 +10,7 @@ invariant-fronts g l = record {
   blames : Blames g.F.Files.quiet ⊥ (g.F.Files.faults l.fn.files) (g.F.Files.faults l.files);
   magic : 4 ≤ length l.front.items;
   within : length l.front.items ≤ l.most;
-  told : (bytes : List ℕ) → bytes_in (g.F.Files.holds l.fn.files) l.name ≡ Some bytes → l.most ≡ min 16777216 (length bytes) → l.fn.whole ≡ true → IsFront bytes l.fn.start.items
+  told : (bytes : List ℕ) → bytes_in (g.F.Files.holds l.fn.files) l.name ≡ Some bytes → l.fn.size ≡ length bytes → l.fn.whole ≡ true → IsFront bytes l.fn.start.items
       → IsFront bytes l.front.items × (l.ended ≡ false);
 }
 

@@ -1,13 +1,12 @@
-use Rattle.std.proofs.Common.{rules, arith, ◌≡◌, ◌≤◌, ◌++◌, length, take, List, ℕ, Some, eq-eqb}
+use Rattle.std.proofs.Common.{arith, ◌≡◌, ◌++◌, length, take, eq-eqb}
 use Rattle.std.proofs.lemmas.Grind.{common_steps}
-use Rattle.aql_outside.specs.Contents.{bytes_in}
-use Rattle.cdf_header.specs.File.{IsFront}
-use Rattle.cdf_header.proofs.Fronts.{told_at, front_grows}
+use Rattle.aql_outside.specs.ContentsLaws.{given-from_told}
+use Rattle.cdf_header.proofs.Fronts.{front_grows}
 use Rattle.cdf_header.proofs.file.read_piece.Goals as goal
 
 pub returns-in-Ok-extend_from_slice-clause-told : goal.returns-in-Ok-extend_from_slice-clause-told
 returns-in-Ok-extend_from_slice-clause-told g c = λ bytes there within is.
-    let t = told_at _ (g.F.Files.holds c.args.files.now) c.args.name.now bytes c.read_at.new.into _ _ there c.in-Ok.ensures.told in
+    let t = given-from_told _ (g.F.Files.holds c.args.files.now) c.args.name.now bytes c.read_at.new.into _ _ there c.in-Ok.ensures.told in
     let e : c.extend_from_slice.new.self.items ≡ c.args.front.now.items ++ take c.in-Ok.count c.read_at.new.into = grind (arith, common_steps, c.in-Ok-extend_from_slice.ensures.items) in
     let len : length c.read_at.new.into ≡ c.min-room.result = grind (arith, common_steps) in
     let place : c.len-2.result ≡ length c.args.front.now.items = grind (arith, common_steps, c.len-2.ensures) in

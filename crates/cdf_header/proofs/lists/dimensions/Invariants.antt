@@ -6,7 +6,7 @@ use Rattle.cdf_header.proofs.lists.dimensions.Given as goal
 
 abbrev pub invariant-items : goal.invariant-items
 invariant-items l = record {
-  within : l.place ≤ length l.bytes;
+  within : l.place ≤ length l.front.bytes.now;
   few : length l.found.items ≡ l.counter;
-  so_far : SoFar (many (dimension l.v) l.count []) l.at (many (dimension l.v) (l.count - l.counter) (map dim l.found.items)) l.bytes l.place;
+  so_far : SoFar (many (dimension l.front.version) l.count []) l.at (many (dimension l.front.version) (l.count - l.counter) (map dim l.found.items)) l.front.bytes.now l.place;
 }

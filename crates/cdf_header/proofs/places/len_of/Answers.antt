@@ -1,4 +1,4 @@
-use Rattle.std.proofs.Common.{ap, sym, ◌∙◌, rules}
+use Rattle.std.proofs.Common.{ap, sym, ◌∙◌}
 use Rattle.cdf_header.specs.declared.header.Dimension.{Dimension}
 use Rattle.cdf_header.proofs.Saturate.{len_known}
 use Rattle.cdf_header.proofs.places.len_of.Goals as goal

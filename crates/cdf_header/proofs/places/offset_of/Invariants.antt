@@ -1,4 +1,4 @@
-use Rattle.std.proofs.Common.{◌≡◌, ◌≤◌, ◌*◌, ◌^◌, ◌-◌, map, min, drop}
+use Rattle.std.proofs.Common.{◌≡◌, ◌≤◌, ◌^◌, ◌-◌, map, min, drop}
 use Rattle.aql_value.specs.IndicesLaws.{offset}
 use Rattle.cdf_header.specs.Places.{lens}
 use Rattle.cdf_header.proofs.Saturate.{horner}

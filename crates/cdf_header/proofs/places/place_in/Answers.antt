@@ -1,4 +1,4 @@
-use Rattle.std.proofs.Common.{◌≡◌, ◌∙◌, arith, ap, sym, map, min, ◌^◌, ◌-◌, ◌+◌, ◌*◌, drop, rules, get_or}
+use Rattle.std.proofs.Common.{◌≡◌, ◌∙◌, ap, sym, map, min, ◌^◌, ◌-◌, ◌+◌, ◌*◌, drop, get_or}
 use Rattle.cdf_header.specs.Header.{dim, var}
 use Rattle.cdf_header.specs.Format.{type_size}
 use Rattle.aql_value.specs.IndicesLaws.{offset}

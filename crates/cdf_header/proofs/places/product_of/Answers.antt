@@ -1,4 +1,4 @@
-use Rattle.std.proofs.Common.{◌≡◌, ◌∙◌, arith, map, min, ◌^◌, ◌-◌}
+use Rattle.std.proofs.Common.{◌∙◌, arith, map, min, ◌^◌, ◌-◌}
 use Rattle.cdf_header.specs.Header.{dim}
 use Rattle.aql_value.specs.Indices.{product}
 use Rattle.cdf_header.specs.Places.{lens}

@@ -1,4 +1,4 @@
-use Rattle.std.proofs.Common.{◌≡◌, ◌∙◌, arith, ap, map, min, ◌^◌, ◌-◌, drop}
+use Rattle.std.proofs.Common.{ap, map, ◌^◌, ◌-◌, drop}
 use Rattle.std.proofs.lemmas.List.{drop_all}
 use Rattle.cdf_header.specs.Header.{dim, var}
 use Rattle.cdf_header.proofs.Saturate.{one_record, more_records}

@@ -1,4 +1,4 @@
-use Rattle.std.proofs.Common.{◌≡◌, ◌≤◌, ◌+◌, ◌*◌, ◌^◌, ◌-◌, map, min, drop}
+use Rattle.std.proofs.Common.{◌≡◌, ◌≤◌, ◌+◌, ◌^◌, ◌-◌, map, min, drop}
 use Rattle.cdf_header.specs.Places.{record_count, plain_sum, padded_sum}
 use Rattle.cdf_header.specs.Header.{dim, var}
 use Rattle.cdf_header.proofs.places.record_bytes.Given as goal

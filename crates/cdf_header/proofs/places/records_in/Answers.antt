@@ -1,4 +1,4 @@
-use Rattle.std.proofs.Common.{◌≡◌, ◌∙◌, sym, arith, map, ◌^◌, ◌-◌}
+use Rattle.std.proofs.Common.{◌∙◌, sym, arith, map, ◌^◌, ◌-◌}
 use Rattle.cdf_header.specs.Header.{dim, var}
 use Rattle.cdf_header.proofs.Least.{records_streamed}
 use Rattle.cdf_header.proofs.places.records_in.Goals as goal

@@ -1,4 +1,4 @@
-use Rattle.std.proofs.Common.{◌≡◌, ◌∙◌, ◌^◌, ◌-◌, min, map, sym, ap}
+use Rattle.std.proofs.Common.{◌∙◌, ◌^◌, ◌-◌, min, map, sym, ap}
 use Rattle.cdf_header.specs.Header.{dim, var}
 use Rattle.cdf_header.proofs.Weights.{weights_past}
 use Rattle.cdf_header.proofs.places.weight_in.Goals as goal

@@ -1,36 +1,22 @@
-use Rattle.std.proofs.Common.{◌≡◌, ◌+◌, ap, sym, subst, ◌∙◌, length, map}
+use Rattle.std.proofs.Common.{◌≡◌, ◌+◌, ap, sym, subst, ◌∙◌, length}
 use Rattle.std.specs.Prelude.{IfOk, IfErr}
 use Rattle.aql_outside.specs.Contents.{bytes_in}
-use Rattle.cdf_slab.specs.Numbers.{number_at}
 use Rattle.cdf_slab.specs.Walk.{steps_of, walk}
-use Rattle.cdf_slab.specs.Going.{Goes}
 use Rattle.cdf_slab.specs.Slab.{IsLate}
-use Rattle.cdf_slab.specs.Window.{IsPiece}
 use Rattle.aql_outside.specs.CausesLaws.{blamed_as, blamed_then}
-use Rattle.cdf_slab.proofs.Blocks.{read_next, read_fails, read_done, count_next, count_late, count_done, none_is, one_is}
+use Rattle.cdf_slab.proofs.Blocks.{read_next, read_fails, read_done, count_next, count_late, count_done, one_is}
 use Rattle.cdf_slab.proofs.cells.+read_cells.Goals as goal
-
-pub returns-in-empty-clause-told : goal.returns-in-empty-clause-told
-returns-in-empty-clause-told t g c = λ bytes there le p.
-    subst (λ l. Goes c.args.reading.signed (map (number_at bytes c.args.reading.kind) (walk (steps_of l) c.args.base)) c.args.cells c.read_cell.result × IfOk c.read_cell.result (λ x. IsPiece bytes c.read_cell.new.window))
-    (sym (none_is c.args.axes.now c.in-empty.len_below)) (c.read_cell.ensures.told bytes there le p)
-
-pub returns-in-empty-clause-many : goal.returns-in-empty-clause-many
-returns-in-empty-clause-many t g c =
-    subst (λ l. IfOk c.read_cell.result (λ all. length all ≡ length c.args.cells + length (walk (steps_of l) c.args.base))) (sym (none_is c.args.axes.now c.in-empty.len_below)) c.read_cell.ensures.many
 
 pub cells-preserved : goal.cells-preserved
 cells-preserved t g c =
     let s = c.place_along-here.ensures.turn in
     record {
       size = c.cells.invariant.size;
-      is = c.cells.invariant.is;
-      small = c.cells.invariant.small;
       room = s.next;
       many = count_next _ _ _ _ _ _ _ _ _ _ _ c.cells.invariant.many s c.cells-test.true c.in-Ok.ensures.many;
       kinds = λ h. c.in-Ok.ensures.kinds (c.cells.invariant.kinds h);
-      kept = c.in-Ok.ensures.kept ∙ c.cells.invariant.kept;
-      blames = blamed_then _ _ _ _ _ _ c.cells.invariant.blames (λ x. x) (blamed_as _ _ ⊥ _ _ (λ e. cc) (λ x. absurd x) c.in-Ok.ensures.blamed);
+      kept = c.in-Ok.ensures.frame.kept ∙ c.cells.invariant.kept;
+      blames = blamed_then _ _ _ _ _ _ c.cells.invariant.blames (λ x. x) (blamed_as _ _ ⊥ _ _ (λ e. cc) (λ x. absurd x) c.in-Ok.ensures.frame.blames);
       told = λ bytes there le p.
           let old = c.cells.invariant.told bytes there le p in
           let r = c.in-Ok.ensures.told bytes (ap (λ h. bytes_in h c.args.name.now) c.cells.invariant.kept ∙ there) le old.0 in
@@ -47,10 +33,6 @@ returns-in-Err-clause-told t g c = λ bytes there le p.
 pub returns-in-Err-clause-late : goal.returns-in-Err-clause-late
 returns-in-Err-clause-late t g c =
     count_late c.args.reading.signed _ _ _ _ _ _ _ _ _ _ c.in-Err.fault c.cells.invariant.many c.place_along-here.ensures.turn c.cells-test.true c.in-Err.ensures.late
-
-pub returns-in-empty-clause-late : goal.returns-in-empty-clause-late
-returns-in-empty-clause-late t g c =
-    subst (λ l. IfErr c.read_cell.result (IsLate c.args.reading.signed (length c.args.cells + length (walk (steps_of l) c.args.base)))) (sym (none_is c.args.axes.now c.in-empty.len_below)) c.read_cell.ensures.late
 
 pub returns-in-len1-clause-late : goal.returns-in-len1-clause-late
 returns-in-len1-clause-late t g c =

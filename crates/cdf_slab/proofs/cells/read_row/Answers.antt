@@ -26,20 +26,18 @@ row-preserved g c =
     record {
       step = c.row.invariant.step;
       size = c.row.invariant.size;
-      is = c.row.invariant.is;
-      small = c.row.invariant.small;
       below = le;
       room = t.next;
       many = row_counts _ _ _ _ _ _ _ _ _ _ _ _ c.row.invariant.many t c.in-Ok-push_run.ensures.many;
       kinds = λ h.
           goes-kinds c.args.reading.signed (map (number_of c.args.reading.kind) (run c.args.reading.size step n c.from-bytes.result.now)) c.row.all (Ok c.in-Ok-push_run.more) c.in-Ok-push_run.ensures.goes
           (c.row.invariant.kinds h);
-      kept = c.in-Ok.ensures.kept ∙ c.row.invariant.kept;
-      blames = blamed_then _ _ _ _ _ _ c.row.invariant.blames (λ x. x) (blamed_as _ _ ⊥ _ _ (λ e. cc) (λ x. absurd x) c.in-Ok.ensures.blamed);
+      kept = c.in-Ok.ensures.frame.kept ∙ c.row.invariant.kept;
+      blames = blamed_then _ _ _ _ _ _ c.row.invariant.blames (λ x. x) (blamed_as _ _ ⊥ _ _ (λ e. cc) (λ x. absurd x) c.in-Ok.ensures.frame.blames);
       told = λ bytes there le p.
           let old = c.row.invariant.told bytes there le p in
           let r = c.in-Ok.ensures.told bytes (ap (λ h. bytes_in h c.args.name.now) c.row.invariant.kept ∙ there) le old.0 in
-          let m = run_told c.args.reading.signed bytes c.run_in.new.window c.args.reading.kind c.args.reading.size here step n c.from-bytes.result.now c.row.all (Ok c.in-Ok-push_run.more) c.requires.is c.in-Ok.ensures.run r.1 c.from-bytes.ensures c.in-Ok-push_run.ensures.goes in
+          let m = run_told c.args.reading.signed bytes c.run_in.new.window c.args.reading.kind c.args.reading.size here step n c.from-bytes.result.now c.row.all (Ok c.in-Ok-push_run.more) c.args.reading.is c.in-Ok.ensures.run r.1 c.from-bytes.ensures c.in-Ok-push_run.ensures.goes in
           (r.1, row_next _ _ _ _ _ _ _ _ _ _ _ _ _ _ _ old.1 t m);
     }
 
@@ -52,7 +50,7 @@ returns-in-Err-push_run-clause-told g c = λ bytes there is p.
     let t = row_turn (step_of c.args.a) c.args.base c.row.i n c.args.reading.size c.args.reading.end here step (2 ^ 64 - 1) c.row.invariant.room c.place_along-here.ensures.turn le c.row.invariant.step c.in-Ok.ensures.near in
     let old = c.row.invariant.told bytes there is p in
     let r = c.in-Ok.ensures.told bytes (ap (λ h. bytes_in h c.args.name.now) c.row.invariant.kept ∙ there) is old.0 in
-    let m = run_told c.args.reading.signed bytes c.run_in.new.window c.args.reading.kind c.args.reading.size here step n c.from-bytes.result.now c.row.all (Err c.in-Err-push_run.fault) c.requires.is c.in-Ok.ensures.run r.1 c.from-bytes.ensures c.in-Err-push_run.ensures.goes in
+    let m = run_told c.args.reading.signed bytes c.run_in.new.window c.args.reading.kind c.args.reading.size here step n c.from-bytes.result.now c.row.all (Err c.in-Err-push_run.fault) c.args.reading.is c.in-Ok.ensures.run r.1 c.from-bytes.ensures c.in-Err-push_run.ensures.goes in
     (row_fails _ _ _ _ _ _ _ _ _ _ _ _ _ _ _ old.1 t m, tt)
 
 pub returns-in-Err-push_run-clause-late : goal.returns-in-Err-push_run-clause-late

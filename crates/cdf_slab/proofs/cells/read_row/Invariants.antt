@@ -1,9 +1,8 @@
-use Rattle.std.proofs.Common.{length, ◌≡◌, ◌-◌, ◌≤◌, ◌<◌, ◌^◌, ◌*◌, ◌⊎◌, min, List, ℕ, Some, [], ◌∷◌, map}
+use Rattle.std.proofs.Common.{length, ◌≡◌, ◌-◌, ◌≤◌, ◌^◌, ◌*◌, min, List, ℕ, Some, [], ◌∷◌, map}
 use Rattle.aql_outside.specs.Causes.{Blames}
 use Rattle.aql_outside.specs.Contents.{bytes_in}
 use Rattle.aql_value.specs.Lists.{Every}
-use Rattle.cdf_header.specs.Format.{type_size}
-use Rattle.cdf_slab.specs.Numbers.{IsCell, number_at}
+use Rattle.cdf_slab.specs.Numbers.{IsWidth, IsCell, number_at}
 use Rattle.cdf_slab.specs.Walk.{step_of, walk, RoomSoFar}
 use Rattle.cdf_slab.specs.Window.{IsPiece}
 use Rattle.cdf_slab.proofs.Blocks.{ReadSoFar, CountSoFar}
@@ -15,16 +14,14 @@ decreases-row g l = l.a.count - l.i
 abbrev pub invariant-row : goal.invariant-row
 invariant-row g l = record {
   step : l.step ≡ min (l.a.stride * l.a.weight) (2 ^ 64 - 1);
-  size : (l.reading.size ≡ 1) ⊎ ((l.reading.size ≡ 2) ⊎ ((l.reading.size ≡ 4) ⊎ (l.reading.size ≡ 8)));
-  is : l.reading.size ≡ type_size l.reading.kind;
-  small : l.reading.end < 2 ^ 64;
+  size : IsWidth l.reading.size;
   below : l.i ≤ l.a.count;
   room : RoomSoFar [] (step_of l.a) l.base l.i l.reading.size l.reading.end;
   many : CountSoFar [] (step_of l.a) l.base l.i (length l.all) (length l.fn.cells) (length (walk (step_of l.a ∷ []) l.base));
   kinds : Every (IsCell l.reading.signed) l.fn.cells → Every (IsCell l.reading.signed) l.all;
   kept : g.F.Files.holds l.files ≡ g.F.Files.holds l.fn.files;
   blames : Blames g.F.Files.quiet ⊥ (g.F.Files.faults l.fn.files) (g.F.Files.faults l.files);
-  told : (bytes : List ℕ) → bytes_in (g.F.Files.holds l.fn.files) l.name ≡ Some bytes → l.reading.end ≤ length bytes → IsPiece bytes l.fn.window →
-      IsPiece bytes l.window
+  told : (bytes : List ℕ) → bytes_in (g.F.Files.holds l.fn.files) l.name ≡ Some bytes → l.reading.end ≤ length bytes → IsPiece bytes l.fn.buffers.window →
+      IsPiece bytes l.buffers.window
       × ReadSoFar l.reading.signed bytes l.reading.kind [] (step_of l.a) l.base l.i (map (number_at bytes l.reading.kind) (walk (step_of l.a ∷ []) l.base)) l.all l.fn.cells;
 }

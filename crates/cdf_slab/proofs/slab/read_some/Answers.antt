@@ -3,24 +3,26 @@ use Rattle.std.proofs.lemmas.Option.{none-some}
 use Rattle.aql_value.specs.Indices.{product}
 use Rattle.cdf_header.specs.declared.fault.CdfFault.TheVariants as faults
 use Rattle.cdf_header.specs.Format.{type_size}
-use Rattle.cdf_header.specs.Places.{variable_at}
-use Rattle.cdf_slab.specs.Slab.{cell_places, slab_numbers, slab, or_else, first_cut, negative_fault, Answers}
-use Rattle.cdf_slab.specs.Walk.{steps_of, walk, AreWithin}
+use Rattle.cdf_header.specs.Places.{variable_at, weights}
+use Rattle.cdf_slab.specs.Slab.{most_cells, cell_places, slab_numbers, slab, first_cut, negative_fault, Answers}
+use Rattle.aql_value.specs.Partial.{or_else}
+use Rattle.cdf_slab.specs.Walk.{steps_of, walk, AreWithin, capped}
 use Rattle.cdf_slab.proofs.Answering.{leads, cut_found, walk_found, room_found, places_many, cut_early, goes_as, read_all, read_some, early-none, counts_small}
 use Rattle.cdf_slab.proofs.Goings.{late_more}
+use Rattle.cdf_slab.proofs.Stepping.{some_axes, length-weights, length-capped}
 use Rattle.cdf_slab.proofs.slab.read_some.Goals as goal
 
 pub axes_of-requires-clause-fit : goal.axes_of-requires-clause-fit
-axes_of-requires-clause-fit g c = counts_small c.args.count.now 50000000 c.requires.cells c.requires.full (omega arith)
+axes_of-requires-clause-fit g c = counts_small c.args.asked.now.count.now most_cells c.args.asked.now.cells c.requires.full (omega arith)
 
 pub returns-in-Some-clause-early : goal.returns-in-Some-clause-early
 returns-in-Some-clause-early g c =
     let h = c.args.header.now in
     let v = variable_at c.args.header.now c.args.v in
     let small : c.bytes-end.result < 2 ^ 64 = search rules in
-    let l = leads h v c.args.start.now c.args.count.now c.args.stride.now c.in_ok-axes.axes.items c.in_ok-axes.ensures c.requires.counts c.requires.strides c.requires.rank in
-    let cut : c.cut_from.result ≡ first_cut (type_size v.kind) h.bytes (cell_places h v c.args.start.now c.args.count.now c.args.stride.now) =
-    cut_found h v c.args.start.now c.args.count.now c.args.stride.now c.in_ok-axes.axes.items c.deref.result.now c.width-size.result c.bytes-end.result c.from-base.result c.cut_from.result l
+    let l = leads h v c.args.asked.now.start.now c.args.asked.now.count.now c.args.asked.now.stride.now c.in_ok-axes.axes.items c.in_ok-axes.ensures c.args.asked.now.counts c.args.asked.now.strides c.requires.rank in
+    let cut : c.cut_from.result ≡ first_cut (type_size v.kind) h.bytes (cell_places h v c.args.asked.now.start.now c.args.asked.now.count.now c.args.asked.now.stride.now) =
+    cut_found h v c.args.asked.now.start.now c.args.asked.now.count.now c.args.asked.now.stride.now c.in_ok-axes.axes.items c.deref.result.now c.width-size.result c.bytes-end.result c.from-base.result c.cut_from.result l
     c.deref.ensures.value c.width-size.ensures.is c.bytes-end.ensures (c.from-base.ensures ∙ c.begin.ensures) small c.cut_from.ensures in
     cut_early _ c.in-Some.at (sym c.in-Some.is ∙ cut)
 
@@ -29,24 +31,33 @@ returns-in-Some-clause-told g c = λ bytes there is.
     let h = c.args.header.now in
     let v = variable_at c.args.header.now c.args.v in
     let small : c.bytes-end.result < 2 ^ 64 = search rules in
-    let l = leads h v c.args.start.now c.args.count.now c.args.stride.now c.in_ok-axes.axes.items c.in_ok-axes.ensures c.requires.counts c.requires.strides c.requires.rank in
-    let cut : c.cut_from.result ≡ first_cut (type_size v.kind) h.bytes (cell_places h v c.args.start.now c.args.count.now c.args.stride.now) =
-    cut_found h v c.args.start.now c.args.count.now c.args.stride.now c.in_ok-axes.axes.items c.deref.result.now c.width-size.result c.bytes-end.result c.from-base.result c.cut_from.result l
+    let l = leads h v c.args.asked.now.start.now c.args.asked.now.count.now c.args.asked.now.stride.now c.in_ok-axes.axes.items c.in_ok-axes.ensures c.args.asked.now.counts c.args.asked.now.strides c.requires.rank in
+    let cut : c.cut_from.result ≡ first_cut (type_size v.kind) h.bytes (cell_places h v c.args.asked.now.start.now c.args.asked.now.count.now c.args.asked.now.stride.now) =
+    cut_found h v c.args.asked.now.start.now c.args.asked.now.count.now c.args.asked.now.stride.now c.in_ok-axes.axes.items c.deref.result.now c.width-size.result c.bytes-end.result c.from-base.result c.cut_from.result l
     c.deref.ensures.value c.width-size.ensures.is c.bytes-end.ensures (c.from-base.ensures ∙ c.begin.ensures) small c.cut_from.ensures in
-    ap (λ o. or_else (option_map faults.Cut o) (negative_fault c.args.signed (slab_numbers bytes h v c.args.start.now c.args.count.now c.args.stride.now))) (sym cut ∙ c.in-Some.is)
+    ap (λ o. or_else (option_map faults.Cut o) (negative_fault c.args.asked.now.signed (slab_numbers bytes h v c.args.asked.now.start.now c.args.asked.now.count.now c.args.asked.now.stride.now))) (sym cut ∙ c.in-Some.is)
 
 pub last_end-requires : goal.last_end-requires
 last_end-requires g c =
     let h = c.args.header.now in
     let v = variable_at c.args.header.now c.args.v in
     let small : c.bytes-end.result < 2 ^ 64 = search rules in
-    let l = leads h v c.args.start.now c.args.count.now c.args.stride.now c.in_ok-axes.axes.items c.in_ok-axes.ensures c.requires.counts c.requires.strides c.requires.rank in
-    let cut : c.cut_from.result ≡ first_cut (type_size v.kind) h.bytes (cell_places h v c.args.start.now c.args.count.now c.args.stride.now) =
-    cut_found h v c.args.start.now c.args.count.now c.args.stride.now c.in_ok-axes.axes.items c.deref.result.now c.width-size.result c.bytes-end.result c.from-base.result c.cut_from.result l
+    let l = leads h v c.args.asked.now.start.now c.args.asked.now.count.now c.args.asked.now.stride.now c.in_ok-axes.axes.items c.in_ok-axes.ensures c.args.asked.now.counts c.args.asked.now.strides c.requires.rank in
+    let cut : c.cut_from.result ≡ first_cut (type_size v.kind) h.bytes (cell_places h v c.args.asked.now.start.now c.args.asked.now.count.now c.args.asked.now.stride.now) =
+    cut_found h v c.args.asked.now.start.now c.args.asked.now.count.now c.args.asked.now.stride.now c.in_ok-axes.axes.items c.deref.result.now c.width-size.result c.bytes-end.result c.from-base.result c.cut_from.result l
     c.deref.ensures.value c.width-size.ensures.is c.bytes-end.ensures (c.from-base.ensures ∙ c.begin.ensures) small c.cut_from.ensures in
     let none = sym cut ∙ c.in_default.is in
-    room_found h v c.args.start.now c.args.count.now c.args.stride.now c.in_ok-axes.axes.items c.deref-2.result.now c.width-size.result c.bytes-end.result c.from-base.result l
+    room_found h v c.args.asked.now.start.now c.args.asked.now.count.now c.args.asked.now.stride.now c.in_ok-axes.axes.items c.deref-2.result.now c.width-size.result c.bytes-end.result c.from-base.result l
     c.deref-2.ensures.value c.width-size.ensures.is c.bytes-end.ensures (c.from-base.ensures ∙ c.begin.ensures) small none
+
+pub read_cells-requires-clause-some : goal.read_cells-requires-clause-some
+read_cells-requires-clause-some g c =
+    let h = c.args.header.now in
+    let v = variable_at c.args.header.now c.args.v in
+    let ws = weights h.dims h.vars v in
+    subst (λ l. 1 ≤ length l) (sym c.deref-3.ensures.value)
+    (some_axes c.in_ok-axes.axes.items c.args.asked.now.start.now c.args.asked.now.count.now c.args.asked.now.stride.now (capped ws) c.in_ok-axes.ensures c.args.asked.now.some c.args.asked.now.counts c.args.asked.now.strides
+    (length-capped ws ∙ length-weights h.dims h.vars v ∙ c.requires.rank))
 
 pub read_cells-requires-clause-within : goal.read_cells-requires-clause-within
 read_cells-requires-clause-within g c =
@@ -57,23 +68,23 @@ shaped-requires-clause-many g c =
     let h = c.args.header.now in
     let v = variable_at c.args.header.now c.args.v in
     let small : c.bytes-end.result < 2 ^ 64 = search rules in
-    let l = leads h v c.args.start.now c.args.count.now c.args.stride.now c.in_ok-axes.axes.items c.in_ok-axes.ensures c.requires.counts c.requires.strides c.requires.rank in
-    let cut : c.cut_from.result ≡ first_cut (type_size v.kind) h.bytes (cell_places h v c.args.start.now c.args.count.now c.args.stride.now) =
-    cut_found h v c.args.start.now c.args.count.now c.args.stride.now c.in_ok-axes.axes.items c.deref.result.now c.width-size.result c.bytes-end.result c.from-base.result c.cut_from.result l
+    let l = leads h v c.args.asked.now.start.now c.args.asked.now.count.now c.args.asked.now.stride.now c.in_ok-axes.axes.items c.in_ok-axes.ensures c.args.asked.now.counts c.args.asked.now.strides c.requires.rank in
+    let cut : c.cut_from.result ≡ first_cut (type_size v.kind) h.bytes (cell_places h v c.args.asked.now.start.now c.args.asked.now.count.now c.args.asked.now.stride.now) =
+    cut_found h v c.args.asked.now.start.now c.args.asked.now.count.now c.args.asked.now.stride.now c.in_ok-axes.axes.items c.deref.result.now c.width-size.result c.bytes-end.result c.from-base.result c.cut_from.result l
     c.deref.ensures.value c.width-size.ensures.is c.bytes-end.ensures (c.from-base.ensures ∙ c.begin.ensures) small c.cut_from.ensures in
     let none = sym cut ∙ c.in_default.is in
-    let visited = walk_found h v c.args.start.now c.args.count.now c.args.stride.now c.in_ok-axes.axes.items c.deref-3.result.now c.bytes-end.result c.from-base.result l
+    let visited = walk_found h v c.args.asked.now.start.now c.args.asked.now.count.now c.args.asked.now.stride.now c.in_ok-axes.axes.items c.deref-3.result.now c.bytes-end.result c.from-base.result l
     c.deref-3.ensures.value c.bytes-end.ensures (c.from-base.ensures ∙ c.begin.ensures) small none in
-    omega (arith, c.in-Ok.ensures.many, ap length c.new.ensures, ap length visited, places_many h v c.args.start.now c.args.count.now c.args.stride.now)
+    omega (arith, c.in-Ok.ensures.many, ap length c.new-none.ensures, ap length visited, places_many h v c.args.asked.now.start.now c.args.asked.now.count.now c.args.asked.now.stride.now)
 
 pub returns-in-Ok-clause-early : goal.returns-in-Ok-clause-early
 returns-in-Ok-clause-early g c =
     let h = c.args.header.now in
     let v = variable_at c.args.header.now c.args.v in
     let small : c.bytes-end.result < 2 ^ 64 = search rules in
-    let l = leads h v c.args.start.now c.args.count.now c.args.stride.now c.in_ok-axes.axes.items c.in_ok-axes.ensures c.requires.counts c.requires.strides c.requires.rank in
-    let cut : c.cut_from.result ≡ first_cut (type_size v.kind) h.bytes (cell_places h v c.args.start.now c.args.count.now c.args.stride.now) =
-    cut_found h v c.args.start.now c.args.count.now c.args.stride.now c.in_ok-axes.axes.items c.deref.result.now c.width-size.result c.bytes-end.result c.from-base.result c.cut_from.result l
+    let l = leads h v c.args.asked.now.start.now c.args.asked.now.count.now c.args.asked.now.stride.now c.in_ok-axes.axes.items c.in_ok-axes.ensures c.args.asked.now.counts c.args.asked.now.strides c.requires.rank in
+    let cut : c.cut_from.result ≡ first_cut (type_size v.kind) h.bytes (cell_places h v c.args.asked.now.start.now c.args.asked.now.count.now c.args.asked.now.stride.now) =
+    cut_found h v c.args.asked.now.start.now c.args.asked.now.count.now c.args.asked.now.stride.now c.in_ok-axes.axes.items c.deref.result.now c.width-size.result c.bytes-end.result c.from-base.result c.cut_from.result l
     c.deref.ensures.value c.width-size.ensures.is c.bytes-end.ensures (c.from-base.ensures ∙ c.begin.ensures) small c.cut_from.ensures in
     let none = sym cut ∙ c.in_default.is in
     early-none _ _ (ap (option_map faults.Cut) none)
@@ -83,25 +94,25 @@ returns-in-Ok-clause-told g c = λ bytes there is.
     let h = c.args.header.now in
     let v = variable_at c.args.header.now c.args.v in
     let small : c.bytes-end.result < 2 ^ 64 = search rules in
-    let l = leads h v c.args.start.now c.args.count.now c.args.stride.now c.in_ok-axes.axes.items c.in_ok-axes.ensures c.requires.counts c.requires.strides c.requires.rank in
-    let cut : c.cut_from.result ≡ first_cut (type_size v.kind) h.bytes (cell_places h v c.args.start.now c.args.count.now c.args.stride.now) =
-    cut_found h v c.args.start.now c.args.count.now c.args.stride.now c.in_ok-axes.axes.items c.deref.result.now c.width-size.result c.bytes-end.result c.from-base.result c.cut_from.result l
+    let l = leads h v c.args.asked.now.start.now c.args.asked.now.count.now c.args.asked.now.stride.now c.in_ok-axes.axes.items c.in_ok-axes.ensures c.args.asked.now.counts c.args.asked.now.strides c.requires.rank in
+    let cut : c.cut_from.result ≡ first_cut (type_size v.kind) h.bytes (cell_places h v c.args.asked.now.start.now c.args.asked.now.count.now c.args.asked.now.stride.now) =
+    cut_found h v c.args.asked.now.start.now c.args.asked.now.count.now c.args.asked.now.stride.now c.in_ok-axes.axes.items c.deref.result.now c.width-size.result c.bytes-end.result c.from-base.result c.cut_from.result l
     c.deref.ensures.value c.width-size.ensures.is c.bytes-end.ensures (c.from-base.ensures ∙ c.begin.ensures) small c.cut_from.ensures in
     let none = sym cut ∙ c.in_default.is in
-    let visited = walk_found h v c.args.start.now c.args.count.now c.args.stride.now c.in_ok-axes.axes.items c.deref-3.result.now c.bytes-end.result c.from-base.result l
+    let visited = walk_found h v c.args.asked.now.start.now c.args.asked.now.count.now c.args.asked.now.stride.now c.in_ok-axes.axes.items c.deref-3.result.now c.bytes-end.result c.from-base.result l
     c.deref-3.ensures.value c.bytes-end.ensures (c.from-base.ensures ∙ c.begin.ensures) small none in
-    let r = c.in-Ok.ensures.told bytes there (omega (arith, is, c.bytes-end.ensures, c.last_end.ensures.is)) (c.new-window.ensures bytes) in
-    let a = read_all c.args.signed (slab_numbers bytes h v c.args.start.now c.args.count.now c.args.stride.now) c.args.count.now c.in-Ok.cells (goes_as c.args.signed bytes c.kind.result v.kind _ (cell_places h v c.args.start.now c.args.count.now c.args.stride.now) c.new.result (Ok c.in-Ok.cells) c.kind.ensures visited c.new.ensures r.0) in
-    (ap (λ o. or_else (option_map faults.Cut o) (negative_fault c.args.signed (slab_numbers bytes h v c.args.start.now c.args.count.now c.args.stride.now))) none ∙ a.0, a.1 ∙ ap Some (sym c.in_ok-shaped-in-Ok.ensures.made))
+    let r = c.in-Ok.ensures.told bytes there (omega (arith, is, c.bytes-end.ensures, c.last_end.ensures.is)) (c.new.ensures bytes) in
+    let a = read_all c.args.asked.now.signed (slab_numbers bytes h v c.args.asked.now.start.now c.args.asked.now.count.now c.args.asked.now.stride.now) c.args.asked.now.count.now c.in-Ok.cells (goes_as c.args.asked.now.signed bytes c.kind.result v.kind _ (cell_places h v c.args.asked.now.start.now c.args.asked.now.count.now c.args.asked.now.stride.now) c.new-none.result (Ok c.in-Ok.cells) c.kind.ensures visited c.new-none.ensures r.0) in
+    (ap (λ o. or_else (option_map faults.Cut o) (negative_fault c.args.asked.now.signed (slab_numbers bytes h v c.args.asked.now.start.now c.args.asked.now.count.now c.args.asked.now.stride.now))) none ∙ a.0, a.1 ∙ ap Some (sym c.in_ok-shaped-in-Ok.ensures.made))
 
 pub returns-clause-early : goal.returns-clause-early
 returns-clause-early g c =
     let h = c.args.header.now in
     let v = variable_at c.args.header.now c.args.v in
     let small : c.bytes-end.result < 2 ^ 64 = search rules in
-    let l = leads h v c.args.start.now c.args.count.now c.args.stride.now c.in_ok-axes.axes.items c.in_ok-axes.ensures c.requires.counts c.requires.strides c.requires.rank in
-    let cut : c.cut_from.result ≡ first_cut (type_size v.kind) h.bytes (cell_places h v c.args.start.now c.args.count.now c.args.stride.now) =
-    cut_found h v c.args.start.now c.args.count.now c.args.stride.now c.in_ok-axes.axes.items c.deref.result.now c.width-size.result c.bytes-end.result c.from-base.result c.cut_from.result l
+    let l = leads h v c.args.asked.now.start.now c.args.asked.now.count.now c.args.asked.now.stride.now c.in_ok-axes.axes.items c.in_ok-axes.ensures c.args.asked.now.counts c.args.asked.now.strides c.requires.rank in
+    let cut : c.cut_from.result ≡ first_cut (type_size v.kind) h.bytes (cell_places h v c.args.asked.now.start.now c.args.asked.now.count.now c.args.asked.now.stride.now) =
+    cut_found h v c.args.asked.now.start.now c.args.asked.now.count.now c.args.asked.now.stride.now c.in_ok-axes.axes.items c.deref.result.now c.width-size.result c.bytes-end.result c.from-base.result c.cut_from.result l
     c.deref.ensures.value c.width-size.ensures.is c.bytes-end.ensures (c.from-base.ensures ∙ c.begin.ensures) small c.cut_from.ensures in
     let none = sym cut ∙ c.in_default.is in
     early-none _ _ (ap (option_map faults.Cut) none)
@@ -111,26 +122,26 @@ returns-clause-told g c = λ bytes there is.
     let h = c.args.header.now in
     let v = variable_at c.args.header.now c.args.v in
     let small : c.bytes-end.result < 2 ^ 64 = search rules in
-    let l = leads h v c.args.start.now c.args.count.now c.args.stride.now c.in_ok-axes.axes.items c.in_ok-axes.ensures c.requires.counts c.requires.strides c.requires.rank in
-    let cut : c.cut_from.result ≡ first_cut (type_size v.kind) h.bytes (cell_places h v c.args.start.now c.args.count.now c.args.stride.now) =
-    cut_found h v c.args.start.now c.args.count.now c.args.stride.now c.in_ok-axes.axes.items c.deref.result.now c.width-size.result c.bytes-end.result c.from-base.result c.cut_from.result l
+    let l = leads h v c.args.asked.now.start.now c.args.asked.now.count.now c.args.asked.now.stride.now c.in_ok-axes.axes.items c.in_ok-axes.ensures c.args.asked.now.counts c.args.asked.now.strides c.requires.rank in
+    let cut : c.cut_from.result ≡ first_cut (type_size v.kind) h.bytes (cell_places h v c.args.asked.now.start.now c.args.asked.now.count.now c.args.asked.now.stride.now) =
+    cut_found h v c.args.asked.now.start.now c.args.asked.now.count.now c.args.asked.now.stride.now c.in_ok-axes.axes.items c.deref.result.now c.width-size.result c.bytes-end.result c.from-base.result c.cut_from.result l
     c.deref.ensures.value c.width-size.ensures.is c.bytes-end.ensures (c.from-base.ensures ∙ c.begin.ensures) small c.cut_from.ensures in
     let none = sym cut ∙ c.in_default.is in
-    let visited = walk_found h v c.args.start.now c.args.count.now c.args.stride.now c.in_ok-axes.axes.items c.deref-3.result.now c.bytes-end.result c.from-base.result l
+    let visited = walk_found h v c.args.asked.now.start.now c.args.asked.now.count.now c.args.asked.now.stride.now c.in_ok-axes.axes.items c.deref-3.result.now c.bytes-end.result c.from-base.result l
     c.deref-3.ensures.value c.bytes-end.ensures (c.from-base.ensures ∙ c.begin.ensures) small none in
-    let r = c.in-Err.ensures.told bytes there (omega (arith, is, c.bytes-end.ensures, c.last_end.ensures.is)) (c.new-window.ensures bytes) in
-    subst (λ o. Answers (or_else (option_map faults.Cut o) (negative_fault c.args.signed (slab_numbers bytes h v c.args.start.now c.args.count.now c.args.stride.now)))
-    (slab bytes h v c.args.start.now c.args.count.now c.args.stride.now c.args.signed) (Err c.in-Err.fault)) (sym none)
-    (read_some c.args.signed (slab_numbers bytes h v c.args.start.now c.args.count.now c.args.stride.now) (slab bytes h v c.args.start.now c.args.count.now c.args.stride.now c.args.signed) c.in-Err.fault (goes_as c.args.signed bytes c.kind.result v.kind _ (cell_places h v c.args.start.now c.args.count.now c.args.stride.now) c.new.result (Err c.in-Err.fault) c.kind.ensures visited c.new.ensures r.0))
+    let r = c.in-Err.ensures.told bytes there (omega (arith, is, c.bytes-end.ensures, c.last_end.ensures.is)) (c.new.ensures bytes) in
+    subst (λ o. Answers (or_else (option_map faults.Cut o) (negative_fault c.args.asked.now.signed (slab_numbers bytes h v c.args.asked.now.start.now c.args.asked.now.count.now c.args.asked.now.stride.now)))
+    (slab bytes h v c.args.asked.now.start.now c.args.asked.now.count.now c.args.asked.now.stride.now c.args.asked.now.signed) (Err c.in-Err.fault)) (sym none)
+    (read_some c.args.asked.now.signed (slab_numbers bytes h v c.args.asked.now.start.now c.args.asked.now.count.now c.args.asked.now.stride.now) (slab bytes h v c.args.asked.now.start.now c.args.asked.now.count.now c.args.asked.now.stride.now c.args.asked.now.signed) c.in-Err.fault (goes_as c.args.asked.now.signed bytes c.kind.result v.kind _ (cell_places h v c.args.asked.now.start.now c.args.asked.now.count.now c.args.asked.now.stride.now) c.new-none.result (Err c.in-Err.fault) c.kind.ensures visited c.new-none.ensures r.0))
 
 pub returns-in_err-shaped-in-Ok-clause-untouched : goal.returns-in_err-shaped-in-Ok-clause-untouched
 returns-in_err-shaped-in-Ok-clause-untouched g c = λ f e.
     let h = c.args.header.now in
     let v = variable_at c.args.header.now c.args.v in
     let small : c.bytes-end.result < 2 ^ 64 = search rules in
-    let l = leads h v c.args.start.now c.args.count.now c.args.stride.now c.in_ok-axes.axes.items c.in_ok-axes.ensures c.requires.counts c.requires.strides c.requires.rank in
-    let cut : c.cut_from.result ≡ first_cut (type_size v.kind) h.bytes (cell_places h v c.args.start.now c.args.count.now c.args.stride.now) =
-    cut_found h v c.args.start.now c.args.count.now c.args.stride.now c.in_ok-axes.axes.items c.deref.result.now c.width-size.result c.bytes-end.result c.from-base.result c.cut_from.result l
+    let l = leads h v c.args.asked.now.start.now c.args.asked.now.count.now c.args.asked.now.stride.now c.in_ok-axes.axes.items c.in_ok-axes.ensures c.args.asked.now.counts c.args.asked.now.strides c.requires.rank in
+    let cut : c.cut_from.result ≡ first_cut (type_size v.kind) h.bytes (cell_places h v c.args.asked.now.start.now c.args.asked.now.count.now c.args.asked.now.stride.now) =
+    cut_found h v c.args.asked.now.start.now c.args.asked.now.count.now c.args.asked.now.stride.now c.in_ok-axes.axes.items c.deref.result.now c.width-size.result c.bytes-end.result c.from-base.result c.cut_from.result l
     c.deref.ensures.value c.width-size.ensures.is c.bytes-end.ensures (c.from-base.ensures ∙ c.begin.ensures) small c.cut_from.ensures in
     let none = sym cut ∙ c.in_default.is in
     absurd (none-some f (sym (ap (option_map faults.Cut) none) ∙ e))
@@ -140,9 +151,9 @@ returns-in-Ok-clause-untouched g c = λ f e.
     let h = c.args.header.now in
     let v = variable_at c.args.header.now c.args.v in
     let small : c.bytes-end.result < 2 ^ 64 = search rules in
-    let l = leads h v c.args.start.now c.args.count.now c.args.stride.now c.in_ok-axes.axes.items c.in_ok-axes.ensures c.requires.counts c.requires.strides c.requires.rank in
-    let cut : c.cut_from.result ≡ first_cut (type_size v.kind) h.bytes (cell_places h v c.args.start.now c.args.count.now c.args.stride.now) =
-    cut_found h v c.args.start.now c.args.count.now c.args.stride.now c.in_ok-axes.axes.items c.deref.result.now c.width-size.result c.bytes-end.result c.from-base.result c.cut_from.result l
+    let l = leads h v c.args.asked.now.start.now c.args.asked.now.count.now c.args.asked.now.stride.now c.in_ok-axes.axes.items c.in_ok-axes.ensures c.args.asked.now.counts c.args.asked.now.strides c.requires.rank in
+    let cut : c.cut_from.result ≡ first_cut (type_size v.kind) h.bytes (cell_places h v c.args.asked.now.start.now c.args.asked.now.count.now c.args.asked.now.stride.now) =
+    cut_found h v c.args.asked.now.start.now c.args.asked.now.count.now c.args.asked.now.stride.now c.in_ok-axes.axes.items c.deref.result.now c.width-size.result c.bytes-end.result c.from-base.result c.cut_from.result l
     c.deref.ensures.value c.width-size.ensures.is c.bytes-end.ensures (c.from-base.ensures ∙ c.begin.ensures) small c.cut_from.ensures in
     let none = sym cut ∙ c.in_default.is in
     absurd (none-some f (sym (ap (option_map faults.Cut) none) ∙ e))
@@ -152,9 +163,9 @@ returns-clause-untouched g c = λ f e.
     let h = c.args.header.now in
     let v = variable_at c.args.header.now c.args.v in
     let small : c.bytes-end.result < 2 ^ 64 = search rules in
-    let l = leads h v c.args.start.now c.args.count.now c.args.stride.now c.in_ok-axes.axes.items c.in_ok-axes.ensures c.requires.counts c.requires.strides c.requires.rank in
-    let cut : c.cut_from.result ≡ first_cut (type_size v.kind) h.bytes (cell_places h v c.args.start.now c.args.count.now c.args.stride.now) =
-    cut_found h v c.args.start.now c.args.count.now c.args.stride.now c.in_ok-axes.axes.items c.deref.result.now c.width-size.result c.bytes-end.result c.from-base.result c.cut_from.result l
+    let l = leads h v c.args.asked.now.start.now c.args.asked.now.count.now c.args.asked.now.stride.now c.in_ok-axes.axes.items c.in_ok-axes.ensures c.args.asked.now.counts c.args.asked.now.strides c.requires.rank in
+    let cut : c.cut_from.result ≡ first_cut (type_size v.kind) h.bytes (cell_places h v c.args.asked.now.start.now c.args.asked.now.count.now c.args.asked.now.stride.now) =
+    cut_found h v c.args.asked.now.start.now c.args.asked.now.count.now c.args.asked.now.stride.now c.in_ok-axes.axes.items c.deref.result.now c.width-size.result c.bytes-end.result c.from-base.result c.cut_from.result l
     c.deref.ensures.value c.width-size.ensures.is c.bytes-end.ensures (c.from-base.ensures ∙ c.begin.ensures) small c.cut_from.ensures in
     let none = sym cut ∙ c.in_default.is in
     absurd (none-some f (sym (ap (option_map faults.Cut) none) ∙ e))
@@ -164,12 +175,12 @@ returns-clause-late g c =
     let h = c.args.header.now in
     let v = variable_at c.args.header.now c.args.v in
     let small : c.bytes-end.result < 2 ^ 64 = search rules in
-    let l = leads h v c.args.start.now c.args.count.now c.args.stride.now c.in_ok-axes.axes.items c.in_ok-axes.ensures c.requires.counts c.requires.strides c.requires.rank in
-    let cut : c.cut_from.result ≡ first_cut (type_size v.kind) h.bytes (cell_places h v c.args.start.now c.args.count.now c.args.stride.now) =
-    cut_found h v c.args.start.now c.args.count.now c.args.stride.now c.in_ok-axes.axes.items c.deref.result.now c.width-size.result c.bytes-end.result c.from-base.result c.cut_from.result l
+    let l = leads h v c.args.asked.now.start.now c.args.asked.now.count.now c.args.asked.now.stride.now c.in_ok-axes.axes.items c.in_ok-axes.ensures c.args.asked.now.counts c.args.asked.now.strides c.requires.rank in
+    let cut : c.cut_from.result ≡ first_cut (type_size v.kind) h.bytes (cell_places h v c.args.asked.now.start.now c.args.asked.now.count.now c.args.asked.now.stride.now) =
+    cut_found h v c.args.asked.now.start.now c.args.asked.now.count.now c.args.asked.now.stride.now c.in_ok-axes.axes.items c.deref.result.now c.width-size.result c.bytes-end.result c.from-base.result c.cut_from.result l
     c.deref.ensures.value c.width-size.ensures.is c.bytes-end.ensures (c.from-base.ensures ∙ c.begin.ensures) small c.cut_from.ensures in
     let none = sym cut ∙ c.in_default.is in
-    let visited = walk_found h v c.args.start.now c.args.count.now c.args.stride.now c.in_ok-axes.axes.items c.deref-3.result.now c.bytes-end.result c.from-base.result l
+    let visited = walk_found h v c.args.asked.now.start.now c.args.asked.now.count.now c.args.asked.now.stride.now c.in_ok-axes.axes.items c.deref-3.result.now c.bytes-end.result c.from-base.result l
     c.deref-3.ensures.value c.bytes-end.ensures (c.from-base.ensures ∙ c.begin.ensures) small none in
-    let many : length c.new.result + length (walk (steps_of c.deref-3.result.now) c.from-base.result) ≤ product c.args.count.now = omega (arith, ap length c.new.ensures, ap length visited, places_many h v c.args.start.now c.args.count.now c.args.stride.now) in
-    late_more c.args.signed _ (product c.args.count.now) c.in-Err.fault many c.in-Err.ensures.late
+    let many : length c.new-none.result + length (walk (steps_of c.deref-3.result.now) c.from-base.result) ≤ product c.args.asked.now.count.now = omega (arith, ap length c.new-none.ensures, ap length visited, places_many h v c.args.asked.now.start.now c.args.asked.now.count.now c.args.asked.now.stride.now) in
+    late_more c.args.asked.now.signed _ (product c.args.asked.now.count.now) c.in-Err.fault many c.in-Err.ensures.late

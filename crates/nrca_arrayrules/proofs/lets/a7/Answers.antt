@@ -4,7 +4,7 @@ use Rattle.nrca_term.specs.declared.term.Core.TheVariants as core
 use Rattle.nrca_term.specs.Term.{WellFormed}
 use Rattle.nrca_term.specs.WellFormed.{well_formed-Core}
 use Rattle.nrca_term.specs.Equations.{term_of-Tuple, term_of-Let}
-use Rattle.nrca_arrayrules.proofs.Parts.{as-Dim, as-Let, as-Sub}
+use Rattle.nrca_term.specs.AsVariant.{as-Dim, as-Let, as-Sub}
 use Rattle.nrca_arrayrules.proofs.Sides.{a7_dim, a7_sub, indices_room}
 use Rattle.nrca_arrayrules.proofs.lets.a7.Goals as goal
 

@@ -24,7 +24,8 @@ use Rattle.nrca_runs.specs.WithinLaws.{err_within, same_within}
 use Rattle.nrca_serial.specs.FormLaws.{count-children, child_of-children, strict_whole, strict_taken, sum_whole, sum_taken, union_whole, union_taken, tab_none, tab_whole, tab_idle, tab_taken}
 use Rattle.nrca_serial.specs.Parts.{children}
 use Rattle.nrca_serial.specs.Runs.{run_values, run_turns, cell_values, cell_turns}
-use Rattle.nrca_eval.proofs.Steps.{term_at, member_weight, tab_weight, child_there, strict_form, spent_whole}
+use Rattle.nrca_serial.proofs.Evaluated.{term_at, member_weight, tab_weight, strict_form, spent_whole}
+use Rattle.nrca_term.specs.Entering.{child-there}
 use Rattle.nrca_eval.proofs.wide.+wide.Goals as goal
 
 pub wide-returns-in-Sum : goal.wide-returns-in-Sum
@@ -38,7 +39,7 @@ wide_parts-wide-requires g t c κs within =
 
 pub wide_parts-unreachable-requires : goal.wide_parts-unreachable-requires
 wide_parts-unreachable-requires g t c =
-    child_there (parts_of (term_of c.args.term.now)) c.loop-i.i (omega (arith, c.parts-i-end.ensures)) c.in-None.ensures
+    child-there (parts_of (term_of c.args.term.now)) c.loop-i.i (omega (arith, c.parts-i-end.ensures)) c.in-None.ensures
 
 pub wide_parts-returns-in_err-done-in-Some : goal.wide_parts-returns-in_err-done-in-Some
 wide_parts-returns-in_err-done-in-Some g t c =

@@ -27,9 +27,10 @@ use Rattle.nrca_runs.specs.WithinLaws.{err_within, same_within}
 use Rattle.nrca_serial.specs.FormLaws.{count-children, child_of-children, strict_whole, strict_taken, sum_whole, sum_taken, union_whole, union_taken, tab_none, tab_whole, tab_idle, tab_taken}
 use Rattle.nrca_serial.specs.Parts.{children}
 use Rattle.nrca_serial.specs.Runs.{run_values, run_turns, cell_values, cell_turns}
-use Rattle.nrca_serial.proofs.Evaluated.{at_answer, at_fault, term_at, member_weight, tab_weight, child_there, strict_form, spent_within, spent_whole, written}
+use Rattle.nrca_serial.proofs.Evaluated.{at_answer, at_fault, term_at, member_weight, tab_weight, strict_form, spent_within, spent_whole, written}
 use Rattle.nrca_serial.proofs.Lent.{sub_weight, sub_lent, sub_free}
 use Rattle.nrca_serial.proofs.serial.+serial.Goals as goal
+use Rattle.nrca_term.specs.Entering.{child-there}
 
 pub node-eval_tab-requires : goal.node-eval_tab-requires
 node-eval_tab-requires t c =
@@ -97,7 +98,7 @@ eval_parts-node-requires t c =
 
 pub eval_parts-unreachable-requires : goal.eval_parts-unreachable-requires
 eval_parts-unreachable-requires t c =
-    child_there (parts_of (term_of c.args.term.now)) c.loop-i.i (omega (arith, c.parts-i-end.ensures)) c.in-None.ensures
+    child-there (parts_of (term_of c.args.term.now)) c.loop-i.i (omega (arith, c.parts-i-end.ensures)) c.in-None.ensures
 
 pub eval_parts-returns-in_err-done-in-Some : goal.eval_parts-returns-in_err-done-in-Some
 eval_parts-returns-in_err-done-in-Some t c =

@@ -2,7 +2,7 @@ use Rattle.std.proofs.Common.{rules, ◌≡◌, ◌<◌, ◌^◌, sym, ap, subst
 use Rattle.nrca_term.specs.View.{term_of}
 use Rattle.nrca_term.specs.WellFormed.{well_formed-Core}
 use Rattle.nrca_term.specs.Subst.{subst_term, top_var}
-use Rattle.nrca_setrules.proofs.Parts.{as-Let}
+use Rattle.nrca_term.specs.AsVariant.{as-Let}
 use Rattle.nrca_setrules.proofs.LetSides.{l1_right, let_room}
 use Rattle.nrca_setrules.proofs.lets.l1.Goals as goal
 

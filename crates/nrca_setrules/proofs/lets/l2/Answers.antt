@@ -3,7 +3,7 @@ use Rattle.nrca_term.specs.View.{term_of}
 use Rattle.nrca_term.specs.WellFormed.{well_formed-Core}
 use Rattle.nrca_term.specs.Subst.{subst_term, top_var}
 use Rattle.nrca_setrules.proofs.Counts.{l2_right}
-use Rattle.nrca_setrules.proofs.Parts.{as-Let}
+use Rattle.nrca_term.specs.AsVariant.{as-Let}
 use Rattle.nrca_setrules.proofs.LetSides.{let_room}
 use Rattle.nrca_setrules.proofs.lets.l2.Goals as goal
 

@@ -2,8 +2,9 @@ use Rattle.std.proofs.Common.{arith, sym, ◌∙◌}
 use Rattle.nrca_term.specs.Term.{parts_of}
 use Rattle.nrca_term.specs.MeasureLaws.{weight_of-child}
 use Rattle.nrca_term.specs.View.{term_of}
-use Rattle.nrca_term.proofs.Filling.{filled-start, filled-step, filled-end, count-filled, child_of-present}
+use Rattle.nrca_term.proofs.Filling.{filled-start, filled-step, filled-end, count-filled}
 use Rattle.nrca_term.proofs.copies.+copy.Goals as goal
+use Rattle.nrca_term.specs.Entering.{child-there}
 
 pub fill_parts-loop-i-init : goal.fill_parts-loop-i-init
 fill_parts-loop-i-init t c = filled-start (term_of c.args.from.now) (term_of c.args.to.now) c.requires
@@ -21,7 +22,7 @@ fill_parts-exchange-requires t c =
 
 pub fill_parts-unreachable-requires : goal.fill_parts-unreachable-requires
 fill_parts-unreachable-requires t c =
-    child_of-present (parts_of (term_of c.args.from.now)) c.loop-i.i (omega (arith, c.loop-i-test.true, c.parts-i-end.ensures)) c.in-None.ensures
+    child-there (parts_of (term_of c.args.from.now)) c.loop-i.i (omega (arith, c.loop-i-test.true, c.parts-i-end.ensures)) c.in-None.ensures
 
 pub fill_parts-loop-i-preserved : goal.fill_parts-loop-i-preserved
 fill_parts-loop-i-preserved t c =

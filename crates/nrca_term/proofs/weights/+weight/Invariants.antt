@@ -1,7 +1,11 @@
-use Rattle.std.proofs.Common.{◌≡◌, ◌+◌, ◌-◌, ◌^◌, min, ◌≤◌, drop, map}
-use Rattle.nrca_term.specs.Term.{list_weight}
-use Rattle.nrca_term.specs.View.{term_of, terms_of}
+use Rattle.std.proofs.Common.{◌≡◌, ◌+◌, ◌-◌, ◌^◌, min}
+use Rattle.nrca_term.specs.Term.{form_of, form_weight, parts_of, weight_of}
+use Rattle.nrca_term.specs.View.{term_of}
+use Rattle.nrca_term.proofs.FirstParts.{first_weight}
 use Rattle.nrca_term.proofs.weights.+weight.Given as goal
 
-abbrev pub invariant-weight_all-loop-term : goal.invariant-weight_all-loop-term
-invariant-weight_all-loop-term l = (l.total ≤ 2 ^ 128 - 1) × (min (l.total + list_weight (map term_of (drop l.term-index l.term-items))) (2 ^ 128 - 1) ≡ min (list_weight (terms_of l.terms)) (2 ^ 128 - 1))
+abbrev pub decreases-weight : goal.decreases-weight
+decreases-weight l = weight_of (term_of l.term.now)
+
+abbrev pub invariant-loop-i : goal.invariant-loop-i
+invariant-loop-i l = l.total ≡ min (form_weight (form_of (term_of l.term)) + first_weight l.i (parts_of (term_of l.term))) (2 ^ 128 - 1)

@@ -1,14 +1,13 @@
 use Rattle.std.proofs.Common.{◌≤◌, length, arith}
-use Rattle.aql_constraints.specs.Typed.{sorts_of}
-use Rattle.aql_syntax.specs.View.{decls_of}
-use Rattle.aql_session.specs.Bound.{earlier_of, outcomes}
+use Rattle.aql_session.specs.Bound.{outcomes}
+use Rattle.aql_session.specs.Numbered.{declarations, sorts, so_far}
 use Rattle.aql_session.proofs.Evaluating.{length-decls_of}
 use Rattle.aql_session.proofs.Running.{bound-many, sorts-many, answer-is, binds-is}
 use Rattle.aql_session.proofs.session.Session.step.Goals as goal
 
 pub run_next-requires-clause-stands : goal.run_next-requires-clause-stands
 run_next-requires-clause-stands g c κs within =
-    let ds = decls_of c.args.decls.now.items.items in
+    let ds = declarations c.args.decls.now in
     let last : c.args.n ≤ length ds = omega (arith, length-decls_of c.args.decls.now.items.items, c.requires.last) in
     record {
       first = c.requires.first;
@@ -23,13 +22,13 @@ pub keep-requires-clause-last : goal.keep-requires-clause-last
 keep-requires-clause-last g c = omega (arith, length-decls_of c.args.decls.now.items.items, c.requires.last)
 
 pub keep-requires-clause-typed : goal.keep-requires-clause-typed
-keep-requires-clause-typed g c = sorts-many _ (decls_of c.args.decls.now.items.items) (sorts_of c.args.typed.now.items.items) c.requires.checked
+keep-requires-clause-typed g c = sorts-many _ (declarations c.args.decls.now) (sorts c.args.typed.now) c.requires.checked
 
 pub returns-in_ok-keep-in-Ok-clause-answer : goal.returns-in_ok-keep-in-Ok-clause-answer
 returns-in_ok-keep-in-Ok-clause-answer g c = λ d e.
-    let ds = decls_of c.args.decls.now.items.items in
+    let ds = declarations c.args.decls.now in
     let last : c.args.n ≤ length ds = omega (arith, length-decls_of c.args.decls.now.items.items, c.requires.last) in
-    answer-is ds (sorts_of c.args.typed.now.items.items) c.args.n (outcomes c.args.self.now)
+    answer-is ds (sorts c.args.typed.now) c.args.n (outcomes c.args.self.now)
     (record {
       first = c.requires.first;
       last = last;
@@ -42,5 +41,5 @@ returns-in_ok-keep-in-Ok-clause-answer g c = λ d e.
 
 pub returns-in_ok-keep-in-Ok-clause-binds : goal.returns-in_ok-keep-in-Ok-clause-binds
 returns-in_ok-keep-in-Ok-clause-binds g c = λ d e.
-    binds-is d (earlier_of (decls_of c.args.decls.now.items.items) (outcomes c.args.self.now)) c.args.options.now.budget (g.F.Files.holds c.args.files.now) c.in-Ok.run' c.args.self.now c.keep.new.self
+    binds-is d (so_far c.args.decls.now (outcomes c.args.self.now)) c.args.options.now.budget (g.F.Files.holds c.args.files.now) c.in-Ok.run' c.args.self.now c.keep.new.self
     c.requires.types (c.in-Ok.ensures.ran d e) (c.in_ok-keep-in-Ok.ensures.bound d e)

@@ -1,0 +1,63 @@
+-- Declarations of a script by their numbers, counted from 1, and what `step` says of one over the outcomes of those before it.
+use Rattle.std.specs.Prelude.{ℕ, ◌-◌, List, Option}
+use Rattle.std.specs.List.{slice_get}
+use Rattle.std.specs.Option.{ForSome}
+use Rattle.aql_outside.specs.Contents.{Content}
+use Rattle.aql_outside.specs.declared.device.Files as files
+use Rattle.aql_types.specs.Types.{Sort}
+use Rattle.aql_constraints.specs.Typed.{sorts_of}
+use Rattle.aql_constraints.specs.declared.typed.Typed.{Typed}
+use Rattle.aql_syntax.specs.Script.{Earlier}
+use Rattle.aql_syntax.specs.Tree.{Declaration}
+use Rattle.aql_syntax.specs.View.{decls_of}
+use Rattle.aql_syntax.specs.declared.ast.Decls.{Decls}
+use Rattle.nrca_term.specs.Meaning.{Outcomes}
+use Rattle.aql_words.specs.declared.words.Options.{Options}
+use Rattle.aql_session.specs.Bound.{Bound, earlier_of, outcomes}
+use Rattle.aql_session.specs.Step.{IsAnswer, IsAnswerable, Binds, IsCause, ReadsNoFile}
+use Rattle.aql_session.specs.declared.answer.Answer.{Answer}
+use Rattle.aql_session.specs.declared.answer.StepFault.{StepFault}
+
+-- the declarations of a script
+abbrev pub declarations : Decls → List Declaration
+declarations decls = decls_of decls.items.items
+
+-- the sorts that the check found, one for each
+abbrev pub sorts : Typed → List Sort
+sorts typed = sorts_of typed.items.items
+
+-- declaration n
+abbrev pub numbered : Decls → (n : ℕ) → Option Declaration
+numbered decls n = slice_get (declarations decls) (n - 1)
+
+-- its sort
+abbrev pub sort_numbered : Typed → (n : ℕ) → Option Sort
+sort_numbered typed n = slice_get (sorts typed) (n - 1)
+
+-- the first declarations with these outcomes, the latest first
+abbrev pub so_far : Decls → Outcomes → Earlier
+so_far decls V = earlier_of (declarations decls) V
+
+-- this is the answer of declaration n over the outcomes of those before it
+abbrev pub IsAnswerTo : Decls → Typed → (n : ℕ) → Outcomes → Answer → Type 0
+IsAnswerTo decls typed n V a = ForSome (numbered decls n) (λ d. IsAnswer d (so_far decls V) (sort_numbered typed n) a)
+
+-- declaration n is answerable within the budget over files that hold this
+abbrev pub MayBeAnswered : Decls → (n : ℕ) → Outcomes → Options → Option Content → Type 0
+MayBeAnswered decls n V options holds = ForSome (numbered decls n) (λ d. IsAnswerable d (so_far decls V) options.budget holds)
+
+-- declaration n is bound behind the positions before it, to its outcome over files that hold this
+abbrev pub BindsNext : Decls → (n : ℕ) → Option Content → (old new : Bound) → Type 0
+BindsNext decls n holds old new = ForSome (numbered decls n) (λ d. Binds d (so_far decls (outcomes old)) holds old new)
+
+-- why declaration n has no answer; the counts of faults are those of the files before and after
+abbrev pub IsCauseOf : Decls → (n : ℕ) → Outcomes → Options → Option Content → (before now : ℕ) → StepFault → Type 0
+IsCauseOf decls n V options holds before now f = ForSome (numbered decls n) (λ d. IsCause d (so_far decls V) options.budget holds before now f)
+
+-- why it has none over files as they were and are
+abbrev pub StepFails : {F : Type 0} → Decls → (n : ℕ) → Outcomes → Options → files.Ghosts F → (old new : F) → StepFault → Type 0
+StepFails decls n V options f old new fault = IsCauseOf decls n V options (f.holds old) (f.faults old) (f.faults new) fault
+
+-- this holds where declaration n reads no file
+abbrev pub UnlessRead : Decls → (n : ℕ) → Outcomes → Options → Type 0 → Type 0
+UnlessRead decls n V options P = ForSome (numbered decls n) (λ d. ReadsNoFile d (so_far decls V) options.budget → P)

@@ -1,0 +1,16 @@
+//! What is read of a file.
+
+ghost use Rattle.std.specs.Prelude.{◌≡◌, ◌^◌, ◌<◌};
+ghost use Rattle.cdf_header.specs.Format.{type_size};
+
+/// What is read: numbers of a type and so many bytes, before an end; as pairs of whether they are
+/// below 0 and how far from 0, or as naturals.
+#[derive(Clone, Copy)]
+pub(crate) struct Reading {
+    pub kind: u32,
+    pub size: u64,
+    pub signed: bool,
+    pub end: u64,
+    ghost is: { size ≡ type_size kind },
+    ghost small: { end < 2 ^ 64 },
+}
