@@ -4,22 +4,8 @@
 # elapsed and the processor seconds of the run of three that was the shortest, and its peak memory in KiB. `bench/evaluate.sh depth` prints instead how deep a term of nested lets, and one of nested sums,
 # is evaluated on the stack that the shell allows. Makes a small repository of its own in a temporary folder; run it from anywhere.
 set -eu
-top=$(cd "$(dirname "$0")/.." && pwd)
-work=$(mktemp -d)
-trap 'rm -rf "$work"' EXIT
-crates="aql_outside aql_value aql_made aql_types nrca_term nrca_array nrca_par nrca_runs nrca_forms nrca_serial nrca_eval"
-mkdir -p "$work/crates/measure/src" "$work/crates/measure/specs" "$work/crates/measure/proofs"
-for crate in $crates; do
-    for part in src specs proofs; do
-        mkdir -p "$work/crates/$crate/$part"
-        cp -r "$top/crates/$crate/$part/." "$work/crates/$crate/$part"
-    done
-    grep -E "^$crate:" "$top/crates.txt" >> "$work/crates.txt"
-done
-echo 'measure: nrca_eval nrca_term nrca_par nrca_array aql_outside aql_value anyhow' >> "$work/crates.txt"
-cp "$top/HANDLES" "$work/HANDLES"
-: > "$work/crates/measure/specs/Lib.antt"
-: > "$work/crates/measure/proofs/Lib.antt"
+. "$(dirname "$0")/crates.sh"
+begin nrca_eval nrca_term nrca_par nrca_array aql_outside aql_value anyhow
 cat > "$work/crates/measure/src/main.rt" <<'PROGRAM'
 #![tactic(auto)]
 

@@ -3,20 +3,8 @@
 # bytes: seconds (the least of three runs, one after the other), peak memory in KiB, and both as ratios.
 # Makes a small repository of its own in a temporary folder; run it from anywhere: bench/hyperslabs.sh
 set -eu
-top=$(cd "$(dirname "$0")/.." && pwd)
-work=$(mktemp -d)
-trap 'rm -rf "$work"' EXIT
-mkdir -p "$work/crates/measure/src" "$work/crates/measure/specs" "$work/crates/measure/proofs"
-for crate in aql_outside aql_system aql_value nrca_array cdf_header cdf_slab; do
-    for part in src specs proofs; do
-        mkdir -p "$work/crates/$crate/$part"
-        cp -r "$top/crates/$crate/$part/." "$work/crates/$crate/$part"
-    done
-    grep "^$crate:" "$top/crates.txt" >> "$work/crates.txt"
-done
-printf 'measure: cdf_slab cdf_header nrca_array aql_outside aql_system aql_value anyhow byteorder\n' >> "$work/crates.txt"
-: > "$work/crates/measure/specs/Lib.antt"
-: > "$work/crates/measure/proofs/Lib.antt"
+. "$(dirname "$0")/crates.sh"
+begin cdf_slab cdf_header nrca_array aql_outside aql_system aql_value anyhow byteorder
 cat > "$work/crates/measure/src/main.rt" <<'PROGRAM'
 #![tactic(auto)]
 

@@ -4,20 +4,8 @@
 # `check` also infers its types. Prints seconds (the least of three runs), peak memory in KiB, and the first declaration without a
 # typing (0: there is none). Makes a small repository of its own in a temporary folder; run it from anywhere: bench/infer.sh
 set -eu
-top=$(cd "$(dirname "$0")/.." && pwd)
-work=$(mktemp -d)
-trap 'rm -rf "$work"' EXIT
-mkdir -p "$work/crates/measure/src" "$work/crates/measure/specs" "$work/crates/measure/proofs"
-for crate in aql_value aql_made aql_types aql_syntax aql_lex aql_grammar aql_phrases aql_expressions aql_parse aql_constraints aql_equations aql_infer; do
-    for part in src specs proofs; do
-        mkdir -p "$work/crates/$crate/$part"
-        cp -r "$top/crates/$crate/$part/." "$work/crates/$crate/$part"
-    done
-done
-grep -E '^(aql_value|aql_made|aql_types|aql_syntax|aql_lex|aql_grammar|aql_phrases|aql_expressions|aql_parse|aql_constraints|aql_equations|aql_infer):' "$top/crates.txt" > "$work/crates.txt"
-echo 'measure: aql_lex aql_parse aql_infer aql_syntax anyhow' >> "$work/crates.txt"
-: > "$work/crates/measure/specs/Lib.antt"
-: > "$work/crates/measure/proofs/Lib.antt"
+. "$(dirname "$0")/crates.sh"
+begin aql_lex aql_parse aql_infer aql_syntax anyhow
 cat > "$work/crates/measure/src/main.rt" <<'PROGRAM'
 #![tactic(auto)]
 

@@ -11,25 +11,8 @@
 #
 # Makes a small repository of its own in a temporary folder; run it from anywhere.
 set -eu
-top=$(cd "$(dirname "$0")/.." && pwd)
-work=$(mktemp -d)
-trap 'rm -rf "$work"' EXIT
-mkdir -p "$work/crates/measure/src" "$work/crates/measure/specs" "$work/crates/measure/proofs"
-for crate in aql_outside aql_system aql_value aql_made aql_types aql_texts aql_syntax aql_csv; do
-    for part in src specs proofs; do
-        mkdir -p "$work/crates/$crate/$part"
-        cp -r "$top/crates/$crate/$part/." "$work/crates/$crate/$part"
-    done
-    # A library that was proved here before is taken as it is.
-    if [ -d "$top/crates/$crate/out/rlib" ]; then
-        mkdir -p "$work/crates/$crate/out"
-        cp -r "$top/crates/$crate/out/rlib" "$work/crates/$crate/out"
-    fi
-    grep "^$crate:" "$top/crates.txt" >> "$work/crates.txt"
-done
-printf 'measure: aql_csv aql_outside aql_syntax aql_system aql_texts aql_value anyhow\n' >> "$work/crates.txt"
-: > "$work/crates/measure/specs/Lib.antt"
-: > "$work/crates/measure/proofs/Lib.antt"
+. "$(dirname "$0")/crates.sh"
+begin aql_csv aql_outside aql_syntax aql_system aql_print aql_value anyhow
 cat > "$work/crates/measure/src/main.rt" <<'PROGRAM'
 #![tactic(auto)]
 
@@ -37,7 +20,7 @@ use anyhow::{Result, anyhow, bail};
 use aql_csv::{Csv, CsvFault, read_csv};
 use aql_syntax::ast::{CsvReader, Kind, Kinds};
 use aql_system::FileSystem;
-use aql_texts::print_value;
+use aql_print::print_value;
 use aql_value::{Str, Value};
 use std::alloc::Global;
 use std::io::{self, Write};

@@ -3,20 +3,8 @@
 # sums, nested brackets to the scan's limit, a long list of qualifiers that begin as patterns. Prints seconds (the least of three
 # runs) and peak memory in bytes a byte of the script. Makes a small repository of its own in a temporary folder; run it from anywhere: bench/scripts.sh
 set -eu
-top=$(cd "$(dirname "$0")/.." && pwd)
-work=$(mktemp -d)
-trap 'rm -rf "$work"' EXIT
-mkdir -p "$work/crates/measure/src" "$work/crates/measure/specs" "$work/crates/measure/proofs"
-for crate in aql_value aql_made aql_types aql_syntax aql_lex aql_grammar aql_phrases aql_expressions aql_parse; do
-    for part in src specs proofs; do
-        mkdir -p "$work/crates/$crate/$part"
-        cp -r "$top/crates/$crate/$part/." "$work/crates/$crate/$part"
-    done
-done
-grep -E '^(aql_value|aql_made|aql_types|aql_syntax|aql_lex|aql_grammar|aql_phrases|aql_expressions|aql_parse):' "$top/crates.txt" > "$work/crates.txt"
-echo 'measure: aql_lex aql_parse anyhow' >> "$work/crates.txt"
-: > "$work/crates/measure/specs/Lib.antt"
-: > "$work/crates/measure/proofs/Lib.antt"
+. "$(dirname "$0")/crates.sh"
+begin aql_lex aql_parse anyhow
 cat > "$work/crates/measure/src/main.rt" <<'PROGRAM'
 #![tactic(auto)]
 

@@ -2,17 +2,8 @@
 # Measures canon and merge of aql_value on pseudo-random values: seconds (the least of five runs), and peak memory in KiB.
 # Makes a small repository of its own in a temporary folder; run it from anywhere: bench/values.sh
 set -eu
-top=$(cd "$(dirname "$0")/.." && pwd)
-work=$(mktemp -d)
-trap 'rm -rf "$work"' EXIT
-mkdir -p "$work/crates/measure/src" "$work/crates/measure/specs" "$work/crates/measure/proofs"
-for part in src specs proofs; do
-    mkdir -p "$work/crates/aql_value/$part"
-    cp -r "$top/crates/aql_value/$part/." "$work/crates/aql_value/$part"
-done
-printf 'aql_value: smallvec\nmeasure: aql_value anyhow\n' > "$work/crates.txt"
-: > "$work/crates/measure/specs/Lib.antt"
-: > "$work/crates/measure/proofs/Lib.antt"
+. "$(dirname "$0")/crates.sh"
+begin aql_value anyhow
 cat > "$work/crates/measure/src/main.rt" <<'PROGRAM'
 #![tactic(auto)]
 

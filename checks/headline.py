@@ -14,7 +14,7 @@ ROOT = os.path.join(os.path.dirname(os.path.abspath(__file__)), "..")
 RUN = "crates/aql_run/src/lib.rt"
 START = ("aql_run.specs.Headline", "Headline")
 OPENS = re.compile(r"^(?:pub )?(?:record|data|ruleset) (\S+)|^(?:(?:abbrev|unfoldable) )?(?:pub )?(\S+) :(?: |$)")
-USE = re.compile(r"^use Rattle\.([A-Za-z_0-9.]+?)(?:\.\{(.*)\}| as ([A-Za-z_]+))$")
+USE = re.compile(r"^use (?:Rattle\.)?([A-Za-z_0-9.]+?)(?:\.\{(.*)\}| as ([A-Za-z_]+))$")
 WORD = re.compile(r"[^\s(){}\[\],;.]+")
 
 
@@ -136,11 +136,71 @@ def rust_type(path, name):
     return None
 
 
+def view(path, name):
+    """The view of a Rust type: the text of its `impl Model`."""
+    source = lines_of(path)
+    for number, text in enumerate(source):
+        if re.match(r"^impl(<.*>)? Model for %s\b" % name, text):
+            end = next(n for n in range(number, len(source)) if source[n] == "}")
+            return source[number : end + 1]
+    return []
+
+
+def types_in(crate, path, name):
+    """The Rust types of this repository that the text of one names, with the crate and the file that each stands in."""
+    found = rust_type(path, name)
+    if not found:
+        return []
+    words = set(re.findall(r"\b[A-Z]\w*", re.sub(r"//.*", "", "\n".join(found[2])))) - {name}
+    source, out = lines_of(path), []
+    brought = {}
+    for pieces in re.findall(r"^(?:pub )?use ([a-z_:]+)::(?:\{([^}]*)\}|(\w+));", "\n".join(source), re.M):
+        for word in re.split(r",\s*", pieces[1] or pieces[2]):
+            brought[word.strip()] = pieces[0].split("::")
+    for word in sorted(words):
+        if rust_type(path, word):
+            out.append((crate, path, word))
+        elif word in brought:
+            first = brought[word][0]
+            there = crate if first in ("crate", "self") else first
+            top = os.path.join(ROOT, "crates", there, "src")
+            files = sorted(os.listdir(top)) if os.path.isdir(top) else []
+            files.sort(key=lambda file: file != brought[word][-1] + ".rt")
+            for file in files:
+                if file.endswith(".rt") and rust_type("crates/%s/src/%s" % (there, file), word):
+                    out.append((there, "crates/%s/src/%s" % (there, file), word))
+                    break
+    return out
+
+
 def reach():
     """The definitions that the start rests on, the Rust types, and the names of the standard library, each in the order of reaching."""
     taken, types, library = OrderedDict(), OrderedDict(), OrderedDict()
     waiting = [START, *cited()]
-    while waiting:
+    for target, used in cited(library=True):
+        library.setdefault(target, set()).add(used)
+    seen = set()
+    while waiting or len(seen) < len(types):
+        if not waiting:
+            here = next(it for it in types if it not in seen)
+            seen.add(here)
+            if here:
+                for other in types_in(*here):
+                    types.setdefault(other, True)
+                text = view(here[1], here[2])
+                words = set(re.findall(r"[A-Za-z_0-9'-]+", "\n".join(line for line in text if "use Rattle." not in line)))
+                for line in text:
+                    match = re.match(r"^\s*ghost use Rattle\.([A-Za-z_0-9.]+)\.\{(.*)\};$", line)
+                    for used in re.split(r",\s*", match.group(2)) if match else []:
+                        if used not in words:
+                            continue
+                        if not os.path.isdir(os.path.join(ROOT, "crates", match.group(1).split(".")[0])):
+                            library.setdefault(match.group(1), set()).add(used)
+                        elif ".specs.declared." in match.group(1):
+                            types.setdefault(declared(match.group(1)), True)
+                        elif module(match.group(1)).within.get(used):
+                            waiting.append((match.group(1), module(match.group(1)).within[used]))
+            continue
         where, name = waiting.pop(0)
         if name in taken.setdefault(where, OrderedDict()):
             continue
@@ -173,13 +233,13 @@ def reach():
     return taken, types, library
 
 
-def cited():
-    """The other definitions that the clause of `run` names, by the lines that bring them into its file."""
+def cited(library=False):
+    """The other definitions that the clause of `run` names, by the lines that bring them into its file; or those of libraries."""
     words = set(WORD.findall("\n".join(call())))
     found = []
     for text in lines_of(RUN):
         match = re.match(r"^ghost use Rattle\.([A-Za-z_0-9.]+)\.\{(.*)\};$", text)
-        if match and os.path.isdir(os.path.join(ROOT, "crates", match.group(1).split(".")[0])):
+        if match and library != os.path.isdir(os.path.join(ROOT, "crates", match.group(1).split(".")[0])):
             found += [(match.group(1), name) for name in re.split(r",\s*", match.group(2)) if name in words]
     return [it for it in found if it != START]
 
@@ -244,8 +304,12 @@ def page():
     say("")
     say("## The types of the code")
     say("")
+    say("A type that has a view is seen by the definitions as what the view makes of it; the view stands below the type in its source.")
+    say("")
     for (crate, path, name), (doc, number, text) in shapes:
-        say("- `%s` of %s (%d, `%s`)%s" % (name, crate, len(text), path.split("/", 2)[2], ": " + doc if doc else ""))
+        seen = re.search(r"ghost Value = \{ (.*) \};", "\n".join(view(path, name)))
+        say("- `%s` of %s (%d, `%s`)%s%s" % (name, crate, len(text), path.split("/", 2)[2], ": " + doc if doc else "",
+                                           " Seen as `%s`." % seen.group(1) if seen else ""))
     return "\n".join(out) + "\n"
 
 

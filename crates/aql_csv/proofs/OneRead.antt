@@ -7,7 +7,7 @@ use Rattle.csv.specs.declared.parser.State.{State}
 use Rattle.csv.specs.declared.error.ErrorKind.{ErrorKind}
 use Rattle.csv.specs.declared.error.ErrorKind.TheVariants as kind
 use Rattle.csv.proofs.ReadFacts.{rows-end}
-use Rattle.aql_csv.specs.Records.{IsOutside}
+use Rattle.aql_csv.specs.Records.{IsReadError}
 use Rattle.aql_csv.proofs.Behind.{behind, behind_none, behind_some, left, next_falls}
 
 -- the bytes that a slice has still to give
@@ -70,7 +70,7 @@ strip_shortens (a ∷ b ∷ c ∷ rest) = go _
     go false = omega arith
 
 -- a read of records of any length fails for the bytes underneath or for memory alone
-pub explained : (a b : Reader (Bor (List ℕ))) (k : ErrorKind) → a.flexible ≡ true → ExplainsRead rest_of a b false k → IsOutside k
+pub explained : (a b : Reader (Bor (List ℕ))) (k : ErrorKind) → a.flexible ≡ true → ExplainsRead rest_of a b false k → IsReadError k
 explained a b (kind.Io e) f h = tt
 explained a b kind.OutOfMemory f h = tt
 explained a b (kind.UnequalLengths pos expected len) f h = let no : true ≡ false = sym f ∙ h.0 in cc

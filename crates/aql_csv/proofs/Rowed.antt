@@ -5,7 +5,7 @@ use Rattle.std.proofs.lemmas.List.{append-nil}
 use Rattle.csv.specs.Records.{field_at}
 use Rattle.aql_value.specs.Canon.{canon}
 use Rattle.aql_value.specs.Datum.{Datum}
-use Rattle.aql_value.specs.SetLaws.{canon_append_left}
+use Rattle.aql_value.specs.Laws.Set.{canon_append_left}
 use Rattle.aql_csv.specs.Records.{Record}
 use Rattle.aql_csv.specs.Rows.{in_front, all_in_front, field_value, field_values, or_fault, rows_from, rows_behind, result_map, StopsAt}
 use Rattle.aql_syntax.specs.declared.ast.Kind.{Kind}

@@ -16,36 +16,36 @@ abbrev pub set_of : (header : Bool) → List Kind → List ℕ → Result Datum 
 set_of header ks bytes = result_map (λ values. set (data_of (canon values))) (rows header ks bytes)
 
 -- the set that a file gives, and the file's size
-pub record Found : Type 0 where
+pub record FoundSet : Type 0 where
   pub value : Datum
   pub bytes : ℕ
 
 -- what the code answers as such a pair
-abbrev pub found_of : Csv → Found
+abbrev pub found_of : Csv → FoundSet
 found_of csv = record { value = datum csv.value; bytes = csv.bytes }
 
 -- what a file of these bytes gives within a budget of bytes, None where there is no file: the faults in their order
-abbrev pub outcome : (header : Bool) → List Kind → (budget : ℕ) → Option (List ℕ) → Result Found CsvFault
+abbrev pub outcome : (header : Bool) → List Kind → (budget : ℕ) → Option (List ℕ) → Result FoundSet CsvFault
 outcome header ks budget None = Err faults.Absent
 outcome header ks budget (Some bytes) =
     if nat_lt budget (length bytes) then Err (faults.Long (length bytes))
     else result_map (λ value. record { value = value; bytes = length bytes }) (set_of header ks bytes)
 
 -- the same by a reader
-abbrev pub read_by : CsvReader → (budget : ℕ) → Option (List ℕ) → Result Found CsvFault
+abbrev pub read_by : CsvReader → (budget : ℕ) → Option (List ℕ) → Result FoundSet CsvFault
 read_by reader budget content = outcome reader.header reader.kinds.items.items budget content
 
 -- what is meant is answered, unless the device failed or memory was wanting
-abbrev pub Answers : Result Found CsvFault → Result Csv CsvFault → Type 0
-Answers meant (Ok csv) = meant ≡ Ok (found_of csv)
-Answers meant (Err faults.Device) = Unit {0}
-Answers meant (Err faults.Memory) = Unit {0}
-Answers meant (Err e) = meant ≡ Err e
+abbrev pub IsCsvAnswer : Result FoundSet CsvFault → Result Csv CsvFault → Type 0
+IsCsvAnswer meant (Ok csv) = meant ≡ Ok (found_of csv)
+IsCsvAnswer meant (Err faults.Device) = Unit {0}
+IsCsvAnswer meant (Err faults.Memory) = Unit {0}
+IsCsvAnswer meant (Err e) = meant ≡ Err e
 
 -- what is answered where the files tell their bytes: what the file of the name gives, or that there is none
 abbrev pub IsTold : Option Content → (name : List ℕ) → CsvReader → (budget : ℕ) → Result Csv CsvFault → Type 0
 IsTold holds name reader budget result =
-    (content : Content) → holds ≡ Some content → Answers (read_by reader budget (content name)) result
+    (content : Content) → holds ≡ Some content → IsCsvAnswer (read_by reader budget (content name)) result
 
 -- what is answered whatever the files tell: a value, or the fault of a record, is what some bytes give; the size that is too
 -- long is past the budget, and the byte that is missing is within it
@@ -64,11 +64,11 @@ IsDevice result = IsErrOf result faults.Device
 -- ---- words within the crate
 
 -- where there are so many bytes they are read whole, unless the device failed or memory was wanting
-abbrev pub IsWhole : List ℕ → (size : ℕ) → Result (List ℕ) CsvFault → Type 0
-IsWhole bytes size (Ok found) = size ≡ length bytes → found ≡ bytes
-IsWhole bytes size (Err faults.Device) = Unit {0}
-IsWhole bytes size (Err faults.Memory) = Unit {0}
-IsWhole bytes size (Err e) = size ≡ length bytes → ⊥
+abbrev pub IsReadWhole : List ℕ → (size : ℕ) → Result (List ℕ) CsvFault → Type 0
+IsReadWhole bytes size (Ok found) = size ≡ length bytes → found ≡ bytes
+IsReadWhole bytes size (Err faults.Device) = Unit {0}
+IsReadWhole bytes size (Err faults.Memory) = Unit {0}
+IsReadWhole bytes size (Err e) = size ≡ length bytes → ⊥
 
 -- a fault of a read of so many bytes
 abbrev pub IsOfReading : ℕ → CsvFault → Type 0

@@ -14,7 +14,7 @@ abbrev pub records_of : List ℕ → List Record
 records_of bytes = records default_config (strip_bom bytes)
 
 -- an error that no record explains: of the bytes underneath, or of memory
-abbrev pub IsOutside : ErrorKind → Type 0
-IsOutside (kind.Io e) = Unit {0}
-IsOutside kind.OutOfMemory = Unit {0}
-IsOutside e = ⊥
+abbrev pub IsReadError : ErrorKind → Type 0
+IsReadError (kind.Io e) = Unit {0}
+IsReadError kind.OutOfMemory = Unit {0}
+IsReadError e = ⊥

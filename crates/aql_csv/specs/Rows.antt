@@ -75,18 +75,18 @@ StopsAt faults.Memory meant = Unit {0}
 StopsAt e meant = meant ≡ Err e
 
 -- what is answered where this is meant, want of memory apart
-abbrev pub Gives : {A B : Type 0} → (B → A) → Result A CsvFault → Result B CsvFault → Type 0
-Gives view meant (Ok b) = meant ≡ Ok (view b)
-Gives view meant (Err e) = StopsAt e meant
+abbrev pub GivesValue : {A B : Type 0} → (B → A) → Result A CsvFault → Result B CsvFault → Type 0
+GivesValue view meant (Ok b) = meant ≡ Ok (view b)
+GivesValue view meant (Err e) = StopsAt e meant
 
 -- values mean, in front of record number r and any more behind it, what other values mean in front of those more
-abbrev pub Adds : (header : Bool) → List Kind → ℕ → Record → List Value → List Value → Type 0
-Adds header ks r entry before now =
+abbrev pub AddsValues : (header : Bool) → List Kind → ℕ → Record → List Value → List Value → Type 0
+AddsValues header ks r entry before now =
     (more : List Record) → all_in_front (map datum before) (rows_behind header ks r (entry ∷ more)) ≡ all_in_front (map datum now) (rows_behind header ks (r + 1) more)
 
 -- values mean, in front of record number r and any more behind it, this fault, unless it is want of memory
-abbrev pub Stops : (header : Bool) → List Kind → ℕ → Record → List Value → CsvFault → Type 0
-Stops header ks r entry before e = (more : List Record) → StopsAt e (all_in_front (map datum before) (rows_behind header ks r (entry ∷ more)))
+abbrev pub FailsWith : (header : Bool) → List Kind → ℕ → Record → List Value → CsvFault → Type 0
+FailsWith header ks r entry before e = (more : List Record) → StopsAt e (all_in_front (map datum before) (rows_behind header ks r (entry ∷ more)))
 
 -- a fault of records, or want of memory
 abbrev pub IsOfRecords : CsvFault → Type 0

@@ -4,8 +4,8 @@ ghost use Rattle.std.specs.Str.{IsUtf8};
 ghost use Rattle.aql_outside.specs.Contents.{WhereTold};
 ghost use Rattle.aql_outside.specs.Frames.{Leaves};
 ghost use Rattle.aql_value.specs.Meaning.{datum};
-ghost use Rattle.aql_csv.specs.Rows.{Gives, IsOfRecords, result_map};
-ghost use Rattle.aql_csv.specs.File.{Answers, IsDevice, IsGiven, IsOfReading, IsTold, IsWhole, read_by, set_of};
+ghost use Rattle.aql_csv.specs.Rows.{GivesValue, IsOfRecords, result_map};
+ghost use Rattle.aql_csv.specs.File.{IsCsvAnswer, IsDevice, IsGiven, IsOfReading, IsTold, IsReadWhole, read_by, set_of};
 ghost use Rattle.aql_csv.specs.Typed.{IsOfReader};
 
 use crate::fault::CsvFault;
@@ -92,7 +92,7 @@ fn read_whole<F: Files>(
     ensures causes { IfErr result (IsOfReading size) }
     ensures many { IfOk result (λ bytes. length bytes.items ≡ size) }
     ensures told { WhereTold (F.holds files.old) name.now
-        (λ bytes. IsWhole bytes size (result_map (λ v. v.items) result)) }
+        (λ bytes. IsReadWhole bytes size (result_map (λ v. v.items) result)) }
 {
     let mut bytes = vec![in alloc; 0u8; size]?;
     match files.read_at(name, 0, &mut bytes) {
@@ -111,7 +111,7 @@ fn read_whole<F: Files>(
 fn found_in(alloc: Global, bytes: &[u8], reader: &CsvReader, budget: u64) -> Result<Csv, CsvFault>
     requires some { 1 ≤ length reader.now.kinds.items.items }
     requires within { length bytes.now ≤ budget }
-    ensures told { Answers (read_by reader.now budget (Some bytes.now)) result }
+    ensures told { IsCsvAnswer (read_by reader.now budget (Some bytes.now)) result }
     ensures typed { IfOk result (λ csv. IsOfReader reader.now (datum csv.value)) }
     ensures causes { IfErr result IsOfRecords }
 {
@@ -125,7 +125,7 @@ fn found_in(alloc: Global, bytes: &[u8], reader: &CsvReader, budget: u64) -> Res
 fn set_in(alloc: Global, bytes: &[u8], reader: &CsvReader) -> Result<Value, CsvFault>
     requires some { 1 ≤ length reader.now.kinds.items.items }
     ensures causes { IfErr result IsOfRecords }
-    ensures meant { Gives datum
+    ensures meant { GivesValue datum
         (set_of reader.now.header reader.now.kinds.items.items bytes.now) result }
     ensures typed { IfOk result (λ value. IsOfReader reader.now (datum value)) }
 {

@@ -4,8 +4,8 @@ ghost use Rattle.csv.specs.Reading.{error_kind};
 ghost use Rattle.csv.specs.Records.{fields_of};
 ghost use Rattle.aql_value.specs.Canon.{canon};
 ghost use Rattle.aql_value.specs.Meaning.{datum};
-ghost use Rattle.aql_csv.specs.Records.{IsOutside};
-ghost use Rattle.aql_csv.specs.Rows.{Adds, Gives, IsOfRecords, Stops, field_value, field_values, or_fault, record_value, result_map, row, rows};
+ghost use Rattle.aql_csv.specs.Records.{IsReadError};
+ghost use Rattle.aql_csv.specs.Rows.{AddsValues, GivesValue, IsOfRecords, FailsWith, field_value, field_values, or_fault, record_value, result_map, row, rows};
 ghost use Rattle.aql_csv.specs.declared.fault.CsvFault.TheVariants as faults;
 
 use crate::fault::CsvFault;
@@ -29,7 +29,7 @@ pub(crate) fn read_members(
 ) -> Result<Items, CsvFault>
     requires some { 1 ≤ length kinds.now }
     ensures causes { IfErr result IsOfRecords }
-    ensures meant { Gives canon (result_map canon (rows header kinds.now bytes.now)) result }
+    ensures meant { GivesValue canon (result_map canon (rows header kinds.now bytes.now)) result }
 {
     let mut reader = ReaderBuilder::new()
         .has_headers(false)
@@ -55,7 +55,7 @@ pub(crate) fn read_members(
 // memory was wanting. The reader's contract does not rule out that reading the bytes fails; that
 // counts as the same.
 fn wanting(error: &Error) -> CsvFault
-    requires { IsOutside (error_kind error.now) }
+    requires { IsReadError (error_kind error.now) }
     ensures { result ≡ faults.Memory }
 {
     match error.kind() {
@@ -68,7 +68,7 @@ fn wanting(error: &Error) -> CsvFault
 // The members of the values, each once, where there are as many values as `most`, which then
 // becomes twice as many as are left; else the values as they are. `most` grows only here: if it
 // grew with each record, no set would be made.
-#[tactic(auto, using(aql_value::specs::SetLaws::canon_canon))]
+#[tactic(auto, using(aql_value::specs::Laws::Set::canon_canon))]
 fn kept_small(alloc: Global, values: Vec<Value>, most: &mut usize) -> Result<Vec<Value>, CsvFault>
     ensures same { IfOk result
         (λ kept. canon (map datum kept.items) ≡ canon (map datum values.items)) }
@@ -83,7 +83,7 @@ fn kept_small(alloc: Global, values: Vec<Value>, most: &mut usize) -> Result<Vec
     Ok(kept)
 }
 
-// Adds the value of record number `place`, unless it names the fields.
+// AddsValues the value of record number `place`, unless it names the fields.
 fn add_row(
     alloc: Global,
     values: &mut Vec<Value>,
@@ -96,9 +96,10 @@ fn add_row(
     requires counted { 1 ≤ place }
     ensures causes { IfErr result IsOfRecords }
     ensures added { OnOk result
-        (Adds header kinds.now place (fields_of entry.now) values.old.items values.new.items) }
+        (AddsValues header kinds.now place (fields_of entry.now) values.old.items
+        values.new.items) }
     ensures stopped { IfErr result
-        (Stops header kinds.now place (fields_of entry.now) values.old.items) }
+        (FailsWith header kinds.now place (fields_of entry.now) values.old.items) }
 {
     if header && place == 1 {
         return Ok(());
@@ -107,7 +108,7 @@ fn add_row(
     keep(values, value)
 }
 
-// Adds a value.
+// AddsValues a value.
 fn keep(values: &mut Vec<Value>, value: Value) -> Result<(), CsvFault>
     ensures kept { OnOk result
         (map datum values.new.items ≡ map datum values.old.items ++ (datum value ∷ [])) }
@@ -126,7 +127,7 @@ fn row_value(
 ) -> Result<Value, CsvFault>
     requires some { 1 ≤ length kinds.now }
     ensures causes { IfErr result IsOfRecords }
-    ensures meant { Gives datum (row kinds.now place (fields_of entry.now)) result }
+    ensures meant { GivesValue datum (row kinds.now place (fields_of entry.now)) result }
 {
     let found = entry.len();
     if found != kinds.len() {
@@ -136,11 +137,11 @@ fn row_value(
         });
     }
     let values = field_values(alloc, entry, place, kinds)?;
-    Ok(made(values))
+    Ok(record_value(values))
 }
 
 // The value of a record: that of its one field, or a tuple.
-fn made(values: Items) -> Value
+fn record_value(values: Items) -> Value
     requires { 1 ≤ length values }
     ensures { datum result ≡ record_value values }
 {
@@ -165,7 +166,7 @@ fn field_values(
     kinds: &[Kind],
 ) -> Result<Items, CsvFault>
     requires same { length (fields_of entry.now) ≡ length kinds.now }
-    ensures meant { Gives (λ items. items)
+    ensures meant { GivesValue (λ items. items)
         (field_values place 1 kinds.now (fields_of entry.now)) result }
     ensures causes { IfErr result IsOfRecords }
     ensures many { IfOk result (λ items. length items ≡ length kinds.now) }
@@ -190,7 +191,7 @@ fn field_value(
     column: u64,
 ) -> Result<Value, CsvFault>
     ensures causes { IfErr result IsOfRecords }
-    ensures meant { Gives datum
+    ensures meant { GivesValue datum
         (or_fault (faults.Number row column) (field_value kind field.now)) result }
 {
     match kind {

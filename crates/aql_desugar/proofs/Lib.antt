@@ -1,1 +1,9 @@
+pub mod QueryNodes
+pub mod Querying
+pub mod Making
+pub mod Scoping
+pub mod Finding
+pub mod Wrapping
+pub mod Uniting
+pub mod Looping
 pub mod Translating

@@ -8,28 +8,28 @@ use Rattle.aql_syntax.specs.Tree as tree
 use Rattle.aql_syntax.specs.Tree.{Tree, Declaration}
 use Rattle.aql_syntax.specs.View.{tree_of, decl_of, decls_of}
 use Rattle.aql_syntax.specs.Measured.{onto, latest}
-use Rattle.aql_syntax.specs.Typing.{Scope, Has, DeclHas, scope_of, argument_type}
+use Rattle.aql_syntax.specs.Typing.{Environment, Has, DeclHas, scope_of, argument_type}
 use Rattle.aql_syntax.specs.Size as sizes
 use Rattle.aql_syntax.specs.Size.{before, expanded_size, expanded_levels, size_at, levels_at, size, levels, extents_of, most_nodes, most_levels, AreWithin, IsWithinLimits}
 use Rattle.aql_syntax.specs.declared.ast.Decl.{Decl}
 use Rattle.aql_syntax.specs.declared.ast.Decl.TheVariants.{Bare}
 use Rattle.aql_syntax.specs.declared.ast.Expr.{Expr}
-use Rattle.aql_constraints.specs.Typed.{ArePrincipal}
+use Rattle.aql_infer_steps.specs.Typed.{ArePrincipal}
 use Rattle.nrca_term.specs.Term.{Term, Closed, WellFormed, weight_of, IsSmall}
 use Rattle.nrca_term.specs.Meaning.{cden}
 use Rattle.nrca_term.specs.Turns.{settle}
 use Rattle.nrca_term.specs.Typing.{instances, ctyped}
-use Rattle.aql_start.specs.Start.{start, knowns_of, query}
-use Rattle.aql_start.specs.Laws.{outcomes_of, value_type, types_of, EachHas, EachPrincipal}
+use Rattle.aql_desugar_spec.specs.Start.{start, knowns_of, query}
+use Rattle.aql_desugar_spec.specs.Laws.{outcomes_of, value_type, types_of, EachHas, EachPrincipal}
 use Rattle.aql_syntax.specs.Written.{IsWritten}
-use Rattle.aql_syntax.specs.WrittenLaws.{written, decl_written}
-use Rattle.aql_start.specs.Positions.{start-means, start-turns}
-use Rattle.aql_start.specs.Closed.{start-closes}
-use Rattle.aql_start.specs.WellFormed.{start-formed}
-use Rattle.aql_start.specs.Weight.{start-weighs}
-use Rattle.aql_start.specs.TypedPositions.{start-typed}
-use Rattle.aql_desugar.specs.Positions.{query_here}
-use Rattle.aql_desugar.specs.Translation.{query_at, query_of, types_before, IsTranslated, IsFaultAt, IsFaultOf}
+use Rattle.aql_syntax.specs.Laws.Written.{written, decl_written}
+use Rattle.aql_desugar_spec.specs.Laws.Positions.{start-means, start-turns}
+use Rattle.aql_desugar_spec.specs.Laws.ClosedLaws.{start-closes}
+use Rattle.aql_desugar_spec.specs.Laws.WellFormedLaws.{start-formed}
+use Rattle.aql_desugar_spec.specs.Laws.Weight.{start-weighs}
+use Rattle.aql_desugar_spec.specs.Laws.TypedPositions.{start-typed}
+use Rattle.aql_desugar.specs.Laws.Positions.{query_here}
+use Rattle.aql_desugar.specs.Translation.{query_at, query_of, types_before, IsTranslated, IsFaultAt, IsTranslationFault}
 use Rattle.aql_desugar.specs.declared.fault.Fault.{Fault}
 
 -- Lists of declarations.
@@ -95,7 +95,7 @@ has_sort zero (x ∷ ds) (s ∷ ss) earlier d h e =
 has_sort (suc i) (x ∷ ds) (s ∷ ss) earlier d h e = has_sort i ds ss (x ∷ earlier) d h.1 e
 
 -- an expression of a declaration that has a sort has a type
-has_type : (d : Declaration) (g : Scope) (s : Sort) (e : Tree) → DeclHas d g s → query d ≡ Some e → (T : Ty) × Has e g [] T
+has_type : (d : Declaration) (g : Environment) (s : Sort) (e : Tree) → DeclHas d g s → query d ≡ Some e → (T : Ty) × Has e g [] T
 has_type (tree.val x a) g (value t) e h q = let k : a ≡ e = cc in (t, subst (λ y. Has y g [] t) k h.1)
 has_type (tree.val x a) g (macro s t) e h q = absurd h
 has_type (tree.mac f p a) g s e h q = absurd (let bad : ⊥ = cc in bad)
@@ -186,7 +186,7 @@ within_here ds before n x h w =
     (subst (λ k. k ≤ most_nodes) (sym (size_here-code ds before n x h)) w.0, subst (λ k. k ≤ most_levels) (sym (levels_here-code ds before n x h)) w.1)
 
 pub fault_here : (ds before : List Decl) (n : ℕ) (x : Expr) → Chosen ds before n x → (f : Fault) →
-    IsFaultAt (size (tree_of x) (extents_of (latest before))) (levels (tree_of x) (extents_of (latest before))) f → IsFaultOf (decls_of ds) n f
+    IsFaultAt (size (tree_of x) (extents_of (latest before))) (levels (tree_of x) (extents_of (latest before))) f → IsTranslationFault (decls_of ds) n f
 fault_here ds before n x h f w =
     subst (λ k. IsFaultAt k (expanded_levels (decls_of ds) n) f) (sym (size_here-code ds before n x h))
     (subst (λ k. IsFaultAt (size (tree_of x) (extents_of (latest before))) k f) (sym (levels_here-code ds before n x h)) w)

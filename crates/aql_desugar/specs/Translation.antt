@@ -14,17 +14,18 @@ use Rattle.aql_syntax.specs.Sound.{declarations_of}
 use Rattle.aql_syntax.specs.Typing.{Has, scope_of}
 use Rattle.aql_syntax.specs.Size.{before, size, levels, extents_of, expanded_size, expanded_levels, PassLimits}
 use Rattle.aql_syntax.specs.Measured.{latest}
-use Rattle.aql_constraints.specs.Typed.{ArePrincipal, sorts_of}
-use Rattle.aql_constraints.specs.declared.typed.Typed.{Typed}
+use Rattle.aql_infer_steps.specs.Typed.{ArePrincipal, sorts_of}
+use Rattle.aql_infer_steps.specs.declared.typed.Typed.{Typed}
 use Rattle.nrca_term.specs.Term.{Term, Closed, WellFormed, weight_of, IsSmall}
 use Rattle.nrca_term.specs.Meaning.{Outcomes, cden}
 use Rattle.nrca_term.specs.Turns.{settle}
 use Rattle.nrca_term.specs.Typing.{instances, ctyped}
-use Rattle.aql_start.specs.Start.{start, knowns_of, query}
-use Rattle.aql_start.specs.Laws.{outcomes_of, value_type}
+use Rattle.aql_desugar_spec.specs.Start.{start, knowns_of, query}
+use Rattle.aql_desugar_spec.specs.Laws.{outcomes_of, value_type}
 use Rattle.aql_desugar.specs.declared.fault.Fault.{Fault}
 use Rattle.aql_desugar.specs.declared.fault.Fault.TheVariants as faults
 
+-- the expression of a declaration that is there
 abbrev pub query_at : Option Declaration → Option Tree
 query_at None = None
 query_at (Some d) = query d
@@ -81,5 +82,5 @@ IsFaultAt size levels (faults.Large s l) = PassLimits size levels × (s ≡ min 
 IsFaultAt size levels faults.Memory = Unit {0}
 
 -- the fault is that of declaration n
-abbrev pub IsFaultOf : List Declaration → ℕ → Fault → Type 0
-IsFaultOf ds n f = IsFaultAt (expanded_size ds n) (expanded_levels ds n) f
+abbrev pub IsTranslationFault : List Declaration → ℕ → Fault → Type 0
+IsTranslationFault ds n f = IsFaultAt (expanded_size ds n) (expanded_levels ds n) f

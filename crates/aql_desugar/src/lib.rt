@@ -1,10 +1,21 @@
 //! The translation of declarations to core terms.
 //!
 //! `translate` is the one call of the layers above: the start term of a declaration's expression, or that the declaration is
-//! large. The start term is a definition of aql_start (`specs/Start.antt`), and what it means, weighs and is typed is proved there.
-//! Read `specs/Translation.antt`, then `translate`, which tests the limits, and `fault`. The recursion on expressions stands in
-//! aql_queries.
+//! large. The start term is a definition of aql_desugar_spec (`specs/Start`), and what it means, weighs and is typed is proved
+//! there.
+//!
+//! Read `specs/Translation`, then `translate`, which tests the limits, and `fault`. Beneath it `queries` is the recursion on
+//! expressions; `names` the scope that the code's names make, `positions` the declaration that a name stands for, `nodes` a node
+//! over its parts, `matches` the match of a pattern around a term, `arrays` the loops over an array's indices, and `unions` the
+//! set of members.
 #![tactic(auto)]
 
+mod arrays;
 pub mod fault;
+mod matches;
+mod names;
+mod nodes;
+mod positions;
+mod queries;
 pub mod translate;
+mod unions;

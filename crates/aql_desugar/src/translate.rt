@@ -4,13 +4,13 @@ ghost use Rattle.std.specs.Prelude.{◌≡◌, ◌≤◌, length, option_map, Is
 ghost use Rattle.aql_syntax.specs.View.{tree_of, decl_of, decls_of};
 ghost use Rattle.aql_syntax.specs.Size.{AreWithin, IsWithinLimits};
 ghost use Rattle.nrca_term.specs.View.{term_of};
-ghost use Rattle.aql_start.specs.Start as start_term;
-ghost use Rattle.aql_desugar.specs.Translation.{query_of, size_in, levels_in, Translates, IsSmallWherePrincipal, IsFaultOf, IsFaultAt};
-ghost use Rattle.aql_matches.specs.Names.{knowns_in};
+ghost use Rattle.aql_desugar_spec.specs.Start as start_term;
+ghost use Rattle.aql_desugar.specs.Translation.{query_of, size_in, levels_in, Translates, IsSmallWherePrincipal, IsTranslationFault, IsFaultAt};
+ghost use Rattle.aql_desugar.specs.Names.{knowns_in};
 
 use crate::fault::Fault;
-use aql_constraints::typed::Typed;
-use aql_queries::queries::start;
+use crate::queries::start;
+use aql_infer_steps::typed::Typed;
 use aql_syntax::ast::{Decl, Decls, Expr};
 use aql_syntax::sizes::{MOST_LEVELS, MOST_NODES, measure};
 use nrca_term::Core;
@@ -26,12 +26,12 @@ pub fn translate(alloc: Global, decls: &Decls, typed: &Typed, n: u64) -> Result<
     ensures translated { IfOk result (λ c. Translates decls.now typed.now n (term_of c)) }
     ensures small { IfOk result (λ c. IsSmallWherePrincipal decls.now typed.now (term_of c)) }
     ensures within { IfOk result (λ _. IsWithinLimits (decls_of decls.now.items.items) n) }
-    ensures fault { IfErr result (IsFaultOf (decls_of decls.now.items.items) n) }
+    ensures fault { IfErr result (IsTranslationFault (decls_of decls.now.items.items) n) }
 {
     let _ = typed;
     let at = n as usize - 1;
     match expression(&decls.items[at]) {
-        Some(e) => limited(alloc, e, &decls.items[..at]),
+        Some(e) => term_after(alloc, e, &decls.items[..at]),
         None => unreachable!(),
     }
 }
@@ -57,10 +57,13 @@ fn expression(d: &Decl) -> Option<&Expr>
 }
 
 // The start term of an expression after these declarations.
-fn limited(alloc: Global, e: &Expr, earlier: &[Decl]) -> Result<Core, Fault>
-    ensures made { IfOk result (λ c. term_of c ≡ start_term.start (tree_of e.now) (knowns_in earlier.now) []) }
-    ensures within { IfOk result (λ _. AreWithin (size_in e.now earlier.now) (levels_in e.now earlier.now)) }
-    ensures fault { IfErr result (IsFaultAt (size_in e.now earlier.now) (levels_in e.now earlier.now)) }
+fn term_after(alloc: Global, e: &Expr, earlier: &[Decl]) -> Result<Core, Fault>
+    ensures made { IfOk result (λ c. term_of c ≡ start_term.start (tree_of e.now)
+        (knowns_in earlier.now) []) }
+    ensures within { IfOk result (λ _. AreWithin (size_in e.now earlier.now)
+        (levels_in e.now earlier.now)) }
+    ensures fault { IfErr result (IsFaultAt (size_in e.now earlier.now)
+        (levels_in e.now earlier.now)) }
 {
     let counts = measure(e, earlier);
     if counts.size > MOST_NODES || counts.levels > MOST_LEVELS {

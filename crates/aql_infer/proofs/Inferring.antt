@@ -6,14 +6,14 @@ use Rattle.aql_types.specs.Unifiers.{IsSolution, IsBest}
 use Rattle.aql_types.specs.View.{sort_of}
 use Rattle.aql_types.specs.declared.ty.Scheme as code_scheme
 use Rattle.aql_syntax.specs.Tree.{Declaration}
-use Rattle.aql_constraints.specs.Constraints.{Schemes, State, Made, start, make_decl}
+use Rattle.aql_infer_steps.specs.Constraints.{Schemes, State, Made, start, make_decl}
 use Rattle.aql_types.specs.Variables.{sort_variables}
-use Rattle.aql_constraints.specs.Numbering.{number}
-use Rattle.aql_constraints.specs.Principal.{IsNotInferred, HasNoSolution}
-use Rattle.aql_constraints.specs.View.{Fails}
-use Rattle.aql_constraints.specs.declared.names.Position.{Position}
-use Rattle.aql_constraints.specs.declared.fault.NoTyping.{NoTyping}
-use Rattle.aql_constraints.specs.declared.fault.NoTyping.TheVariants as faults
+use Rattle.aql_infer_steps.specs.Numbering.{number}
+use Rattle.aql_infer_steps.specs.Principal.{IsNotInferred, HasNoSolution}
+use Rattle.aql_infer_steps.specs.View.{FailsTyping}
+use Rattle.aql_infer_steps.specs.declared.names.Position.{Position}
+use Rattle.aql_infer_steps.specs.declared.fault.NoTyping.{NoTyping}
+use Rattle.aql_infer_steps.specs.declared.fault.NoTyping.TheVariants as faults
 use Rattle.aql_infer.specs.Inferred.{Inferred, Placed}
 
 -- a most general solution, and its scheme with the variables numbered
@@ -41,6 +41,6 @@ pub not_solved : (d : Declaration) (ss : Schemes) (m : Made Sort) → make_decl 
 not_solved d ss m e h = subst HasNoSolution (sym e) h
 
 -- nothing asked
-pub not_asked : (e : NoTyping) (d : Declaration) (ss : Schemes) → Fails e (make_decl d ss start) → Inferred (Err e) d ss
+pub not_asked : (e : NoTyping) (d : Declaration) (ss : Schemes) → FailsTyping e (make_decl d ss start) → Inferred (Err e) d ss
 not_asked faults.Memory d ss h = tt
 not_asked faults.NoType d ss h = subst HasNoSolution (sym h) tt

@@ -9,14 +9,15 @@ use Rattle.aql_syntax.specs.Tree.{Declaration, declared}
 use Rattle.aql_syntax.specs.Typing.{scope_of}
 use Rattle.aql_syntax.specs.View.{decl_of, decls_of}
 use Rattle.aql_syntax.specs.declared.ast.Decl.{Decl}
-use Rattle.aql_constraints.specs.Constraints.{Schemes}
-use Rattle.aql_constraints.specs.Describes.{Describes}
+use Rattle.aql_infer_steps.specs.Constraints.{Schemes}
+use Rattle.aql_infer_steps.specs.Describes.{Describes}
 use Rattle.aql_syntax.specs.Written.{DeclWritten}
-use Rattle.aql_constraints.specs.Principal.{IsInferred, IsNotInferred, untyped, inferred_principal, inferred_described, inferred_numbered, none_described}
-use Rattle.aql_constraints.specs.View.{scheme_of, schemes_onto, schemes_of}
-use Rattle.aql_syntax.specs.WrittenLaws.{decl_written}
-use Rattle.aql_constraints.specs.declared.names.Position.{Position}
-use Rattle.aql_constraints.specs.Typed.{IsPrincipalScheme, ArePrincipal, sorts_of}
+use Rattle.aql_infer_steps.specs.Principal.{IsInferred, IsNotInferred}
+use Rattle.aql_infer_steps.specs.Laws.Principal.{untyped, inferred_principal, inferred_described, inferred_numbered, none_described}
+use Rattle.aql_infer_steps.specs.View.{scheme_of, schemes_onto, schemes_of}
+use Rattle.aql_syntax.specs.Laws.Written.{decl_written}
+use Rattle.aql_infer_steps.specs.declared.names.Position.{Position}
+use Rattle.aql_infer_steps.specs.Typed.{IsPrincipalScheme, ArePrincipal, sorts_of}
 use Rattle.aql_infer.specs.Checked.{behind, HasNoSort, IsFirstUntyped, found_sorts}
 
 -- each declaration gone over has its sort, and the schemes describe them all

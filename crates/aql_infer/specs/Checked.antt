@@ -5,9 +5,9 @@ use Rattle.aql_types.specs.Types.{Sort}
 use Rattle.aql_types.specs.View.{sort_of}
 use Rattle.aql_syntax.specs.Tree.{Declaration}
 use Rattle.aql_syntax.specs.Typing.{DeclHas, scope_of}
-use Rattle.aql_constraints.specs.Typed.{sorts_of, ArePrincipal}
-use Rattle.aql_constraints.specs.declared.names.Position.{Position}
-use Rattle.aql_constraints.specs.declared.typed.Typed.{Typed}
+use Rattle.aql_infer_steps.specs.Typed.{sorts_of, ArePrincipal}
+use Rattle.aql_infer_steps.specs.declared.names.Position.{Position}
+use Rattle.aql_infer_steps.specs.declared.typed.Typed.{Typed}
 use Rattle.aql_infer.specs.declared.fault.TypeFault.{TypeFault}
 use Rattle.aql_infer.specs.declared.fault.TypeFault.TheVariants as faults
 

@@ -5,14 +5,14 @@ use Rattle.aql_types.specs.Types.{apply_sort}
 use Rattle.aql_types.specs.View.{sort_of}
 use Rattle.aql_types.specs.declared.ty.Scheme as code_scheme
 use Rattle.aql_syntax.specs.Tree.{Declaration, declared}
-use Rattle.aql_constraints.specs.Constraints.{Schemes}
+use Rattle.aql_infer_steps.specs.Constraints.{Schemes}
 use Rattle.aql_types.specs.Variables.{sort_variables}
-use Rattle.aql_constraints.specs.Numbering.{numbered}
-use Rattle.aql_constraints.specs.Principal.{IsInferred, IsNotInferred}
-use Rattle.aql_constraints.specs.View.{scheme_of}
-use Rattle.aql_constraints.specs.declared.names.Position.{Position}
-use Rattle.aql_constraints.specs.declared.fault.NoTyping.{NoTyping}
-use Rattle.aql_constraints.specs.declared.fault.NoTyping.TheVariants as faults
+use Rattle.aql_infer_steps.specs.Numbering.{numbered}
+use Rattle.aql_infer_steps.specs.Principal.{IsInferred, IsNotInferred}
+use Rattle.aql_infer_steps.specs.View.{scheme_of}
+use Rattle.aql_infer_steps.specs.declared.names.Position.{Position}
+use Rattle.aql_infer_steps.specs.declared.fault.NoTyping.{NoTyping}
+use Rattle.aql_infer_steps.specs.declared.fault.NoTyping.TheVariants as faults
 
 -- its name, with the numbered sort of a most general solution of what it asks; or there is none
 abbrev pub Inferred : Result Position NoTyping → Declaration → Schemes → Type 0

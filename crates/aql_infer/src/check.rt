@@ -2,14 +2,14 @@
 
 ghost use Rattle.std.specs.Prelude.{◌≡◌, IfOk};
 ghost use Rattle.aql_syntax.specs.View.{decls_of};
-ghost use Rattle.aql_constraints.specs.Typed.{sorts_of};
+ghost use Rattle.aql_infer_steps.specs.Typed.{sorts_of};
 ghost use Rattle.aql_infer.specs.Checked.{IsChecked, AllFound, found_sorts};
 
 use crate::declare::infer_declaration;
 use crate::fault::TypeFault;
-use aql_constraints::fault::NoTyping;
-use aql_constraints::names::Position;
-pub use aql_constraints::typed::Typed;
+use aql_infer_steps::fault::NoTyping;
+use aql_infer_steps::names::Position;
+pub use aql_infer_steps::typed::Typed;
 use aql_syntax::ast::{Decl, Decls};
 use aql_types::ty::Scheme;
 use aql_value::Memory;

@@ -3,24 +3,24 @@
 ghost use Rattle.std.specs.Prelude.{◌≡◌, []};
 ghost use Rattle.aql_syntax.specs.Tree as tree;
 ghost use Rattle.aql_syntax.specs.View.{tree_of, decl_of, reader_of, pat_of};
-ghost use Rattle.aql_constraints.specs.Constraints.{start, make_decl};
-ghost use Rattle.aql_constraints.specs.View.{state_of, schemes_of, MakesSort};
+ghost use Rattle.aql_infer_steps.specs.Constraints.{start, make_decl};
+ghost use Rattle.aql_infer_steps.specs.View.{state_of, schemes_of, MakesSort};
 ghost use Rattle.aql_infer.specs.Inferred.{Inferred, Placed};
 
-use aql_constraints::fault::NoTyping;
-use aql_constraints::names::Position;
-use aql_constraints::numbering::{instance_of, with_places};
-use aql_constraints::patterns::pattern;
-use aql_constraints::readers::{argument_type, has_rank, reader_type};
-use aql_constraints::store::{Store, equal_types, tested, used};
-use aql_equations::infer;
-use aql_made::{both, boxed};
+use crate::walk::infer;
+use aql_infer_steps::fault::NoTyping;
+use aql_infer_steps::names::Position;
+use aql_infer_steps::numbering::{instance_of, with_places};
+use aql_infer_steps::patterns::pattern;
+use aql_infer_steps::readers::{argument_type, has_rank, reader_type};
+use aql_infer_steps::store::{Store, equal_types, require, use_type};
 use aql_syntax::ast::{Decl, Expr, Pattern, Reader};
 use aql_types::fault::UnifyFault;
 use aql_types::solve::solve;
 use aql_types::ty::Scheme;
 use aql_types::variables::scheme_variables;
 use aql_value::Memory;
+use aql_value::made::{both, make_box};
 use std::alloc::Global;
 
 /// What a declaration has over what the earlier positions have: its principal scheme, with its
@@ -32,24 +32,28 @@ pub(crate) fn infer_declaration(
 ) -> Result<Position, NoTyping>
     ensures { Inferred result (decl_of d.now) (schemes_of positions.now) }
 {
-    let (scheme, s) = asked(alloc, d, positions, begin(alloc))?;
+    let (scheme, s) = constrain(alloc, d, positions, begin(alloc))?;
     let Store {
         equations,
         uses,
         next: _,
     } = s;
     match solve(alloc, equations, uses) {
-        Ok(solution) => placed(alloc, d, instance_of(alloc, &solution, &scheme)),
+        Ok(solution) => sort_of_expression(alloc, d, instance_of(alloc, &solution, &scheme)),
         Err(UnifyFault::Clash) => Err(NoTyping::NoType),
         Err(UnifyFault::Memory) => Err(NoTyping::Memory),
     }
 }
 
 // What a declaration has, of its scheme before the variables are numbered.
-fn placed(alloc: Global, d: &Decl, scheme: Result<Scheme, Memory>) -> Result<Position, NoTyping>
+fn sort_of_expression(
+    alloc: Global,
+    d: &Decl,
+    scheme: Result<Scheme, Memory>,
+) -> Result<Position, NoTyping>
     ensures { Placed result scheme (decl_of d.now) }
 {
-    let scheme = boxed(alloc, scheme)?;
+    let scheme = make_box(alloc, scheme)?;
     let names = scheme_variables(alloc, &scheme)?;
     let (scheme, name) = both(with_places(alloc, &scheme, &names), d.name_copy(alloc))?;
     Ok(Position {
@@ -70,7 +74,7 @@ fn begin(alloc: Global) -> Store
 }
 
 // What a declaration asks, and what it has then.
-fn asked(
+fn constrain(
     alloc: Global,
     d: &Decl,
     positions: &[Position],
@@ -94,22 +98,23 @@ fn asked(
     }
 }
 
-#[tactic(auto, unfolding(aql_constraints::specs::Constraints::after))]
+#[tactic(auto, unfolding(aql_infer_steps::specs::Constraints::after))]
 fn asked_of_value(
     alloc: Global,
     e: &Expr,
     positions: &[Position],
     s: Store,
 ) -> Result<(Scheme, Store), NoTyping>
-    ensures { MakesSort result (make_decl (tree.bare (tree_of e.now)) (schemes_of positions.now) (state_of s)) }
+    ensures { MakesSort result (make_decl (tree.bare (tree_of e.now)) (schemes_of positions.now)
+        (state_of s)) }
 {
     let mut env = Vec::new(alloc);
     let (t, s) = infer(alloc, e, u64::MAX, positions, &mut env, s)?;
-    let s = used(alloc, &t, s)?;
+    let s = use_type(alloc, &t, s)?;
     Ok((Scheme::Value(t), s))
 }
 
-#[tactic(auto, unfolding(aql_constraints::specs::Constraints::after))]
+#[tactic(auto, unfolding(aql_infer_steps::specs::Constraints::after))]
 fn asked_of_macro(
     alloc: Global,
     p: &Pattern,
@@ -117,13 +122,14 @@ fn asked_of_macro(
     positions: &[Position],
     s: Store,
 ) -> Result<(Scheme, Store), NoTyping>
-    ensures { MakesSort result (make_decl (tree.mac [] (pat_of p.now) (tree_of body.now)) (schemes_of positions.now) (state_of s)) }
+    ensures { MakesSort result (make_decl (tree.mac [] (pat_of p.now) (tree_of body.now))
+        (schemes_of positions.now) (state_of s)) }
 {
     let mut env = Vec::new(alloc);
     let (a, s) = pattern(alloc, p, positions, &mut env, s)?;
     let (b, s) = infer(alloc, body, u64::MAX, positions, &mut env, s)?;
-    let s = used(alloc, &a, s)?;
-    let s = used(alloc, &b, s)?;
+    let s = use_type(alloc, &a, s)?;
+    let s = use_type(alloc, &b, s)?;
     Ok((
         Scheme::Macro {
             argument: a,
@@ -133,7 +139,7 @@ fn asked_of_macro(
     ))
 }
 
-#[tactic(auto, unfolding(aql_constraints::specs::Constraints::after))]
+#[tactic(auto, unfolding(aql_infer_steps::specs::Constraints::after))]
 fn asked_of_reader(
     alloc: Global,
     reader: &Reader,
@@ -141,15 +147,16 @@ fn asked_of_reader(
     positions: &[Position],
     s: Store,
 ) -> Result<(Scheme, Store), NoTyping>
-    ensures { MakesSort result (make_decl (tree.read [] (reader_of reader.now) (tree_of e.now)) (schemes_of positions.now) (state_of s)) }
+    ensures { MakesSort result (make_decl (tree.read [] (reader_of reader.now) (tree_of e.now))
+        (schemes_of positions.now) (state_of s)) }
 {
-    let s = tested(has_rank(reader), s)?;
+    let s = require(has_rank(reader), s)?;
     let mut env = Vec::new(alloc);
     let (t, s) = infer(alloc, e, u64::MAX, positions, &mut env, s)?;
     let argument = argument_type(alloc, reader)?;
     let s = equal_types(alloc, &t, &argument, s)?;
-    let s = used(alloc, &argument, s)?;
+    let s = use_type(alloc, &argument, s)?;
     let given = reader_type(alloc, reader)?;
-    let s = used(alloc, &given, s)?;
+    let s = use_type(alloc, &given, s)?;
     Ok((Scheme::Value(given), s))
 }

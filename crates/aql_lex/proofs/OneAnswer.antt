@@ -8,7 +8,7 @@ use Rattle.aql_lex.specs.declared.lexer.Item.TheVariants as items
 use Rattle.aql_lex.specs.Lexed.{OneList, OneTextFault, TokensOrTextFault}
 use Rattle.aql_lex.proofs.Fronts.{shape, blank_found, begins_found, blank_shrinks, begins_shrinks}
 use Rattle.aql_lex.specs.Texts.{Says}
-use Rattle.aql_lex.specs.TextLaws.{unescaped_is}
+use Rattle.aql_lex.specs.Laws.Text.{unescaped_is}
 use Rattle.aql_lex.proofs.Spellings.{one_spelling}
 use Rattle.aql_lex.proofs.Covering.{has_text, Goes, goes_none, goes_blank, goes_token, goes}
 

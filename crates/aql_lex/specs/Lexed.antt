@@ -35,6 +35,7 @@ pub record IsOneList (ts us : List Token) (ls ms : List Lexeme) : Type 0 where
   pub tokens : ts ≡ us
   pub lexemes : ls ≡ ms
 
+-- a script has at most one list of tokens
 abbrev pub OneList : Type 0
 OneList = (script : List ℕ) (ts us : List Token) (ls ms : List Lexeme) → AreTokens script ts ls → AreTokens script us ms → IsOneList ts us ls ms
 
@@ -42,6 +43,7 @@ OneList = (script : List ℕ) (ts us : List Token) (ls ms : List Lexeme) → Are
 abbrev pub OneTextFault : Type 0
 OneTextFault = (m n : ℕ) (script : List ℕ) → TextFaultAt m script → TextFaultAt n script → m ≡ n
 
+-- a script with tokens has no byte at which none begins
 abbrev pub TokensOrTextFault : Type 0
 TokensOrTextFault = (n : ℕ) (script : List ℕ) (ts : List Token) (ls : List Lexeme) → AreTokens script ts ls → TextFaultAt n script → ⊥
 
@@ -49,6 +51,7 @@ TokensOrTextFault = (n : ℕ) (script : List ℕ) (ts : List Token) (ls : List L
 abbrev pub OneDeepFault : Type 0
 OneDeepFault = (m n : ℕ) (script : List ℕ) → IsDeepAt m script → IsDeepAt n script → m ≡ n
 
+-- a script is not shallow and deep at once
 abbrev pub ShallowOrDeep : Type 0
 ShallowOrDeep = (n : ℕ) (script : List ℕ) (ts : List Token) → IsShallow script ts → IsDeepAt n script → ⊥
 

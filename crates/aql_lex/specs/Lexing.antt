@@ -13,6 +13,7 @@ use Rattle.aql_lex.specs.declared.lexer.Item.{Item}
 use Rattle.aql_lex.specs.declared.lexer.Item.TheVariants as items
 use Rattle.aql_lex.specs.Texts.{digits_value}
 
+-- what follows the bytes at the front that have the property
 abbrev pub run_rest : (ℕ → Bool) → List ℕ → List ℕ
 run_rest p [] = []
 run_rest p (b ∷ s) = if p b then run_rest p s else b ∷ s
@@ -24,6 +25,7 @@ pub data Place : Type 0 where
   hex : Place
   last_hex : Place
 
+-- what follows a string, from a place in it on
 abbrev pub string_rest : Place → List ℕ → Option (List ℕ)
 string_rest _ [] = None
 string_rest inside (b ∷ s) =
@@ -33,6 +35,7 @@ string_rest escaped (b ∷ s) =
 string_rest hex (b ∷ s) = if is_hex b then string_rest last_hex s else None
 string_rest last_hex (b ∷ s) = if is_hex b then string_rest inside s else None
 
+-- what follows a comment, from a place in it on: whether a star stood before
 abbrev pub comment_rest : Bool → List ℕ → Option (List ℕ)
 comment_rest star [] = None
 comment_rest star (b ∷ s) = if star && b == 41 then Some s else comment_rest (b == 42) s
@@ -51,9 +54,11 @@ sign_from (g ∷ gs) s = or_else (option_map (λ r. (g, r)) (behind (spelling g)
 abbrev pub Found : Type 0
 Found = Option (Item × List ℕ)
 
+-- a number below 2^128, and what follows it
 abbrev pub number : ℕ → List ℕ → Found
 number n s = if nat_lt (digits_value n s) (2 ^ 128) then Some (items.Said kinds.Number, run_rest is_digit s) else None
 
+-- a reserved word, or a name
 abbrev pub word_item : Option Sign → Item
 word_item (Some w) = items.Mark w
 word_item None = items.Said kinds.Name
@@ -62,10 +67,12 @@ word_item None = items.Said kinds.Name
 abbrev pub word : List ℕ → List ℕ → Found
 word s r = Some (word_item (first_spelled WORDS (take (length s - length r) s)), r)
 
+-- what stands behind an opening parenthesis: a comment, or the sign
 abbrev pub paren : List ℕ → Found
 paren [] = Some (items.Mark signs.Open, [])
 paren (b ∷ s) = if b == 42 then (comment_rest false s >>= λ r. Some (items.Blank, r)) else Some (items.Mark signs.Open, b ∷ s)
 
+-- the longest sign at the front
 abbrev pub other_sign : List ℕ → Found
 other_sign s = sign_from SIGNS s >>= λ x. Some (items.Mark x.0, x.1)
 

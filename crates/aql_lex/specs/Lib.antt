@@ -2,4 +2,4 @@ pub mod Lexed
 pub mod Lexing
 pub mod Texts
 pub mod Scanning
-pub mod TextLaws
+pub mod Laws

@@ -15,6 +15,7 @@ abbrev pub stack_of : List ℕ → List ℕ
 stack_of [] = []
 stack_of (c ∷ cs) = stack_of cs ++ c ∷ []
 
+-- the counters of the code, the innermost first
 abbrev pub counters_of : Counters → List ℕ
 counters_of c = c.top ∷ stack_of c.below.items
 
@@ -26,6 +27,7 @@ sign_said kinds.Text t = None
 sign_said kinds.Reserved t = first_spelled ALL t
 sign_said kinds.Sign t = first_spelled ALL t
 
+-- the counters behind a token, which is a sign or none
 abbrev pub after_sign : Option Sign → List ℕ → List ℕ
 after_sign None counters = counters
 after_sign (Some g) counters = sign_scanned g counters

@@ -22,7 +22,7 @@ use std::alloc::Global;
 pub fn tokens(alloc: Global, script: &[u8]) -> Result<Vec<Token>, LexFault>
     ensures { Lexed result script.now }
 {
-    match covered(alloc, script) {
+    match token_list(alloc, script) {
         Err(fault) => Err(fault),
         Ok(found) => match first_deep(alloc, &found, script)? {
             None => Ok(found),
@@ -42,7 +42,8 @@ pub enum Item {
 // The blank or token at the front, and what follows it.
 #[tactic(auto, unfolding(crate::specs::Lexing::found_at))]
 fn first_item(bytes: &[u8]) -> Option<(Item, &[u8])>
-    ensures { MatchOption result (found_at bytes.now ≡ None) (λ x. found_at bytes.now ≡ Some (x.0, x.1.now)) }
+    ensures { MatchOption result (found_at bytes.now ≡ None) (λ x. found_at bytes.now ≡ Some
+        (x.0, x.1.now)) }
 {
     let (first, behind) = bytes.split_first()?;
     let first = *first;
@@ -83,7 +84,8 @@ fn word_at<'a>(bytes: &[u8], rest: &'a [u8]) -> (Item, &'a [u8])
 
 // What a parenthesis begins.
 fn after_open(bytes: &[u8]) -> Option<(Item, &[u8])>
-    ensures { MatchOption result (paren bytes.now ≡ None) (λ x. paren bytes.now ≡ Some (x.0, x.1.now)) }
+    ensures { MatchOption result (paren bytes.now ≡ None)
+        (λ x. paren bytes.now ≡ Some (x.0, x.1.now)) }
 {
     match bytes.split_first() {
         Some((first, behind)) if *first == b'*' => {
@@ -95,7 +97,7 @@ fn after_open(bytes: &[u8]) -> Option<(Item, &[u8])>
 }
 
 // The tokens of a script, without the scan of them.
-fn covered(alloc: Global, script: &[u8]) -> Result<Vec<Token>, LexFault>
+fn token_list(alloc: Global, script: &[u8]) -> Result<Vec<Token>, LexFault>
     ensures { Covered result script.now }
 {
     let total = script.len() as u64;

@@ -23,9 +23,10 @@ pub fn after_name(bytes: &[u8]) -> &[u8]
 }
 
 /// What follows a number's digits, if 128 bits hold it.
-#[tactic(auto, using(crate::specs::TextLaws::digits_grow))]
+#[tactic(auto, using(crate::specs::Laws::Text::digits_grow))]
 pub fn after_digits(start: u128, bytes: &[u8]) -> Option<&[u8]>
-    ensures value { MatchOption result (2 ^ 128 ≤ digits_value start bytes.now) (λ _. digits_value start bytes.now < 2 ^ 128) }
+    ensures value { MatchOption result (2 ^ 128 ≤ digits_value start bytes.now)
+        (λ _. digits_value start bytes.now < 2 ^ 128) }
     ensures rest { IfSome result (λ r. r.now ≡ run_rest is_digit bytes.now) }
 {
     let mut value = start;
@@ -42,7 +43,8 @@ pub fn after_digits(start: u128, bytes: &[u8]) -> Option<&[u8]>
 
 /// What follows a string's closing quote.
 pub fn after_string(bytes: &[u8]) -> Option<&[u8]>
-    ensures { MatchOption result (string_rest inside bytes.now ≡ None) (λ r. string_rest inside bytes.now ≡ Some r.now) }
+    ensures { MatchOption result (string_rest inside bytes.now ≡ None)
+        (λ r. string_rest inside bytes.now ≡ Some r.now) }
 {
     let mut rest = bytes;
     while let Some((first, behind)) = rest.split_first() {
@@ -62,7 +64,8 @@ pub fn after_string(bytes: &[u8]) -> Option<&[u8]>
 
 // What follows an escape's characters.
 fn after_escape(bytes: &[u8]) -> Option<&[u8]>
-    ensures place { MatchOption result (string_rest escaped bytes.now ≡ None) (λ r. string_rest escaped bytes.now ≡ string_rest inside r.now) }
+    ensures place { MatchOption result (string_rest escaped bytes.now ≡ None)
+        (λ r. string_rest escaped bytes.now ≡ string_rest inside r.now) }
     ensures shorter { MatchOption result (Unit {0}) (λ r. length r.now < length bytes.now) }
 {
     let (first, behind) = bytes.split_first()?;
@@ -83,7 +86,8 @@ fn after_escape(bytes: &[u8]) -> Option<&[u8]>
 
 /// What follows a comment's first star and parenthesis.
 pub fn after_comment(bytes: &[u8]) -> Option<&[u8]>
-    ensures { MatchOption result (comment_rest false bytes.now ≡ None) (λ r. comment_rest false bytes.now ≡ Some r.now) }
+    ensures { MatchOption result (comment_rest false bytes.now ≡ None)
+        (λ r. comment_rest false bytes.now ≡ Some r.now) }
 {
     let mut star = false;
     let mut rest = bytes;

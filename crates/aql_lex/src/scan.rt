@@ -45,7 +45,7 @@ pub fn first_deep(
     };
     let mut left = tokens;
     while let Some((token, later)) = left.split_first() {
-        counters = scanned(counters, sign_at(script, *token))?;
+        counters = scan_token(counters, sign_at(script, *token))?;
         if counters.total > 400 {
             return Ok(Some(token.from));
         }
@@ -68,7 +68,7 @@ fn sign_at(script: &[u8], token: Token) -> Option<Sign>
 }
 
 // The counters after a token.
-fn scanned(counters: Counters, sign: Option<Sign>) -> Result<Counters, AllocFailed<u64>>
+fn scan_token(counters: Counters, sign: Option<Sign>) -> Result<Counters, AllocFailed<u64>>
     requires adds { sum (counters_of counters) ≡ counters.total }
     requires low { counters.total ≤ 400 }
     ensures { IfOk result (λ c. Scans c (after_sign sign (counters_of counters))) }

@@ -6,32 +6,36 @@ ghost use Rattle.aql_syntax.specs.Signs as table;
 ghost use Rattle.aql_lex.specs.Lexing.{first_spelled, sign_from};
 
 use aql_syntax::sign::Sign;
-use aql_syntax::token::behind;
+use aql_syntax::token::strip_front;
 
 /// The reserved word or sign that these bytes spell.
 pub fn sign_of(text: &[u8]) -> Option<Sign>
-    ensures { MatchOption result ((g : Sign) → table.spelling g ≢ text.now) (λ g. table.spelling g ≡ text.now) }
+    ensures { MatchOption result ((g : Sign) → table.spelling g ≢ text.now)
+        (λ g. table.spelling g ≡ text.now) }
 {
-    spelled(&ALL, text)
+    find_spelling(&ALL, text)
 }
 
 /// The reserved word that these bytes spell.
 pub fn word_of(text: &[u8]) -> Option<Sign>
-    ensures { MatchOption result (first_spelled WORDS text.now ≡ None) (λ g. first_spelled WORDS text.now ≡ Some g) }
+    ensures { MatchOption result (first_spelled WORDS text.now ≡ None)
+        (λ g. first_spelled WORDS text.now ≡ Some g) }
 {
-    spelled(&WORDS, text)
+    find_spelling(&WORDS, text)
 }
 
 /// The longest sign at the front, other than an open parenthesis, and what follows it.
 pub fn sign_at(bytes: &[u8]) -> Option<(Sign, &[u8])>
-    ensures { MatchOption result (sign_from SIGNS bytes.now ≡ None) (λ x. sign_from SIGNS bytes.now ≡ Some (x.0, x.1.now)) }
+    ensures { MatchOption result (sign_from SIGNS bytes.now ≡ None) (λ x. sign_from SIGNS bytes.now
+        ≡ Some (x.0, x.1.now)) }
 {
     first_at(&SIGNS, bytes)
 }
 
 // The first of these that the bytes spell.
-fn spelled(signs: &[Sign], text: &[u8]) -> Option<Sign>
-    ensures { MatchOption result (first_spelled signs.now text.now ≡ None) (λ g. first_spelled signs.now text.now ≡ Some g) }
+fn find_spelling(signs: &[Sign], text: &[u8]) -> Option<Sign>
+    ensures { MatchOption result (first_spelled signs.now text.now ≡ None)
+        (λ g. first_spelled signs.now text.now ≡ Some g) }
 {
     let mut left = signs;
     while let Some((first, later)) = left.split_first() {
@@ -45,11 +49,12 @@ fn spelled(signs: &[Sign], text: &[u8]) -> Option<Sign>
 
 // The first of these that stands at the front, and what follows it.
 fn first_at<'a>(signs: &[Sign], bytes: &'a [u8]) -> Option<(Sign, &'a [u8])>
-    ensures { MatchOption result (sign_from signs.now bytes.now ≡ None) (λ x. sign_from signs.now bytes.now ≡ Some (x.0, x.1.now)) }
+    ensures { MatchOption result (sign_from signs.now bytes.now ≡ None)
+        (λ x. sign_from signs.now bytes.now ≡ Some (x.0, x.1.now)) }
 {
     let mut left = signs;
     while let Some((first, later)) = left.split_first() {
-        if let Some(rest) = behind(spelling(*first), bytes) {
+        if let Some(rest) = strip_front(spelling(*first), bytes) {
             return Some((*first, rest));
         }
         left = later;

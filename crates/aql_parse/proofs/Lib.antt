@@ -1,1 +1,8 @@
+pub mod CycleSteps
+pub mod CycleLoops
+pub mod Branches
+pub mod Strings
+pub mod Steps
+pub mod Loops
+pub mod Fields
 mod Said

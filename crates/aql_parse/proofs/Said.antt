@@ -11,9 +11,9 @@ use Rattle.aql_syntax.specs.Lexis.{Lexeme, named, numeral, quoted, mark, kind_of
 use Rattle.aql_lex.specs.declared.signs.TheConstants.{ALL}
 use Rattle.aql_lex.specs.Lexing.{first_spelled}
 use Rattle.aql_lex.specs.Texts.{Says, EachSays, text_of, digits_value}
-use Rattle.aql_lex.specs.TextLaws.{unescaped_is}
-use Rattle.aql_phrases.specs.declared.words.Word.{Word}
-use Rattle.aql_phrases.specs.Words.{string_of, lexeme_of, lexemes}
+use Rattle.aql_lex.specs.Laws.Text.{unescaped_is}
+use Rattle.aql_parse.specs.declared.words.Word.{Word}
+use Rattle.aql_parse.specs.Words.{string_of, lexeme_of, lexemes}
 use Rattle.aql_parse.specs.Parsed.{IsMark, Rest}
 
 not_name : (t : Bool) → kinds.Name ≡ (if t then kinds.Reserved else kinds.Sign) → ⊥

@@ -1,1 +1,7 @@
+pub mod Cycle
+pub mod Words
+pub mod Forms
+pub mod Parts
+pub mod Fields
 pub mod Parsed
+pub mod Laws

@@ -8,8 +8,8 @@ use Rattle.aql_syntax.specs.Grammar.{ReadsScript, SyntaxFaultAt}
 use Rattle.aql_lex.specs.Texts.{EachSays}
 use Rattle.aql_parse.specs.declared.fault.ParseFault.{ParseFault}
 use Rattle.aql_parse.specs.declared.fault.ParseFault.TheVariants as faults
-use Rattle.aql_phrases.specs.declared.words.Word.{Word}
-use Rattle.aql_phrases.specs.Words.{lexemes}
+use Rattle.aql_parse.specs.declared.words.Word.{Word}
+use Rattle.aql_parse.specs.Words.{lexemes}
 
 -- what is answered for these lexemes: the declarations that they are, or the first declaration where there is none
 abbrev pub Parsed : Result Decls ParseFault → List Lexeme → Type 0

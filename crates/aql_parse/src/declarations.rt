@@ -1,23 +1,23 @@
 //! Declarations.
 
 ghost use Rattle.aql_syntax.specs.View.{tree_of, reader_of, decl_of};
-ghost use Rattle.aql_grammar.specs.Scripts.{bare_at};
-ghost use Rattle.aql_grammar.specs.Parsing.{decl_at, val_at, macro_at, readval_at, ended_at, reader_at};
-ghost use Rattle.aql_phrases.specs.Words.{Parses};
+ghost use Rattle.aql_parse_spec.specs.Scripts.{bare_at};
+ghost use Rattle.aql_parse_spec.specs.Parsing.{decl_at, val_at, macro_at, readval_at, ended_at, reader_at};
+ghost use Rattle.aql_parse.specs.Words.{Parses};
 
-use aql_expressions::parse_then;
+use crate::expressions::parse_then;
+use crate::parts::binder;
+use crate::patterns::pattern_then;
+use crate::readers::reader_named;
+use crate::refusal::Refusal;
+use crate::words::{Word, expect, next};
 use aql_lex::scan::text_at;
-use aql_phrases::fault::Refusal;
-use aql_phrases::parts::binder;
-use aql_phrases::patterns::pattern_then;
-use aql_phrases::readers::reader_named;
-use aql_phrases::words::{Word, expect, next};
 use aql_syntax::ast::{Decl, Expr, Reader};
 use aql_syntax::sign::Sign;
 use std::alloc::Global;
 
 /// A declaration and its semicolon.
-#[tactic(auto, unfolding(aql_grammar::specs::Parsing::decl_at))]
+#[tactic(auto, unfolding(aql_parse_spec::specs::Parsing::decl_at))]
 pub fn declaration<'a>(
     alloc: Global,
     source: &[u8],
@@ -35,7 +35,7 @@ pub fn declaration<'a>(
 }
 
 // Behind the word `val`.
-#[tactic(auto, unfolding(aql_grammar::specs::Parsing::val_at))]
+#[tactic(auto, unfolding(aql_parse_spec::specs::Parsing::val_at))]
 fn val_declaration<'a>(
     alloc: Global,
     source: &[u8],
@@ -45,12 +45,12 @@ fn val_declaration<'a>(
     ensures { Parses decl_of source.now words.now result (val_at depth) }
 {
     let (name, rest) = binder(alloc, source, words, Sign::Equal)?;
-    let (expr, rest) = ended(alloc, source, rest, depth)?;
+    let (expr, rest) = expression_to_semicolon(alloc, source, rest, depth)?;
     Ok((Decl::Val { name, expr }, rest))
 }
 
 // Behind the word `macro`.
-#[tactic(auto, unfolding(aql_grammar::specs::Parsing::macro_at))]
+#[tactic(auto, unfolding(aql_parse_spec::specs::Parsing::macro_at))]
 fn macro_declaration<'a>(
     alloc: Global,
     source: &[u8],
@@ -62,7 +62,7 @@ fn macro_declaration<'a>(
     let (name, rest) = binder(alloc, source, words, Sign::Equal)?;
     let rest = expect(source, rest, Sign::Fn)?;
     let (pattern, rest) = pattern_then(alloc, source, rest, Sign::FatArrow, depth)?;
-    let (body, rest) = ended(alloc, source, rest, depth)?;
+    let (body, rest) = expression_to_semicolon(alloc, source, rest, depth)?;
     Ok((
         Decl::Macro {
             name,
@@ -74,7 +74,7 @@ fn macro_declaration<'a>(
 }
 
 // Behind the word `readval`.
-#[tactic(auto, unfolding(aql_grammar::specs::Parsing::readval_at))]
+#[tactic(auto, unfolding(aql_parse_spec::specs::Parsing::readval_at))]
 fn read_declaration<'a>(
     alloc: Global,
     source: &[u8],
@@ -86,7 +86,7 @@ fn read_declaration<'a>(
     let (name, rest) = binder(alloc, source, words, Sign::Using)?;
     let (reader, rest) = reader(alloc, source, rest)?;
     let rest = expect(source, rest, Sign::At)?;
-    let (expr, rest) = ended(alloc, source, rest, depth)?;
+    let (expr, rest) = expression_to_semicolon(alloc, source, rest, depth)?;
     Ok((Decl::Read { name, reader, expr }, rest))
 }
 
@@ -98,13 +98,13 @@ fn bare_declaration<'a>(
 ) -> Result<(Decl, &'a [Word]), Refusal>
     ensures { Parses decl_of source.now words.now result (bare_at depth) }
 {
-    let (expr, rest) = ended(alloc, source, words, depth)?;
+    let (expr, rest) = expression_to_semicolon(alloc, source, words, depth)?;
     Ok((Decl::Bare { expr }, rest))
 }
 
 // An expression and a semicolon.
-#[tactic(auto, unfolding(aql_grammar::specs::Parsing::ended_at, aql_expressions::specs::Parts::expr_then))]
-fn ended<'a>(
+#[tactic(auto, unfolding(aql_parse_spec::specs::Parsing::ended_at, crate::specs::Cycle::expr_then))]
+fn expression_to_semicolon<'a>(
     alloc: Global,
     source: &[u8],
     words: &'a [Word],
@@ -117,7 +117,7 @@ fn ended<'a>(
 }
 
 // The reader that a name stands for.
-#[tactic(auto, unfolding(aql_grammar::specs::Parsing::reader_at, aql_grammar::specs::Parsing::name_at))]
+#[tactic(auto, unfolding(aql_parse_spec::specs::Parsing::reader_at, aql_parse_spec::specs::Parsing::name_at))]
 fn reader<'a>(
     alloc: Global,
     source: &[u8],

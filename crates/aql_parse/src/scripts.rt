@@ -3,16 +3,16 @@
 ghost use Rattle.std.specs.Prelude.{◌≡◌, IfOk, List};
 ghost use Rattle.aql_syntax.specs.Lexis.{Lexeme, AreTokens, kind_of};
 ghost use Rattle.aql_lex.specs.Texts.{Says, EachSays, text_of};
-ghost use Rattle.aql_phrases.specs.Words.{lexeme_of, lexemes};
+ghost use Rattle.aql_parse.specs.Words.{lexeme_of, lexemes};
 ghost use Rattle.aql_parse.specs.Parsed.{Parsed, IsMark};
 
 use crate::declarations::declaration;
 use crate::fault::ParseFault;
+use crate::refusal::Refusal;
+use crate::words::{Word, number_in};
 use aql_lex::laws::spans_and_texts;
 use aql_lex::scan::text_at;
 use aql_lex::signs::sign_of;
-use aql_phrases::fault::Refusal;
-use aql_phrases::words::{Word, number_in};
 use aql_syntax::ast::Decls;
 use aql_syntax::token::{Token, TokenKind};
 use aql_value::Memory;
@@ -33,7 +33,8 @@ pub fn script(alloc: Global, tokens: &[Token], source: &[u8]) -> Result<Decls, P
 
 // What each token says.
 fn words_of(alloc: Global, source: &[u8], tokens: &[Token]) -> Result<Vec<Word>, Memory>
-    ensures { IfOk result (λ ws. (ls : List Lexeme) → EachSays source.now tokens.now ls → lexemes source.now ws.items ≡ ls) }
+    ensures { IfOk result (λ ws. (ls : List Lexeme) → EachSays source.now tokens.now ls
+        → lexemes source.now ws.items ≡ ls) }
 {
     let mut words = Vec::new(alloc);
     let mut left = tokens;
@@ -46,7 +47,8 @@ fn words_of(alloc: Global, source: &[u8], tokens: &[Token]) -> Result<Vec<Word>,
 
 // What a token says. A reserved word or sign that no sign is spelled as is taken for a name: the lexer gives none.
 fn word_of(source: &[u8], token: Token) -> Word
-    ensures { (l : Lexeme) → token.kind ≡ kind_of l → Says (text_of source.now token) l → lexeme_of source.now result ≡ l }
+    ensures { (l : Lexeme) → token.kind ≡ kind_of l → Says (text_of source.now token) l
+        → lexeme_of source.now result ≡ l }
 {
     match token.kind {
         TokenKind::Name => Word::Name(token),
@@ -58,7 +60,8 @@ fn word_of(source: &[u8], token: Token) -> Word
 }
 
 fn mark_of(source: &[u8], token: Token) -> Word
-    ensures { (l : Lexeme) → IsMark l → Says (text_of source.now token) l → lexeme_of source.now result ≡ l }
+    ensures { (l : Lexeme) → IsMark l → Says (text_of source.now token) l → lexeme_of source.now
+        result ≡ l }
 {
     match sign_of(text_at(source, token)) {
         Some(sign) => Word::Mark(sign),

@@ -1,3 +1,4 @@
 pub mod Made
 pub mod Prelude
 pub mod Typing
+pub mod Laws

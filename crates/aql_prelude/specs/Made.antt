@@ -6,9 +6,11 @@ use Rattle.aql_syntax.specs.declared.ast.Expr.{Expr}
 use Rattle.aql_syntax.specs.declared.ast.Pattern.{Pattern}
 use Rattle.aql_syntax.specs.declared.ast.Qual.{Qual}
 
+-- an expression that was made is this tree
 abbrev pub MadeTree : {E : Type 0} → Result Expr E → Tree → Type 0
 MadeTree r t = IfOk r (λ e. tree_of e ≡ t)
 
+-- a pattern that was made is this one
 abbrev pub MadePat : {E : Type 0} → Result Pattern E → Pat → Type 0
 MadePat r p = IfOk r (λ x. pat_of x ≡ p)
 

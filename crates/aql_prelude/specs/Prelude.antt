@@ -26,6 +26,7 @@ pair a b = of_two Strict.tuple a b
 abbrev pub both : Pat → Pat → Pat
 both p q = tuple (pat p (pat q no_pat))
 
+-- the number 1
 abbrev pub one : Tree
 one = op (Strict.nat 1) no_tree
 
@@ -33,9 +34,11 @@ one = op (Strict.nat 1) no_tree
 abbrev pub empty_set : Tree
 empty_set = op Strict.empty no_tree
 
+-- a comparison of two trees
 abbrev pub compare : CompareOp → Tree → Tree → Tree
 compare o a b = of_two (Strict.compare o) a b
 
+-- an arithmetic operation of two trees
 abbrev pub arith : ArithOp → Tree → Tree → Tree
 arith o a b = of_two (Strict.arith o) a b
 
@@ -55,6 +58,7 @@ call f a = tree.apply (codes f) a
 abbrev pub index : String → Tree → Axes → Axes
 index i e rest = tree.axis (codes i) e rest
 
+-- a macro of that name
 abbrev pub define : String → Pat → Tree → Declaration
 define f p e = mac (codes f) p e
 
@@ -179,15 +183,19 @@ abbrev pub zip : Declaration
 zip = define "zip" (both (bind "a") (bind "b"))
     (tree.tab (index "i" (call "min2" (pair (len (name "a")) (len (name "b")))) no_axis) (pair (cell (name "a") (name "i")) (cell (name "b") (name "i"))))
 
+-- the macros on pairs, and those that count and add
 abbrev pub of_pairs_and_counts : List Declaration
 of_pairs_and_counts = fst ∷ snd ∷ isempty ∷ member ∷ count ∷ total ∷ []
 
+-- the macros on sets
 abbrev pub of_sets : List Declaration
 of_sets = inter ∷ minus ∷ subset ∷ product ∷ flatten ∷ least ∷ greatest ∷ []
 
+-- the macros on numbers
 abbrev pub of_numbers : List Declaration
 of_numbers = min2 ∷ max2 ∷ range ∷ domain ∷ []
 
+-- the macros on arrays
 abbrev pub of_arrays : List Declaration
 of_arrays = cells ∷ graph ∷ reverse ∷ subseq ∷ append ∷ transpose ∷ zip ∷ []
 

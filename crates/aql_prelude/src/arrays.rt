@@ -63,7 +63,10 @@ pub(crate) fn append(alloc: Global) -> Result<Decl, Memory>
 
 // `if i < len!a then a[i] else b[i-len!a]`.
 fn either_cell(alloc: Global) -> Result<Expr, Memory>
-    ensures { MadeTree result (tree.choice (prelude.compare compares.Less (prelude.name "i") (prelude.len (prelude.name "a"))) (prelude.cell (prelude.name "a") (prelude.name "i")) (prelude.cell (prelude.name "b") (prelude.arith ariths.Monus (prelude.name "i") (prelude.len (prelude.name "a"))))) }
+    ensures { MadeTree result (tree.choice (prelude.compare compares.Less (prelude.name "i")
+        (prelude.len (prelude.name "a"))) (prelude.cell (prelude.name "a") (prelude.name "i"))
+        (prelude.cell (prelude.name "b") (prelude.arith ariths.Monus (prelude.name "i")
+        (prelude.len (prelude.name "a"))))) }
 {
     let test = compare(alloc, CompareOp::Less, name(alloc, b"i"), len(alloc, b"a"));
     let first = cell(alloc, b"a", name(alloc, b"i"));
@@ -82,7 +85,8 @@ pub(crate) fn transpose(alloc: Global) -> Result<Decl, Memory>
 
 // An index below what a macro gives of the dimensions of a.
 fn bound_by(alloc: Global, i: &[u8], f: &[u8]) -> Result<Bind, Memory>
-    ensures { IfOk result (λ b. (b.name ≡ i.now) × (tree_of b.bound ≡ tree.apply f.now (prelude.dimensions (prelude.name "a")))) }
+    ensures { IfOk result (λ b. (b.name ≡ i.now)
+        × (tree_of b.bound ≡ tree.apply f.now (prelude.dimensions (prelude.name "a")))) }
 {
     index(alloc, i, call(alloc, f, dim_2(alloc, b"a")))
 }

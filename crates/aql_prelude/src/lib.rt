@@ -39,7 +39,8 @@ pub fn prelude(alloc: Global) -> Result<Decls, Memory>
 
 // One declaration more.
 fn put(items: &mut Vec<Decl>, decl: Result<Decl, Memory>) -> Result<(), Memory>
-    ensures { (x : Declaration) → IfOk decl (λ d. decl_of d ≡ x) → OnOk result (decls_of items.new.items ≡ decls_of items.old.items ++ x ∷ []) }
+    ensures { (x : Declaration) → IfOk decl (λ d. decl_of d ≡ x)
+        → OnOk result (decls_of items.new.items ≡ decls_of items.old.items ++ x ∷ []) }
 {
     let decl = decl?;
     items.push(decl)?;
@@ -47,7 +48,8 @@ fn put(items: &mut Vec<Decl>, decl: Result<Decl, Memory>) -> Result<(), Memory>
 }
 
 fn push_counts(alloc: Global, items: &mut Vec<Decl>) -> Result<(), Memory>
-    ensures { OnOk result (decls_of items.new.items ≡ decls_of items.old.items ++ of_pairs_and_counts) }
+    ensures { OnOk result (decls_of items.new.items ≡ decls_of items.old.items
+        ++ of_pairs_and_counts) }
 {
     put(items, counts::fst(alloc))?;
     put(items, counts::snd(alloc))?;

@@ -15,7 +15,8 @@ use std::alloc::Global;
 
 // `a < b`.
 fn is_less(alloc: Global) -> Result<Expr, Memory>
-    ensures { MadeTree result (prelude.compare compares.Less (prelude.name "a") (prelude.name "b")) }
+    ensures { MadeTree result (prelude.compare compares.Less (prelude.name "a")
+        (prelude.name "b")) }
 {
     compare(alloc, CompareOp::Less, name(alloc, b"a"), name(alloc, b"b"))
 }

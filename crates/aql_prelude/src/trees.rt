@@ -8,12 +8,13 @@ ghost use Rattle.aql_value.specs.declared.ops.CompareOp.TheVariants as compares;
 ghost use Rattle.aql_prelude.specs.Made.{MadeTree, MadePat, MadeQual};
 ghost use Rattle.aql_prelude.specs.Prelude as prelude;
 
-use aql_made as made;
-use aql_made::{both_boxed, boxed, listed, listed_both};
 use aql_syntax::ast::{Bind, Decl, Expr, Pattern, Qual};
 use aql_syntax::build::{comprehension, row, subscript, tabulation, tuple_pattern};
-use aql_syntax::nodes::{Functional, Operation, Operator, function_in_place, joined, operated};
-use aql_value::{ArithOp, CompareOp, Memory, Str};
+use aql_syntax::nodes::{
+    Functional, Operation, Operator, apply_operation, apply_operator, function_in_place,
+};
+use aql_value::made::{make_box, make_boxes, make_list, make_pair_list};
+use aql_value::{ArithOp, CompareOp, Memory, Str, made};
 use std::alloc::Global;
 
 fn text(alloc: Global, content: &[u8]) -> Result<Str, Memory>
@@ -51,23 +52,27 @@ pub(crate) fn both(
     p: Result<Pattern, Memory>,
     q: Result<Pattern, Memory>,
 ) -> Result<Pattern, Memory>
-    ensures { (v w : tree.Pat) → MadePat p v → MadePat q w → MadePat result (tree.tuple (tree.pat v (tree.pat w tree.no_pat))) }
+    ensures { (v w : tree.Pat) → MadePat p v → MadePat q w
+        → MadePat result (tree.tuple (tree.pat v (tree.pat w tree.no_pat))) }
 {
-    Ok(tuple_pattern(listed_both(alloc, p, q)?))
+    Ok(tuple_pattern(make_pair_list(alloc, p, q)?))
 }
 
 /// Two names, bound as a tuple.
 pub(crate) fn bind_both(alloc: Global, x: &[u8], y: &[u8]) -> Result<Pattern, Memory>
-    ensures { MadePat result (tree.tuple (tree.pat (tree.bind x.now) (tree.pat (tree.bind y.now) tree.no_pat))) }
+    ensures { MadePat result (tree.tuple
+        (tree.pat (tree.bind x.now) (tree.pat (tree.bind y.now) tree.no_pat))) }
 {
     both(alloc, bind(alloc, x), bind(alloc, y))
 }
 
 /// Three names, bound as a tuple.
 pub(crate) fn bind_three(alloc: Global, x: &[u8], y: &[u8], z: &[u8]) -> Result<Pattern, Memory>
-    ensures { MadePat result (tree.tuple (tree.pat (tree.bind x.now) (tree.pat (tree.bind y.now) (tree.pat (tree.bind z.now) tree.no_pat)))) }
+    ensures { MadePat result (tree.tuple
+        (tree.pat (tree.bind x.now)
+        (tree.pat (tree.bind y.now) (tree.pat (tree.bind z.now) tree.no_pat)))) }
 {
-    let items = listed_both(alloc, bind(alloc, x), bind(alloc, y));
+    let items = make_pair_list(alloc, bind(alloc, x), bind(alloc, y));
     let (mut items, z) = made::both(items, bind(alloc, z))?;
     items.push(z)?;
     Ok(tuple_pattern(items))
@@ -86,9 +91,10 @@ pub(crate) fn pair(
     a: Result<Expr, Memory>,
     b: Result<Expr, Memory>,
 ) -> Result<Expr, Memory>
-    ensures { (t u : tree.Tree) → MadeTree a t → MadeTree b u → MadeTree result (of_two Strict.tuple t u) }
+    ensures { (t u : tree.Tree) → MadeTree a t → MadeTree b u → MadeTree result
+        (of_two Strict.tuple t u) }
 {
-    Ok(row(listed_both(alloc, a, b)?))
+    Ok(row(make_pair_list(alloc, a, b)?))
 }
 
 pub(crate) fn compare(
@@ -97,10 +103,11 @@ pub(crate) fn compare(
     a: Result<Expr, Memory>,
     b: Result<Expr, Memory>,
 ) -> Result<Expr, Memory>
-    ensures { (t u : tree.Tree) → MadeTree a t → MadeTree b u → MadeTree result (of_two (Strict.compare op) t u) }
+    ensures { (t u : tree.Tree) → MadeTree a t → MadeTree b u → MadeTree result
+        (of_two (Strict.compare op) t u) }
 {
-    let (a, b) = both_boxed(alloc, a, b)?;
-    Ok(joined(Operator::Compare(op), a, b))
+    let (a, b) = make_boxes(alloc, a, b)?;
+    Ok(apply_operator(Operator::Compare(op), a, b))
 }
 
 pub(crate) fn arith(
@@ -109,15 +116,17 @@ pub(crate) fn arith(
     a: Result<Expr, Memory>,
     b: Result<Expr, Memory>,
 ) -> Result<Expr, Memory>
-    ensures { (t u : tree.Tree) → MadeTree a t → MadeTree b u → MadeTree result (of_two (Strict.arith op) t u) }
+    ensures { (t u : tree.Tree) → MadeTree a t → MadeTree b u → MadeTree result
+        (of_two (Strict.arith op) t u) }
 {
-    let (a, b) = both_boxed(alloc, a, b)?;
-    Ok(joined(Operator::Arith(op), a, b))
+    let (a, b) = make_boxes(alloc, a, b)?;
+    Ok(apply_operator(Operator::Arith(op), a, b))
 }
 
 /// `e = {}`.
 pub(crate) fn is_empty(alloc: Global, a: Result<Expr, Memory>) -> Result<Expr, Memory>
-    ensures { (t : tree.Tree) → MadeTree a t → MadeTree result (prelude.compare compares.Equal t prelude.empty_set) }
+    ensures { (t : tree.Tree) → MadeTree a t → MadeTree result (prelude.compare compares.Equal t
+        prelude.empty_set) }
 {
     compare(alloc, CompareOp::Equal, a, Ok(Expr::Empty))
 }
@@ -125,7 +134,7 @@ pub(crate) fn is_empty(alloc: Global, a: Result<Expr, Memory>) -> Result<Expr, M
 pub(crate) fn not(alloc: Global, a: Result<Expr, Memory>) -> Result<Expr, Memory>
     ensures { (t : tree.Tree) → MadeTree a t → MadeTree result (tree.negation t) }
 {
-    let a = boxed(alloc, a)?;
+    let a = make_box(alloc, a)?;
     Ok(Expr::Not(a))
 }
 
@@ -135,31 +144,32 @@ pub(crate) fn choose(
     a: Result<Expr, Memory>,
     b: Result<Expr, Memory>,
 ) -> Result<Expr, Memory>
-    ensures { (s t u : tree.Tree) → MadeTree c s → MadeTree a t → MadeTree b u → MadeTree result (tree.choice s t u) }
+    ensures { (s t u : tree.Tree) → MadeTree c s → MadeTree a t → MadeTree b u → MadeTree result
+        (tree.choice s t u) }
 {
-    let (c, (a, b)) = made::both(boxed(alloc, c), both_boxed(alloc, a, b))?;
+    let (c, (a, b)) = made::both(make_box(alloc, c), make_boxes(alloc, a, b))?;
     Ok(Expr::If(c, a, b))
 }
 
 pub(crate) fn generate(alloc: Global, a: Result<Expr, Memory>) -> Result<Expr, Memory>
     ensures { (t : tree.Tree) → MadeTree a t → MadeTree result (of_one Strict.gen t) }
 {
-    let a = boxed(alloc, a)?;
-    Ok(operated(Operation::Gen, a))
+    let a = make_box(alloc, a)?;
+    Ok(apply_operation(Operation::Gen, a))
 }
 
 pub(crate) fn get(alloc: Global, a: Result<Expr, Memory>) -> Result<Expr, Memory>
     ensures { (t : tree.Tree) → MadeTree a t → MadeTree result (of_one Strict.get t) }
 {
-    let a = boxed(alloc, a)?;
-    Ok(operated(Operation::Get, a))
+    let a = make_box(alloc, a)?;
+    Ok(apply_operation(Operation::Get, a))
 }
 
 /// The length of the array of that name.
 pub(crate) fn len(alloc: Global, x: &[u8]) -> Result<Expr, Memory>
     ensures { MadeTree result (of_one (Strict.dim 1) (tree.name x.now)) }
 {
-    let a = boxed(alloc, name(alloc, x))?;
+    let a = make_box(alloc, name(alloc, x))?;
     Ok(Expr::Len(a))
 }
 
@@ -167,24 +177,27 @@ pub(crate) fn len(alloc: Global, x: &[u8]) -> Result<Expr, Memory>
 pub(crate) fn dim_2(alloc: Global, x: &[u8]) -> Result<Expr, Memory>
     ensures { MadeTree result (of_one (Strict.dim 2) (tree.name x.now)) }
 {
-    let array = boxed(alloc, name(alloc, x))?;
-    Ok(operated(Operation::Dim(2), array))
+    let array = make_box(alloc, name(alloc, x))?;
+    Ok(apply_operation(Operation::Dim(2), array))
 }
 
 /// A cell of the array of that name, which has one dimension.
 pub(crate) fn cell(alloc: Global, x: &[u8], i: Result<Expr, Memory>) -> Result<Expr, Memory>
-    ensures { (t : tree.Tree) → MadeTree i t → MadeTree result (tree.op Strict.sub (tree.tree (tree.name x.now) (tree.tree t tree.no_tree))) }
+    ensures { (t : tree.Tree) → MadeTree i t → MadeTree result
+        (tree.op Strict.sub (tree.tree (tree.name x.now) (tree.tree t tree.no_tree))) }
 {
-    let (a, at) = made::both(boxed(alloc, name(alloc, x)), listed(alloc, i))?;
+    let (a, at) = made::both(make_box(alloc, name(alloc, x)), make_list(alloc, i))?;
     Ok(subscript(a, at))
 }
 
 /// A cell of the array of that name, which has two dimensions, at two names.
 pub(crate) fn cell_2(alloc: Global, x: &[u8], i: &[u8], j: &[u8]) -> Result<Expr, Memory>
-    ensures { MadeTree result (tree.op Strict.sub (tree.tree (tree.name x.now) (tree.tree (tree.name i.now) (tree.tree (tree.name j.now) tree.no_tree)))) }
+    ensures { MadeTree result
+        (tree.op Strict.sub (tree.tree (tree.name x.now)
+        (tree.tree (tree.name i.now) (tree.tree (tree.name j.now) tree.no_tree)))) }
 {
-    let at = listed_both(alloc, name(alloc, i), name(alloc, j));
-    let (a, at) = made::both(boxed(alloc, name(alloc, x)), at)?;
+    let at = make_pair_list(alloc, name(alloc, i), name(alloc, j));
+    let (a, at) = made::both(make_box(alloc, name(alloc, x)), at)?;
     Ok(subscript(a, at))
 }
 
@@ -192,7 +205,7 @@ pub(crate) fn cell_2(alloc: Global, x: &[u8], i: &[u8], j: &[u8]) -> Result<Expr
 pub(crate) fn call(alloc: Global, f: &[u8], a: Result<Expr, Memory>) -> Result<Expr, Memory>
     ensures { (t : tree.Tree) → MadeTree a t → MadeTree result (tree.apply f.now t) }
 {
-    let (name, argument) = made::both(text(alloc, f), boxed(alloc, a))?;
+    let (name, argument) = made::both(text(alloc, f), make_box(alloc, a))?;
     Ok(Expr::Apply { name, argument })
 }
 
@@ -202,9 +215,10 @@ pub(crate) fn sum_map(
     body: Result<Expr, Memory>,
     over: Result<Expr, Memory>,
 ) -> Result<Expr, Memory>
-    ensures { (v : tree.Pat) (t u : tree.Tree) → MadePat pattern v → MadeTree body t → MadeTree over u → MadeTree result (tree.summap v t u) }
+    ensures { (v : tree.Pat) (t u : tree.Tree) → MadePat pattern v → MadeTree body t
+        → MadeTree over u → MadeTree result (tree.summap v t u) }
 {
-    let (pattern, (body, over)) = made::both(pattern, both_boxed(alloc, body, over))?;
+    let (pattern, (body, over)) = made::both(pattern, make_boxes(alloc, body, over))?;
     Ok(function_in_place(Functional::Sum, pattern, body, over))
 }
 
@@ -214,9 +228,10 @@ pub(crate) fn rows(
     head: Result<Expr, Memory>,
     q: Result<Qual, Memory>,
 ) -> Result<Expr, Memory>
-    ensures { (t : tree.Tree) (f : tree.Quals → tree.Quals) → MadeTree head t → MadeQual q f → MadeTree result (tree.comp t (f tree.no_qual)) }
+    ensures { (t : tree.Tree) (f : tree.Quals → tree.Quals) → MadeTree head t → MadeQual q f
+        → MadeTree result (tree.comp t (f tree.no_qual)) }
 {
-    let (head, items) = made::both(boxed(alloc, head), listed(alloc, q))?;
+    let (head, items) = made::both(make_box(alloc, head), make_list(alloc, q))?;
     Ok(comprehension(head, items))
 }
 
@@ -227,9 +242,10 @@ pub(crate) fn rows_of_two(
     q: Result<Qual, Memory>,
     r: Result<Qual, Memory>,
 ) -> Result<Expr, Memory>
-    ensures { (t : tree.Tree) (f g : tree.Quals → tree.Quals) → MadeTree head t → MadeQual q f → MadeQual r g → MadeTree result (tree.comp t (f (g tree.no_qual))) }
+    ensures { (t : tree.Tree) (f g : tree.Quals → tree.Quals) → MadeTree head t → MadeQual q f
+        → MadeQual r g → MadeTree result (tree.comp t (f (g tree.no_qual))) }
 {
-    let (head, items) = made::both(boxed(alloc, head), listed_both(alloc, q, r))?;
+    let (head, items) = made::both(make_box(alloc, head), make_pair_list(alloc, q, r))?;
     Ok(comprehension(head, items))
 }
 
@@ -238,7 +254,8 @@ pub(crate) fn from(
     pattern: Result<Pattern, Memory>,
     over: Result<Expr, Memory>,
 ) -> Result<Qual, Memory>
-    ensures { (v : tree.Pat) (t : tree.Tree) → MadePat pattern v → MadeTree over t → MadeQual result (λ rest. tree.from v t rest) }
+    ensures { (v : tree.Pat) (t : tree.Tree) → MadePat pattern v → MadeTree over t → MadeQual result
+        (λ rest. tree.from v t rest) }
 {
     let (pattern, over) = made::both(pattern, over)?;
     Ok(Qual::From { pattern, over })
@@ -250,7 +267,8 @@ pub(crate) fn cells_of(
     cell: Result<Pattern, Memory>,
     over: Result<Expr, Memory>,
 ) -> Result<Qual, Memory>
-    ensures { (v w : tree.Pat) (t : tree.Tree) → MadePat index v → MadePat cell w → MadeTree over t → MadeQual result (λ rest. tree.cells v w t rest) }
+    ensures { (v w : tree.Pat) (t : tree.Tree) → MadePat index v → MadePat cell w → MadeTree over t
+        → MadeQual result (λ rest. tree.cells v w t rest) }
 {
     let ((index, cell), over) = made::both(made::both(index, cell), over)?;
     Ok(Qual::Cells { index, cell, over })
@@ -280,7 +298,8 @@ pub(crate) fn among(alloc: Global, x: &[u8], s: &[u8]) -> Result<Qual, Memory>
 
 /// An index and its bound.
 pub(crate) fn index(alloc: Global, i: &[u8], bound: Result<Expr, Memory>) -> Result<Bind, Memory>
-    ensures { (t : tree.Tree) → MadeTree bound t → IfOk result (λ b. (b.name ≡ i.now) × (tree_of b.bound ≡ t)) }
+    ensures { (t : tree.Tree) → MadeTree bound t → IfOk result (λ b. (b.name ≡ i.now)
+        × (tree_of b.bound ≡ t)) }
 {
     let (name, bound) = made::both(text(alloc, i), bound)?;
     Ok(Bind { name, bound })
@@ -293,10 +312,11 @@ pub(crate) fn tabulate(
     i: &[u8],
     bound: Result<Expr, Memory>,
 ) -> Result<Expr, Memory>
-    ensures { (t u : tree.Tree) → MadeTree body t → MadeTree bound u → MadeTree result (tree.tab (tree.axis i.now u tree.no_axis) t) }
+    ensures { (t u : tree.Tree) → MadeTree body t → MadeTree bound u → MadeTree result
+        (tree.tab (tree.axis i.now u tree.no_axis) t) }
 {
-    let items = listed(alloc, index(alloc, i, bound));
-    let (body, items) = made::both(boxed(alloc, body), items)?;
+    let items = make_list(alloc, index(alloc, i, bound));
+    let (body, items) = made::both(make_box(alloc, body), items)?;
     Ok(tabulation(body, items))
 }
 
@@ -307,9 +327,11 @@ pub(crate) fn tabulate_2(
     outer: Result<Bind, Memory>,
     inner: Result<Bind, Memory>,
 ) -> Result<Expr, Memory>
-    ensures { (t u w : tree.Tree) (x y : List ℕ) → MadeTree body t → IfOk outer (λ b. (b.name ≡ x) × (tree_of b.bound ≡ u)) → IfOk inner (λ b. (b.name ≡ y) × (tree_of b.bound ≡ w)) → MadeTree result (tree.tab (tree.axis x u (tree.axis y w tree.no_axis)) t) }
+    ensures { (t u w : tree.Tree) (x y : List ℕ) → MadeTree body t → IfOk outer (λ b. (b.name ≡ x)
+        × (tree_of b.bound ≡ u)) → IfOk inner (λ b. (b.name ≡ y) × (tree_of b.bound ≡ w))
+        → MadeTree result (tree.tab (tree.axis x u (tree.axis y w tree.no_axis)) t) }
 {
-    let (body, items) = made::both(boxed(alloc, body), listed_both(alloc, outer, inner))?;
+    let (body, items) = made::both(make_box(alloc, body), make_pair_list(alloc, outer, inner))?;
     Ok(tabulation(body, items))
 }
 
@@ -320,7 +342,8 @@ pub(crate) fn define(
     pattern: Result<Pattern, Memory>,
     body: Result<Expr, Memory>,
 ) -> Result<Decl, Memory>
-    ensures { (v : tree.Pat) (t : tree.Tree) → MadePat pattern v → MadeTree body t → IfOk result (λ d. decl_of d ≡ tree.mac f.now v t) }
+    ensures { (v : tree.Pat) (t : tree.Tree) → MadePat pattern v → MadeTree body t
+        → IfOk result (λ d. decl_of d ≡ tree.mac f.now v t) }
 {
     let (name, (pattern, body)) = made::both(text(alloc, f), made::both(pattern, body))?;
     Ok(Decl::Macro {

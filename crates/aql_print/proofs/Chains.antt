@@ -6,7 +6,7 @@ use Rattle.nrca_term.specs.View.{term_of, terms_of}
 use Rattle.nrca_term.specs.declared.term.Core.{Core}
 use Rattle.nrca_term.specs.declared.term.Terms.{Terms}
 use Rattle.aql_print.specs.CoreText.{bounds_text, core_text}
-use Rattle.aql_texts.specs.Names.{bound_text}
+use Rattle.aql_print.specs.Names.{bound_text}
 
 -- one text and then another
 pub then : (old mid new a b : List ℕ) → mid ≡ old ++ a → new ≡ mid ++ b → new ≡ old ++ (a ++ b)

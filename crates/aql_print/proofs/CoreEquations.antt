@@ -7,9 +7,9 @@ use Rattle.aql_value.specs.declared.ops.ArithOp.{ArithOp}
 use Rattle.aql_value.specs.declared.ops.CompareOp.{CompareOp}
 use Rattle.nrca_term.specs.Term.{Term, Parts, none, part, plain}
 use Rattle.nrca_term.specs.Nodes.{let_term, if_term, default_term, tuple_term, proj_term, arith_term, compare_term, single_term, union_term, big_union_term, sum_term, gen_term, get_term, tab_term, sub_term, dim_term, index_term, literal_term}
-use Rattle.aql_texts.specs.Joined.{separated}
+use Rattle.aql_print.specs.Joined.{separated}
 use Rattle.aql_print.specs.CoreText.{arith_text, compare_text, between, joined, loop_text, tabulated_text, indexed_text, literal_text, core_text, part_texts, one}
-use Rattle.aql_texts.specs.Names.{bound_text}
+use Rattle.aql_print.specs.Names.{bound_text}
 
 -- the texts of terms
 abbrev pub core_texts : ℕ → List Term → List (List ℕ)

@@ -1,9 +1,9 @@
 -- A node weighs more than its parts, and a list no less than each term of it.
 use Rattle.std.proofs.Common.{◌≡◌, ℕ, zero, suc, ◌+◌, ◌<◌, ◌≤◌, List, [], ◌∷◌, length, map, get_or, Box, Global, ap, ◌∙◌, arith, subst}
 use Rattle.nrca_term.specs.Term.{part, plain, none, weight_of, list_weight}
-use Rattle.nrca_term.specs.Variants.{parts_weight-plain}
+use Rattle.nrca_term.specs.Laws.Variants.{parts_weight-plain}
 use Rattle.nrca_term.specs.View.{term_of, terms_of}
-use Rattle.nrca_term.specs.Equations.{term_of-Tuple, term_of-Tab, term_of-Sub, term_of-Literal}
+use Rattle.nrca_term.specs.Laws.Equations.{term_of-Tuple, term_of-Tab, term_of-Sub, term_of-Literal}
 use Rattle.nrca_term.specs.declared.term.Core.{Core}
 use Rattle.nrca_term.specs.declared.term.Core.TheVariants as core
 use Rattle.nrca_term.specs.declared.term.Terms.{Terms}

@@ -9,10 +9,11 @@ use Rattle.aql_value.specs.declared.ops.CompareOp.{CompareOp}
 use Rattle.aql_value.specs.declared.ops.CompareOp.TheVariants.{Equal, Unequal, Less, LessEqual, Greater, GreaterEqual}
 use Rattle.nrca_term.specs.Term.{Term, node, Parts, none, part, Form, var, global, bind, choose, default, big_union, sum, tab, strict}
 use Rattle.aql_prelude.specs.Prelude.{prelude_count}
-use Rattle.aql_texts.specs.Joined.{separated}
-use Rattle.aql_texts.specs.Names.{bound_text, variable_text}
-use Rattle.aql_texts.specs.ValueText.{text}
+use Rattle.aql_print.specs.Joined.{separated}
+use Rattle.aql_print.specs.Names.{bound_text, variable_text}
+use Rattle.aql_print.specs.ValueText.{text}
 
+-- the sign of an arithmetic operation, with its blanks
 abbrev pub arith_text : ArithOp → List ℕ
 arith_text Add = codes " + "
 arith_text Monus = codes " - "
@@ -20,6 +21,7 @@ arith_text Mul = codes " * "
 arith_text Quotient = codes " / "
 arith_text Remainder = codes " % "
 
+-- the sign of a comparison, with its blanks
 abbrev pub compare_text : CompareOp → List ℕ
 compare_text Equal = codes " = "
 compare_text Unequal = codes " <> "
@@ -63,12 +65,14 @@ one f [] = []
 one f (a ∷ []) = f a
 one f (a ∷ b ∷ ts) = []
 
+-- the text of two parts
 abbrev pub two : (List ℕ → List ℕ → List ℕ) → List (List ℕ) → List ℕ
 two f [] = []
 two f (a ∷ []) = []
 two f (a ∷ b ∷ []) = f a b
 two f (a ∷ b ∷ c ∷ ts) = []
 
+-- the text of three parts
 abbrev pub three : (List ℕ → List ℕ → List ℕ → List ℕ) → List (List ℕ) → List ℕ
 three f [] = []
 three f (a ∷ []) = []
@@ -76,6 +80,7 @@ three f (a ∷ b ∷ []) = []
 three f (a ∷ b ∷ c ∷ []) = f a b c
 three f (a ∷ b ∷ c ∷ e ∷ ts) = []
 
+-- the text of a first part and those behind it
 abbrev pub first_and_rest : (List ℕ → List (List ℕ) → List ℕ) → List (List ℕ) → List ℕ
 first_and_rest f [] = []
 first_and_rest f (a ∷ ts) = f a ts

@@ -3,7 +3,7 @@ use Rattle.std.specs.Prelude.{ℕ, List, [], ◌∷◌, map, codes}
 use Rattle.nrca_term.specs.declared.trace.Rule.{Rule}
 use Rattle.nrca_term.specs.declared.trace.Rule.TheVariants as rules
 use Rattle.nrca_term.specs.declared.trace.Step.{Step}
-use Rattle.aql_texts.specs.Joined.{separated}
+use Rattle.aql_print.specs.Joined.{separated}
 
 -- the name of a rule
 abbrev pub rule_text : Rule → List ℕ

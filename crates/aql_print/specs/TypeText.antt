@@ -3,7 +3,7 @@ use Rattle.std.specs.Prelude.{ℕ, ◌+◌, ◌/◌, ◌%◌, ◌==◌, List, []
 use Rattle.aql_types.specs.Types as types
 use Rattle.aql_types.specs.Types.{Ty, natural, truth, var, product, set_of, array_of, Tys, no_type, type, Sort, value, macro}
 use Rattle.aql_types.specs.Variables.{place, sort_variables}
-use Rattle.aql_texts.specs.Joined.{separated}
+use Rattle.aql_print.specs.Joined.{separated}
 
 -- variable n, counted from 0: `'a` to `'z`, then `'a1` to `'z1`, `'a2` and so on
 abbrev pub variable_text : ℕ → List ℕ

@@ -1,11 +1,12 @@
 ghost use Rattle.std.specs.Prelude.{◌≡◌, ◌++◌, codes, OnOk};
 ghost use Rattle.aql_value.specs.Datum.{data_of};
-ghost use Rattle.aql_texts.specs.Appends.{AppendsPrefix};
-ghost use Rattle.aql_texts.specs.Joined.{separated};
-ghost use Rattle.aql_texts.specs.ValueText.{text, texts};
+ghost use Rattle.aql_print.specs.Appends.{AppendsPrefix};
+ghost use Rattle.aql_print.specs.Joined.{separated};
+ghost use Rattle.aql_print.specs.ValueText.{text, texts};
 ghost use Rattle.nrca_array.specs.Held.{held_datum, table_datum};
 
-use aql_texts::{print_value, put, put_before, put_dims};
+use crate::bytes::{put, put_before};
+use crate::value::{print_value, put_dims};
 use aql_value::Memory;
 use nrca_array::{Flat, Held};
 use std::alloc::Global;
@@ -37,8 +38,10 @@ fn put_array(alloc: Global, a: &Flat, out: &mut Vec<u8>) -> Result<(), Memory>
 
 // Appends the texts of the cells, with `, ` between each two.
 fn put_cells(alloc: Global, a: &Flat, out: &mut Vec<u8>) -> Result<(), Memory>
-    ensures ok { OnOk result (out.new.items ≡ out.old.items ++ separated (codes ", ") (texts (data_of a.now.cells))) }
-    ensures prefix { AppendsPrefix out.old.items out.new.items (separated (codes ", ") (texts (data_of a.now.cells))) }
+    ensures ok { OnOk result (out.new.items ≡ out.old.items ++ separated (codes ", ")
+        (texts (data_of a.now.cells))) }
+    ensures prefix { AppendsPrefix out.old.items out.new.items
+        (separated (codes ", ") (texts (data_of a.now.cells))) }
 {
     for i in 0..a.len() {
         put_before(i, b", ", out)?;

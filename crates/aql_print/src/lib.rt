@@ -1,19 +1,25 @@
-//! The texts of values that are held, of types, core terms and rewritings, each appended to a vector of bytes.
+//! The texts of values, of types, core terms and rewritings, each appended to a vector of bytes.
 //!
-//! Each call appends exactly its text where it has memory, and a prefix of it where it runs out: `print_held` the text
-//! of a value as it is held, `print_scheme` that of a declaration's type, `print_core` that of a core term,
-//! `print_trace` the names of the rules that led to it; and `print_value` of aql_texts that of a value.
+//! Each call appends exactly its text where it has memory, and a prefix of it where it runs out: `print_value` the text
+//! of a value and `print_held` that of a value as it is held, `print_scheme` that of a declaration's type, `print_core`
+//! that of a core term, `print_trace` the names of the rules that led to it; `put` and its like those of bytes and names.
 //!
-//! Read `specs/TypeText.antt`, `CoreText` and `TraceText` first, then `held.rt`, `scheme.rt`, `term.rt` and `trace.rt`.
+//! Read `specs/Joined`, `ValueText`, `Names` and `Appends` first, then `bytes`, `value` and `names`; after these `TypeText`,
+//! `CoreText` and `TraceText` with `held`, `scheme`, `term` and `trace`. `PrefixLaws` has the laws of prefixes.
 #![tactic(auto)]
 
+mod bytes;
 mod held;
+mod names;
 mod scheme;
 mod term;
 mod trace;
+mod value;
 
-pub use aql_texts::print_value;
+pub use bytes::{put, put_before, put_number, put_quoted};
 pub use held::print_held;
+pub use names::{put_bound, put_variable};
 pub use scheme::print_scheme;
 pub use term::print_core;
 pub use trace::print_trace;
+pub use value::{print_value, put_dims};

@@ -1,27 +1,27 @@
 ghost use Rattle.std.specs.Prelude.{◌≡◌, ◌+◌, ◌++◌, ◌∷◌, [], OnOk, IfOk, decimal, codes};
 ghost use Rattle.aql_types.specs.View.{type_of, types_of, sort_of};
-ghost use Rattle.aql_texts.specs.Appends.{AppendsPrefix};
-ghost use Rattle.aql_texts.specs.Joined.{separated};
+ghost use Rattle.aql_print.specs.Appends.{AppendsPrefix};
+ghost use Rattle.aql_print.specs.Joined.{separated};
 ghost use Rattle.aql_print.specs.TypeText.{variable_text, part_text, part_texts, type_text, scheme_text};
 
-use aql_texts::{put, put_before, put_number};
+use crate::bytes::{put, put_before, put_number};
 use aql_types::ty::{Scheme, Ty};
 use aql_types::variables::{place_of, scheme_variables};
 use aql_value::Memory;
 use std::alloc::Global;
 
 /// Appends the text of a scheme. Where memory runs out, the old bytes and then a prefix of the text are left.
-#[tactic(auto, using(aql_texts::specs::PrefixLaws::prefix_none))]
+#[tactic(auto, using(crate::specs::Laws::Prefix::prefix_none))]
 pub fn print_scheme(alloc: Global, s: &Scheme, out: &mut Vec<u8>) -> Result<(), Memory>
     ensures ok { OnOk result (out.new.items ≡ out.old.items ++ scheme_text (sort_of s.now)) }
     ensures prefix { AppendsPrefix out.old.items out.new.items (scheme_text (sort_of s.now)) }
 {
-    let text = written(alloc, s)?;
+    let text = scheme_text(alloc, s)?;
     put(&text, out)
 }
 
 // The text of a scheme.
-fn written(alloc: Global, s: &Scheme) -> Result<Vec<u8>, Memory>
+fn scheme_text(alloc: Global, s: &Scheme) -> Result<Vec<u8>, Memory>
     ensures { IfOk result (λ text. text.items ≡ scheme_text (sort_of s.now)) }
 {
     let names = scheme_variables(alloc, s)?;
@@ -66,7 +66,7 @@ fn add_variable(n: u64, text: Vec<u8>) -> Result<Vec<u8>, Memory>
 
 // Adds the text of a type.
 #[cycle(add_type)]
-#[tactic(auto, using(aql_types::specs::ViewLaws::type_of_row))]
+#[tactic(auto, using(aql_types::specs::Laws::View::type_of_row))]
 fn add_type(t: &Ty, names: &[u64], text: Vec<u8>) -> Result<Vec<u8>, Memory>
     ensures { IfOk result (λ made. made.items ≡ text.items ++ type_text (type_of t.now) names.now) }
 {
@@ -93,7 +93,8 @@ fn add_type(t: &Ty, names: &[u64], text: Vec<u8>) -> Result<Vec<u8>, Memory>
 // Adds the texts of a tuple's parts, with ` * ` between each two.
 #[cycle(add_type)]
 fn add_parts(ts: &[Ty], names: &[u64], text: Vec<u8>) -> Result<Vec<u8>, Memory>
-    ensures { IfOk result (λ made. made.items ≡ text.items ++ separated (codes " * ") (part_texts (types_of ts.now) names.now)) }
+    ensures { IfOk result (λ made. made.items ≡ text.items ++ separated (codes " * ")
+        (part_texts (types_of ts.now) names.now)) }
 {
     let mut text = text;
     for (i, t) in ts.iter().enumerate() {
@@ -105,7 +106,8 @@ fn add_parts(ts: &[Ty], names: &[u64], text: Vec<u8>) -> Result<Vec<u8>, Memory>
 
 #[cycle(add_type)]
 fn add_part(t: &Ty, names: &[u64], text: Vec<u8>) -> Result<Vec<u8>, Memory>
-    ensures { IfOk result (λ made. made.items ≡ text.items ++ part_text (type_of t.now) (type_text (type_of t.now) names.now)) }
+    ensures { IfOk result (λ made. made.items ≡ text.items ++ part_text (type_of t.now)
+        (type_text (type_of t.now) names.now)) }
 {
     match t {
         Ty::Nat => add_type(t, names, text),

@@ -1,19 +1,20 @@
 ghost use Rattle.std.specs.Prelude.{◌≡◌, ◌+◌, ◌-◌, ◌++◌, map, codes, decimal, OnOk, IfOk};
 ghost use Rattle.nrca_term.specs.Nodes.{let_term, if_term, tab_term, sub_term, literal_term};
 ghost use Rattle.nrca_term.specs.View.{term_of, terms_of};
-ghost use Rattle.aql_texts.specs.Appends.{AppendsPrefix};
+ghost use Rattle.aql_print.specs.Appends.{AppendsPrefix};
 ghost use Rattle.aql_print.specs.CoreText as texts;
 ghost use Rattle.aql_print.specs.CoreText.{between, bounds_text, core_text, joined, loop_text, position_text};
-ghost use Rattle.aql_texts.specs.Joined.{separated};
+ghost use Rattle.aql_print.specs.Joined.{separated};
 
+use crate::bytes::{put, put_before, put_number, put_quoted};
+use crate::names::{put_bound, put_variable};
 use aql_prelude::COUNT;
-use aql_texts::{put, put_before, put_bound, put_number, put_quoted, put_variable};
 use aql_value::{ArithOp, CompareOp, Memory};
 use nrca_term::{Core, Terms};
 use std::alloc::Global;
 
 /// Appends the text of a term. Where memory runs out, the old bytes and then a prefix of the text are left.
-#[tactic(auto, using(aql_texts::specs::PrefixLaws::prefix_none))]
+#[tactic(auto, using(crate::specs::Laws::Prefix::prefix_none))]
 pub fn print_core(alloc: Global, term: &Core, out: &mut Vec<u8>) -> Result<(), Memory>
     ensures ok { OnOk result (out.new.items ≡ out.old.items ++ core_text 0 (term_of term.now)) }
     ensures prefix { AppendsPrefix out.old.items out.new.items (core_text 0 (term_of term.now)) }
@@ -34,7 +35,7 @@ fn put_position(n: u64, out: &mut Vec<u8>) -> Result<(), Memory>
 
 // Adds the text of a term with some binders around it. A level of the recursion keeps little on the stack.
 #[cycle(put_term)]
-#[tactic(auto, using(crate::proofs::CoreEquations::variants, nrca_term::specs::Equations::list_variants))]
+#[tactic(auto, using(crate::proofs::CoreEquations::variants, nrca_term::specs::Laws::Equations::list_variants))]
 fn put_term(term: &Core, depth: u64, out: &mut Vec<u8>) -> Result<(), Memory>
     ensures { OnOk result (out.new.items ≡ out.old.items ++ core_text depth (term_of term.now)) }
 {
@@ -76,7 +77,8 @@ fn put_one(
     depth: u64,
     out: &mut Vec<u8>,
 ) -> Result<(), Memory>
-    ensures { OnOk result (out.new.items ≡ out.old.items ++ between left.now (core_text depth (term_of term.now)) right.now) }
+    ensures { OnOk result (out.new.items ≡ out.old.items ++ between left.now
+        (core_text depth (term_of term.now)) right.now) }
 {
     put(left, out)?;
     put_term(term, depth, out)?;
@@ -86,7 +88,8 @@ fn put_one(
 // Adds the texts of two terms in parentheses, with what stands between them.
 #[cycle(put_term)]
 fn put_two(a: &Core, middle: &[u8], b: &Core, depth: u64, out: &mut Vec<u8>) -> Result<(), Memory>
-    ensures { OnOk result (out.new.items ≡ out.old.items ++ joined (core_text depth (term_of a.now)) middle.now (core_text depth (term_of b.now))) }
+    ensures { OnOk result (out.new.items ≡ out.old.items ++ joined (core_text depth (term_of a.now))
+        middle.now (core_text depth (term_of b.now))) }
 {
     put(b"(", out)?;
     put_term(a, depth, out)?;
@@ -97,7 +100,8 @@ fn put_two(a: &Core, middle: &[u8], b: &Core, depth: u64, out: &mut Vec<u8>) -> 
 
 #[cycle(put_term)]
 fn put_let(a: &Core, b: &Core, depth: u64, out: &mut Vec<u8>) -> Result<(), Memory>
-    ensures { OnOk result (out.new.items ≡ out.old.items ++ core_text depth (let_term (term_of a.now) (term_of b.now))) }
+    ensures { OnOk result (out.new.items ≡ out.old.items ++ core_text depth
+        (let_term (term_of a.now) (term_of b.now))) }
 {
     let inner = deeper(depth, 1)?;
     put(b"(let ", out)?;
@@ -112,7 +116,8 @@ fn put_let(a: &Core, b: &Core, depth: u64, out: &mut Vec<u8>) -> Result<(), Memo
 
 #[cycle(put_term)]
 fn put_if(c: &Core, a: &Core, b: &Core, depth: u64, out: &mut Vec<u8>) -> Result<(), Memory>
-    ensures { OnOk result (out.new.items ≡ out.old.items ++ core_text depth (if_term (term_of c.now) (term_of a.now) (term_of b.now))) }
+    ensures { OnOk result (out.new.items ≡ out.old.items ++ core_text depth
+        (if_term (term_of c.now) (term_of a.now) (term_of b.now))) }
 {
     put(b"(if ", out)?;
     put_term(c, depth, out)?;
@@ -133,7 +138,8 @@ fn put_loop(
     depth: u64,
     out: &mut Vec<u8>,
 ) -> Result<(), Memory>
-    ensures { OnOk result (out.new.items ≡ out.old.items ++ loop_text left.now depth (core_text depth (term_of over.now)) (core_text (depth + 1) (term_of body.now))) }
+    ensures { OnOk result (out.new.items ≡ out.old.items ++ loop_text left.now depth
+        (core_text depth (term_of over.now)) (core_text (depth + 1) (term_of body.now))) }
 {
     let inner = deeper(depth, 1)?;
     put(left, out)?;
@@ -154,7 +160,10 @@ fn put_projection(
     depth: u64,
     out: &mut Vec<u8>,
 ) -> Result<(), Memory>
-    ensures { OnOk result (out.new.items ≡ out.old.items ++ (codes "#" ++ (decimal at ++ (codes "/" ++ (decimal of ++ between (codes "(") (core_text depth (term_of part.now)) (codes ")")))))) }
+    ensures { OnOk result (out.new.items ≡ out.old.items
+        ++ (codes "#" ++ (decimal at
+        ++ (codes "/" ++ (decimal of ++ between (codes "(") (core_text depth (term_of part.now))
+        (codes ")")))))) }
 {
     put(b"#", out)?;
     put_number(u128::from(at), out)?;
@@ -173,7 +182,9 @@ fn put_ranked(
     depth: u64,
     out: &mut Vec<u8>,
 ) -> Result<(), Memory>
-    ensures { OnOk result (out.new.items ≡ out.old.items ++ (word.now ++ (decimal rank ++ between (codes "(") (core_text depth (term_of term.now)) (codes ")")))) }
+    ensures { OnOk result (out.new.items ≡ out.old.items
+        ++ (word.now ++ (decimal rank ++ between (codes "(") (core_text depth (term_of term.now))
+        (codes ")")))) }
 {
     put(word, out)?;
     put_number(u128::from(rank), out)?;
@@ -182,7 +193,8 @@ fn put_ranked(
 
 #[cycle(put_term)]
 fn put_tabulation(bounds: &Terms, body: &Core, depth: u64, out: &mut Vec<u8>) -> Result<(), Memory>
-    ensures { OnOk result (out.new.items ≡ out.old.items ++ core_text depth (tab_term (terms_of bounds.now) (term_of body.now))) }
+    ensures { OnOk result (out.new.items ≡ out.old.items ++ core_text depth
+        (tab_term (terms_of bounds.now) (term_of body.now))) }
 {
     let inner = deeper(depth, bounds.0.len() as u64)?;
     put_one(b"[[", body, b" | ", inner, out)?;
@@ -194,7 +206,8 @@ fn put_tabulation(bounds: &Terms, body: &Core, depth: u64, out: &mut Vec<u8>) ->
 // Adds the bounds of a tabulation, each behind its index.
 #[cycle(put_term)]
 fn put_bounds(bounds: &Terms, depth: u64, out: &mut Vec<u8>) -> Result<(), Memory>
-    ensures { OnOk result (out.new.items ≡ out.old.items ++ separated (codes ", ") (bounds_text depth (map (core_text depth) (terms_of bounds.now)))) }
+    ensures { OnOk result (out.new.items ≡ out.old.items ++ separated (codes ", ")
+        (bounds_text depth (map (core_text depth) (terms_of bounds.now)))) }
 {
     for (i, bound) in bounds.0.iter().enumerate() {
         put_before(i, b", ", out)?;
@@ -207,7 +220,8 @@ fn put_bounds(bounds: &Terms, depth: u64, out: &mut Vec<u8>) -> Result<(), Memor
 
 #[cycle(put_term)]
 fn put_subscript(array: &Core, at: &Terms, depth: u64, out: &mut Vec<u8>) -> Result<(), Memory>
-    ensures { OnOk result (out.new.items ≡ out.old.items ++ core_text depth (sub_term (term_of array.now) (terms_of at.now))) }
+    ensures { OnOk result (out.new.items ≡ out.old.items ++ core_text depth
+        (sub_term (term_of array.now) (terms_of at.now))) }
 {
     put_one(b"sub(", array, b"; ", depth, out)?;
     put_all(b"", at, b", ", b")", depth, out)?;
@@ -216,7 +230,8 @@ fn put_subscript(array: &Core, at: &Terms, depth: u64, out: &mut Vec<u8>) -> Res
 
 #[cycle(put_term)]
 fn put_literal(dims: &Terms, cells: &Terms, depth: u64, out: &mut Vec<u8>) -> Result<(), Memory>
-    ensures { OnOk result (out.new.items ≡ out.old.items ++ core_text depth (literal_term (terms_of dims.now) (terms_of cells.now))) }
+    ensures { OnOk result (out.new.items ≡ out.old.items ++ core_text depth
+        (literal_term (terms_of dims.now) (terms_of cells.now))) }
 {
     put_all(b"[[", dims, b",", b"; ", depth, out)?;
     put_all(b"", cells, b", ", b"]]", depth, out)?;
@@ -233,7 +248,8 @@ fn put_all(
     depth: u64,
     out: &mut Vec<u8>,
 ) -> Result<(), Memory>
-    ensures { OnOk result (out.new.items ≡ out.old.items ++ between left.now (separated separator.now (map (core_text depth) (terms_of terms.now))) right.now) }
+    ensures { OnOk result (out.new.items ≡ out.old.items ++ between left.now
+        (separated separator.now (map (core_text depth) (terms_of terms.now))) right.now) }
 {
     put(left, out)?;
     put_each(terms, separator, depth, out)?;
@@ -242,7 +258,8 @@ fn put_all(
 
 #[cycle(put_term)]
 fn put_each(terms: &Terms, separator: &[u8], depth: u64, out: &mut Vec<u8>) -> Result<(), Memory>
-    ensures { OnOk result (out.new.items ≡ out.old.items ++ separated separator.now (map (core_text depth) (terms_of terms.now))) }
+    ensures { OnOk result (out.new.items ≡ out.old.items ++ separated separator.now
+        (map (core_text depth) (terms_of terms.now))) }
 {
     for (i, term) in terms.0.iter().enumerate() {
         put_before(i, separator, out)?;

@@ -1,8 +1,8 @@
 ghost use Rattle.std.specs.Prelude.{◌≡◌, ◌++◌, OnOk};
-ghost use Rattle.aql_texts.specs.Appends.{AppendsPrefix};
+ghost use Rattle.aql_print.specs.Appends.{AppendsPrefix};
 ghost use Rattle.aql_print.specs.TraceText.{rule_text, trace_text};
 
-use aql_texts::{put, put_before};
+use crate::bytes::{put, put_before};
 use aql_value::Memory;
 use nrca_term::{Rule, Trace};
 use std::alloc::Global;

@@ -14,14 +14,14 @@ use Rattle.aql_syntax.specs.Tree.{Tree, Declaration, val, mac, read, bare}
 use Rattle.aql_syntax.specs.Work.{work}
 use Rattle.aql_infer.specs.Checked.{IsFirstUntyped}
 use Rattle.aql_lex.specs.Lexed.{OneList, TokensOrTextFault, ShallowOrDeep}
-use Rattle.aql_grammar.specs.Scripts.{either}
+use Rattle.aql_parse_spec.specs.Laws.Scripts.{either}
 use Rattle.nrca_term.specs.Meaning.{Outcomes}
 use Rattle.nrca_term.specs.Turns.{settle}
-use Rattle.aql_start.specs.Laws.{outcomes_of}
-use Rattle.aql_start.specs.Positions.{start-turns}
-use Rattle.aql_start.specs.Start.{start, knowns_of}
+use Rattle.aql_desugar_spec.specs.Laws.{outcomes_of}
+use Rattle.aql_desugar_spec.specs.Laws.Positions.{start-turns}
+use Rattle.aql_desugar_spec.specs.Start.{start, knowns_of}
 use Rattle.aql_prelude.specs.Prelude.{prelude_count}
-use Rattle.aql_script.specs.Script.{Spells, Reads, positions, IsFirstLarge, NoneReadsRecords, IsFirstOfRecords}
+use Rattle.aql_script.specs.Script.{IsTokenisedAs, IsParsedAs, positions, IsFirstLarge, NoneReadsRecords, IsFirstOfRecords}
 use Rattle.aql_session.specs.Bound.{earlier_of}
 use Rattle.aql_session.specs.Reading.{read_fault}
 use Rattle.aql_session.specs.Step.{query_turns, IsCause}
@@ -29,15 +29,15 @@ use Rattle.aql_session.specs.declared.answer.Answer.{Answer}
 use Rattle.aql_session.specs.declared.answer.StepFault.{StepFault}
 use Rattle.aql_session.specs.declared.answer.StepFault.TheVariants as faults
 use Rattle.aql_words.specs.Words.{options_of}
-use Rattle.aql_answers.specs.Settings.{settings_of}
-use Rattle.aql_answers.specs.Answered.{AreAnswered, reached}
-use Rattle.aql_answers.specs.AnsweredLaws.{told_at}
-use Rattle.aql_run.specs.Complete.{work_of, AreOutcomes, HaveTypings, IsWithin, IsSound, EndsWell, Lexed}
-use Rattle.aql_run.specs.Outcome.{Told, IsScript, HasRun, Stops, Refuses, RunsWords, IsSpent}
+use Rattle.aql_run.specs.Settings.{settings_of}
+use Rattle.aql_run.specs.Answered.{AreAnswered, reached}
+use Rattle.aql_run.specs.Laws.Answered.{told_at}
+use Rattle.aql_run.specs.Complete.{work_of, AreOutcomes, HaveTypings, IsWithinBudget, IsSound, EndsWell, Tokenised}
+use Rattle.aql_run.specs.Outcome.{Told, IsScript, HasRun, EndsEarly, HasScriptFault, RunsWords, IsBudgetFault}
 use Rattle.aql_run.specs.Reading.{most_bytes}
 use Rattle.aql_run.specs.declared.report.Stop.{Stop}
-use Rattle.aql_status.specs.declared.status.Status.{Status}
-use Rattle.aql_status.specs.declared.status.Status.TheVariants as status
+use Rattle.aql_run.specs.declared.status.Status.{Status}
+use Rattle.aql_run.specs.declared.status.Status.TheVariants as status
 
 -- ---- the script
 
@@ -87,7 +87,7 @@ turns_are (read x r e) earlier =
 turns_are (bare e) earlier =
     ap (λ V. settle V [] (start e (knowns_of (declarations_of earlier)) [])) (sym (append-nil (outcomes_of earlier))) ∙ start-turns earlier [] e
 
-no_cause : (d : Declaration) (earlier : Earlier) (budget : ℕ) (holds : Option Content) (before now : ℕ) (f : StepFault) → IsWithin d earlier budget holds → (Rose before now → ⊥) →
+no_cause : (d : Declaration) (earlier : Earlier) (budget : ℕ) (holds : Option Content) (before now : ℕ) (f : StepFault) → IsWithinBudget d earlier budget holds → (Rose before now → ⊥) →
     IsCause d earlier budget holds before now f → (f ≡ faults.Memory → ⊥) → ⊥
 no_cause d earlier budget holds before now (faults.Query start plan trace) h quiet (past, _, _, _) other =
     let turns = h.turns in let same = turns_are d earlier in absurd (omega (arith, past, turns, same))
@@ -113,32 +113,32 @@ are_outcomes ds sorts budget holds answers V h = record {
 -- no declaration of a sound script has a fault but want of memory
 never_stops : (words : List (List ℕ)) (told : Told) (same : Type 0) (begun : ℕ) (taken lines given : List ℕ) (answers : List Answer) (f : StepFault) →
     IsScript (options_of words).sample told.left taken given → IsSound words given told.holds →
-    (Rose told.files_before told.files_now → ⊥) → (run : HasRun (settings_of (options_of words)) told same begun taken answers lines) → Stops run f → (f ≡ faults.Memory → ⊥) → ⊥
+    (Rose told.files_before told.files_now → ⊥) → (run : HasRun (settings_of (options_of words)) told same begun taken answers lines) → EndsEarly run f → (f ≡ faults.Memory → ⊥) → ⊥
 never_stops words told same begun taken lines given answers f it h quiet run (d, there, cause) other =
     let the : run.script ≡ given = same_script (options_of words).sample told.left taken run.script given it run.is in
-    let ds : h.ds ≡ run.ds = run.reads.1 h.ds (subst (λ (x : List ℕ). Reads x h.ds) (sym the) h.are) in
+    let ds : h.ds ≡ run.ds = run.reads.1 h.ds (subst (λ (x : List ℕ). IsParsedAs x h.ds) (sym the) h.are) in
     let many = run.answered.many in
     let at : slice_get (positions run.ds) (length run.outcomes) ≡ Some d = ap (slice_get (positions run.ds)) many ∙ there in
     let is : AreOutcomes h.ds told.holds run.outcomes =
     subst (λ (l : List Declaration). AreOutcomes l told.holds run.outcomes) (sym ds)
     (are_outcomes run.ds run.sorts (options_of words).budget told.holds answers run.outcomes run.answered) in
-    let within : IsWithin d (earlier_of (positions h.ds) run.outcomes) (options_of words).budget told.holds =
+    let within : IsWithinBudget d (earlier_of (positions h.ds) run.outcomes) (options_of words).budget told.holds =
     h.within run.outcomes d is (ap (λ (l : List Declaration). slice_get (positions l) (length run.outcomes)) ds ∙ at) in
     no_cause d (earlier_of (positions run.ds) run.outcomes) (options_of words).budget told.holds told.files_before told.files_now f
-    (subst (λ (l : List Declaration). IsWithin d (earlier_of (positions l) run.outcomes) (options_of words).budget told.holds) ds within) quiet cause other
+    (subst (λ (l : List Declaration). IsWithinBudget d (earlier_of (positions l) run.outcomes) (options_of words).budget told.holds) ds within) quiet cause other
 
 -- a script that is refused is the one of the run, with the reading that it has
 refuses_none : (words : List (List ℕ)) (told : Told) (same : Type 0) (taken given : List ℕ) (answers : List Answer) (stop : Stop) (lines line fault : List ℕ) (P : List ℕ → Type 0) →
-    IsScript (options_of words).sample told.left taken given → (h : IsSound words given told.holds) → Refuses (settings_of (options_of words)) told same taken answers stop lines line fault P →
-    ((script : List ℕ) → Reads script h.ds → P script → ⊥) → ⊥
+    IsScript (options_of words).sample told.left taken given → (h : IsSound words given told.holds) → HasScriptFault (settings_of (options_of words)) told same taken answers stop lines line fault P →
+    ((script : List ℕ) → IsParsedAs script h.ds → P script → ⊥) → ⊥
 refuses_none words told same taken given answers stop lines line fault P it h (script, is, p, _) never =
     let the : script ≡ given = same_script (options_of words).sample told.left taken script given it is in
-    never script (subst (λ (x : List ℕ). Reads x h.ds) (sym the) h.are) p
+    never script (subst (λ (x : List ℕ). IsParsedAs x h.ds) (sym the) h.are) p
 
-spells_one : OneList → (script : List ℕ) (ls ms : List Lexeme) → Spells script ls → Spells script ms → ls ≡ ms
+spells_one : OneList → (script : List ℕ) (ls ms : List Lexeme) → IsTokenisedAs script ls → IsTokenisedAs script ms → ls ≡ ms
 spells_one one script ls ms (ts, a, _) (us, b, _) = (one script ts us ls ms a b).lexemes
 
-spent_not_memory : (f : StepFault) → IsSpent f → f ≡ faults.Memory → ⊥
+spent_not_memory : (f : StepFault) → IsBudgetFault f → f ≡ faults.Memory → ⊥
 spent_not_memory (faults.Query start plan trace) h e = absurd cc
 spent_not_memory (faults.Cells c) h e = absurd cc
 spent_not_memory (faults.File f) h e = h
@@ -181,8 +181,8 @@ module _ (one : OneList) (text : TokensOrTextFault) (deep : ShallowOrDeep) (word
   ends status.Files (_, (lines, line, (run, stops, _, _), _)) whole =
       absurd (never_stops words told same (length answers + 1) taken lines given answers faults.Device it h quiet run stops (λ e. absurd cc))
 
-pub ends_well : Lexed → (s : Status) (words : List (List ℕ)) (told : Told) (same sink : Type 0) (taken : List ℕ) (answers : List Answer) (stop : Stop) (written : List ℕ) →
+pub ends_well : Tokenised → (s : Status) (words : List (List ℕ)) (told : Told) (same sink : Type 0) (taken : List ℕ) (answers : List Answer) (stop : Stop) (written : List ℕ) →
     (s ≡ status.Output → sink) → RunsWords s words told same taken answers stop written → EndsWell s words told sink taken
-unfolding Lexed
+unfolding Tokenised
 ends_well (one, text, deep) s words told same sink taken answers stop written output runs given it h source quiet whole =
     ends one text deep words told same sink taken answers stop written given it h source quiet s runs (λ is. whole (output is))

@@ -13,7 +13,7 @@ use Rattle.aql_words.specs.declared.words.Options.{Options}
 use Rattle.aql_words.specs.declared.fault.WordFault.{WordFault}
 use Rattle.aql_words.specs.declared.fault.WordFault.TheVariants as wording
 use Rattle.aql_prelude.specs.Prelude.{prelude_count}
-use Rattle.aql_script.specs.PositionLaws.{drop_prelude}
+use Rattle.aql_script.specs.Laws.Position.{drop_prelude}
 use Rattle.aql_script.specs.Script.{Prepares, ReadsAlone, AreTyped, positions, NoneReadsRecords}
 use Rattle.aql_script.specs.declared.preparing.Prepared.{Prepared}
 use Rattle.aql_script.specs.declared.fault.ScriptFault.{ScriptFault}
@@ -22,17 +22,18 @@ use Rattle.aql_session.specs.Device.{Device}
 use Rattle.aql_session.specs.declared.answer.Answer.{Answer}
 use Rattle.aql_session.specs.declared.answer.StepFault.{StepFault}
 use Rattle.aql_session.specs.declared.answer.StepFault.TheVariants as faults
-use Rattle.aql_answers.specs.Settings.{Settings, settings_of}
-use Rattle.aql_answers.specs.Answered.{AreAnswered, IsStopped, ReadNoFile, reached}
-use Rattle.aql_answers.specs.AnsweredLaws.{are_values}
-use Rattle.aql_lines.specs.Entry.{entry, entries}
-use Rattle.aql_lines.specs.Lines.{at_byte, in_declaration}
-use Rattle.aql_lines.specs.Sample.{sample_text}
-use Rattle.aql_answers.specs.Steps.{own, sorts, IsPrepared, AnswersAll, CutsLines, EndsAt}
-use Rattle.aql_answers.specs.declared.steps.Halt.{Halt}
-use Rattle.aql_answers.specs.declared.steps.Halt.TheVariants as halts
-use Rattle.aql_status.specs.Codes.{code_of, status_is}
-use Rattle.aql_run.specs.Complete.{EndsWell, Lexed}
+use Rattle.aql_run.specs.Settings.{Settings, settings_of}
+use Rattle.aql_run.specs.Answered.{AreAnswered, IsStopped, ReadNoFile, reached}
+use Rattle.aql_run.specs.Laws.Answered.{are_values}
+use Rattle.aql_run.specs.Entry.{entry, entries}
+use Rattle.aql_run.specs.Lines.{at_byte, in_declaration}
+use Rattle.aql_run.specs.Sample.{sample_text}
+use Rattle.aql_run.specs.Steps.{own, sorts, IsPrepared, AnswersAll, CutsLines, EndsAt}
+use Rattle.aql_run.specs.declared.steps.Halt.{Halt}
+use Rattle.aql_run.specs.declared.steps.Halt.TheVariants as halts
+use Rattle.aql_run.specs.Codes.{code_of}
+use Rattle.aql_run.specs.Laws.Codes.{status_is}
+use Rattle.aql_run.specs.Complete.{EndsWell, Tokenised}
 use Rattle.aql_run.specs.Devices.{Devices, told_by, told_of}
 use Rattle.aql_run.specs.Reading.{most_bytes, ReadsWhole, ReadFails}
 use Rattle.aql_run.specs.declared.reading.ReadFault.TheVariants as reading
@@ -43,8 +44,8 @@ use Rattle.aql_run.specs.declared.report.End.{End}
 use Rattle.aql_run.specs.declared.report.Report.{Report}
 use Rattle.aql_run.specs.declared.report.Stop.{Stop}
 use Rattle.aql_run.specs.declared.report.Stop.TheVariants as stops
-use Rattle.aql_status.specs.declared.status.Status.{Status}
-use Rattle.aql_status.specs.declared.status.Status.TheVariants as status
+use Rattle.aql_run.specs.declared.status.Status.{Status}
+use Rattle.aql_run.specs.declared.status.Status.TheVariants as status
 
 -- ---- the script of positions that were prepared
 
@@ -601,7 +602,7 @@ reported_sample words n is = is
 pub coded : (s t : Status) (n : ℕ) → n ≡ code_of s → n ≡ code_of t → s ≡ t
 coded s t n is at = status_is s t n is at
 
-pub reported_serves : (words : List (List ℕ)) (sink : Type 0) (d : Devices) (r : Report) → Lexed → (r.status ≡ 11 → sink) → Reported words d r →
+pub reported_serves : (words : List (List ℕ)) (sink : Type 0) (d : Devices) (r : Report) → Tokenised → (r.status ≡ 11 → sink) → Reported words d r →
     (s : Status) × (r.status ≡ code_of s)
     × Passes d.source d.sink (λ taken written. RunsWords s words (told_by d) d.files.same taken r.answers.items.items r.stop written × EndsWell s words (told_by d) sink taken)
 unfolding Reported

@@ -14,15 +14,15 @@ use Rattle.aql_syntax.specs.Work.{work}
 use Rattle.aql_lex.specs.Lexed.{OneList, TokensOrTextFault, ShallowOrDeep}
 use Rattle.nrca_term.specs.Meaning.{Outcomes}
 use Rattle.aql_prelude.specs.Prelude.{prelude_count}
-use Rattle.aql_script.specs.Script.{Reads, positions, NoneReadsRecords}
+use Rattle.aql_script.specs.Script.{IsParsedAs, positions, NoneReadsRecords}
 use Rattle.aql_session.specs.Asked.{Asked, cells}
 use Rattle.aql_session.specs.Bound.{earlier_of}
 use Rattle.aql_session.specs.Reading.{reading, read_fault}
 use Rattle.aql_session.specs.Step.{IsOutcome, asks}
 use Rattle.aql_words.specs.Words.{HasReading, options_of}
 use Rattle.aql_run.specs.Outcome.{Told, IsScript}
-use Rattle.aql_status.specs.declared.status.Status.{Status}
-use Rattle.aql_status.specs.declared.status.Status.TheVariants as status
+use Rattle.aql_run.specs.declared.status.Status.{Status}
+use Rattle.aql_run.specs.declared.status.Status.TheVariants as status
 
 -- the turns of a declaration's query as written, of a readval those of its argument; a macro has none
 abbrev pub work_of : Declaration → Earlier → ℕ
@@ -40,7 +40,7 @@ pub record AreOutcomes (ds : List Declaration) (holds : Option Content) (V : Out
       × ForSome holds (λ files. outcome_after (reading files) d (globals_of (earlier_of (positions ds) (take (prelude_count + i) V))) ≡ Some o)
 
 -- the turns and the cells of a declaration are within the budget, and what it reads of the files, which are told, has no fault
-pub record IsWithin (d : Declaration) (earlier : Earlier) (budget : ℕ) (holds : Option Content) : Type 0 where
+pub record IsWithinBudget (d : Declaration) (earlier : Earlier) (budget : ℕ) (holds : Option Content) : Type 0 where
   pub turns : work_of d earlier ≤ budget
   pub cells : (a : Asked) → asks d earlier ≡ Some a → cells a ≤ budget
   pub file : (a : Asked) → asks d earlier ≡ Some a → (files : Content) × (holds ≡ Some files) × (read_fault files a ≡ None)
@@ -54,12 +54,12 @@ HaveTypings earlier (d ∷ ds) = ((s : Sort) × DeclHas d (scope_of earlier) s) 
 pub record IsSound (words : List (List ℕ)) (script : List ℕ) (holds : Option Content) : Type 0 where
   pub reads : HasReading words
   pub ds : List Declaration
-  pub are : Reads script ds
+  pub are : IsParsedAs script ds
   pub typed : HaveTypings [] (positions ds)
   pub limits : AreWithinLimits (positions ds) (prelude_count + length ds)
   pub built : NoneReadsRecords ds
   pub within : (V : Outcomes) (d : Declaration) → AreOutcomes ds holds V → slice_get (positions ds) (length V) ≡ Some d →
-      IsWithin d (earlier_of (positions ds) V) (options_of words).budget holds
+      IsWithinBudget d (earlier_of (positions ds) V) (options_of words).budget holds
 
 -- Where the script of a run is sound, all of it was read, and no count of faults rises, the run ends with every declaration answered, or for
 -- want of memory.
@@ -68,5 +68,5 @@ EndsWell s words told sink taken = (script : List ℕ) → IsScript (options_of 
     (Rose told.input_before told.input_now → ⊥) → (Rose told.files_before told.files_now → ⊥) → (sink → ⊥) → (s ≡ status.Done) ⊎ (s ≡ status.Memory)
 
 -- what is known of the tokens of a script: it has one list of them, or a byte where none begins, and is deep or not
-unfoldable pub Lexed : Type 0
-Lexed = OneList × TokensOrTextFault × ShallowOrDeep
+unfoldable pub Tokenised : Type 0
+Tokenised = OneList × TokensOrTextFault × ShallowOrDeep

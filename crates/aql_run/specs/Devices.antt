@@ -4,8 +4,8 @@ use Rattle.aql_outside.specs.Contents.{Content}
 use Rattle.aql_outside.specs.declared.device.Source as source
 use Rattle.aql_outside.specs.declared.device.Files as files
 use Rattle.aql_session.specs.Device.{Device}
-use Rattle.aql_status.specs.declared.status.Status.{Status}
-use Rattle.aql_status.specs.declared.status.Status.TheVariants as status
+use Rattle.aql_run.specs.declared.status.Status.{Status}
+use Rattle.aql_run.specs.declared.status.Status.TheVariants as status
 use Rattle.aql_run.specs.Outcome.{Told}
 
 -- the devices of a run: of the source what is left of it is told, of the sink what it took, of the files what they hold

@@ -14,20 +14,20 @@ use Rattle.aql_script.specs.declared.preparing.Prepared.{Prepared}
 use Rattle.aql_script.specs.declared.fault.ScriptFault.{ScriptFault}
 use Rattle.aql_script.specs.declared.fault.ScriptFault.TheVariants as refused
 use Rattle.aql_script.specs.Script.{Prepares, ReadsAlone}
-use Rattle.aql_lines.specs.Lines.{at_byte, in_declaration, of_file}
-use Rattle.aql_lines.specs.Sample.{sample_text}
-use Rattle.aql_answers.specs.Settings.{Settings}
-use Rattle.aql_answers.specs.Steps.{own, IsPrepared, AnswersAll, EndsAt}
-use Rattle.aql_answers.specs.declared.steps.Halt.{Halt}
-use Rattle.aql_status.specs.Codes.{code_of}
+use Rattle.aql_run.specs.Lines.{at_byte, in_declaration, of_file}
+use Rattle.aql_run.specs.Sample.{sample_text}
+use Rattle.aql_run.specs.Settings.{Settings}
+use Rattle.aql_run.specs.Steps.{own, IsPrepared, AnswersAll, EndsAt}
+use Rattle.aql_run.specs.declared.steps.Halt.{Halt}
+use Rattle.aql_run.specs.Codes.{code_of}
 use Rattle.aql_run.specs.Devices.{Devices, told_by, told_of}
 use Rattle.aql_run.specs.Outcome.{IsCut, IsScript, RunsWords, Serves, stop_of}
 use Rattle.aql_run.specs.Reading.{most_bytes}
 use Rattle.aql_run.specs.declared.report.End.{End}
 use Rattle.aql_run.specs.declared.report.Report.{Report}
 use Rattle.aql_run.specs.declared.report.Stop.TheVariants as stops
-use Rattle.aql_status.specs.declared.status.Status.{Status}
-use Rattle.aql_status.specs.declared.status.Status.TheVariants as status
+use Rattle.aql_run.specs.declared.status.Status.{Status}
+use Rattle.aql_run.specs.declared.status.Status.TheVariants as status
 
 -- The bytes that a call took from the source, at most one more than a script may have, and gave to the sink, by what these tell before and
 -- after it. Where a device tells nothing, they are some bytes.

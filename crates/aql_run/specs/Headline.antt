@@ -2,9 +2,9 @@
 use Rattle.std.specs.Prelude.{◌≡◌, ◌≤◌, ◌<◌, ◌+◌, ◌⊎◌, ℕ, List, Some, length}
 use Rattle.std.specs.Io.KnownBytes.{Consumes, Appends}
 use Rattle.aql_outside.specs.Causes.{Rose}
-use Rattle.aql_status.specs.Codes.{code_of}
-use Rattle.aql_status.specs.declared.status.Status.{Status}
-use Rattle.aql_status.specs.declared.status.Status.TheVariants as statuses
+use Rattle.aql_run.specs.Codes.{code_of}
+use Rattle.aql_run.specs.declared.status.Status.{Status}
+use Rattle.aql_run.specs.declared.status.Status.TheVariants as statuses
 use Rattle.aql_session.specs.Device.{Device}
 use Rattle.aql_words.specs.Words.{options_of}
 use Rattle.aql_run.specs.Complete.{EndsWell}

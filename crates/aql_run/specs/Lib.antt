@@ -1,7 +1,15 @@
+pub mod Settings
+pub mod Answered
+pub mod Steps
+pub mod Sample
+pub mod Entry
+pub mod Lines
+pub mod Writing
+pub mod Codes
 pub mod Headline
 pub mod Outcome
 pub mod Complete
 pub mod Devices
 pub mod Reading
 pub mod Ending
-pub mod Examples
+pub mod Laws

@@ -15,19 +15,19 @@ use Rattle.aql_lex.specs.Lexed.{IsDeepAt}
 use Rattle.nrca_term.specs.Meaning.{Outcomes}
 use Rattle.cdf_header.specs.declared.fault.CdfFault.{CdfFault}
 use Rattle.aql_prelude.specs.Prelude.{prelude_count}
-use Rattle.aql_script.specs.Script.{Spells, ReadsAlone, AreTyped, positions, IsFirstLarge, NoneReadsRecords, IsFirstOfRecords}
+use Rattle.aql_script.specs.Script.{IsTokenisedAs, ReadsAlone, AreTyped, positions, IsFirstLarge, NoneReadsRecords, IsFirstOfRecords}
 use Rattle.aql_session.specs.Reading.{reading}
 use Rattle.aql_session.specs.declared.answer.Answer.{Answer}
 use Rattle.aql_session.specs.declared.answer.StepFault.{StepFault}
 use Rattle.aql_session.specs.declared.answer.StepFault.TheVariants as faults
 use Rattle.aql_words.specs.Words.{HasReading, options_of}
-use Rattle.aql_answers.specs.Settings.{Settings, settings_of}
-use Rattle.aql_answers.specs.Answered.{AreAnswered, IsStopped, ReadNoFile, reached}
-use Rattle.aql_lines.specs.Entry.{entries}
-use Rattle.aql_lines.specs.Lines.{at_byte, in_declaration, of_file}
-use Rattle.aql_lines.specs.Sample.{sample_text}
-use Rattle.aql_status.specs.declared.status.Status.{Status}
-use Rattle.aql_status.specs.declared.status.Status.TheVariants as status
+use Rattle.aql_run.specs.Settings.{Settings, settings_of}
+use Rattle.aql_run.specs.Answered.{AreAnswered, IsStopped, ReadNoFile, reached}
+use Rattle.aql_run.specs.Entry.{entries}
+use Rattle.aql_run.specs.Lines.{at_byte, in_declaration, of_file}
+use Rattle.aql_run.specs.Sample.{sample_text}
+use Rattle.aql_run.specs.declared.status.Status.{Status}
+use Rattle.aql_run.specs.declared.status.Status.TheVariants as status
 use Rattle.aql_run.specs.Reading.{most_bytes}
 use Rattle.aql_run.specs.declared.report.Stop.{Stop}
 use Rattle.aql_run.specs.declared.report.Stop.TheVariants as stops
@@ -79,9 +79,9 @@ pub record HasRun (settings : Settings) (told : Told) (same : Type 0) (begun : �
   pub untouched : ReadNoFile ds settings.budget outcomes begun → same
 
 -- the next declaration was not answered
-abbrev pub Stops : {settings : Settings} {told : Told} {same : Type 0} {begun : ℕ} {taken lines : List ℕ} {answers : List Answer} →
+abbrev pub EndsEarly : {settings : Settings} {told : Told} {same : Type 0} {begun : ℕ} {taken lines : List ℕ} {answers : List Answer} →
     HasRun settings told same begun taken answers lines → StepFault → Type 0
-Stops {settings} {told} {same} {begun} {taken} {lines} {answers} run f =
+EndsEarly {settings} {told} {same} {begun} {taken} {lines} {answers} run f =
     IsStopped run.ds settings.budget told.holds told.files_before told.files_now (length answers) run.outcomes f
 
 -- what is kept of a fault of a step
@@ -93,20 +93,20 @@ stop_of faults.Device = stops.Other
 stop_of faults.Memory = stops.Other
 
 -- the budget was passed
-abbrev pub IsSpent : StepFault → Type 0
-IsSpent (faults.Query start plan trace) = Unit {0}
-IsSpent (faults.Cells cells) = Unit {0}
-IsSpent (faults.File fault) = ⊥
-IsSpent faults.Device = ⊥
-IsSpent faults.Memory = ⊥
+abbrev pub IsBudgetFault : StepFault → Type 0
+IsBudgetFault (faults.Query start plan trace) = Unit {0}
+IsBudgetFault (faults.Cells cells) = Unit {0}
+IsBudgetFault (faults.File fault) = ⊥
+IsBudgetFault faults.Device = ⊥
+IsBudgetFault faults.Memory = ⊥
 
 -- no declaration was begun, so that nothing was answered and the files are as before, and one line is all that is written
 abbrev pub BeginsNone : (same : Type 0) → List Answer → Stop → (lines line fault : List ℕ) → Type 0
 BeginsNone same answers stop lines line fault = (answers ≡ []) × (stop ≡ stops.Other) × (lines ≡ []) × (line ≡ fault) × same
 
 -- the script has a fault, and no declaration was begun
-abbrev pub Refuses : Settings → Told → (same : Type 0) → (taken : List ℕ) → List Answer → Stop → (lines line fault : List ℕ) → (List ℕ → Type 0) → Type 0
-Refuses settings told same taken answers stop lines line fault P =
+abbrev pub HasScriptFault : Settings → Told → (same : Type 0) → (taken : List ℕ) → List Answer → Stop → (lines line fault : List ℕ) → (List ℕ → Type 0) → Type 0
+HasScriptFault settings told same taken answers stop lines line fault P =
     (script : List ℕ) × IsScript settings.sample told.left taken script × P script × BeginsNone same answers stop lines line fault
 
 -- The cause of a status stands, the report has these answers and this stop, and a run that ends with it writes these lines of its
@@ -115,19 +115,19 @@ abbrev pub Writes : Status → Settings → Told → (same : Type 0) → (taken 
 Writes status.Done settings told same taken answers stop lines line =
     (run : HasRun settings told same (length answers) taken answers lines) × (length answers ≡ length run.ds) × (stop ≡ stops.Done) × (line ≡ [])
 Writes status.Text settings told same taken answers stop lines line =
-    (k : ℕ) × Refuses settings told same taken answers stop lines line (at_byte (codes "text") k) (λ script. TextFaultAt k script)
+    (k : ℕ) × HasScriptFault settings told same taken answers stop lines line (at_byte (codes "text") k) (λ script. TextFaultAt k script)
 Writes status.Deep settings told same taken answers stop lines line =
-    (k : ℕ) × Refuses settings told same taken answers stop lines line (at_byte (codes "deep") k) (λ script. IsDeepAt k script)
+    (k : ℕ) × HasScriptFault settings told same taken answers stop lines line (at_byte (codes "deep") k) (λ script. IsDeepAt k script)
 Writes status.Syntax settings told same taken answers stop lines line =
-    (n : ℕ) × Refuses settings told same taken answers stop lines line (in_declaration (codes "syntax") n) (λ script. (ls : List Lexeme) × Spells script ls × SyntaxFaultAt n ls)
+    (n : ℕ) × HasScriptFault settings told same taken answers stop lines line (in_declaration (codes "syntax") n) (λ script. (ls : List Lexeme) × IsTokenisedAs script ls × SyntaxFaultAt n ls)
 Writes status.Type settings told same taken answers stop lines line =
-    (n : ℕ) × Refuses settings told same taken answers stop lines line (in_declaration (codes "type") n)
+    (n : ℕ) × HasScriptFault settings told same taken answers stop lines line (in_declaration (codes "type") n)
     (λ script. (ds : List Declaration) × ReadsAlone script ds × (1 ≤ n) × IsFirstUntyped [] (positions ds) (prelude_count + n))
 Writes status.Large settings told same taken answers stop lines line =
-    (n : ℕ) × Refuses settings told same taken answers stop lines line (in_declaration (codes "large") n)
+    (n : ℕ) × HasScriptFault settings told same taken answers stop lines line (in_declaration (codes "large") n)
     (λ script. (ds : List Declaration) × ReadsAlone script ds × ((sorts : List Sort) × AreTyped ds sorts) × IsFirstLarge ds n)
 Writes status.Unbuilt settings told same taken answers stop lines line =
-    (n : ℕ) × Refuses settings told same taken answers stop lines line (in_declaration (codes "unbuilt") n)
+    (n : ℕ) × HasScriptFault settings told same taken answers stop lines line (in_declaration (codes "unbuilt") n)
     (λ script. (ds : List Declaration) × ReadsAlone script ds × ((sorts : List Sort) × AreTyped ds sorts) × AreWithinLimits (positions ds) (prelude_count + length ds)
     × IsFirstOfRecords 1 ds n)
 Writes status.Long settings told same taken answers stop lines line =
@@ -136,12 +136,12 @@ Writes status.Input settings told same taken answers stop lines line =
     (settings.sample ≡ None) × (length taken ≤ most_bytes) × Rose told.input_before told.input_now
     × BeginsNone same answers stop lines line (codes "fault input\n")
 Writes status.File settings told same taken answers stop lines line =
-    (run : HasRun settings told same (length answers + 1) taken answers lines) × (f : CdfFault) × Stops run (faults.File f) × (stop ≡ stops.File f) × (line ≡ of_file (length answers + 1) f)
+    (run : HasRun settings told same (length answers + 1) taken answers lines) × (f : CdfFault) × EndsEarly run (faults.File f) × (stop ≡ stops.File f) × (line ≡ of_file (length answers + 1) f)
 Writes status.Spent settings told same taken answers stop lines line =
-    (f : StepFault) × IsSpent f × (run : HasRun settings told same (reached f (length answers)) taken answers lines) × Stops run f × (stop ≡ stop_of f)
+    (f : StepFault) × IsBudgetFault f × (run : HasRun settings told same (reached f (length answers)) taken answers lines) × EndsEarly run f × (stop ≡ stop_of f)
     × (line ≡ in_declaration (codes "budget") (length answers + 1))
 Writes status.Files settings told same taken answers stop lines line =
-    (run : HasRun settings told same (length answers + 1) taken answers lines) × Stops run faults.Device × (stop ≡ stops.Other) × (line ≡ codes "fault files\n")
+    (run : HasRun settings told same (length answers + 1) taken answers lines) × EndsEarly run faults.Device × (stop ≡ stops.Other) × (line ≡ codes "fault files\n")
 Writes status.Usage settings told same taken answers stop lines line = ⊥
 Writes status.Memory settings told same taken answers stop lines line = ⊥
 Writes status.Output settings told same taken answers stop lines line = ⊥

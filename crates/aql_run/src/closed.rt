@@ -4,11 +4,11 @@ ghost use Rattle.std.specs.Prelude.{◌≡◌, [], map, IfOk, IsErrOf};
 ghost use Rattle.std.specs.String.{string_bytes};
 ghost use Rattle.aql_words.specs.Words.{AreInRange};
 ghost use Rattle.aql_session.specs.Device.{sink_of, files_of, BlamesSink, BlamesFiles};
-ghost use Rattle.aql_answers.specs.Settings.{settings_of};
-ghost use Rattle.aql_answers.specs.Steps.{IsOfDevice};
+ghost use Rattle.aql_run.specs.Settings.{settings_of};
+ghost use Rattle.aql_run.specs.Steps.{IsOfDevice};
 ghost use Rattle.aql_run.specs.Ending.{Answering, Asks, IsReady, Readies};
 
-use aql_answers::{Halt, answer_all};
+use crate::steps::{Halt, answer_all};
 use aql_outside::{Files, Gate, Sink};
 use aql_script::{Prepared, ScriptFault, prepare};
 use aql_session::{Answer, Options};

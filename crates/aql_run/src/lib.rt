@@ -1,12 +1,13 @@
-//! Runs a script from a source to a sink over files: reads the words and the script, finds the
-//! types, answers each declaration, and writes its lines.
+//! Runs a script from a source to a sink over files: reads the words and the script, finds the types, answers each
+//! declaration, and writes its lines.
 //!
-//! The contract that the program uses is that of `run`: which bytes are written for the bytes read,
-//! whatever the number of workers, and the cause of each status.
+//! The contract that the program uses is that of `run`: which bytes are written for the bytes read, whatever the number
+//! of workers, and the cause of each status.
 //!
-//! Read `specs/Headline` beside `run`, which has all that is promised; then `specs/Devices`,
-//! `specs/Outcome` and `specs/Complete`, the cause and the output of each status; then `serving`,
-//! `closed`, `reading`, `report`, `laws`. The statuses are those of `aql_status`.
+//! Read `specs/Headline` beside `run`, which has all that is promised; then `specs/Outcome` and `specs/Complete`, the
+//! cause and the output of each status; then `serving`, `closed`, `reading`, `report`, `status`, `laws`. The declarations
+//! are answered one after another by `steps` (`specs/Answered`, `Steps`; what follows for a script's values stands in
+//! `AnsweredLaws`), and the text of every line is that of `entries`, `lines` and `sample`, which `writing` writes.
 #![tactic(auto)]
 
 ghost use Rattle.std.specs.Prelude.{◌≡◌, ◌≤◌, ◌<◌, ◌⊎◌, ℕ, map};
@@ -16,17 +17,23 @@ ghost use Rattle.aql_run.specs.Headline.{Headline};
 ghost use Rattle.aql_run.specs.Ending.{AsksSample, Reported};
 
 mod closed;
+mod entries;
 mod laws;
+mod lines;
 mod reading;
 mod report;
+mod sample;
 mod serving;
+mod status;
+mod steps;
+mod writing;
 
-pub use aql_lines::sample_script;
+pub use crate::sample::sample_script;
 use aql_outside::{Files, Gate, Sink, Source};
 pub use aql_session::Options;
 pub use aql_words::{WordFault, read_words};
 use closed::Machine;
-use laws::lexed;
+use laws::tokens_exist;
 pub use report::{Answers, Report, Stop};
 use serving::end_of;
 use std::alloc::Global;
@@ -53,12 +60,12 @@ pub fn run<R: Threads + Sync, S: Source, O: Sink, F: Files, G: Gate>(
       files = files_of F.Files files.old files.new;
     }) result }
 {
-    lexed();
-    reported(rt, alloc, words, input, output, files, gate)
+    tokens_exist();
+    report_run(rt, alloc, words, input, output, files, gate)
 }
 
 // Runs the script, and says the outcome under one word.
-fn reported<R: Threads + Sync, S: Source, O: Sink, F: Files, G: Gate>(
+fn report_run<R: Threads + Sync, S: Source, O: Sink, F: Files, G: Gate>(
     rt: &R,
     alloc: Global,
     words: &[String],

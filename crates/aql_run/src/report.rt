@@ -1,6 +1,6 @@
 //! What a run answers.
+use crate::status::Status;
 use aql_session::Answer;
-use aql_status::Status;
 use cdf_header::CdfFault;
 use nrca_term::{Core, Trace};
 

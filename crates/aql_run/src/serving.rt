@@ -3,20 +3,22 @@ ghost use Rattle.std.specs.Prelude.{◌≡◌, ◌≢◌, ◌≤◌, ◌+◌, �
 ghost use Rattle.std.specs.String.{string_bytes};
 ghost use Rattle.aql_words.specs.Words.{AreInRange};
 ghost use Rattle.aql_session.specs.Device.{source_of, sink_of, files_of, BlamesSink};
-ghost use Rattle.aql_lines.specs.Lines.{in_declaration};
-ghost use Rattle.aql_answers.specs.Settings.{settings_of};
+ghost use Rattle.aql_run.specs.Lines.{in_declaration};
+ghost use Rattle.aql_run.specs.Settings.{settings_of};
 ghost use Rattle.aql_run.specs.Devices.{NoticesFiles, NoticesInput};
 ghost use Rattle.aql_run.specs.Ending.{Answers, AsksSample, EndsWith, IsReady, Refused, Responds, Running, Samples, Serving, Stopped};
 
 use crate::closed::{Machine, answer_each, read_options, ready};
+use crate::lines::{byte_line, declaration_line, file_line};
 use crate::reading::{ReadFault, read_script};
 use crate::report::{End, Stop};
-use aql_answers::Halt;
-use aql_lines::{byte_line, declaration_line, file_line, sample_script, write_all};
+use crate::sample::sample_script;
+use crate::status::Status;
+use crate::steps::Halt;
+use crate::writing::write_all;
 use aql_outside::{Files, Gate, Sink, Source};
 use aql_script::{Prepared, ScriptFault};
 use aql_session::{Answer, Options, StepFault};
-use aql_status::Status;
 use aql_value::Memory;
 use aql_words::WordFault;
 use std::alloc::Global;

@@ -10,7 +10,7 @@ use Rattle.aql_syntax.specs.Grammar.{tight, whole, reads_number, reads_primary, 
 use Rattle.aql_syntax.specs.Lexis.{Lexeme, numeral, mark, AreTokens, begins_number, begins_sign, digits_end, covers_none, covers_token}
 use Rattle.aql_syntax.specs.Tree.{Tree, op, no_tree, Declaration, bare}
 use Rattle.aql_syntax.specs.View.{of_two}
-use Rattle.aql_script.specs.Script.{Reads, positions}
+use Rattle.aql_script.specs.Script.{IsParsedAs, positions}
 use Rattle.aql_syntax.specs.Size.{AreWithinLimits}
 use Rattle.aql_prelude.specs.Prelude.{prelude_count}
 use Rattle.aql_script.proofs.Positions.{prelude_within, within_more}
@@ -62,7 +62,7 @@ parsed =
     (decl_bare (from_sum (reads_binary (reads_tighter (reads_tighter (number_read 1 _))) refl (reads_binary (reads_tighter (number_read 2 _)) refl (number_read 3 _)))))
     decls_none
 
-pub sum_read : Reads (codes "1+2*3;") one_sum
+pub sum_read : IsParsedAs (codes "1+2*3;") one_sum
 sum_read = (lexemes, (covered.0, covered.1, refl), parsed)
 
 pub sum_limits : AreWithinLimits (positions one_sum) (prelude_count + 1)

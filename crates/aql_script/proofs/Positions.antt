@@ -12,15 +12,16 @@ use Rattle.aql_syntax.specs.Tree.{Declaration}
 use Rattle.aql_syntax.specs.View.{decl_of, decls_of}
 use Rattle.aql_syntax.specs.declared.ast.Decl.{Decl}
 use Rattle.aql_lex.specs.Lexed.{IsShallow, OneList}
-use Rattle.aql_grammar.specs.Scripts.{OneReading}
+use Rattle.aql_parse_spec.specs.Scripts.{OneReading}
 use Rattle.aql_infer.specs.Checked.{IsChecked, IsFirstUntyped}
 use Rattle.aql_infer.specs.declared.fault.TypeFault.{TypeFault}
 use Rattle.aql_infer.specs.declared.fault.TypeFault.TheVariants as type_faults
 use Rattle.aql_prelude.specs.Prelude.{prelude_decls, prelude_count}
-use Rattle.aql_prelude.specs.Typing.{HaveSorts, prelude_typed}
-use Rattle.aql_script.specs.PositionLaws.{positions_are, length_positions, drop_prelude}
+use Rattle.aql_prelude.specs.Typing.{HaveSorts}
+use Rattle.aql_prelude.specs.Laws.Typing.{prelude_typed}
+use Rattle.aql_script.specs.Laws.Position.{positions_are, length_positions, drop_prelude}
 use Rattle.aql_script.specs.Limits.{WithinBetween}
-use Rattle.aql_script.specs.Script.{Spells, ReadsAlone, positions, IsFirstLarge}
+use Rattle.aql_script.specs.Script.{IsTokenisedAs, ReadsAlone, positions, IsFirstLarge}
 
 -- what the parser reads of the tokens is the one reading of the bytes
 pub alone : OneList → OneReading → (bytes : List ℕ) (ts : List Token) (ds : List Declaration) → IsShallow bytes ts →
@@ -28,13 +29,13 @@ pub alone : OneList → OneReading → (bytes : List ℕ) (ts : List Token) (ds 
 alone one reading bytes ts ds (ls, (tokens, shallow)) h =
     ((ls, (ts, tokens, shallow), h ls tokens), λ others other. same others other)
   where
-    same : (others : List Declaration) → ((ms : List Lexeme) × Spells bytes ms × ReadsScript others ms) → others ≡ ds
+    same : (others : List Declaration) → ((ms : List Lexeme) × IsTokenisedAs bytes ms × ReadsScript others ms) → others ≡ ds
     same others (ms, (us, t, s), r) =
         let list = one bytes ts us ls ms tokens t in
         reading others ds ms r (subst (λ l. ReadsScript ds l) list.lexemes (h ls tokens))
 
 pub refused : (bytes : List ℕ) (ts : List Token) (n : ℕ) → IsShallow bytes ts → ((ls : List Lexeme) → AreTokens bytes ts ls → SyntaxFaultAt n ls) →
-    (ls : List Lexeme) × Spells bytes ls × SyntaxFaultAt n ls
+    (ls : List Lexeme) × IsTokenisedAs bytes ls × SyntaxFaultAt n ls
 refused bytes ts n (ls, (tokens, shallow)) h = (ls, (ts, tokens, shallow), h ls tokens)
 
 -- a declaration without a typing stands behind those that have one

@@ -1,3 +1,3 @@
 pub mod Script
-pub mod PositionLaws
 pub mod Limits
+pub mod Laws

@@ -10,25 +10,25 @@ use Rattle.aql_syntax.specs.Tree.{Declaration, val, mac, read, bare, plain, sign
 use Rattle.aql_syntax.specs.Size.{AreWithinLimits, IsLarge}
 use Rattle.aql_syntax.specs.View.{decls_of}
 use Rattle.aql_lex.specs.Lexed.{IsDeepAt}
-use Rattle.aql_constraints.specs.Typed.{ArePrincipal, sorts_of}
+use Rattle.aql_infer_steps.specs.Typed.{ArePrincipal, sorts_of}
 use Rattle.aql_infer.specs.Checked.{IsFirstUntyped}
-use Rattle.aql_constraints.specs.declared.typed.Typed.{Typed}
+use Rattle.aql_infer_steps.specs.declared.typed.Typed.{Typed}
 use Rattle.aql_prelude.specs.Prelude.{prelude_decls, prelude_count}
 use Rattle.aql_script.specs.declared.fault.ScriptFault.{ScriptFault}
 use Rattle.aql_script.specs.declared.fault.ScriptFault.TheVariants as faults
 use Rattle.aql_script.specs.declared.preparing.Prepared.{Prepared}
 
 -- the bytes are these tokens, whose scan stays at most 400
-abbrev pub Spells : List ℕ → List Lexeme → Type 0
-Spells bytes ls = (ts : List Token) × AreTokens bytes ts ls × (first_deep no_counters ls ≡ None)
+abbrev pub IsTokenisedAs : List ℕ → List Lexeme → Type 0
+IsTokenisedAs bytes ls = (ts : List Token) × AreTokens bytes ts ls × (first_deep no_counters ls ≡ None)
 
 -- the bytes are these declarations, by the lexis and the grammar
-abbrev pub Reads : List ℕ → List Declaration → Type 0
-Reads bytes ds = (ls : List Lexeme) × Spells bytes ls × ReadsScript ds ls
+abbrev pub IsParsedAs : List ℕ → List Declaration → Type 0
+IsParsedAs bytes ds = (ls : List Lexeme) × IsTokenisedAs bytes ls × ReadsScript ds ls
 
 -- and no others
 abbrev pub ReadsAlone : List ℕ → List Declaration → Type 0
-ReadsAlone bytes ds = Reads bytes ds × ((others : List Declaration) → Reads bytes others → others ≡ ds)
+ReadsAlone bytes ds = IsParsedAs bytes ds × ((others : List Declaration) → IsParsedAs bytes others → others ≡ ds)
 
 -- the declarations of the prelude and behind them those of a script: declaration n of the script is position
 -- prelude_count + n
@@ -74,7 +74,7 @@ Prepares bytes (Ok p) =
     × AreWithinLimits (positions ds) (prelude_count + length ds) × NoneReadsRecords ds
 Prepares bytes (Err (faults.Text at)) = TextFaultAt at bytes
 Prepares bytes (Err (faults.Deep at)) = IsDeepAt at bytes
-Prepares bytes (Err (faults.Syntax n)) = (ls : List Lexeme) × Spells bytes ls × SyntaxFaultAt n ls
+Prepares bytes (Err (faults.Syntax n)) = (ls : List Lexeme) × IsTokenisedAs bytes ls × SyntaxFaultAt n ls
 Prepares bytes (Err (faults.Type n)) = (ds : List Declaration) × ReadsAlone bytes ds × (1 ≤ n) × IsFirstUntyped [] (positions ds) (prelude_count + n)
 Prepares bytes (Err (faults.Large n)) = (ds : List Declaration) × ReadsAlone bytes ds × ((sorts : List Sort) × AreTyped ds sorts) × IsFirstLarge ds n
 Prepares bytes (Err (faults.Unbuilt n)) =
@@ -87,7 +87,7 @@ abbrev pub Declares : List ℕ → Result Decls ScriptFault → Type 0
 Declares bytes (Ok found) = ReadsAlone bytes (decls_of found.items.items)
 Declares bytes (Err (faults.Text at)) = TextFaultAt at bytes
 Declares bytes (Err (faults.Deep at)) = IsDeepAt at bytes
-Declares bytes (Err (faults.Syntax n)) = (ls : List Lexeme) × Spells bytes ls × SyntaxFaultAt n ls
+Declares bytes (Err (faults.Syntax n)) = (ls : List Lexeme) × IsTokenisedAs bytes ls × SyntaxFaultAt n ls
 Declares bytes (Err (faults.Type n)) = ⊥
 Declares bytes (Err (faults.Large n)) = ⊥
 Declares bytes (Err (faults.Unbuilt n)) = ⊥
@@ -105,26 +105,26 @@ Types ds (Err (faults.Unbuilt n)) = ⊥
 Types ds (Err faults.Memory) = Unit {0}
 
 -- no position passes a limit and none reads records, or the first that does
-abbrev pub Refuses : List Declaration → Option ScriptFault → Type 0
-Refuses ds None = AreWithinLimits (positions ds) (prelude_count + length ds) × NoneReadsRecords ds
-Refuses ds (Some (faults.Text at)) = ⊥
-Refuses ds (Some (faults.Deep at)) = ⊥
-Refuses ds (Some (faults.Syntax n)) = ⊥
-Refuses ds (Some (faults.Type n)) = ⊥
-Refuses ds (Some (faults.Large n)) = IsFirstLarge ds n
-Refuses ds (Some (faults.Unbuilt n)) = AreWithinLimits (positions ds) (prelude_count + length ds) × IsFirstOfRecords 1 ds n
-Refuses ds (Some faults.Memory) = ⊥
+abbrev pub IsFirstFault : List Declaration → Option ScriptFault → Type 0
+IsFirstFault ds None = AreWithinLimits (positions ds) (prelude_count + length ds) × NoneReadsRecords ds
+IsFirstFault ds (Some (faults.Text at)) = ⊥
+IsFirstFault ds (Some (faults.Deep at)) = ⊥
+IsFirstFault ds (Some (faults.Syntax n)) = ⊥
+IsFirstFault ds (Some (faults.Type n)) = ⊥
+IsFirstFault ds (Some (faults.Large n)) = IsFirstLarge ds n
+IsFirstFault ds (Some (faults.Unbuilt n)) = AreWithinLimits (positions ds) (prelude_count + length ds) × IsFirstOfRecords 1 ds n
+IsFirstFault ds (Some faults.Memory) = ⊥
 
 -- the positions of a script with these declarations, or the first fault of their types, sizes and readers
-abbrev pub Settles : List Declaration → Result Prepared ScriptFault → Type 0
-Settles ds (Ok p) =
+abbrev pub IsPreparedAs : List Declaration → Result Prepared ScriptFault → Type 0
+IsPreparedAs ds (Ok p) =
     (decls_of p.decls.items.items ≡ positions ds) × AreTyped ds (sorts_of p.typed.items.items) × AreWithinLimits (positions ds) (prelude_count + length ds)
     × NoneReadsRecords ds
-Settles ds (Err (faults.Text at)) = ⊥
-Settles ds (Err (faults.Deep at)) = ⊥
-Settles ds (Err (faults.Syntax n)) = ⊥
-Settles ds (Err (faults.Type n)) = (1 ≤ n) × IsFirstUntyped [] (positions ds) (prelude_count + n)
-Settles ds (Err (faults.Large n)) = ((sorts : List Sort) × AreTyped ds sorts) × IsFirstLarge ds n
-Settles ds (Err (faults.Unbuilt n)) =
+IsPreparedAs ds (Err (faults.Text at)) = ⊥
+IsPreparedAs ds (Err (faults.Deep at)) = ⊥
+IsPreparedAs ds (Err (faults.Syntax n)) = ⊥
+IsPreparedAs ds (Err (faults.Type n)) = (1 ≤ n) × IsFirstUntyped [] (positions ds) (prelude_count + n)
+IsPreparedAs ds (Err (faults.Large n)) = ((sorts : List Sort) × AreTyped ds sorts) × IsFirstLarge ds n
+IsPreparedAs ds (Err (faults.Unbuilt n)) =
     ((sorts : List Sort) × AreTyped ds sorts) × AreWithinLimits (positions ds) (prelude_count + length ds) × IsFirstOfRecords 1 ds n
-Settles ds (Err faults.Memory) = Unit {0}
+IsPreparedAs ds (Err faults.Memory) = Unit {0}

@@ -4,18 +4,18 @@ ghost use Rattle.std.specs.Prelude.{◌≡◌, ◌++◌, ◌+◌, ◌≤◌, Lis
 ghost use Rattle.aql_syntax.specs.Tree.{Declaration};
 ghost use Rattle.aql_syntax.specs.View.{decls_of};
 ghost use Rattle.aql_prelude.specs.Prelude.{prelude_decls};
-ghost use Rattle.aql_script.specs.Script.{Prepares, Declares, Types, Refuses, Settles, positions};
+ghost use Rattle.aql_script.specs.Script.{Prepares, Declares, Types, IsFirstFault, IsPreparedAs, positions};
 
 use crate::fault::ScriptFault;
 use crate::limits::{first_large, first_of_records};
-use aql_constraints::typed::Typed;
-use aql_grammar::laws::one_reading;
 use aql_infer::check::check;
 use aql_infer::fault::TypeFault;
+use aql_infer_steps::typed::Typed;
 use aql_lex::fault::LexFault;
 use aql_lex::laws::one_answer;
 use aql_lex::lexer::tokens;
 use aql_parse::{ParseFault, script as parsed};
+use aql_parse_spec::laws::one_reading;
 use aql_prelude::{COUNT, prelude};
 use aql_syntax::ast::Decls;
 use aql_value::Memory;
@@ -34,14 +34,14 @@ pub struct Prepared {
 pub fn prepare(alloc: Global, script: &[u8]) -> Result<Prepared, ScriptFault>
     ensures { Prepares script.now result }
 {
-    match declared(alloc, script) {
-        Ok(own) => settled(alloc, own),
+    match parse(alloc, script) {
+        Ok(own) => prepare_positions(alloc, own),
         Err(fault) => Err(fault),
     }
 }
 
 // The declarations that the bytes are.
-fn declared(alloc: Global, script: &[u8]) -> Result<Decls, ScriptFault>
+fn parse(alloc: Global, script: &[u8]) -> Result<Decls, ScriptFault>
     ensures { Declares script.now result }
 {
     match tokens(alloc, script) {
@@ -62,12 +62,12 @@ fn declared(alloc: Global, script: &[u8]) -> Result<Decls, ScriptFault>
 }
 
 // The positions of a script with these declarations.
-fn settled(alloc: Global, own: Decls) -> Result<Prepared, ScriptFault>
-    ensures { Settles (decls_of own.items.items) result }
+fn prepare_positions(alloc: Global, own: Decls) -> Result<Prepared, ScriptFault>
+    ensures { IsPreparedAs (decls_of own.items.items) result }
 {
     let decls = behind_prelude(alloc, own)?;
-    match typed(alloc, &decls) {
-        Ok(typed) => match refused(&decls) {
+    match infer_types(alloc, &decls) {
+        Ok(typed) => match first_refusal(&decls) {
             Some(fault) => Err(fault),
             None => Ok(Prepared { decls, typed }),
         },
@@ -88,9 +88,10 @@ fn behind_prelude(alloc: Global, own: Decls) -> Result<Decls, Memory>
 }
 
 // The principal types of positions, or the first declaration behind the prelude without a typing.
-fn typed(alloc: Global, decls: &Decls) -> Result<Typed, ScriptFault>
+fn infer_types(alloc: Global, decls: &Decls) -> Result<Typed, ScriptFault>
     requires { (ds : List Declaration) × (decls_of decls.now.items.items ≡ positions ds) }
-    ensures { (ds : List Declaration) → decls_of decls.now.items.items ≡ positions ds → Types ds result }
+    ensures { (ds : List Declaration) → decls_of decls.now.items.items ≡ positions ds
+        → Types ds result }
 {
     match check(alloc, decls) {
         Ok(typed) => Ok(typed),
@@ -103,9 +104,10 @@ fn typed(alloc: Global, decls: &Decls) -> Result<Typed, ScriptFault>
 
 // The first declaration that passes a limit, and else the first that reads records.
 #[tactic(auto, using(crate::proofs::Positions::preparing))]
-fn refused(decls: &Decls) -> Option<ScriptFault>
+fn first_refusal(decls: &Decls) -> Option<ScriptFault>
     requires { (ds : List Declaration) × (decls_of decls.now.items.items ≡ positions ds) }
-    ensures { (ds : List Declaration) → decls_of decls.now.items.items ≡ positions ds → Refuses ds result }
+    ensures { (ds : List Declaration) → decls_of decls.now.items.items ≡ positions ds
+        → IsFirstFault ds result }
 {
     if let Some(declaration) = first_large(decls) {
         return Some(ScriptFault::Large { declaration });

@@ -2,11 +2,12 @@
 use Rattle.std.proofs.Common.{◌≡◌, ℕ, zero, suc, ◌≤◌, Bool, true, false, List, [], ◌∷◌, ◌++◌, length, map, replicate, Option, Some, None, refl, sym, ap, ◌∙◌, arith, nat_eq, eq-eqb, if◌then◌else◌}
 use Rattle.std.proofs.lemmas.List.{map-append, length-replicate}
 use Rattle.aql_value.specs.Datum as datum
-use Rattle.aql_value.specs.Datum.{Datum, data_of, list_of, list_of-data_of}
+use Rattle.aql_value.specs.Datum.{Datum, data_of, list_of}
+use Rattle.aql_value.specs.Laws.Datum.{list_of-data_of}
 use Rattle.aql_value.specs.Meaning as meaning
 use Rattle.aql_value.specs.Operations.{as_natural, as_tuple, index_numbers}
 use Rattle.aql_value.specs.Partial.{◌>>=◌, each}
-use Rattle.aql_value.specs.PartialLaws.{each-append}
+use Rattle.aql_value.specs.Laws.Partial.{each-append}
 use Rattle.aql_value.specs.declared.value.Value.{Value}
 use Rattle.aql_types.specs.Types as types
 use Rattle.aql_types.specs.Types.{IsRank, IsWithin, index_type, tys_of}
@@ -15,7 +16,7 @@ use Rattle.aql_syntax.specs.Tree as tree
 use Rattle.aql_syntax.specs.Tree.{Reader}
 use Rattle.aql_syntax.specs.Typing.{reader_type, argument_type}
 use Rattle.aql_session.specs.Asked.{Asked, asked, asked_of, unstrided, with_strides}
-use Rattle.nrca_runs.specs.Parts.{numbers_with}
+use Rattle.nrca_loops.specs.Parts.{numbers_with}
 use Rattle.aql_session.specs.Runs.{HasRank, cell_type}
 use Rattle.aql_session.specs.Step.{IsOfArrays}
 

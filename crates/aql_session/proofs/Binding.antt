@@ -11,7 +11,7 @@ use Rattle.aql_value.specs.Datum.{Datum}
 use Rattle.aql_value.specs.Partial.{◌>>=◌, or_else}
 use Rattle.nrca_array.specs.declared.held.Held.{Held}
 use Rattle.nrca_array.specs.Held.{held_datum}
-use Rattle.nrca_runs.specs.Scope.{held_value}
+use Rattle.nrca_loops.specs.Scope.{held_value}
 use Rattle.nrca_term.specs.Meaning.{Outcomes, outcome}
 use Rattle.aql_syntax.specs.Names.{names_equal}
 use Rattle.aql_syntax.specs.Tree.{Name}

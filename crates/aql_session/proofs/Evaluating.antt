@@ -4,14 +4,14 @@ use Rattle.aql_syntax.specs.Size.{before}
 use Rattle.aql_syntax.specs.Tree.{Declaration}
 use Rattle.aql_syntax.specs.View.{decls_of}
 use Rattle.aql_syntax.specs.declared.ast.Decl.{Decl}
-use Rattle.nrca_runs.specs.Scope.{held_value}
+use Rattle.nrca_loops.specs.Scope.{held_value}
 use Rattle.nrca_term.specs.Meaning.{Outcomes, cden}
 use Rattle.nrca_term.specs.Term.{Term}
 use Rattle.nrca_term.specs.Turns.{settle}
 use Rattle.nrca_term.specs.View.{term_of}
-use Rattle.aql_start.specs.Start.{query}
+use Rattle.aql_desugar_spec.specs.Start.{query}
 use Rattle.aql_session.specs.Bound.{earlier_of}
-use Rattle.aql_session.specs.Runs.{IsQuery, TellsStart, IsEvaluated, IsSpent}
+use Rattle.aql_session.specs.Runs.{IsQuery, TellsStart, IsEvaluated, IsSpentFault}
 use Rattle.aql_session.specs.Step.{start_term, start_of, query_turns}
 use Rattle.aql_session.specs.declared.answer.StepFault.{StepFault}
 use Rattle.aql_session.specs.declared.answer.StepFault.TheVariants as faults
@@ -41,7 +41,7 @@ module _ (ds : List Declaration) (V : Outcomes) (n : ℕ) (many : length V ≡ n
         within = omega (arith, h.2, turns);
       }
 
-  pub spent-is : (budget : ℕ) → budget < settle V [] t → (f : StepFault) → TellsStart t f → IsSpent d (earlier_of ds V) budget f
+  pub spent-is : (budget : ℕ) → budget < settle V [] t → (f : StepFault) → TellsStart t f → IsSpentFault d (earlier_of ds V) budget f
   spent-is budget h (faults.Query s p r) k = (omega (arith, h, turns), k.0 ∙ term, k.1, k.2)
   spent-is budget h (faults.Cells c) k = absurd k
   spent-is budget h (faults.File e) k = absurd k

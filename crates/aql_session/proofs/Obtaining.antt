@@ -5,7 +5,7 @@ use Rattle.aql_outside.specs.Contents.{Content}
 use Rattle.aql_value.specs.Datum as datum
 use Rattle.aql_value.specs.Datum.{Datum, Table, data_of}
 use Rattle.aql_value.specs.Indices.{product}
-use Rattle.aql_value.specs.Lists.{Every-impl}
+use Rattle.aql_value.specs.Laws.Lists.{Every-impl}
 use Rattle.aql_value.specs.Partial.{if_some}
 use Rattle.aql_types.specs.Types as types
 use Rattle.aql_types.specs.Types.{Ty, IsWithin}
@@ -15,7 +15,7 @@ use Rattle.aql_syntax.specs.Typing.{reader_type, argument_type}
 use Rattle.cdf_slab.specs.Numbers.{IsCell}
 use Rattle.cdf_slab.specs.Slab.{IsShaped, first_zero}
 use Rattle.nrca_array.specs.Held.{table_datum}
-use Rattle.nrca_runs.specs.Scope.{held_value}
+use Rattle.nrca_loops.specs.Scope.{held_value}
 use Rattle.aql_words.specs.Words.{most_budget}
 use Rattle.aql_session.specs.Asked.{Asked, asked_of, cells}
 use Rattle.aql_session.specs.Reading.{read_fault}

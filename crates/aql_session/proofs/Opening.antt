@@ -10,11 +10,11 @@ use Rattle.aql_outside.specs.Contents.{Content, bytes_in, IsAbsent}
 use Rattle.aql_value.specs.Datum.{Table}
 use Rattle.cdf_header.specs.File.{IsAnswered, IsLost, header_of}
 use Rattle.cdf_header.specs.Header.{Head}
-use Rattle.cdf_header.specs.HeaderLaws.{header_of-bytes}
+use Rattle.cdf_header.specs.Laws.Header.{header_of-bytes}
 use Rattle.cdf_header.specs.Places.{find_in, variable_at}
 use Rattle.cdf_header.specs.declared.fault.CdfFault.{CdfFault}
 use Rattle.cdf_header.specs.declared.fault.CdfFault.TheVariants as file_faults
-use Rattle.cdf_slab.specs.Slab.{slab, slab_fault, Answers, IsOfRequest}
+use Rattle.cdf_slab.specs.Slab.{slab, slab_fault, IsSlabAnswer, IsOfRequest}
 use Rattle.nrca_array.specs.Held.{table_datum}
 use Rattle.aql_session.specs.Asked.{Asked, cells}
 use Rattle.aql_session.specs.Reading.{in_header, in_file, at_name, opened, fault_in, read_fault, value_in, unless, read_value}
@@ -108,7 +108,7 @@ module _ (a : Asked) (files : Content) where
 
   -- the fault of a hyperslab is that of the read
   pub slab-failed : (found : Found) (at : IsFileAt a files found) (f : CdfFault) → IsOfFile f →
-      Answers (slab_fault at.bytes found.header (variable_at found.header found.variable) a.start a.count a.stride a.signed) (slab at.bytes found.header (variable_at found.header found.variable) a.start a.count a.stride a.signed) (Err f) →
+      IsSlabAnswer (slab_fault at.bytes found.header (variable_at found.header found.variable) a.start a.count a.stride a.signed) (slab at.bytes found.header (variable_at found.header found.variable) a.start a.count a.stride a.signed) (Err f) →
       read_fault files a ≡ Some f
   slab-failed found at f u s = ap (fault_in a) at.is ∙ go f u s
     where
@@ -116,7 +116,7 @@ module _ (a : Asked) (files : Content) where
       expected = slab_fault at.bytes found.header (variable_at found.header found.variable) a.start a.count a.stride a.signed
 
       go : (f : CdfFault) → IsOfFile f →
-          Answers (slab_fault at.bytes found.header (variable_at found.header found.variable) a.start a.count a.stride a.signed) (slab at.bytes found.header (variable_at found.header found.variable) a.start a.count a.stride a.signed) (Err f) →
+          IsSlabAnswer (slab_fault at.bytes found.header (variable_at found.header found.variable) a.start a.count a.stride a.signed) (slab at.bytes found.header (variable_at found.header found.variable) a.start a.count a.stride a.signed) (Err f) →
           slab_fault at.bytes found.header (variable_at found.header found.variable) a.start a.count a.stride a.signed ≡ Some f
       go file_faults.Absent u s = s
       go file_faults.NotClassic u s = s
@@ -135,7 +135,7 @@ module _ (a : Asked) (files : Content) where
 
   -- a hyperslab that is answered is the value of the read
   pub slab-read : (found : Found) (at : IsFileAt a files found) (t : Table) →
-      Answers (slab_fault at.bytes found.header (variable_at found.header found.variable) a.start a.count a.stride a.signed) (slab at.bytes found.header (variable_at found.header found.variable) a.start a.count a.stride a.signed) (Ok t) →
+      IsSlabAnswer (slab_fault at.bytes found.header (variable_at found.header found.variable) a.start a.count a.stride a.signed) (slab at.bytes found.header (variable_at found.header found.variable) a.start a.count a.stride a.signed) (Ok t) →
       (read_fault files a ≡ None) × (read_value files a ≡ Some (table_datum t))
   slab-read found at t s =
       let none : read_fault files a ≡ None = ap (fault_in a) at.is ∙ s.0 in

@@ -9,12 +9,12 @@ use Rattle.aql_syntax.specs.Script.{Earlier, globals_of}
 use Rattle.aql_syntax.specs.Size.{before}
 use Rattle.aql_syntax.specs.Sound.{declarations_of}
 use Rattle.aql_syntax.specs.Tree.{Tree, Declaration}
-use Rattle.aql_constraints.specs.Typed.{ArePrincipal, IsPrincipalScheme}
+use Rattle.aql_infer_steps.specs.Typed.{ArePrincipal, IsPrincipalScheme}
 use Rattle.nrca_term.specs.Meaning.{Outcomes, cden}
 use Rattle.nrca_term.specs.Turns.{settle}
-use Rattle.aql_start.specs.Laws.{outcomes_of}
-use Rattle.aql_start.specs.Positions.{start-means}
-use Rattle.aql_start.specs.Start.{query}
+use Rattle.aql_desugar_spec.specs.Laws.{outcomes_of}
+use Rattle.aql_desugar_spec.specs.Laws.Positions.{start-means}
+use Rattle.aql_desugar_spec.specs.Start.{query}
 use Rattle.aql_session.specs.Bound.{onto, earlier_of}
 use Rattle.aql_session.specs.Step.{start_term, start_of, query_turns}
 use Rattle.aql_session.specs.Runs.{query_value}

@@ -12,17 +12,18 @@ use Rattle.aql_types.specs.Types.{Ty, Sort, Subst, apply, value, macro, IsWithin
 use Rattle.aql_types.specs.ValueTypes.{HasType}
 use Rattle.aql_types.specs.View.{sort_of}
 use Rattle.aql_types.specs.declared.ty.Scheme.{Scheme}
-use Rattle.aql_constraints.specs.Typed.{ArePrincipal, sorts_of}
+use Rattle.aql_infer_steps.specs.Typed.{ArePrincipal, sorts_of}
 use Rattle.aql_syntax.specs.Denotation.{den}
-use Rattle.aql_syntax.specs.Script.{Earlier, globals_of, Reading, read_outcome, outcome_after}
+use Rattle.aql_syntax.specs.Script.{Earlier, globals_of, ReaderMeaning, read_outcome, outcome_after}
 use Rattle.aql_syntax.specs.Size.{before}
-use Rattle.aql_syntax.specs.Sound.{OutcomesHave, typed-value, ReadsHave, outcome-has, apply-reader_type}
+use Rattle.aql_syntax.specs.Sound.{OutcomesTyped, ReadsHave}
+use Rattle.aql_syntax.specs.Laws.Sound.{typed-value, outcome-has, apply-reader_type}
 use Rattle.aql_syntax.specs.Tree.{Name, Tree, Reader, Declaration, val, mac, read, bare, declared}
 use Rattle.aql_syntax.specs.Typing.{Has, DeclHas, IsPrincipal, scope_of, reader_type, argument_type}
 use Rattle.aql_syntax.specs.View.{decl_of, decls_of}
 use Rattle.aql_syntax.specs.declared.ast.Decl.{Decl}
-use Rattle.nrca_runs.specs.Scope.{held_value}
-use Rattle.nrca_term.specs.Equations.{term_of-Bottom}
+use Rattle.nrca_loops.specs.Scope.{held_value}
+use Rattle.nrca_term.specs.Laws.Equations.{term_of-Bottom}
 use Rattle.nrca_term.specs.Meaning.{Outcomes}
 use Rattle.nrca_term.specs.declared.term.Core.TheVariants as core
 use Rattle.cdf_slab.specs.Slab.{first_zero}
@@ -30,8 +31,8 @@ use Rattle.aql_words.specs.Words.{most_budget}
 use Rattle.aql_session.specs.Asked.{Asked, cells}
 use Rattle.aql_session.specs.Bound.{Bound, AreBound, earlier_of, outcomes}
 use Rattle.aql_session.specs.Reading.{read_fault, read_value, reading}
-use Rattle.aql_session.specs.Runs.{Stands, IsPlain, IsSpent, IsEvaluated, IsReadBy, IsArgumentCause, IsRun, IsAnswerOf, asked_in, query_value}
-use Rattle.aql_session.specs.Step.{IsAnswer, IsOutcome, IsReadOutcome, Binds, IsCause, IsOverTurns, ReadsNoFile, asks}
+use Rattle.aql_session.specs.Runs.{IsReadyAt, IsValueDeclaration, IsSpentFault, IsEvaluated, IsReadBy, IsArgumentCause, IsRun, IsAnswerOf, asked_in, query_value}
+use Rattle.aql_session.specs.Step.{IsAnswer, IsOutcome, IsReadOutcome, BindsPosition, IsCause, IsOverTurns, ReadsNoFile, asks}
 use Rattle.aql_session.specs.declared.answer.Answer.{Answer}
 use Rattle.aql_session.specs.declared.answer.Ran.TheVariants as ran
 use Rattle.aql_session.specs.declared.answer.StepFault.{StepFault}
@@ -54,7 +55,7 @@ pub same-position : (p : Option Declaration) (c d : Declaration) → p ≡ Some 
 same-position p c d e f = let y = sym e ∙ f in cc
 
 -- a query that is evaluated and kept
-pub plain-run : (d : Declaration) (earlier : Earlier) (budget : ℕ) (holds : Option Content) (q : Evaluated) → IsPlain d → IsEvaluated d earlier budget q →
+pub plain-run : (d : Declaration) (earlier : Earlier) (budget : ℕ) (holds : Option Content) (q : Evaluated) → IsValueDeclaration d → IsEvaluated d earlier budget q →
     IsRun d earlier budget holds (record { start = q.start; by = ran.Plan; turns = q.turns; value = q.value })
 plain-run (val x e) earlier budget holds q p h = record {
   start = h.start;
@@ -84,7 +85,7 @@ macro-run f p body earlier budget holds = record {
   outcome = refl;
 }
 
-pub spent-cause : (d : Declaration) (earlier : Earlier) (budget : ℕ) (holds : Option Content) (before now : ℕ) (f : StepFault) → IsSpent d earlier budget f → IsCause d earlier budget holds before now f
+pub spent-cause : (d : Declaration) (earlier : Earlier) (budget : ℕ) (holds : Option Content) (before now : ℕ) (f : StepFault) → IsSpentFault d earlier budget f → IsCause d earlier budget holds before now f
 spent-cause d earlier budget holds before now (faults.Query s p t) h = h
 spent-cause d earlier budget holds before now (faults.Cells c) h = absurd h
 spent-cause d earlier budget holds before now (faults.File f) h = absurd h
@@ -161,7 +162,7 @@ sort-read : (x : Name) (r : Reader) (e : Tree) (earlier : List Declaration) (s :
 sort-read x r e earlier (value t) h = record { within = subst IsWithin h.0 h.1; has = h.3 }
 sort-read x r e earlier (macro s t) h = absurd h
 
-module _ (ds : List Declaration) (sorts : List Sort) (n : ℕ) (V : Outcomes) (stands : Stands ds sorts n V) where
+module _ (ds : List Declaration) (sorts : List Sort) (n : ℕ) (V : Outcomes) (stands : IsReadyAt ds sorts n V) where
   module _ (x : Name) (r : Reader) (e : Tree) (here : slice_get ds (n - 1) ≡ Some (read x r e)) where
     read-has : ReadHas r e (before ds n)
     read-has = let s = sort-at ds sorts n (read x r e) stands.checked here in sort-read x r e (before ds n) s.0 s.2.principal.has
@@ -194,7 +195,7 @@ module _ (ds : List Declaration) (sorts : List Sort) (n : ℕ) (V : Outcomes) (s
         turns = k.turns ∙ h.turns;
       }
 
-no-reading : Reading
+no-reading : ReaderMeaning
 no-reading r v = None
 
 no-reads : ReadsHave no-reading
@@ -202,7 +203,7 @@ unfolding no-reading
 no-reads r a w e = cc
 
 -- the outcome of a declaration has its types
-outcome-typed : (d : Declaration) (earlier : Earlier) (holds : Option Content) (o : Option Datum) → OutcomesHave earlier → IsOutcome d earlier holds o → OutcomesHave ((d, o) ∷ earlier)
+outcome-typed : (d : Declaration) (earlier : Earlier) (holds : Option Content) (o : Option Datum) → OutcomesTyped earlier → IsOutcome d earlier holds o → OutcomesTyped ((d, o) ∷ earlier)
 outcome-typed (val x e) earlier holds o h k = outcome-has no-reading no-reads earlier h (val x e) o (ap Some (sym k))
 outcome-typed (mac f p body) earlier holds o h k = outcome-has no-reading no-reads earlier h (mac f p body) o (ap Some (sym k))
 outcome-typed (bare e) earlier holds o h k = outcome-has no-reading no-reads earlier h (bare e) o (ap Some (sym k))
@@ -227,8 +228,8 @@ outcome-told (read x r e) earlier holds o k files l = go (den e (globals_of earl
         ap (λ w. option_map (λ y. Some y) (w >>= read_value files)) k.2 ∙ ap (option_map (λ y. Some y)) (k.4.told files l) ∙ ap Some (sym k.3)
 
 -- the position that a run binds
-pub binds-is : (d : Declaration) (earlier : Earlier) (budget : ℕ) (holds : Option Content) (r : Run) (old new : Bound) → OutcomesHave earlier → IsRun d earlier budget holds r →
-    new ≡ old ++ (declared d, held_value r.value) ∷ [] → Binds d earlier holds old new
+pub binds-is : (d : Declaration) (earlier : Earlier) (budget : ℕ) (holds : Option Content) (r : Run) (old new : Bound) → OutcomesTyped earlier → IsRun d earlier budget holds r →
+    new ≡ old ++ (declared d, held_value r.value) ∷ [] → BindsPosition d earlier holds old new
 binds-is d earlier budget holds r old new t h e = record {
   outcome = held_value r.value;
   bound = e;

@@ -5,8 +5,8 @@ use Rattle.aql_types.specs.Types.{Sort}
 use Rattle.aql_syntax.specs.Size.{before, AreWithinLimits, IsLarge}
 use Rattle.aql_syntax.specs.Tree.{Tree, Declaration}
 use Rattle.nrca_term.specs.Term.{Term}
-use Rattle.aql_start.specs.Start.{query}
-use Rattle.aql_desugar.specs.Translation.{query_at, query_of, IsTranslated, IsFaultOf}
+use Rattle.aql_desugar_spec.specs.Start.{query}
+use Rattle.aql_desugar.specs.Translation.{query_at, query_of, IsTranslated, IsTranslationFault}
 use Rattle.aql_desugar.specs.declared.fault.Fault.{Fault}
 use Rattle.aql_desugar.specs.declared.fault.Fault.TheVariants as faults
 use Rattle.aql_session.specs.Runs.{IsQuery}
@@ -36,5 +36,5 @@ not-large ds n one h (inl large) = let k = h n one (omega arith) in omega (arith
 not-large ds n one h (inr large) = let k = h n one (omega arith) in omega (arith, k.1, large)
 
 -- so the fault is want of memory
-pub only-memory : (ds : List Declaration) (n : ℕ) (f : Fault) (size levels : ℕ) → 1 ≤ n → AreWithinLimits ds n → f ≡ faults.Large size levels → IsFaultOf ds n f → ⊥
-only-memory ds n f size levels one h e k = let large = subst (IsFaultOf ds n) e k in not-large ds n one h large.0
+pub only-memory : (ds : List Declaration) (n : ℕ) (f : Fault) (size levels : ℕ) → 1 ≤ n → AreWithinLimits ds n → f ≡ faults.Large size levels → IsTranslationFault ds n f → ⊥
+only-memory ds n f size levels one h e k = let large = subst (IsTranslationFault ds n) e k in not-large ds n one h large.0

@@ -7,3 +7,4 @@ pub mod Step
 pub mod Numbered
 pub mod Runs
 mod Examples
+pub mod Laws

@@ -5,8 +5,8 @@ use Rattle.std.specs.Option.{ForSome}
 use Rattle.aql_outside.specs.Contents.{Content}
 use Rattle.aql_outside.specs.declared.device.Files as files
 use Rattle.aql_types.specs.Types.{Sort}
-use Rattle.aql_constraints.specs.Typed.{sorts_of}
-use Rattle.aql_constraints.specs.declared.typed.Typed.{Typed}
+use Rattle.aql_infer_steps.specs.Typed.{sorts_of}
+use Rattle.aql_infer_steps.specs.declared.typed.Typed.{Typed}
 use Rattle.aql_syntax.specs.Script.{Earlier}
 use Rattle.aql_syntax.specs.Tree.{Declaration}
 use Rattle.aql_syntax.specs.View.{decls_of}
@@ -14,7 +14,7 @@ use Rattle.aql_syntax.specs.declared.ast.Decls.{Decls}
 use Rattle.nrca_term.specs.Meaning.{Outcomes}
 use Rattle.aql_words.specs.declared.words.Options.{Options}
 use Rattle.aql_session.specs.Bound.{Bound, earlier_of, outcomes}
-use Rattle.aql_session.specs.Step.{IsAnswer, IsAnswerable, Binds, IsCause, ReadsNoFile}
+use Rattle.aql_session.specs.Step.{IsAnswer, IsAnswerable, BindsPosition, IsCause, ReadsNoFile}
 use Rattle.aql_session.specs.declared.answer.Answer.{Answer}
 use Rattle.aql_session.specs.declared.answer.StepFault.{StepFault}
 
@@ -48,7 +48,7 @@ MayBeAnswered decls n V options holds = ForSome (numbered decls n) (λ d. IsAnsw
 
 -- declaration n is bound behind the positions before it, to its outcome over files that hold this
 abbrev pub BindsNext : Decls → (n : ℕ) → Option Content → (old new : Bound) → Type 0
-BindsNext decls n holds old new = ForSome (numbered decls n) (λ d. Binds d (so_far decls (outcomes old)) holds old new)
+BindsNext decls n holds old new = ForSome (numbered decls n) (λ d. BindsPosition d (so_far decls (outcomes old)) holds old new)
 
 -- why declaration n has no answer; the counts of faults are those of the files before and after
 abbrev pub IsCauseOf : Decls → (n : ℕ) → Outcomes → Options → Option Content → (before now : ℕ) → StepFault → Type 0

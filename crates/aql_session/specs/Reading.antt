@@ -4,7 +4,7 @@ use Rattle.std.specs.Str.{is_utf8}
 use Rattle.aql_outside.specs.Contents.{Content}
 use Rattle.aql_value.specs.Datum.{Datum}
 use Rattle.aql_value.specs.Partial.{◌>>=◌}
-use Rattle.aql_syntax.specs.Script.{Reading}
+use Rattle.aql_syntax.specs.Script.{ReaderMeaning}
 use Rattle.cdf_header.specs.File.{header_of}
 use Rattle.cdf_header.specs.Header.{Head, Var}
 use Rattle.cdf_header.specs.Places.{find_in, variable_at}
@@ -63,5 +63,5 @@ abbrev pub read_value : Content → Asked → Option Datum
 read_value files a = unless (read_fault files a) (value_in a (opened files a))
 
 -- what readers make of their arguments' values, over these files
-abbrev pub reading : Content → Reading
+abbrev pub reading : Content → ReaderMeaning
 reading files reader v = asked_of reader v >>= read_value files

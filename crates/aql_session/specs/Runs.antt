@@ -18,19 +18,19 @@ use Rattle.aql_types.specs.View.{sort_of}
 use Rattle.aql_syntax.specs.Denotation.{den}
 use Rattle.aql_syntax.specs.Script.{Earlier, globals_of}
 use Rattle.aql_syntax.specs.Size.{before, AreWithinLimits}
-use Rattle.aql_syntax.specs.Sound.{OutcomesHave}
+use Rattle.aql_syntax.specs.Sound.{OutcomesTyped}
 use Rattle.aql_syntax.specs.Tree.{Name, Tree, Reader, Declaration, val, mac, read, bare, declared}
 use Rattle.aql_syntax.specs.Typing.{reader_type, argument_type}
 use Rattle.aql_syntax.specs.View.{reader_of}
 use Rattle.aql_syntax.specs.declared.ast.Reader as ast
-use Rattle.aql_constraints.specs.Typed.{ArePrincipal}
+use Rattle.aql_infer_steps.specs.Typed.{ArePrincipal}
 use Rattle.nrca_array.specs.Held.{table_datum}
 use Rattle.nrca_array.specs.declared.held.Held.{Held}
-use Rattle.nrca_runs.specs.Scope.{held_value}
+use Rattle.nrca_loops.specs.Scope.{held_value}
 use Rattle.nrca_term.specs.Meaning.{Outcomes}
 use Rattle.nrca_term.specs.Term.{Term}
 use Rattle.nrca_term.specs.View.{term_of}
-use Rattle.aql_start.specs.Start.{query}
+use Rattle.aql_desugar_spec.specs.Start.{query}
 use Rattle.cdf_header.specs.Places.{variable_at}
 use Rattle.cdf_header.specs.declared.fault.CdfFault.{CdfFault}
 use Rattle.cdf_header.specs.declared.fault.CdfFault.TheVariants as file_faults
@@ -40,7 +40,7 @@ use Rattle.aql_session.specs.Asked.{Asked, asked, asked_of, cells}
 use Rattle.aql_session.specs.Bound.{Bound, earlier_of}
 use Rattle.aql_session.specs.Numbered.{declarations, sorts, numbered, sort_numbered, so_far, IsCauseOf, UnlessRead}
 use Rattle.aql_session.specs.Reading.{opened, read_fault, read_value}
-use Rattle.aql_session.specs.Step.{IsAnswerable, IsOutcome, IsReadOutcome, IsFaultOf, query_turns, ran_of, start_of, start_term, turns_of}
+use Rattle.aql_session.specs.Step.{IsAnswerable, IsOutcome, IsReadOutcome, IsRequestFault, query_turns, ran_of, start_of, start_term, turns_of}
 use Rattle.aql_session.specs.declared.answer.Answer.{Answer}
 use Rattle.aql_session.specs.declared.answer.StepFault.{StepFault}
 use Rattle.aql_session.specs.declared.answer.StepFault.TheVariants as faults
@@ -52,12 +52,12 @@ use Rattle.aql_session.specs.declared.runs.Position.{Position}
 use Rattle.aql_session.specs.declared.runs.Run.{Run}
 
 -- n is a position of declarations that were checked, and the outcomes of those before it are at hand, each of its types
-pub record Stands (ds : List Declaration) (sorts : List Sort) (n : ℕ) (V : Outcomes) : Type 0 where
+pub record IsReadyAt (ds : List Declaration) (sorts : List Sort) (n : ℕ) (V : Outcomes) : Type 0 where
   pub first : 1 ≤ n
   pub last : n ≤ length ds
   pub many : length V ≡ n - 1
   pub checked : ArePrincipal [] ds sorts
-  pub typed : OutcomesHave (earlier_of ds V)
+  pub typed : OutcomesTyped (earlier_of ds V)
   pub limits : AreWithinLimits ds n
 
 -- the position is no macro
@@ -82,11 +82,11 @@ pub record IsEvaluated (d : Declaration) (earlier : Earlier) (budget : ℕ) (q :
   pub within : query_turns d earlier ≤ budget
 
 -- it was not evaluated: its turns pass the budget, or memory was wanting
-abbrev pub IsSpent : Declaration → Earlier → (budget : ℕ) → StepFault → Type 0
-IsSpent d earlier budget (faults.Query start plan trace) =
+abbrev pub IsSpentFault : Declaration → Earlier → (budget : ℕ) → StepFault → Type 0
+IsSpentFault d earlier budget (faults.Query start plan trace) =
     (budget < query_turns d earlier) × (term_of start ≡ start_of d earlier) × (term_of plan ≡ term_of start) × (trace ≡ [])
-IsSpent d earlier budget faults.Memory = Unit {0}
-IsSpent d earlier budget f = ⊥
+IsSpentFault d earlier budget faults.Memory = Unit {0}
+IsSpentFault d earlier budget f = ⊥
 
 -- what a request asks for
 abbrev pub request_asked : Request → Asked
@@ -142,7 +142,7 @@ pub record IsReadOf (a : Asked) (budget : ℕ) (holds : Option Content) (t : Tab
 abbrev pub IsFileCause : Asked → Option Content → (before now : ℕ) → StepFault → Type 0
 IsFileCause a holds before now (faults.Query start plan trace) = ⊥
 IsFileCause a holds before now (faults.Cells c) = ⊥
-IsFileCause a holds before now (faults.File f) = IsFaultOf a f × ForSome holds (λ files. read_fault files a ≡ Some f)
+IsFileCause a holds before now (faults.File f) = IsRequestFault a f × ForSome holds (λ files. read_fault files a ≡ Some f)
 IsFileCause a holds before now faults.Device = Rose before now
 IsFileCause a holds before now faults.Memory = Unit {0}
 
@@ -150,7 +150,7 @@ IsFileCause a holds before now faults.Memory = Unit {0}
 abbrev pub IsReadCause : Asked → (budget : ℕ) → Option Content → (before now : ℕ) → StepFault → Type 0
 IsReadCause a budget holds before now (faults.Query start plan trace) = ⊥
 IsReadCause a budget holds before now (faults.Cells c) = (budget < cells a) × (c ≡ min (cells a) (2 ^ 128 - 1))
-IsReadCause a budget holds before now (faults.File f) = (cells a ≤ budget) × IsFaultOf a f × ForSome holds (λ files. read_fault files a ≡ Some f)
+IsReadCause a budget holds before now (faults.File f) = (cells a ≤ budget) × IsRequestFault a f × ForSome holds (λ files. read_fault files a ≡ Some f)
 IsReadCause a budget holds before now faults.Device = (cells a ≤ budget) × Rose before now
 IsReadCause a budget holds before now faults.Memory = Unit {0}
 
@@ -179,11 +179,11 @@ IsArgumentCause r argument budget holds before now faults.Memory = Unit {0}
 IsArgumentCause r argument budget holds before now f = (a : Asked) × (asked_in r argument ≡ Some a) × IsReadCause a budget holds before now f
 
 -- neither a macro nor a readval
-abbrev pub IsPlain : Declaration → Type 0
-IsPlain (val x e) = Unit {0}
-IsPlain (mac f p body) = ⊥
-IsPlain (read x r e) = ⊥
-IsPlain (bare e) = Unit {0}
+abbrev pub IsValueDeclaration : Declaration → Type 0
+IsValueDeclaration (val x e) = Unit {0}
+IsValueDeclaration (mac f p body) = ⊥
+IsValueDeclaration (read x r e) = ⊥
+IsValueDeclaration (bare e) = Unit {0}
 
 -- the position is a readval by this reader
 abbrev pub IsReadval : Option Declaration → Reader → Type 0
@@ -274,7 +274,7 @@ HasWorkers p = (1 ≤ p.options.now.workers) × (p.options.now.workers ≤ most_
 
 -- it stands over these outcomes
 abbrev pub StandsAt : Position → Outcomes → Type 0
-StandsAt p V = Stands (declarations_of p) (sorts_at p) p.n V
+StandsAt p V = IsReadyAt (declarations_of p) (sorts_at p) p.n V
 
 -- its declaration was run
 abbrev pub RunsPosition : Position → Outcomes → Option Content → Run → Type 0
@@ -302,7 +302,7 @@ IsEvaluatedAt p V q = ForSome (declaration_of p) (λ d. IsEvaluated d (so_far p.
 
 -- or it was not
 abbrev pub IsSpentAt : Position → Outcomes → StepFault → Type 0
-IsSpentAt p V f = ForSome (declaration_of p) (λ d. IsSpent d (so_far p.decls.now V) (budget_of p) f)
+IsSpentAt p V f = ForSome (declaration_of p) (λ d. IsSpentFault d (so_far p.decls.now V) (budget_of p) f)
 
 -- the answer of a run of it
 abbrev pub AnswersRun : Position → Run → Answer → Type 0

@@ -11,18 +11,18 @@ use Rattle.aql_types.specs.ValueTypes.{HasType}
 use Rattle.aql_types.specs.View.{sort_of}
 use Rattle.aql_syntax.specs.Denotation.{den}
 use Rattle.aql_syntax.specs.Script.{Earlier, globals_of, outcome_after}
-use Rattle.aql_syntax.specs.Sound.{declarations_of, OutcomesHave}
+use Rattle.aql_syntax.specs.Sound.{declarations_of, OutcomesTyped}
 use Rattle.aql_syntax.specs.Tree.{Tree, Reader, plain, signed, strided, records, Declaration, val, mac, read, bare, declared}
 use Rattle.aql_syntax.specs.Typing.{reader_type, scope_of, IsPrincipal}
 use Rattle.nrca_term.specs.Nodes.{bottom_term}
 use Rattle.nrca_term.specs.Term.{Term}
 use Rattle.nrca_term.specs.Turns.{settle}
 use Rattle.nrca_term.specs.View.{term_of}
-use Rattle.aql_start.specs.Laws.{outcomes_of}
-use Rattle.aql_start.specs.Start.{start, knowns_of, query}
+use Rattle.aql_desugar_spec.specs.Laws.{outcomes_of}
+use Rattle.aql_desugar_spec.specs.Start.{start, knowns_of, query}
 use Rattle.cdf_header.specs.declared.fault.CdfFault.{CdfFault}
 use Rattle.cdf_header.specs.declared.fault.CdfFault.TheVariants as file_faults
-use Rattle.cdf_header.specs.File.{IsKnown}
+use Rattle.cdf_header.specs.File.{IsVersion}
 use Rattle.cdf_slab.specs.Slab.{IsOfRequest, first_zero}
 use Rattle.aql_session.specs.Asked.{Asked, asked_of, cells}
 use Rattle.aql_session.specs.Bound.{Bound}
@@ -127,20 +127,20 @@ IsOutcome (read x r e) earlier holds o = IsReadOutcome r (den e (globals_of earl
 IsOutcome (bare e) earlier holds o = o ≡ den e (globals_of earlier) []
 
 -- one position more is bound, under the declaration's name
-pub record Binds (d : Declaration) (earlier : Earlier) (holds : Option Content) (old new : Bound) : Type 0 where
+pub record BindsPosition (d : Declaration) (earlier : Earlier) (holds : Option Content) (old new : Bound) : Type 0 where
   pub outcome : Option Datum
   pub bound : new ≡ old ++ (declared d, outcome) ∷ []
   pub is : IsOutcome d earlier holds outcome
   -- where it is a value it has every type of the position
-  pub typed : OutcomesHave ((d, outcome) ∷ earlier)
+  pub typed : OutcomesTyped ((d, outcome) ∷ earlier)
   -- where the files are told it is the script's outcome over them
   pub told : ForSome holds (λ files. outcome_after (reading files) d (globals_of earlier) ≡ Some outcome)
 
 -- The faults.
 
 -- the argument of a readval has a value and took at most the budget, and what it asks for is such
-abbrev pub Asks : Declaration → Earlier → (budget : ℕ) → (Asked → Type 0) → Type 0
-Asks d earlier budget P = (query_turns d earlier ≤ budget) × (a : Asked) × (asks d earlier ≡ Some a) × P a
+abbrev pub AsksFor : Declaration → Earlier → (budget : ℕ) → (Asked → Type 0) → Type 0
+AsksFor d earlier budget P = (query_turns d earlier ≤ budget) × (a : Asked) × (asks d earlier ≡ Some a) × P a
 
 -- neither the device nor memory
 abbrev pub IsOfFile : CdfFault → Type 0
@@ -150,12 +150,12 @@ IsOfFile f = Unit {0}
 
 -- a version that a fault names is none that is read
 abbrev pub IsOfVersion : CdfFault → Type 0
-IsOfVersion (file_faults.Version v) = IsKnown v → ⊥
+IsOfVersion (file_faults.Version v) = IsVersion v → ⊥
 IsOfVersion f = Unit {0}
 
 -- a fault of what is asked for, whatever the files tell: where the name is not UTF-8 there is no such file, and what the fault says of
 -- the version, the rank, the strides, the dimensions and the cells is so
-pub record IsFaultOf (a : Asked) (f : CdfFault) : Type 0 where
+pub record IsRequestFault (a : Asked) (f : CdfFault) : Type 0 where
   pub own : IsOfFile f
   pub unnamed : (IsUtf8 a.file → ⊥) → f ≡ file_faults.Absent
   pub version : IsOfVersion f
@@ -166,10 +166,10 @@ pub record IsFaultOf (a : Asked) (f : CdfFault) : Type 0 where
 abbrev pub IsCause : Declaration → Earlier → (budget : ℕ) → Option Content → (before now : ℕ) → StepFault → Type 0
 IsCause d earlier budget holds before now (faults.Query start plan trace) =
     (budget < query_turns d earlier) × (term_of start ≡ start_of d earlier) × (term_of plan ≡ term_of start) × (trace ≡ [])
-IsCause d earlier budget holds before now (faults.Cells c) = Asks d earlier budget (λ a. (budget < cells a) × (c ≡ min (cells a) (2 ^ 128 - 1)))
+IsCause d earlier budget holds before now (faults.Cells c) = AsksFor d earlier budget (λ a. (budget < cells a) × (c ≡ min (cells a) (2 ^ 128 - 1)))
 IsCause d earlier budget holds before now (faults.File f) =
-    Asks d earlier budget (λ a. (cells a ≤ budget) × IsFaultOf a f × ForSome holds (λ files. read_fault files a ≡ Some f))
-IsCause d earlier budget holds before now faults.Device = Asks d earlier budget (λ a. (cells a ≤ budget) × Rose before now)
+    AsksFor d earlier budget (λ a. (cells a ≤ budget) × IsRequestFault a f × ForSome holds (λ files. read_fault files a ≡ Some f))
+IsCause d earlier budget holds before now faults.Device = AsksFor d earlier budget (λ a. (cells a ≤ budget) × Rose before now)
 IsCause d earlier budget holds before now faults.Memory = Unit {0}
 
 -- no file is read: there is no argument, or it is undefined, or the cells that it asks for pass the budget

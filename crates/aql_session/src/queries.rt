@@ -1,6 +1,6 @@
 //! The evaluation of queries.
 ghost use Rattle.std.specs.Prelude.{◌≡◌, ◌≤◌, [], length, IfOk, IfErr};
-ghost use Rattle.aql_constraints.specs.Typed.{ArePrincipal};
+ghost use Rattle.aql_infer_steps.specs.Typed.{ArePrincipal};
 ghost use Rattle.aql_syntax.specs.Size.{AreWithinLimits};
 ghost use Rattle.aql_words.specs.Words.{most_budget};
 ghost use Rattle.nrca_term.specs.View.{term_of};
@@ -58,7 +58,7 @@ pub(crate) fn run_query<R: Threads + Sync, G: Gate>(
             value,
             turns,
         }),
-        Err(EvalFault::Spent) => Err(spent(alloc, start)),
+        Err(EvalFault::Spent) => Err(passes_budget(alloc, start)),
         Err(EvalFault::Memory) => {
             drop(start);
             Err(StepFault::Memory)
@@ -83,7 +83,7 @@ fn start_of_query(alloc: Global, at: &Position) -> Result<Core, Memory>
 }
 
 // That the turns of the start term pass the budget, with the term; or want of memory.
-fn spent(alloc: Global, start: Core) -> StepFault
+fn passes_budget(alloc: Global, start: Core) -> StepFault
     ensures { TellsStart (term_of start) result }
 {
     match start.copy(alloc) {

@@ -10,16 +10,16 @@ ghost use Rattle.aql_value.specs.Operations.{as_natural, as_text, as_tuple, inde
 ghost use Rattle.aql_value.specs.Partial.{each};
 ghost use Rattle.aql_words.specs.Words.{most_budget};
 ghost use Rattle.nrca_array.specs.Held.{held_datum};
-ghost use Rattle.nrca_runs.specs.Parts.{numbers_with};
+ghost use Rattle.nrca_loops.specs.Parts.{numbers_with};
 ghost use Rattle.aql_session.specs.Asked.{asked_of, unstrided, with_strides, cells};
 ghost use Rattle.aql_session.specs.Device.{BlamesFiles};
 ghost use Rattle.aql_session.specs.Runs.{request_asked, asked_by, items_of, single_index, handed_on, HasRank, IsRequestOf, IsOpened, IsSlabOf, IsReadOf, Requests, ArgumentFits, AsksTooMuch, ReadsBy, ArgumentFails, RequestFails, FileFails};
 ghost use Rattle.aql_session.specs.Step.{IsOfArrays};
 
 use crate::answer::StepFault;
-use aql_made::both;
 use aql_outside::Files;
 use aql_syntax::ast::Reader;
+use aql_value::made::both;
 use aql_value::{Index, Items, Memory, Str, Value, saturating_product};
 use cdf_header::{CdfFault, Header, read_header};
 use cdf_slab::read_slab;
@@ -229,7 +229,7 @@ pub(crate) fn request_of(
 }
 
 // The parts of the tuple that a value is.
-#[tactic(auto, using(aql_value::specs::Datum::data_lists))]
+#[tactic(auto, using(aql_value::specs::Laws::Datum::data_lists))]
 fn parts_of(value: Held) -> Option<Items>
     ensures { result ≡ as_tuple (held_datum value) }
 {

@@ -8,12 +8,12 @@ ghost use Rattle.aql_words.specs.Words.{most_budget};
 ghost use Rattle.aql_session.specs.Device.{BlamesFiles};
 ghost use Rattle.aql_session.specs.Numbered.{declarations, numbered};
 ghost use Rattle.aql_session.specs.Step.{ReadsNoRecords, IsOverTurns};
-ghost use Rattle.aql_session.specs.Runs.{StandsAt, HasWorkers, budget_of, declaration_of, IsQuery, IsPlain, IsReadval, RunsPosition, IsPositionCause, PositionFails, UnlessReadAt};
+ghost use Rattle.aql_session.specs.Runs.{StandsAt, HasWorkers, budget_of, declaration_of, IsQuery, IsValueDeclaration, IsReadval, RunsPosition, IsPositionCause, PositionFails, UnlessReadAt};
 
 use crate::answer::{Ran, StepFault};
 use crate::queries::{Evaluated, run_query};
 use crate::readings::{Read, read_argument};
-use aql_constraints::typed::Typed;
+use aql_infer_steps::typed::Typed;
 use aql_outside::{Files, Gate};
 use aql_syntax::ast::{Decl, Decls, Reader};
 use aql_words::Options;
@@ -110,7 +110,7 @@ fn run_plain<R: Threads + Sync, G: Gate>(
 ) -> Result<Run, StepFault>
     requires stands { StandsAt at.now globals.now }
     requires query { IsQuery (declaration_of at.now) }
-    requires plain { ForSome (declaration_of at.now) IsPlain }
+    requires plain { ForSome (declaration_of at.now) IsValueDeclaration }
     requires workers { HasWorkers at.now }
     requires budget { budget_of at.now ≤ most_budget }
     ensures ran { (holds : Option Content) → IfOk result (RunsPosition at.now globals.now holds) }

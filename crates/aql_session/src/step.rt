@@ -2,12 +2,12 @@
 ghost use Rattle.std.specs.Prelude.{◌≡◌, ◌≤◌, ◌-◌, [], length, Some, IfOk, IfErr, IsErrOf, OnOk, OnErr};
 ghost use Rattle.std.specs.List.{slice_get};
 ghost use Rattle.std.specs.Option.{ForSome};
-ghost use Rattle.aql_constraints.specs.Typed.{ArePrincipal, sorts_of};
+ghost use Rattle.aql_infer_steps.specs.Typed.{ArePrincipal, sorts_of};
 ghost use Rattle.aql_syntax.specs.Size.{AreWithinLimits};
-ghost use Rattle.aql_syntax.specs.Sound.{OutcomesHave};
+ghost use Rattle.aql_syntax.specs.Sound.{OutcomesTyped};
 ghost use Rattle.aql_types.specs.View.{sort_of};
 ghost use Rattle.aql_words.specs.Words.{most_budget, most_workers};
-ghost use Rattle.nrca_runs.specs.Scope.{held_value};
+ghost use Rattle.nrca_loops.specs.Scope.{held_value};
 ghost use Rattle.nrca_term.specs.View.{term_of};
 ghost use Rattle.aql_session.specs.Bound.{AreBound, outcomes};
 ghost use Rattle.aql_session.specs.Device.{BlamesFiles};
@@ -18,12 +18,12 @@ ghost use Rattle.aql_session.specs.Step.{ReadsNoRecords, IsOverTurns};
 use crate::answer::{Answer, StepFault};
 use crate::runs::{Position, Run, declaration, run_declaration};
 use crate::session::Session;
-use aql_constraints::typed::Typed;
-use aql_made::both;
+use aql_infer_steps::typed::Typed;
 use aql_outside::{Files, Gate};
 use aql_syntax::ast::Decls;
 use aql_types::ty::Scheme;
 use aql_value::Memory;
+use aql_value::made::both;
 use aql_words::Options;
 use nrca_array::Held;
 use nrca_term::{Core, Trace};
@@ -53,7 +53,7 @@ impl Session {
         requires last { n ≤ length decls.now.items.items }
         requires bound { AreBound (declarations decls.now) n self.old }
         requires checked { ArePrincipal [] (declarations decls.now) (sorts typed.now) }
-        requires types { OutcomesHave (so_far decls.now (outcomes self.old)) }
+        requires types { OutcomesTyped (so_far decls.now (outcomes self.old)) }
         requires limits { AreWithinLimits (declarations decls.now) n }
         requires arrays { ForSome (numbered decls.now n) ReadsNoRecords }
         requires workers { (1 ≤ options.now.workers) × (options.now.workers ≤ most_workers) }

@@ -8,14 +8,14 @@ use Rattle.aql_syntax.specs.Tree as tree
 use Rattle.aql_syntax.specs.Tree.{Name, Declaration, declared, Quals}
 use Rattle.aql_syntax.specs.View.{decl_of, decls_of, qual_of}
 use Rattle.aql_syntax.specs.Size.{Extents, extent, extents_of, binary_digits, digits_among, quals_sizes, quals_greatest, quals_patterns, count_quals, size, levels}
-use Rattle.aql_syntax.specs.ViewLaws.{quals_from, quals_past}
+use Rattle.aql_syntax.specs.Laws.View.{quals_from, quals_past}
 use Rattle.aql_syntax.specs.Measured.{onto, latest, qual_part, qual_pattern}
 use Rattle.std.specs.Prelude.{Box}
 use Rattle.std.specs.Global.{Global}
 use Rattle.aql_syntax.specs.Tree.{Trees, count_trees, count_axes}
 use Rattle.aql_syntax.specs.View.{tree_of, trees_of, quals_of, axes_in, defs_in}
 use Rattle.aql_syntax.specs.Size.{sizes, greatest, axes_sizes, defs_sizes, defs_greatest, defs_patterns, count_defs}
-use Rattle.aql_syntax.specs.ViewLaws.{tree_of-Row, tree_of-Members, tree_of-Comp, tree_of-Literal, tree_of-Sub, axes_of-items, defs_of-items}
+use Rattle.aql_syntax.specs.Laws.View.{tree_of-Row, tree_of-Members, tree_of-Comp, tree_of-Literal, tree_of-Sub, axes_of-items, defs_of-items}
 use Rattle.aql_syntax.specs.declared.ast.Expr as code
 use Rattle.aql_syntax.specs.declared.ast.Expr.{Expr}
 use Rattle.aql_syntax.specs.declared.ast.Exprs.{Exprs}

@@ -33,6 +33,7 @@ at_index (axis x e rest) [] env = env
 at_index (axis x e rest) (i ∷ at) env = at_index rest at ((x, natural i) ∷ env)
 
 abbrev mutual
+  -- the value of an expression, none where it is undefined
   pub den : Tree → Globals → Env → Option Datum
   den (name x) globals env = lookup globals env x
   den (op s es) globals env = dens es globals env >>= strict_value s

@@ -56,6 +56,7 @@ pub data Junction : Type 0 where
   both : Junction
   either : Junction
 
+-- two expressions under `and` or `or`
 abbrev pub joined : Junction → Tree → Tree → Tree
 joined both a b = conjunction a b
 joined either a b = disjunction a b
@@ -100,6 +101,7 @@ pub data Level : Type 0 where
   whole : Level
 
 mutual
+  -- an expression of a level stands at the front of the lexemes, and these follow it
   pub data Reads : Level → Tree → List Lexeme → List Lexeme → Type 0 where
     -- prim
     reads_number : {n : ℕ} {r : List Lexeme} → Reads primary (op (Strict.nat n) no_tree) (numeral n ∷ r) r

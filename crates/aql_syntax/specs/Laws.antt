@@ -1,4 +1,10 @@
 -- Laws of names, macros, rows and turns.
+pub mod Index
+pub mod Sound
+pub mod Uses
+pub mod View
+pub mod Weakening
+pub mod Written
 use Rattle.std.proofs.Common.{◌≡◌, ℕ, ◌+◌, Bool, true, false, List, [], ◌∷◌, ◌++◌, length, Option, Some, None, refl, sym, ap, ◌∙◌, if◌then◌else◌, append_assoc}
 use Rattle.std.proofs.Math.Path.{fun_ext}
 use Rattle.std.proofs.lemmas.Slice.Eq.{bytes_eq-Decides}

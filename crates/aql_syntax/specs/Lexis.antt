@@ -14,6 +14,7 @@ pub data Lexeme : Type 0 where
   quoted : List ℕ → Lexeme
   mark : Sign → Lexeme
 
+-- the kind of token that a lexeme is
 abbrev pub kind_of : Lexeme → TokenKind
 kind_of (named x) = kinds.Name
 kind_of (numeral n) = kinds.Number
@@ -34,6 +35,7 @@ is_between a b n = nat_lt n (b + 1) && nat_lt a (n + 1)
 abbrev pub is_letter : ℕ → Bool
 is_letter b = is_between 65 90 b || is_between 97 122 b
 
+-- a decimal digit
 abbrev pub is_digit : ℕ → Bool
 is_digit b = is_between 48 57 b
 
@@ -41,6 +43,7 @@ is_digit b = is_between 48 57 b
 abbrev pub is_name_byte : ℕ → Bool
 is_name_byte b = is_letter b || is_digit b || b == 95 || b == 39
 
+-- a hexadecimal digit
 abbrev pub is_hex : ℕ → Bool
 is_hex b = is_digit b || is_between 65 70 b || is_between 97 102 b
 

@@ -1,6 +1,5 @@
 pub mod Denotation
 pub mod Grammar
-pub mod IndexLaws
 pub mod Laws
 pub mod Lexis
 pub mod Matching
@@ -15,10 +14,6 @@ pub mod Sound
 pub mod Tree
 pub mod Typing
 pub mod Uses
-pub mod UsesLaws
 pub mod View
-pub mod ViewLaws
-pub mod Weakening
 pub mod Work
 pub mod Written
-pub mod WrittenLaws

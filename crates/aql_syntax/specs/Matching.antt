@@ -27,6 +27,7 @@ outcome_of None = None
 outcome_of (Some (outcome o)) = o
 outcome_of (Some (macro f turns)) = None
 
+-- the value of a local name, or else that of a position
 abbrev pub innermost : Option Datum → Option Global → Option Datum
 innermost (Some w) g = Some w
 innermost None g = outcome_of g
@@ -47,6 +48,7 @@ on_match (hit env) f a b = f env
 on_match miss f a b = a
 on_match undefined f a b = b
 
+-- the match of a value that is there, undefined where there is none
 abbrev pub with_value : Option Datum → (Datum → Match) → Match
 with_value None f = undefined
 with_value (Some w) f = f w
@@ -55,6 +57,7 @@ with_value (Some w) f = f w
 abbrev pub compare_with : Datum → Datum → Env → Match
 compare_with w c env = if is_eq (datum_cmp w c) then hit env else miss
 
+-- the value of a constant in a pattern
 abbrev pub constant_value : Constant → Datum
 constant_value (number n) = natural n
 constant_value (truth b) = datum.truth b

@@ -77,6 +77,7 @@ abbrev pub reset : List ℕ → List ℕ
 reset [] = []
 reset (c ∷ cs) = 0 ∷ cs
 
+-- the counters behind a sign
 abbrev pub sign_scanned : Sign → List ℕ → List ℕ
 sign_scanned s counters =
     if opens s then pushed counters

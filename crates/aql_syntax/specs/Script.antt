@@ -29,8 +29,8 @@ globals_of [] = []
 globals_of ((d, o) ∷ earlier) = entry d o (globals_of earlier) ∷ globals_of earlier
 
 -- what a reader makes of its argument's value, over the files at hand; None is a fault
-abbrev pub Reading : Type 0
-Reading = Reader → Datum → Option Datum
+abbrev pub ReaderMeaning : Type 0
+ReaderMeaning = Reader → Datum → Option Datum
 
 -- a readval is undefined where its argument is
 abbrev pub read_outcome : (Datum → Option Datum) → Option Datum → Option (Option Datum)
@@ -38,7 +38,7 @@ read_outcome f None = Some None
 read_outcome f (Some v) = option_map (λ w. Some w) (f v)
 
 -- the outcome of a declaration after others; None where a readval has a fault. A macro has no value.
-abbrev pub outcome_after : Reading → Declaration → Globals → Option (Option Datum)
+abbrev pub outcome_after : ReaderMeaning → Declaration → Globals → Option (Option Datum)
 outcome_after reading (val x e) globals = Some (den e globals [])
 outcome_after reading (mac f p body) globals = Some None
 outcome_after reading (read x reader e) globals = read_outcome (reading reader) (den e globals [])
@@ -50,11 +50,11 @@ then_after None f = []
 then_after (Some o) f = o ∷ f o
 
 -- the outcomes of declarations after others, in order
-abbrev pub outcomes_after : Reading → Earlier → List Declaration → List (Option Datum)
+abbrev pub outcomes_after : ReaderMeaning → Earlier → List Declaration → List (Option Datum)
 outcomes_after reading earlier [] = []
 outcomes_after reading earlier (d ∷ ds) =
     then_after (outcome_after reading d (globals_of earlier)) (λ o. outcomes_after reading ((d, o) ∷ earlier) ds)
 
 -- the outcomes of a script in order, up to the first readval with a fault
-abbrev pub values : Reading → List Declaration → List (Option Datum)
+abbrev pub values : ReaderMeaning → List Declaration → List (Option Datum)
 values reading ds = outcomes_after reading [] ds

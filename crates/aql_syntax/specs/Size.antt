@@ -14,6 +14,7 @@ pub record Extent : Type 0 where
 abbrev pub Extents : Type 0
 Extents = List (Name × Option Extent)
 
+-- the extent of a name that is no macro
 abbrev pub no_extent : Extent
 no_extent = record { pattern = 0; size = 0; levels = 0 }
 
@@ -32,6 +33,7 @@ abbrev mutual
   pat_nodes (refers x) = 1
   pat_nodes (tuple ps) = 1 + pats_nodes ps
 
+  -- the nodes of several patterns
   pub pats_nodes : Pats → ℕ
   pats_nodes no_pat = 0
   pats_nodes (pat p ps) = pat_nodes p + pats_nodes ps
@@ -44,6 +46,7 @@ count_quals (cells p q e rest) = suc (count_quals rest)
 count_quals (same p e rest) = suc (count_quals rest)
 count_quals (test e rest) = suc (count_quals rest)
 
+-- the number of bindings
 abbrev pub count_defs : Defs → ℕ
 count_defs no_def = 0
 count_defs (def p e rest) = suc (count_defs rest)
@@ -56,11 +59,13 @@ quals_patterns (cells p q e rest) = pat_nodes p + pat_nodes q + quals_patterns r
 quals_patterns (same p e rest) = pat_nodes p + quals_patterns rest
 quals_patterns (test e rest) = quals_patterns rest
 
+-- the nodes of the patterns of bindings
 abbrev pub defs_patterns : Defs → ℕ
 defs_patterns no_def = 0
 defs_patterns (def p e rest) = pat_nodes p + defs_patterns rest
 
 abbrev mutual
+  -- the expanded size of an expression: its nodes, each application of a macro counted with the macro's body
   pub size : Tree → Extents → ℕ
   size (name x) ms = 1
   size (op o es) ms = 1 + sizes es ms
@@ -82,10 +87,12 @@ abbrev mutual
   sizes no_tree ms = 0
   sizes (tree e es) ms = size e ms + sizes es ms
 
+  -- the sizes of the bounds of indices, together
   pub axes_sizes : Axes → Extents → ℕ
   axes_sizes no_axis ms = 0
   axes_sizes (axis x e rest) ms = size e ms + axes_sizes rest ms
 
+  -- the sizes of the expressions of qualifiers, together
   pub quals_sizes : Quals → Extents → ℕ
   quals_sizes no_qual ms = 0
   quals_sizes (from p e rest) ms = size e ms + quals_sizes rest ms
@@ -93,6 +100,7 @@ abbrev mutual
   quals_sizes (same p e rest) ms = size e ms + quals_sizes rest ms
   quals_sizes (test e rest) ms = size e ms + quals_sizes rest ms
 
+  -- the sizes of the expressions of bindings, together
   pub defs_sizes : Defs → Extents → ℕ
   defs_sizes no_def ms = 0
   defs_sizes (def p e rest) ms = size e ms + defs_sizes rest ms
@@ -107,6 +115,7 @@ abbrev pub binary_digits : ℕ → ℕ
 binary_digits n = digits_among n n
 
 abbrev mutual
+  -- the levels of an expression, each application of a macro with those of its body
   pub levels : Tree → Extents → ℕ
   levels (name x) ms = 1
   levels (op o es) ms = 1 + greatest es ms
@@ -128,10 +137,12 @@ abbrev mutual
   greatest no_tree ms = 0
   greatest (tree e es) ms = max (levels e ms) (greatest es ms)
 
+  -- the most levels among the bounds of indices
   pub axes_greatest : Axes → Extents → ℕ
   axes_greatest no_axis ms = 0
   axes_greatest (axis x e rest) ms = max (levels e ms) (axes_greatest rest ms)
 
+  -- the most levels among the expressions of qualifiers
   pub quals_greatest : Quals → Extents → ℕ
   quals_greatest no_qual ms = 0
   quals_greatest (from p e rest) ms = max (levels e ms) (quals_greatest rest ms)
@@ -139,6 +150,7 @@ abbrev mutual
   quals_greatest (same p e rest) ms = max (levels e ms) (quals_greatest rest ms)
   quals_greatest (test e rest) ms = max (levels e ms) (quals_greatest rest ms)
 
+  -- the most levels among the expressions of bindings
   pub defs_greatest : Defs → Extents → ℕ
   defs_greatest no_def ms = 0
   defs_greatest (def p e rest) ms = max (levels e ms) (defs_greatest rest ms)
@@ -173,10 +185,12 @@ decl_levels (bare e) ms = levels e ms
 abbrev pub before : List Declaration → ℕ → List Declaration
 before ds n = reverse (take (n - 1) ds)
 
+-- the size of a declaration that is there
 abbrev pub size_at : Option Declaration → Extents → ℕ
 size_at None ms = 0
 size_at (Some d) ms = decl_size d ms
 
+-- the levels of a declaration that is there
 abbrev pub levels_at : Option Declaration → Extents → ℕ
 levels_at None ms = 0
 levels_at (Some d) ms = decl_levels d ms

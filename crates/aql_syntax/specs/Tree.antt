@@ -22,6 +22,7 @@ mutual
     refers : Name → Pat
     tuple : Pats → Pat
 
+  -- patterns, in order
   pub data Pats : Type 0 where
     no_pat : Pats
     pat : Pat → Pats → Pats
@@ -45,6 +46,7 @@ mutual
     function : Pat → Tree → Tree → Tree
     summap : Pat → Tree → Tree → Tree
 
+  -- expressions, in order
   pub data Trees : Type 0 where
     no_tree : Trees
     tree : Tree → Trees → Trees
@@ -74,6 +76,7 @@ pub data Reader : Type 0 where
   strided : (rank : ℕ) → Reader
   records : (header : Bool) → List Kind → Reader
 
+-- a declaration: a value under a name, a macro, what a reader makes of an argument, or a bare expression
 pub data Declaration : Type 0 where
   val : Name → Tree → Declaration
   mac : Name → Pat → Tree → Declaration
@@ -91,14 +94,17 @@ declared (mac f p body) = f
 declared (read x reader e) = x
 declared (bare e) = it
 
+-- the number of patterns
 abbrev pub count_pats : Pats → ℕ
 count_pats no_pat = 0
 count_pats (pat p ps) = suc (count_pats ps)
 
+-- the number of expressions
 abbrev pub count_trees : Trees → ℕ
 count_trees no_tree = 0
 count_trees (tree e es) = suc (count_trees es)
 
+-- the number of indices
 abbrev pub count_axes : Axes → ℕ
 count_axes no_axis = 0
 count_axes (axis x e rest) = suc (count_axes rest)
@@ -108,10 +114,12 @@ abbrev pub append : Trees → Trees → Trees
 append no_tree b = b
 append (tree e a) b = tree e (append a b)
 
+-- the first patterns and the second behind them
 abbrev pub append_pats : Pats → Pats → Pats
 append_pats no_pat b = b
 append_pats (pat p a) b = pat p (append_pats a b)
 
+-- the first qualifiers and the second behind them
 abbrev pub append_quals : Quals → Quals → Quals
 append_quals no_qual b = b
 append_quals (from p e a) b = from p e (append_quals a b)
@@ -119,10 +127,12 @@ append_quals (cells p q e a) b = cells p q e (append_quals a b)
 append_quals (same p e a) b = same p e (append_quals a b)
 append_quals (test e a) b = test e (append_quals a b)
 
+-- the first indices and the second behind them
 abbrev pub append_axes : Axes → Axes → Axes
 append_axes no_axis b = b
 append_axes (axis x e a) b = axis x e (append_axes a b)
 
+-- the first bindings and the second behind them
 abbrev pub append_defs : Defs → Defs → Defs
 append_defs no_def b = b
 append_defs (def p e a) b = def p e (append_defs a b)

@@ -12,7 +12,7 @@ use Rattle.aql_syntax.specs.Tree.{Name, Constant, number, truth, bytes, Pat, bin
 use Rattle.aql_syntax.specs.Names.{names_equal, find}
 
 -- the types, within the limits, that a name of an earlier position has, and the pairs of argument and result types of a macro
-pub record Scope : Type 1 where
+pub record Environment : Type 1 where
   pub has : Name → Ty → Type 0
   pub takes : Name → Ty → Ty → Type 0
 
@@ -21,39 +21,40 @@ abbrev pub Locals : Type 0
 Locals = List (Name × Ty)
 
 -- what a name has: the type of the innermost local name, else each type of the latest position that declares it
-abbrev pub NameHas : Scope → Option Ty → Name → Ty → Type 0
+abbrev pub NameHas : Environment → Option Ty → Name → Ty → Type 0
 NameHas g (Some s) x t = t ≡ s
 NameHas g None x t = g.has x t
 
 -- in head position a name means a macro of an earlier position, and no local name
-abbrev pub Takes : Scope → Option Ty → Name → Ty → Ty → Type 0
-Takes g (Some l) f s t = ⊥
-Takes g None f s t = g.takes f s t
+abbrev pub MacroTakes : Environment → Option Ty → Name → Ty → Ty → Type 0
+MacroTakes g (Some l) f s t = ⊥
+MacroTakes g None f s t = g.takes f s t
 
+-- the type of a constant in a pattern
 abbrev pub constant_type : Constant → Ty
 constant_type (number n) = natural
 constant_type (truth b) = types.truth
 constant_type (bytes s) = types.text
 
 abbrev mutual
-  -- Fits p g env t env': the pattern matches values of the type, and env' has the names that it binds before those of env
-  pub Fits : Pat → Scope → Locals → Ty → Locals → Type 0
-  Fits (bind x) g env t env' = env' ≡ (x, t) ∷ env
-  Fits any g env t env' = env' ≡ env
-  Fits (equals c) g env t env' = (t ≡ constant_type c) × (env' ≡ env)
-  Fits (refers x) g env t env' = NameHas g (find x env) x t × (env' ≡ env)
-  Fits (tuple ps) g env t env' = (ts : Tys) × (t ≡ types.product ts) × FitsAll ps g env ts env'
+  -- PatternFits p g env t env': the pattern matches values of the type, and env' has the names that it binds before those of env
+  pub PatternFits : Pat → Environment → Locals → Ty → Locals → Type 0
+  PatternFits (bind x) g env t env' = env' ≡ (x, t) ∷ env
+  PatternFits any g env t env' = env' ≡ env
+  PatternFits (equals c) g env t env' = (t ≡ constant_type c) × (env' ≡ env)
+  PatternFits (refers x) g env t env' = NameHas g (find x env) x t × (env' ≡ env)
+  PatternFits (tuple ps) g env t env' = (ts : Tys) × (t ≡ types.product ts) × FitsAll ps g env ts env'
 
   -- the patterns of a tuple's parts, each under the names that those before it bind
-  pub FitsAll : Pats → Scope → Locals → Tys → Locals → Type 0
+  pub FitsAll : Pats → Environment → Locals → Tys → Locals → Type 0
   FitsAll no_pat g env ts env' = (ts ≡ no_type) × (env' ≡ env)
   FitsAll (pat p ps) g env ts env' =
-      (s : Ty) × (rest : Tys) × (inner : Locals) × (ts ≡ type s rest) × Fits p g env s inner × FitsAll ps g inner rest env'
+      (s : Ty) × (rest : Tys) × (inner : Locals) × (ts ≡ type s rest) × PatternFits p g env s inner × FitsAll ps g inner rest env'
 
 -- the patterns of the parts of an index, which are numbers
-abbrev pub FitsAxes : Pats → Scope → Locals → Locals → Type 0
+abbrev pub FitsAxes : Pats → Environment → Locals → Locals → Type 0
 FitsAxes no_pat g env env' = env' ≡ env
-FitsAxes (pat p ps) g env env' = (inner : Locals) × Fits p g env natural inner × FitsAxes ps g inner env'
+FitsAxes (pat p ps) g env env' = (inner : Locals) × PatternFits p g env natural inner × FitsAxes ps g inner env'
 
 -- the local names of a tabulation's body: its indices, which are numbers
 abbrev pub with_indices : Axes → Locals → Locals
@@ -77,7 +78,7 @@ OperandWithin _ ts = Unit {0}
 
 abbrev mutual
   -- the expression has the type, under the positions before and the local names
-  pub Has : Tree → Scope → Locals → Ty → Type 0
+  pub Has : Tree → Environment → Locals → Ty → Type 0
   Has (name x) g env t = NameHas g (find x env) x t
   Has (op o es) g env t = (ts : List Ty) × strict_rule o ts t × OperandWithin o ts × HasAll es g env ts
   Has (members es) g env t = (s : Ty) × (t ≡ types.set_of s) × HasEach es g env s
@@ -90,43 +91,44 @@ abbrev mutual
   Has (disjunction a b) g env t = (t ≡ types.truth) × Has a g env types.truth × Has b g env types.truth
   Has (negation a) g env t = (t ≡ types.truth) × Has a g env types.truth
   Has (default a b) g env t = Has a g env t × Has b g env t
-  Has (apply f a) g env t = (s : Ty) × Takes g (find f env) f s t × Has a g env s
-  Has (function p body a) g env t = (s : Ty) × (inner : Locals) × IsWithin s × Has a g env s × Fits p g env s inner × Has body g inner t
+  Has (apply f a) g env t = (s : Ty) × MacroTakes g (find f env) f s t × Has a g env s
+  Has (function p body a) g env t = (s : Ty) × (inner : Locals) × IsWithin s × Has a g env s × PatternFits p g env s inner × Has body g inner t
   Has (summap p body e) g env t =
-      (s : Ty) × (inner : Locals) × (t ≡ natural) × IsWithin (types.set_of s) × Has e g env (types.set_of s) × Fits p g env s inner
+      (s : Ty) × (inner : Locals) × (t ≡ natural) × IsWithin (types.set_of s) × Has e g env (types.set_of s) × PatternFits p g env s inner
       × Has body g inner natural
 
-  pub HasAll : Trees → Scope → Locals → List Ty → Type 0
+  -- the expressions have these types, one each
+  pub HasAll : Trees → Environment → Locals → List Ty → Type 0
   HasAll no_tree g env ts = ts ≡ []
   HasAll (tree e es) g env ts = (s : Ty) × (rest : List Ty) × (ts ≡ s ∷ rest) × Has e g env s × HasAll es g env rest
 
   -- all have one type
-  pub HasEach : Trees → Scope → Locals → Ty → Type 0
+  pub HasEach : Trees → Environment → Locals → Ty → Type 0
   HasEach no_tree g env t = Unit {0}
   HasEach (tree e es) g env t = Has e g env t × HasEach es g env t
 
   -- a tabulation's bounds are numbers, and see none of its indices
-  pub BoundsHave : Axes → Scope → Locals → Type 0
+  pub BoundsHave : Axes → Environment → Locals → Type 0
   BoundsHave no_axis g env = Unit {0}
   BoundsHave (axis x e rest) g env = Has e g env natural × BoundsHave rest g env
 
   -- env' has the names that the qualifiers bind before those of env
-  pub Rows : Quals → Scope → Locals → Locals → Type 0
+  pub Rows : Quals → Environment → Locals → Locals → Type 0
   Rows no_qual g env env' = env' ≡ env
   Rows (from p e rest) g env env' =
-      (s : Ty) × (inner : Locals) × IsWithin (types.set_of s) × Has e g env (types.set_of s) × Fits p g env s inner × Rows rest g inner env'
+      (s : Ty) × (inner : Locals) × IsWithin (types.set_of s) × Has e g env (types.set_of s) × PatternFits p g env s inner × Rows rest g inner env'
   Rows (cells p q e rest) g env env' =
       (s : Ty) × (mid : Locals) × (inner : Locals) × IsWithin (types.array_of (count_pats (axes p)) s)
-      × Has e g env (types.array_of (count_pats (axes p)) s) × FitsAxes (axes p) g env mid × Fits q g mid s inner × Rows rest g inner env'
+      × Has e g env (types.array_of (count_pats (axes p)) s) × FitsAxes (axes p) g env mid × PatternFits q g mid s inner × Rows rest g inner env'
   Rows (same p e rest) g env env' =
-      (s : Ty) × (inner : Locals) × IsWithin s × Has e g env s × Fits p g env s inner × Rows rest g inner env'
+      (s : Ty) × (inner : Locals) × IsWithin s × Has e g env s × PatternFits p g env s inner × Rows rest g inner env'
   Rows (test e rest) g env env' = Has e g env types.truth × Rows rest g env env'
 
   -- env' has the names that a let's bindings bind before those of env
-  pub Binds : Defs → Scope → Locals → Locals → Type 0
+  pub Binds : Defs → Environment → Locals → Locals → Type 0
   Binds no_def g env env' = env' ≡ env
   Binds (def p e rest) g env env' =
-      (s : Ty) × (inner : Locals) × IsWithin s × Has e g env s × Fits p g env s inner × Binds rest g inner env'
+      (s : Ty) × (inner : Locals) × IsWithin s × Has e g env s × PatternFits p g env s inner × Binds rest g inner env'
 
 -- Readers.
 
@@ -135,6 +137,7 @@ abbrev pub field_type : Kind → Ty
 field_type kinds.Number = natural
 field_type kinds.Bytes = types.text
 
+-- the types of fields of these kinds
 abbrev pub field_types : List Kind → Tys
 field_types [] = no_type
 field_types (k ∷ ks) = type (field_type k) (field_types ks)
@@ -162,37 +165,38 @@ argument_type (records header ks) = types.text
 -- Declarations.
 
 -- the declaration has the sort, over those of the positions before it
-abbrev pub DeclHas : Declaration → Scope → Sort → Type 0
+abbrev pub DeclHas : Declaration → Environment → Sort → Type 0
 DeclHas (val x e) g (value t) = IsWithin t × Has e g [] t
 DeclHas (val x e) g (macro s t) = ⊥
 DeclHas (mac f p body) g (value t) = ⊥
-DeclHas (mac f p body) g (macro s t) = (inner : Locals) × IsWithin s × IsWithin t × Fits p g [] s inner × Has body g inner t
+DeclHas (mac f p body) g (macro s t) = (inner : Locals) × IsWithin s × IsWithin t × PatternFits p g [] s inner × Has body g inner t
 DeclHas (read x reader e) g (value t) = (t ≡ reader_type reader) × IsWithin t × IsWithin (argument_type reader) × Has e g [] (argument_type reader)
 DeclHas (read x reader e) g (macro s t) = ⊥
 DeclHas (bare e) g (value t) = IsWithin t × Has e g [] t
 DeclHas (bare e) g (macro s t) = ⊥
 
 -- an instance of a sort that the declaration has
-abbrev pub Gives : Declaration → Scope → Sort → Type 0
-Gives d g s = (u : Subst) × (general : Sort) × DeclHas d g general × (s ≡ apply_sort u general)
+abbrev pub IsInstanceOf : Declaration → Environment → Sort → Type 0
+IsInstanceOf d g s = (u : Subst) × (general : Sort) × DeclHas d g general × (s ≡ apply_sort u general)
 
+-- the first statement where the test holds, and else the second
 abbrev pub if_name : Bool → Type 0 → Type 0 → Type 0
 if_name true a b = a
 if_name false a b = b
 
 -- the scope with one position more: its name means this position and hides the earlier ones
-abbrev pub extended : Declaration → Scope → Scope
+abbrev pub extended : Declaration → Environment → Environment
 extended d g = record {
-  has = λ x t. if_name (names_equal x (declared d)) (IsWithin t × Gives d g (value t)) (g.has x t);
-  takes = λ x s t. if_name (names_equal x (declared d)) (IsWithin s × IsWithin t × Gives d g (macro s t)) (g.takes x s t);
+  has = λ x t. if_name (names_equal x (declared d)) (IsWithin t × IsInstanceOf d g (value t)) (g.has x t);
+  takes = λ x s t. if_name (names_equal x (declared d)) (IsWithin s × IsWithin t × IsInstanceOf d g (macro s t)) (g.takes x s t);
 }
 
 -- the scope of positions, the latest first
-abbrev pub scope_of : List Declaration → Scope
+abbrev pub scope_of : List Declaration → Environment
 scope_of [] = record { has = λ x t. ⊥; takes = λ x s t. ⊥ }
 scope_of (d ∷ earlier) = extended d (scope_of earlier)
 
 -- the position has the sort, and each that it has is an instance of it
-pub record IsPrincipal (d : Declaration) (g : Scope) (s : Sort) : Type 0 where
+pub record IsPrincipal (d : Declaration) (g : Environment) (s : Sort) : Type 0 where
   pub has : DeclHas d g s
   pub general : (t : Sort) → DeclHas d g t → (u : Subst) × (t ≡ apply_sort u s)

@@ -7,16 +7,16 @@ use Rattle.aql_types.specs.Types.{Ty, natural, Tys, no_type, type, IsRank, IsWit
 use Rattle.aql_types.specs.OperationTypes.{strict_rule}
 use Rattle.aql_syntax.specs.Tree.{Name, Pat, bind, any, equals, refers, tuple, Pats, no_pat, pat, Tree, name, op, members, comp, tab, bindings, choice, conjunction, disjunction, negation, default, apply, function, summap, Trees, no_tree, tree, Axes, no_axis, axis, Quals, no_qual, from, cells, same, test, Defs, no_def, def, Declaration, val, mac, read, bare, count_pats, count_axes, axes}
 use Rattle.aql_syntax.specs.Names.{find}
-use Rattle.aql_syntax.specs.Typing.{Scope, Locals, NameHas, Takes, constant_type, with_indices, reader_type, argument_type}
+use Rattle.aql_syntax.specs.Typing.{Environment, Locals, NameHas, MacroTakes, constant_type, with_indices, reader_type, argument_type}
 
 -- the types that names have, and both types of each macro, are within the limits
-pub record ScopeWithin (g : Scope) : Type 0 where
+pub record ScopeWithin (g : Environment) : Type 0 where
   pub has : (x : Name) (t : Ty) → g.has x t → IsWithin t
   pub takes : (f : Name) (s t : Ty) → g.takes f s t → IsWithin s × IsWithin t
 
 abbrev mutual
   -- as Fits
-  pub FitsWithin : Pat → Scope → Locals → Ty → Locals → Type 0
+  pub FitsWithin : Pat → Environment → Locals → Ty → Locals → Type 0
   FitsWithin (bind x) g env t env' = IsWithin t × (env' ≡ (x, t) ∷ env)
   FitsWithin any g env t env' = IsWithin t × (env' ≡ env)
   FitsWithin (equals c) g env t env' = IsWithin t × (t ≡ constant_type c) × (env' ≡ env)
@@ -24,19 +24,19 @@ abbrev mutual
   FitsWithin (tuple ps) g env t env' = IsWithin t × (ts : Tys) × (t ≡ types.product ts) × FitAllWithin ps g env ts env'
 
   -- as FitsAll
-  pub FitAllWithin : Pats → Scope → Locals → Tys → Locals → Type 0
+  pub FitAllWithin : Pats → Environment → Locals → Tys → Locals → Type 0
   FitAllWithin no_pat g env ts env' = (ts ≡ no_type) × (env' ≡ env)
   FitAllWithin (pat p ps) g env ts env' =
       (s : Ty) × (rest : Tys) × (inner : Locals) × (ts ≡ type s rest) × FitsWithin p g env s inner × FitAllWithin ps g inner rest env'
 
 -- as FitsAxes
-abbrev pub FitAxesWithin : Pats → Scope → Locals → Locals → Type 0
+abbrev pub FitAxesWithin : Pats → Environment → Locals → Locals → Type 0
 FitAxesWithin no_pat g env env' = env' ≡ env
 FitAxesWithin (pat p ps) g env env' = (inner : Locals) × FitsWithin p g env natural inner × FitAxesWithin ps g inner env'
 
 abbrev mutual
   -- as Has
-  pub HasWithin : Tree → Scope → Locals → Ty → Type 0
+  pub HasWithin : Tree → Environment → Locals → Ty → Type 0
   HasWithin (name x) g env t = IsWithin t × NameHas g (find x env) x t
   HasWithin (op o es) g env t = IsWithin t × (ts : List Ty) × strict_rule o ts t × HaveAllWithin es g env ts
   HasWithin (members es) g env t = IsWithin t × (s : Ty) × (t ≡ types.set_of s) × HaveEachWithin es g env s
@@ -51,7 +51,7 @@ abbrev mutual
   HasWithin (disjunction a b) g env t = IsWithin t × (t ≡ types.truth) × HasWithin a g env types.truth × HasWithin b g env types.truth
   HasWithin (negation a) g env t = IsWithin t × (t ≡ types.truth) × HasWithin a g env types.truth
   HasWithin (default a b) g env t = IsWithin t × HasWithin a g env t × HasWithin b g env t
-  HasWithin (apply f a) g env t = IsWithin t × (s : Ty) × Takes g (find f env) f s t × HasWithin a g env s
+  HasWithin (apply f a) g env t = IsWithin t × (s : Ty) × MacroTakes g (find f env) f s t × HasWithin a g env s
   HasWithin (function p body a) g env t =
       IsWithin t × (s : Ty) × (inner : Locals) × HasWithin a g env s × FitsWithin p g env s inner × HasWithin body g inner t
   HasWithin (summap p body e) g env t =
@@ -59,22 +59,22 @@ abbrev mutual
       × HasWithin body g inner natural
 
   -- as HasAll
-  pub HaveAllWithin : Trees → Scope → Locals → List Ty → Type 0
+  pub HaveAllWithin : Trees → Environment → Locals → List Ty → Type 0
   HaveAllWithin no_tree g env ts = ts ≡ []
   HaveAllWithin (tree e es) g env ts = (s : Ty) × (rest : List Ty) × (ts ≡ s ∷ rest) × HasWithin e g env s × HaveAllWithin es g env rest
 
   -- as HasEach
-  pub HaveEachWithin : Trees → Scope → Locals → Ty → Type 0
+  pub HaveEachWithin : Trees → Environment → Locals → Ty → Type 0
   HaveEachWithin no_tree g env t = Unit {0}
   HaveEachWithin (tree e es) g env t = HasWithin e g env t × HaveEachWithin es g env t
 
   -- as BoundsHave
-  pub BoundsWithin : Axes → Scope → Locals → Type 0
+  pub BoundsWithin : Axes → Environment → Locals → Type 0
   BoundsWithin no_axis g env = Unit {0}
   BoundsWithin (axis x e rest) g env = HasWithin e g env natural × BoundsWithin rest g env
 
   -- as Rows
-  pub RowsWithin : Quals → Scope → Locals → Locals → Type 0
+  pub RowsWithin : Quals → Environment → Locals → Locals → Type 0
   RowsWithin no_qual g env env' = env' ≡ env
   RowsWithin (from p e rest) g env env' =
       (s : Ty) × (inner : Locals) × HasWithin e g env (types.set_of s) × FitsWithin p g env s inner × RowsWithin rest g inner env'
@@ -85,12 +85,12 @@ abbrev mutual
   RowsWithin (test e rest) g env env' = HasWithin e g env types.truth × RowsWithin rest g env env'
 
   -- as Binds
-  pub BindsWithin : Defs → Scope → Locals → Locals → Type 0
+  pub BindsWithin : Defs → Environment → Locals → Locals → Type 0
   BindsWithin no_def g env env' = env' ≡ env
   BindsWithin (def p e rest) g env env' = (s : Ty) × (inner : Locals) × HasWithin e g env s × FitsWithin p g env s inner × BindsWithin rest g inner env'
 
 -- as DeclHas
-abbrev pub DeclHasWithin : Declaration → Scope → Sort → Type 0
+abbrev pub DeclHasWithin : Declaration → Environment → Sort → Type 0
 DeclHasWithin (val x e) g (value t) = HasWithin e g [] t
 DeclHasWithin (val x e) g (macro s t) = ⊥
 DeclHasWithin (mac f p body) g (value t) = ⊥

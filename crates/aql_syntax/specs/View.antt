@@ -17,6 +17,7 @@ use Rattle.aql_syntax.specs.declared.ast.Reader as code_reader
 use Rattle.aql_syntax.specs.declared.ast.Reader.TheVariants as readers
 
 abbrev mutual
+  -- the pattern that a pattern of the code is
   pub pat_of : code_pattern.Pattern → Pat
   pat_of (code_pattern.Bind x) = bind x
   pat_of code_pattern.Any = any
@@ -35,10 +36,12 @@ abbrev mutual
 abbrev pub of_one : Strict → Tree → Tree
 of_one s a = op s (tree a no_tree)
 
+-- an operation of two operands
 abbrev pub of_two : Strict → Tree → Tree → Tree
 of_two s a b = op s (tree a (tree b no_tree))
 
 abbrev mutual
+  -- the tree that an expression of the code is
   pub tree_of : code.Expr → Tree
   tree_of (code.Nat n) = op (Strict.nat n) no_tree
   tree_of (code.Bool b) = op (Strict.bool b) no_tree
@@ -90,6 +93,7 @@ abbrev mutual
   pub axes_of : Binds → Axes
   axes_of (Binds' shape bs) = axis_row bs
 
+  -- the indices that a row of the code holds
   pub axis_row : {n : _} → Row_of-Bind n → Axes
   axis_row end_of-Bind = no_axis
   axis_row (more_of-Bind x e bs) = axis x (tree_of e) (axis_row bs)
@@ -98,6 +102,7 @@ abbrev mutual
   pub defs_of : Lets → Defs
   defs_of (Lets' shape bs) = def_row bs
 
+  -- the bindings that a row of the code holds
   pub def_row : {n : _} → Row_of-LetBind n → Defs
   def_row end_of-LetBind = no_def
   def_row (more_of-LetBind p e bs) = def (pat_of p) (tree_of e) (def_row bs)
@@ -127,12 +132,14 @@ abbrev pub quals_of : List code_qual.Qual → Quals
 quals_of [] = no_qual
 quals_of (q ∷ qs) = qual_of q (quals_of qs)
 
+-- the reader that a reader of the code is
 abbrev pub reader_of : code_reader.Reader → Reader
 reader_of (readers.Plain k) = plain k
 reader_of (readers.Signed k) = signed k
 reader_of (readers.Strided k) = strided k
 reader_of (readers.Csv r) = records r.header r.kinds.items.items
 
+-- the declaration that a declaration of the code is
 abbrev pub decl_of : Decl → Declaration
 decl_of (code_decl.Val x e) = val x (tree_of e)
 decl_of (code_decl.Macro f p e) = mac f (pat_of p) (tree_of e)

@@ -28,6 +28,7 @@ turns_over [] f = f []
 turns_over (d ∷ ds) f = 2 * d + total (λ i. turns_over ds (λ at. f (i ∷ at))) (below d)
 
 abbrev mutual
+  -- the turns of an expression, as it is written
   pub work : Tree → Globals → Env → ℕ
   work (name x) globals env = 0
   work (op s es) globals env = works es globals env + strict_turns s (dens es globals env)
@@ -53,10 +54,12 @@ abbrev mutual
       work e globals env + if_some (den e globals env >>= as_set) (λ ws.
       length ws + total (λ w. on_match (match p globals w env) (work body globals) 0 0) ws)
 
+  -- the turns of several expressions
   pub works : Trees → Globals → Env → ℕ
   works no_tree globals env = 0
   works (tree e es) globals env = work e globals env + works es globals env
 
+  -- the turns of the bounds of indices
   pub work_bounds : Axes → Globals → Env → ℕ
   work_bounds no_axis globals env = 0
   work_bounds (axis x e rest) globals env = work e globals env + work_bounds rest globals env

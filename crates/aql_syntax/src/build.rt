@@ -44,7 +44,8 @@ pub fn tabulation(body: Box<Expr>, items: Vec<Bind>) -> Expr
 
 /// A literal array, of dimensions and cells.
 pub fn literal(dims: Vec<Expr>, cells: Vec<Expr>) -> Expr
-    ensures { tree_of result ≡ tree.op (Strict.literal (count_trees (trees_of dims.items))) (append (trees_of dims.items) (trees_of cells.items)) }
+    ensures { tree_of result ≡ tree.op (Strict.literal (count_trees (trees_of dims.items)))
+        (append (trees_of dims.items) (trees_of cells.items)) }
 {
     Expr::Literal {
         dims: Exprs { items: dims },
@@ -64,7 +65,8 @@ pub fn let_in(items: Vec<LetBind>, body: Box<Expr>) -> Expr
 
 /// A subscript.
 pub fn subscript(array: Box<Expr>, at: Vec<Expr>) -> Expr
-    ensures { tree_of result ≡ tree.op Strict.sub (tree.tree (tree_of array.value) (trees_of at.items)) }
+    ensures { tree_of result ≡ tree.op Strict.sub (tree.tree (tree_of array.value)
+        (trees_of at.items)) }
 {
     Expr::Sub {
         array,

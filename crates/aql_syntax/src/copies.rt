@@ -7,17 +7,18 @@ ghost use Rattle.aql_syntax.specs.View.{tree_of, trees_of, quals_of, qual_of, ax
 use crate::ast::{Bind, CsvReader, Decl, Expr, Kind, Kinds, LetBind, Pattern, Qual, Reader};
 use crate::build::tuple_pattern;
 use crate::nodes::{
-    Functional, Operation, Operator, application, bound, choice, comprehended, defaulted, function,
-    length, listed, negated, on_one, on_two, set, subscripted, tabulated, tuple,
+    Functional, Operation, Operator, application, bound, choice, function, length,
+    make_comprehension, make_default, make_literal, make_negation, make_subscript, make_tabulation,
+    on_one, on_two, set, tuple,
 };
-use aql_made::{both, boxed};
 use aql_value::Memory;
+use aql_value::made::{both, make_box};
 use std::alloc::Global;
 
 impl Pattern {
     /// An equal pattern.
     #[cycle(pattern_copy)]
-    #[tactic(auto, using(crate::specs::ViewLaws::pat_of_row))]
+    #[tactic(auto, using(crate::specs::Laws::View::pat_of_row))]
     pub fn copy(&self, alloc: Global) -> Result<Pattern, Memory>
         ensures { IfOk result (λ made. pat_of made ≡ pat_of self.now) }
     {
@@ -39,7 +40,7 @@ impl Pattern {
 impl Expr {
     /// An equal expression.
     #[cycle(copy)]
-    #[tactic(auto, using(crate::specs::ViewLaws::tree_views))]
+    #[tactic(auto, using(crate::specs::Laws::View::tree_views))]
     pub fn copy(&self, alloc: Global) -> Result<Expr, Memory>
         ensures { IfOk result (λ made. tree_of made ≡ tree_of self.now) }
     {
@@ -52,42 +53,57 @@ impl Expr {
             Expr::Empty => Ok(Expr::Empty),
             Expr::Members(es) => set(copy_exprs(alloc, &es.items)),
             Expr::Comp { head, quals } => {
-                comprehended(copied(alloc, head), copy_quals(alloc, &quals.items))
+                make_comprehension(copy_parts(alloc, head), copy_quals(alloc, &quals.items))
             }
             Expr::Tab { body, binds } => {
-                tabulated(copied(alloc, body), copy_binds(alloc, &binds.items))
+                make_tabulation(copy_parts(alloc, body), copy_binds(alloc, &binds.items))
             }
             Expr::Literal { dims, cells } => {
-                listed(
+                make_literal(
                     copy_exprs(alloc, &dims.items),
                     copy_exprs(alloc, &cells.items),
                 )
             }
             Expr::Let { binds, body } => {
-                bound(copy_lets(alloc, &binds.items), copied(alloc, body))
+                bound(copy_lets(alloc, &binds.items), copy_parts(alloc, body))
             }
             Expr::Sub { array, at } => {
-                subscripted(copied(alloc, array), copy_exprs(alloc, &at.items))
+                make_subscript(copy_parts(alloc, array), copy_exprs(alloc, &at.items))
             }
-            Expr::If(c, a, b) => choice(copied(alloc, c), copied(alloc, a), copied(alloc, b)),
-            Expr::And(a, b) => on_two(Operator::And, copied(alloc, a), copied(alloc, b)),
-            Expr::Or(a, b) => on_two(Operator::Or, copied(alloc, a), copied(alloc, b)),
-            Expr::Not(a) => negated(copied(alloc, a)),
+            Expr::If(c, a, b) => choice(
+                copy_parts(alloc, c),
+                copy_parts(alloc, a),
+                copy_parts(alloc, b),
+            ),
+            Expr::And(a, b) => on_two(Operator::And, copy_parts(alloc, a), copy_parts(alloc, b)),
+            Expr::Or(a, b) => on_two(Operator::Or, copy_parts(alloc, a), copy_parts(alloc, b)),
+            Expr::Not(a) => make_negation(copy_parts(alloc, a)),
             Expr::Compare(o, a, b) => on_two(
                 Operator::Compare(*o),
-                copied(alloc, a),
-                copied(alloc, b),
+                copy_parts(alloc, a),
+                copy_parts(alloc, b),
             ),
-            Expr::Arith(o, a, b) => on_two(Operator::Arith(*o), copied(alloc, a), copied(alloc, b)),
-            Expr::Union(a, b) => on_two(Operator::Union, copied(alloc, a), copied(alloc, b)),
-            Expr::Gen(a) => on_one(Operation::Gen, copied(alloc, a)),
-            Expr::Get(a) => on_one(Operation::Get, copied(alloc, a)),
-            Expr::Len(a) => length(copied(alloc, a)),
-            Expr::Dim { rank, array } => on_one(Operation::Dim(*rank), copied(alloc, array)),
-            Expr::Index { rank, pairs } => on_one(Operation::Index(*rank), copied(alloc, pairs)),
+            Expr::Arith(o, a, b) => on_two(
+                Operator::Arith(*o),
+                copy_parts(alloc, a),
+                copy_parts(alloc, b),
+            ),
+            Expr::Union(a, b) => on_two(
+                Operator::Union,
+                copy_parts(alloc, a),
+                copy_parts(alloc, b),
+            ),
+            Expr::Gen(a) => on_one(Operation::Gen, copy_parts(alloc, a)),
+            Expr::Get(a) => on_one(Operation::Get, copy_parts(alloc, a)),
+            Expr::Len(a) => length(copy_parts(alloc, a)),
+            Expr::Dim { rank, array } => on_one(Operation::Dim(*rank), copy_parts(alloc, array)),
+            Expr::Index { rank, pairs } => on_one(
+                Operation::Index(*rank),
+                copy_parts(alloc, pairs),
+            ),
             Expr::Apply { name, argument } => application(
                 name.copy(alloc),
-                copied(alloc, argument),
+                copy_parts(alloc, argument),
             ),
             Expr::Fun {
                 pattern,
@@ -96,8 +112,8 @@ impl Expr {
             } => function(
                 Functional::Plain,
                 pattern.copy(alloc),
-                copied(alloc, body),
-                copied(alloc, argument),
+                copy_parts(alloc, body),
+                copy_parts(alloc, argument),
             ),
             Expr::SumMap {
                 pattern,
@@ -106,10 +122,10 @@ impl Expr {
             } => function(
                 Functional::Sum,
                 pattern.copy(alloc),
-                copied(alloc, body),
-                copied(alloc, over),
+                copy_parts(alloc, body),
+                copy_parts(alloc, over),
             ),
-            Expr::Default(a, b) => defaulted(copied(alloc, a), copied(alloc, b)),
+            Expr::Default(a, b) => make_default(copy_parts(alloc, a), copy_parts(alloc, b)),
         }
     }
 }
@@ -212,7 +228,7 @@ fn copy_kinds(alloc: Global, kinds: &[Kind]) -> Result<Vec<Kind>, Memory>
 }
 
 #[cycle(pattern_copy)]
-#[tactic(auto, using(crate::specs::ViewLaws::pats_steps))]
+#[tactic(auto, using(crate::specs::Laws::View::pats_steps))]
 fn copy_patterns(alloc: Global, ps: &[Pattern]) -> Result<Vec<Pattern>, Memory>
     ensures { IfOk result (λ made. pats_of made.items ≡ pats_of ps.now) }
 {
@@ -225,14 +241,14 @@ fn copy_patterns(alloc: Global, ps: &[Pattern]) -> Result<Vec<Pattern>, Memory>
 }
 
 #[cycle(copy)]
-fn copied(alloc: Global, e: &Expr) -> Result<Box<Expr>, Memory>
+fn copy_parts(alloc: Global, e: &Expr) -> Result<Box<Expr>, Memory>
     ensures { IfOk result (λ made. tree_of made.value ≡ tree_of e.now) }
 {
-    boxed(alloc, e.copy(alloc))
+    make_box(alloc, e.copy(alloc))
 }
 
 #[cycle(copy)]
-#[tactic(auto, using(crate::specs::ViewLaws::trees_steps))]
+#[tactic(auto, using(crate::specs::Laws::View::trees_steps))]
 fn copy_exprs(alloc: Global, es: &[Expr]) -> Result<Vec<Expr>, Memory>
     ensures { IfOk result (λ made. trees_of made.items ≡ trees_of es.now) }
 {
@@ -245,7 +261,7 @@ fn copy_exprs(alloc: Global, es: &[Expr]) -> Result<Vec<Expr>, Memory>
 }
 
 #[cycle(copy)]
-#[tactic(auto, using(crate::specs::ViewLaws::quals_steps))]
+#[tactic(auto, using(crate::specs::Laws::View::quals_steps))]
 fn copy_quals(alloc: Global, quals: &[Qual]) -> Result<Vec<Qual>, Memory>
     ensures { IfOk result (λ made. quals_of made.items ≡ quals_of quals.now) }
 {
@@ -258,7 +274,7 @@ fn copy_quals(alloc: Global, quals: &[Qual]) -> Result<Vec<Qual>, Memory>
 }
 
 #[cycle(copy)]
-#[tactic(auto, using(crate::specs::ViewLaws::axes_steps))]
+#[tactic(auto, using(crate::specs::Laws::View::axes_steps))]
 fn copy_binds(alloc: Global, binds: &[Bind]) -> Result<Vec<Bind>, Memory>
     ensures { IfOk result (λ made. axes_in made.items ≡ axes_in binds.now) }
 {
@@ -272,7 +288,7 @@ fn copy_binds(alloc: Global, binds: &[Bind]) -> Result<Vec<Bind>, Memory>
 }
 
 #[cycle(copy)]
-#[tactic(auto, using(crate::specs::ViewLaws::defs_steps))]
+#[tactic(auto, using(crate::specs::Laws::View::defs_steps))]
 fn copy_lets(alloc: Global, binds: &[LetBind]) -> Result<Vec<LetBind>, Memory>
     ensures { IfOk result (λ made. defs_in made.items ≡ defs_in binds.now) }
 {

@@ -12,7 +12,7 @@ ghost use Rattle.aql_syntax.specs.Nodes.{strict_of, joined_of, functional_of};
 
 use crate::ast::{Bind, Expr, LetBind, Pattern, Qual};
 use crate::build::{comprehension, let_in, literal, members, row, subscript, tabulation};
-use aql_made::both;
+use aql_value::made::both;
 use aql_value::{ArithOp, CompareOp, Memory, Str};
 
 /// An operator between two expressions.
@@ -42,7 +42,7 @@ pub enum Functional {
 }
 
 /// An operator applied.
-pub fn joined(operator: Operator, left: Box<Expr>, right: Box<Expr>) -> Expr
+pub fn apply_operator(operator: Operator, left: Box<Expr>, right: Box<Expr>) -> Expr
     ensures { tree_of result ≡ joined_of operator (tree_of left.value) (tree_of right.value) }
 {
     match operator {
@@ -55,7 +55,7 @@ pub fn joined(operator: Operator, left: Box<Expr>, right: Box<Expr>) -> Expr
 }
 
 /// An operation applied.
-pub fn operated(operation: Operation, part: Box<Expr>) -> Expr
+pub fn apply_operation(operation: Operation, part: Box<Expr>) -> Expr
     ensures { tree_of result ≡ of_one (strict_of operation) (tree_of part.value) }
 {
     match operation {
@@ -73,7 +73,8 @@ pub fn function_in_place(
     body: Box<Expr>,
     over: Box<Expr>,
 ) -> Expr
-    ensures { tree_of result ≡ functional_of functional (pat_of pattern) (tree_of body.value) (tree_of over.value) }
+    ensures { tree_of result ≡ functional_of functional (pat_of pattern) (tree_of body.value)
+        (tree_of over.value) }
 {
     match functional {
         Functional::Plain => Expr::Fun {
@@ -91,9 +92,10 @@ pub fn function_in_place(
 
 /// An operation on one part.
 pub fn on_one(op: Operation, a: Result<Box<Expr>, Memory>) -> Result<Expr, Memory>
-    ensures { IfOk result (λ made. IsOkAnd a (λ x. tree_of made ≡ of_one (strict_of op) (tree_of x.value))) }
+    ensures { IfOk result (λ made. IsOkAnd a (λ x. tree_of made ≡ of_one (strict_of op)
+        (tree_of x.value))) }
 {
-    Ok(operated(op, a?))
+    Ok(apply_operation(op, a?))
 }
 
 /// An operator between two parts.
@@ -102,29 +104,36 @@ pub fn on_two(
     a: Result<Box<Expr>, Memory>,
     b: Result<Box<Expr>, Memory>,
 ) -> Result<Expr, Memory>
-    ensures { IfOk result (λ made. IsOkAnd a (λ x. IsOkAnd b (λ y. tree_of made ≡ joined_of op (tree_of x.value) (tree_of y.value)))) }
+    ensures { IfOk result (λ made. IsOkAnd a
+        (λ x. IsOkAnd b (λ y. tree_of made ≡ joined_of op (tree_of x.value) (tree_of y.value)))) }
 {
     let (a, b) = both(a, b)?;
-    Ok(joined(op, a, b))
+    Ok(apply_operator(op, a, b))
 }
 
 /// A negation.
-pub fn negated(a: Result<Box<Expr>, Memory>) -> Result<Expr, Memory>
-    ensures { IfOk result (λ made. IsOkAnd a (λ x. tree_of made ≡ tree.negation (tree_of x.value))) }
+pub fn make_negation(a: Result<Box<Expr>, Memory>) -> Result<Expr, Memory>
+    ensures { IfOk result (λ made. IsOkAnd a (λ x. tree_of made ≡ tree.negation
+        (tree_of x.value))) }
 {
     Ok(Expr::Not(a?))
 }
 
 /// The length of an array.
 pub fn length(a: Result<Box<Expr>, Memory>) -> Result<Expr, Memory>
-    ensures { IfOk result (λ made. IsOkAnd a (λ x. tree_of made ≡ of_one (Strict.dim 1) (tree_of x.value))) }
+    ensures { IfOk result (λ made. IsOkAnd a (λ x. tree_of made ≡ of_one (Strict.dim 1)
+        (tree_of x.value))) }
 {
     Ok(Expr::Len(a?))
 }
 
 /// A value and the one in its stead.
-pub fn defaulted(a: Result<Box<Expr>, Memory>, b: Result<Box<Expr>, Memory>) -> Result<Expr, Memory>
-    ensures { IfOk result (λ made. IsOkAnd a (λ x. IsOkAnd b (λ y. tree_of made ≡ tree.default (tree_of x.value) (tree_of y.value)))) }
+pub fn make_default(
+    a: Result<Box<Expr>, Memory>,
+    b: Result<Box<Expr>, Memory>,
+) -> Result<Expr, Memory>
+    ensures { IfOk result (λ made. IsOkAnd a
+        (λ x. IsOkAnd b (λ y. tree_of made ≡ tree.default (tree_of x.value) (tree_of y.value)))) }
 {
     let (a, b) = both(a, b)?;
     Ok(Expr::Default(a, b))
@@ -136,7 +145,9 @@ pub fn choice(
     a: Result<Box<Expr>, Memory>,
     b: Result<Box<Expr>, Memory>,
 ) -> Result<Expr, Memory>
-    ensures { IfOk result (λ made. IsOkAnd test (λ t. IsOkAnd a (λ x. IsOkAnd b (λ y. tree_of made ≡ tree.choice (tree_of t.value) (tree_of x.value) (tree_of y.value))))) }
+    ensures { IfOk result (λ made. IsOkAnd test
+        (λ t. IsOkAnd a (λ x. IsOkAnd b (λ y. tree_of made ≡ tree.choice (tree_of t.value)
+        (tree_of x.value) (tree_of y.value))))) }
 {
     let (c, (a, b)) = both(test, both(a, b))?;
     Ok(Expr::If(c, a, b))
@@ -147,7 +158,8 @@ pub fn application(
     name: Result<Str, Memory>,
     argument: Result<Box<Expr>, Memory>,
 ) -> Result<Expr, Memory>
-    ensures { IfOk result (λ made. IsOkAnd name (λ x. IsOkAnd argument (λ y. tree_of made ≡ tree.apply x (tree_of y.value)))) }
+    ensures { IfOk result (λ made. IsOkAnd name
+        (λ x. IsOkAnd argument (λ y. tree_of made ≡ tree.apply x (tree_of y.value)))) }
 {
     let (name, argument) = both(name, argument)?;
     Ok(Expr::Apply { name, argument })
@@ -160,7 +172,9 @@ pub fn function(
     body: Result<Box<Expr>, Memory>,
     over: Result<Box<Expr>, Memory>,
 ) -> Result<Expr, Memory>
-    ensures { IfOk result (λ made. IsOkAnd pattern (λ p. IsOkAnd body (λ x. IsOkAnd over (λ y. tree_of made ≡ functional_of functional (pat_of p) (tree_of x.value) (tree_of y.value))))) }
+    ensures { IfOk result (λ made. IsOkAnd pattern
+        (λ p. IsOkAnd body (λ x. IsOkAnd over (λ y. tree_of made ≡ functional_of functional
+        (pat_of p) (tree_of x.value) (tree_of y.value))))) }
 {
     let (pattern, (body, over)) = both(pattern, both(body, over))?;
     Ok(function_in_place(functional, pattern, body, over))
@@ -168,46 +182,53 @@ pub fn function(
 
 /// A tuple.
 pub fn tuple(items: Result<Vec<Expr>, Memory>) -> Result<Expr, Memory>
-    ensures { IfOk result (λ made. IsOkAnd items (λ v. tree_of made ≡ tree.op Strict.tuple (trees_of v.items))) }
+    ensures { IfOk result (λ made. IsOkAnd items (λ v. tree_of made ≡ tree.op Strict.tuple
+        (trees_of v.items))) }
 {
     Ok(row(items?))
 }
 
 /// A set of members.
 pub fn set(items: Result<Vec<Expr>, Memory>) -> Result<Expr, Memory>
-    ensures { IfOk result (λ made. IsOkAnd items (λ v. tree_of made ≡ tree.members (trees_of v.items))) }
+    ensures { IfOk result (λ made. IsOkAnd items (λ v. tree_of made ≡ tree.members
+        (trees_of v.items))) }
 {
     Ok(members(items?))
 }
 
 /// A comprehension.
-pub fn comprehended(
+pub fn make_comprehension(
     head: Result<Box<Expr>, Memory>,
     quals: Result<Vec<Qual>, Memory>,
 ) -> Result<Expr, Memory>
-    ensures { IfOk result (λ made. IsOkAnd head (λ x. IsOkAnd quals (λ v. tree_of made ≡ tree.comp (tree_of x.value) (quals_of v.items)))) }
+    ensures { IfOk result (λ made. IsOkAnd head
+        (λ x. IsOkAnd quals (λ v. tree_of made ≡ tree.comp (tree_of x.value) (quals_of v.items)))) }
 {
     let (head, quals) = both(head, quals)?;
     Ok(comprehension(head, quals))
 }
 
 /// A tabulation.
-pub fn tabulated(
+pub fn make_tabulation(
     body: Result<Box<Expr>, Memory>,
     binds: Result<Vec<Bind>, Memory>,
 ) -> Result<Expr, Memory>
-    ensures { IfOk result (λ made. IsOkAnd body (λ x. IsOkAnd binds (λ v. tree_of made ≡ tree.tab (axes_in v.items) (tree_of x.value)))) }
+    ensures { IfOk result (λ made. IsOkAnd body
+        (λ x. IsOkAnd binds (λ v. tree_of made ≡ tree.tab (axes_in v.items) (tree_of x.value)))) }
 {
     let (body, binds) = both(body, binds)?;
     Ok(tabulation(body, binds))
 }
 
 /// A literal array, of dimensions and cells.
-pub fn listed(
+pub fn make_literal(
     dims: Result<Vec<Expr>, Memory>,
     cells: Result<Vec<Expr>, Memory>,
 ) -> Result<Expr, Memory>
-    ensures { IfOk result (λ made. IsOkAnd dims (λ v. IsOkAnd cells (λ w. tree_of made ≡ tree.op (Strict.literal (count_trees (trees_of v.items))) (append (trees_of v.items) (trees_of w.items))))) }
+    ensures { IfOk result (λ made. IsOkAnd dims
+        (λ v. IsOkAnd cells (λ w. tree_of made ≡ tree.op
+        (Strict.literal (count_trees (trees_of v.items)))
+        (append (trees_of v.items) (trees_of w.items))))) }
 {
     let (dims, cells) = both(dims, cells)?;
     Ok(literal(dims, cells))
@@ -218,18 +239,22 @@ pub fn bound(
     binds: Result<Vec<LetBind>, Memory>,
     body: Result<Box<Expr>, Memory>,
 ) -> Result<Expr, Memory>
-    ensures { IfOk result (λ made. IsOkAnd binds (λ v. IsOkAnd body (λ x. tree_of made ≡ tree.bindings (defs_in v.items) (tree_of x.value)))) }
+    ensures { IfOk result (λ made. IsOkAnd binds
+        (λ v. IsOkAnd body (λ x. tree_of made ≡ tree.bindings (defs_in v.items)
+        (tree_of x.value)))) }
 {
     let (binds, body) = both(binds, body)?;
     Ok(let_in(binds, body))
 }
 
 /// A subscript.
-pub fn subscripted(
+pub fn make_subscript(
     array: Result<Box<Expr>, Memory>,
     at: Result<Vec<Expr>, Memory>,
 ) -> Result<Expr, Memory>
-    ensures { IfOk result (λ made. IsOkAnd array (λ x. IsOkAnd at (λ v. tree_of made ≡ tree.op Strict.sub (tree.tree (tree_of x.value) (trees_of v.items))))) }
+    ensures { IfOk result (λ made. IsOkAnd array
+        (λ x. IsOkAnd at (λ v. tree_of made ≡ tree.op Strict.sub
+        (tree.tree (tree_of x.value) (trees_of v.items))))) }
 {
     let (array, at) = both(array, at)?;
     Ok(subscript(array, at))

@@ -55,16 +55,20 @@ pub fn levels(decls: &Decls, n: u64) -> u64
 #[tactic(auto, using(crate::proofs::Measuring::latest_last))]
 fn measure_at(decls: &[Decl], i: usize) -> Counts
     requires { i < length decls.now }
-    ensures size { result.size ≡ min (size_at (slice_get (decls_of decls.now) i) (extents_of (reverse (take i (decls_of decls.now))))) (2 ^ 64 - 1) }
-    ensures levels { result.levels ≡ min (levels_at (slice_get (decls_of decls.now) i) (extents_of (reverse (take i (decls_of decls.now))))) (2 ^ 64 - 1) }
+    ensures size { result.size ≡ min (size_at (slice_get (decls_of decls.now) i)
+        (extents_of (reverse (take i (decls_of decls.now))))) (2 ^ 64 - 1) }
+    ensures levels { result.levels ≡ min (levels_at (slice_get (decls_of decls.now) i)
+        (extents_of (reverse (take i (decls_of decls.now))))) (2 ^ 64 - 1) }
 {
     measure_own(&decls[i], &decls[..i])
 }
 
 // A declaration after others.
 fn measure_own(d: &Decl, before: &[Decl]) -> Counts
-    ensures size { result.size ≡ min (decl_size (decl_of d.now) (extents_of (latest before.now))) (2 ^ 64 - 1) }
-    ensures levels { result.levels ≡ min (decl_levels (decl_of d.now) (extents_of (latest before.now))) (2 ^ 64 - 1) }
+    ensures size { result.size ≡ min (decl_size (decl_of d.now) (extents_of (latest before.now)))
+        (2 ^ 64 - 1) }
+    ensures levels { result.levels ≡ min
+        (decl_levels (decl_of d.now) (extents_of (latest before.now))) (2 ^ 64 - 1) }
 {
     match d {
         Decl::Val { name: _, expr } => measure(expr, before),
@@ -74,7 +78,7 @@ fn measure_own(d: &Decl, before: &[Decl]) -> Counts
             body,
         } => {
             let own = pattern.nodes();
-            above(own, own, measure(body, before))
+            add_node(own, own, measure(body, before))
         }
         Decl::Read {
             name: _,
@@ -89,26 +93,28 @@ fn measure_own(d: &Decl, before: &[Decl]) -> Counts
 #[cycle(measure)]
 #[tactic(auto, using(crate::proofs::Measuring::measure_views))]
 pub fn measure(e: &Expr, earlier: &[Decl]) -> Counts
-    ensures size { result.size ≡ min (sizes.size (tree_of e.now) (extents_of (latest earlier.now))) (2 ^ 64 - 1) }
-    ensures levels { result.levels ≡ min (sizes.levels (tree_of e.now) (extents_of (latest earlier.now))) (2 ^ 64 - 1) }
+    ensures size { result.size ≡ min (sizes.size (tree_of e.now) (extents_of (latest earlier.now)))
+        (2 ^ 64 - 1) }
+    ensures levels { result.levels ≡ min
+        (sizes.levels (tree_of e.now) (extents_of (latest earlier.now))) (2 ^ 64 - 1) }
 {
     match e {
         Expr::Nat(_) => leaf(),
         Expr::Bool(_) => leaf(),
         Expr::Text(_) => leaf(),
         Expr::Name(_) => leaf(),
-        Expr::Row(es) => above(1, 1, measure_all(&es.items, earlier)),
+        Expr::Row(es) => add_node(1, 1, measure_all(&es.items, earlier)),
         Expr::Empty => leaf(),
-        Expr::Members(es) => above(
+        Expr::Members(es) => add_node(
             1,
             digits(es.items.len()).saturating_add(1),
             measure_all(&es.items, earlier),
         ),
         Expr::Comp { head, quals } => {
-            let parts = beside(measure_quals(&quals.items, earlier), measure(head, earlier));
+            let parts = add_parts(measure_quals(&quals.items, earlier), measure(head, earlier));
             let patterns = quals_nodes(&quals.items);
             let count = quals.items.len() as u64;
-            above(
+            add_node(
                 count.saturating_add(patterns).saturating_add(1),
                 count
                     .saturating_mul(4)
@@ -118,48 +124,48 @@ pub fn measure(e: &Expr, earlier: &[Decl]) -> Counts
             )
         }
         Expr::Tab { body, binds } => {
-            let parts = beside(measure_binds(&binds.items, earlier), measure(body, earlier));
+            let parts = add_parts(measure_binds(&binds.items, earlier), measure(body, earlier));
             let count = binds.items.len() as u64;
-            above(count.saturating_add(1), 1, parts)
+            add_node(count.saturating_add(1), 1, parts)
         }
         Expr::Literal { dims, cells } => {
-            above(
+            add_node(
                 1,
                 1,
-                beside(
+                add_parts(
                     measure_all(&dims.items, earlier),
                     measure_all(&cells.items, earlier),
                 ),
             )
         }
         Expr::Let { binds, body } => {
-            let parts = beside(measure_lets(&binds.items, earlier), measure(body, earlier));
+            let parts = add_parts(measure_lets(&binds.items, earlier), measure(body, earlier));
             let patterns = lets_nodes(&binds.items);
             let count = binds.items.len() as u64;
             let own = count.saturating_add(patterns).saturating_add(1);
-            above(own, own, parts)
+            add_node(own, own, parts)
         }
-        Expr::Sub { array, at } => above(
+        Expr::Sub { array, at } => add_node(
             1,
             1,
-            beside(measure(array, earlier), measure_all(&at.items, earlier)),
+            add_parts(measure(array, earlier), measure_all(&at.items, earlier)),
         ),
-        Expr::If(c, a, b) => above(1, 1, beside(measure(c, earlier), two(a, b, earlier))),
-        Expr::And(a, b) => above(1, 1, two(a, b, earlier)),
-        Expr::Or(a, b) => above(1, 1, two(a, b, earlier)),
-        Expr::Not(a) => above(1, 1, measure(a, earlier)),
-        Expr::Compare(_, a, b) => above(1, 1, two(a, b, earlier)),
-        Expr::Arith(_, a, b) => above(1, 1, two(a, b, earlier)),
-        Expr::Union(a, b) => above(1, 1, two(a, b, earlier)),
-        Expr::Gen(a) => above(1, 1, measure(a, earlier)),
-        Expr::Get(a) => above(1, 1, measure(a, earlier)),
-        Expr::Len(a) => above(1, 1, measure(a, earlier)),
-        Expr::Dim { rank: _, array } => above(1, 1, measure(array, earlier)),
-        Expr::Index { rank: _, pairs } => above(1, 1, measure(pairs, earlier)),
+        Expr::If(c, a, b) => add_node(1, 1, add_parts(measure(c, earlier), two(a, b, earlier))),
+        Expr::And(a, b) => add_node(1, 1, two(a, b, earlier)),
+        Expr::Or(a, b) => add_node(1, 1, two(a, b, earlier)),
+        Expr::Not(a) => add_node(1, 1, measure(a, earlier)),
+        Expr::Compare(_, a, b) => add_node(1, 1, two(a, b, earlier)),
+        Expr::Arith(_, a, b) => add_node(1, 1, two(a, b, earlier)),
+        Expr::Union(a, b) => add_node(1, 1, two(a, b, earlier)),
+        Expr::Gen(a) => add_node(1, 1, measure(a, earlier)),
+        Expr::Get(a) => add_node(1, 1, measure(a, earlier)),
+        Expr::Len(a) => add_node(1, 1, measure(a, earlier)),
+        Expr::Dim { rank: _, array } => add_node(1, 1, measure(array, earlier)),
+        Expr::Index { rank: _, pairs } => add_node(1, 1, measure(pairs, earlier)),
         Expr::Apply { name, argument } => {
             let (nodes, body) = measure_macro(name, earlier);
             let own = nodes.saturating_add(1);
-            above(own, own, beside(body, measure(argument, earlier)))
+            add_node(own, own, add_parts(body, measure(argument, earlier)))
         }
         Expr::Fun {
             pattern,
@@ -167,7 +173,7 @@ pub fn measure(e: &Expr, earlier: &[Decl]) -> Counts
             argument,
         } => {
             let own = pattern.nodes().saturating_add(1);
-            above(own, own, two(body, argument, earlier))
+            add_node(own, own, two(body, argument, earlier))
         }
         Expr::SumMap {
             pattern,
@@ -175,29 +181,34 @@ pub fn measure(e: &Expr, earlier: &[Decl]) -> Counts
             over,
         } => {
             let own = pattern.nodes().saturating_add(1);
-            above(own, own, two(body, over, earlier))
+            add_node(own, own, two(body, over, earlier))
         }
-        Expr::Default(a, b) => above(1, 1, two(a, b, earlier)),
+        Expr::Default(a, b) => add_node(1, 1, two(a, b, earlier)),
     }
 }
 
 #[cycle(measure)]
 fn two(a: &Expr, b: &Expr, earlier: &[Decl]) -> Counts
-    ensures size { result.size ≡ min (sizes.size (tree_of a.now) (extents_of (latest earlier.now)) + sizes.size (tree_of b.now) (extents_of (latest earlier.now))) (2 ^ 64 - 1) }
-    ensures levels { result.levels ≡ min (max (sizes.levels (tree_of a.now) (extents_of (latest earlier.now))) (sizes.levels (tree_of b.now) (extents_of (latest earlier.now)))) (2 ^ 64 - 1) }
+    ensures size { result.size ≡ min (sizes.size (tree_of a.now) (extents_of (latest earlier.now))
+        + sizes.size (tree_of b.now) (extents_of (latest earlier.now))) (2 ^ 64 - 1) }
+    ensures levels { result.levels ≡ min
+        (max (sizes.levels (tree_of a.now) (extents_of (latest earlier.now)))
+        (sizes.levels (tree_of b.now) (extents_of (latest earlier.now)))) (2 ^ 64 - 1) }
 {
-    beside(measure(a, earlier), measure(b, earlier))
+    add_parts(measure(a, earlier), measure(b, earlier))
 }
 
 #[cycle(measure)]
-#[tactic(auto, using(crate::specs::ViewLaws::trees_steps))]
+#[tactic(auto, using(crate::specs::Laws::View::trees_steps))]
 fn measure_all(es: &[Expr], earlier: &[Decl]) -> Counts
-    ensures size { result.size ≡ min (sizes.sizes (trees_of es.now) (extents_of (latest earlier.now))) (2 ^ 64 - 1) }
-    ensures levels { result.levels ≡ min (sizes.greatest (trees_of es.now) (extents_of (latest earlier.now))) (2 ^ 64 - 1) }
+    ensures size { result.size ≡ min
+        (sizes.sizes (trees_of es.now) (extents_of (latest earlier.now))) (2 ^ 64 - 1) }
+    ensures levels { result.levels ≡ min (sizes.greatest (trees_of es.now)
+        (extents_of (latest earlier.now))) (2 ^ 64 - 1) }
 {
     let mut total = nothing();
     for e in es {
-        total = beside(total, measure(e, earlier));
+        total = add_parts(total, measure(e, earlier));
     }
     total
 }
@@ -205,12 +216,14 @@ fn measure_all(es: &[Expr], earlier: &[Decl]) -> Counts
 #[cycle(measure)]
 #[tactic(auto, using(crate::proofs::Measuring::qual_sums))]
 fn measure_quals(quals: &[Qual], earlier: &[Decl]) -> Counts
-    ensures size { result.size ≡ min (sizes.quals_sizes (quals_of quals.now) (extents_of (latest earlier.now))) (2 ^ 64 - 1) }
-    ensures levels { result.levels ≡ min (sizes.quals_greatest (quals_of quals.now) (extents_of (latest earlier.now))) (2 ^ 64 - 1) }
+    ensures size { result.size ≡ min (sizes.quals_sizes (quals_of quals.now)
+        (extents_of (latest earlier.now))) (2 ^ 64 - 1) }
+    ensures levels { result.levels ≡ min (sizes.quals_greatest (quals_of quals.now)
+        (extents_of (latest earlier.now))) (2 ^ 64 - 1) }
 {
     let mut total = nothing();
     for q in quals {
-        total = beside(total, measure_qual(q, earlier));
+        total = add_parts(total, measure_qual(q, earlier));
     }
     total
 }
@@ -218,8 +231,10 @@ fn measure_quals(quals: &[Qual], earlier: &[Decl]) -> Counts
 // The parts of a qualifier, before others.
 #[cycle(measure)]
 fn measure_qual(q: &Qual, earlier: &[Decl]) -> Counts
-    ensures size { result.size ≡ min (sizes.size (qual_part q.now) (extents_of (latest earlier.now))) (2 ^ 64 - 1) }
-    ensures levels { result.levels ≡ min (sizes.levels (qual_part q.now) (extents_of (latest earlier.now))) (2 ^ 64 - 1) }
+    ensures size { result.size ≡ min
+        (sizes.size (qual_part q.now) (extents_of (latest earlier.now))) (2 ^ 64 - 1) }
+    ensures levels { result.levels ≡ min (sizes.levels (qual_part q.now)
+        (extents_of (latest earlier.now))) (2 ^ 64 - 1) }
 {
     match q {
         Qual::From { pattern: _, over } => measure(over, earlier),
@@ -234,27 +249,31 @@ fn measure_qual(q: &Qual, earlier: &[Decl]) -> Counts
 }
 
 #[cycle(measure)]
-#[tactic(auto, using(crate::specs::ViewLaws::axes_steps))]
+#[tactic(auto, using(crate::specs::Laws::View::axes_steps))]
 fn measure_binds(binds: &[Bind], earlier: &[Decl]) -> Counts
-    ensures size { result.size ≡ min (sizes.axes_sizes (axes_in binds.now) (extents_of (latest earlier.now))) (2 ^ 64 - 1) }
-    ensures levels { result.levels ≡ min (sizes.axes_greatest (axes_in binds.now) (extents_of (latest earlier.now))) (2 ^ 64 - 1) }
+    ensures size { result.size ≡ min (sizes.axes_sizes (axes_in binds.now)
+        (extents_of (latest earlier.now))) (2 ^ 64 - 1) }
+    ensures levels { result.levels ≡ min (sizes.axes_greatest (axes_in binds.now)
+        (extents_of (latest earlier.now))) (2 ^ 64 - 1) }
 {
     let mut total = nothing();
     for b in binds {
-        total = beside(total, measure(&b.bound, earlier));
+        total = add_parts(total, measure(&b.bound, earlier));
     }
     total
 }
 
 #[cycle(measure)]
-#[tactic(auto, using(crate::specs::ViewLaws::defs_steps))]
+#[tactic(auto, using(crate::specs::Laws::View::defs_steps))]
 fn measure_lets(binds: &[LetBind], earlier: &[Decl]) -> Counts
-    ensures size { result.size ≡ min (sizes.defs_sizes (defs_in binds.now) (extents_of (latest earlier.now))) (2 ^ 64 - 1) }
-    ensures levels { result.levels ≡ min (sizes.defs_greatest (defs_in binds.now) (extents_of (latest earlier.now))) (2 ^ 64 - 1) }
+    ensures size { result.size ≡ min (sizes.defs_sizes (defs_in binds.now)
+        (extents_of (latest earlier.now))) (2 ^ 64 - 1) }
+    ensures levels { result.levels ≡ min (sizes.defs_greatest (defs_in binds.now)
+        (extents_of (latest earlier.now))) (2 ^ 64 - 1) }
 {
     let mut total = nothing();
     for b in binds {
-        total = beside(total, measure(&b.expr, earlier));
+        total = add_parts(total, measure(&b.expr, earlier));
     }
     total
 }
@@ -263,9 +282,12 @@ fn measure_lets(binds: &[LetBind], earlier: &[Decl]) -> Counts
 #[cycle(measure)]
 #[tactic(auto, using(crate::proofs::Measuring::macro_steps))]
 fn measure_macro(name: &Str, earlier: &[Decl]) -> (u64, Counts)
-    ensures pattern { result.0 ≡ min ((extent_of (find name.now (extents_of (latest earlier.now)))).pattern) (2 ^ 64 - 1) }
-    ensures size { result.1.size ≡ min ((extent_of (find name.now (extents_of (latest earlier.now)))).size) (2 ^ 64 - 1) }
-    ensures levels { result.1.levels ≡ min ((extent_of (find name.now (extents_of (latest earlier.now)))).levels) (2 ^ 64 - 1) }
+    ensures pattern { result.0 ≡ min
+        ((extent_of (find name.now (extents_of (latest earlier.now)))).pattern) (2 ^ 64 - 1) }
+    ensures size { result.1.size ≡ min
+        ((extent_of (find name.now (extents_of (latest earlier.now)))).size) (2 ^ 64 - 1) }
+    ensures levels { result.1.levels ≡ min
+        ((extent_of (find name.now (extents_of (latest earlier.now)))).levels) (2 ^ 64 - 1) }
 {
     let mut rest = earlier;
     while let Some((last, before)) = rest.split_last() {
@@ -279,9 +301,15 @@ fn measure_macro(name: &Str, earlier: &[Decl]) -> (u64, Counts)
 
 #[cycle(measure)]
 fn measure_declared(d: &Decl, before: &[Decl]) -> (u64, Counts)
-    ensures pattern { result.0 ≡ min ((extent_of (Some (sizes.extent (decl_of d.now) (extents_of (latest before.now))))).pattern) (2 ^ 64 - 1) }
-    ensures size { result.1.size ≡ min ((extent_of (Some (sizes.extent (decl_of d.now) (extents_of (latest before.now))))).size) (2 ^ 64 - 1) }
-    ensures levels { result.1.levels ≡ min ((extent_of (Some (sizes.extent (decl_of d.now) (extents_of (latest before.now))))).levels) (2 ^ 64 - 1) }
+    ensures pattern { result.0 ≡ min
+        ((extent_of (Some (sizes.extent (decl_of d.now) (extents_of (latest before.now))))).pattern)
+        (2 ^ 64 - 1) }
+    ensures size { result.1.size ≡ min
+        ((extent_of (Some (sizes.extent (decl_of d.now) (extents_of (latest before.now))))).size)
+        (2 ^ 64 - 1) }
+    ensures levels { result.1.levels ≡ min
+        ((extent_of (Some (sizes.extent (decl_of d.now) (extents_of (latest before.now))))).levels)
+        (2 ^ 64 - 1) }
 {
     match d {
         Decl::Val { name: _, expr: _ } => (0, nothing()),
@@ -314,7 +342,7 @@ fn leaf() -> Counts
 }
 
 // Parts side by side.
-fn beside(a: Counts, b: Counts) -> Counts
+fn add_parts(a: Counts, b: Counts) -> Counts
     ensures size { result.size ≡ min (a.size + b.size) (2 ^ 64 - 1) }
     ensures levels { result.levels ≡ max a.levels b.levels }
 {
@@ -325,7 +353,7 @@ fn beside(a: Counts, b: Counts) -> Counts
 }
 
 // A node above its parts.
-fn above(size: u64, levels: u64, parts: Counts) -> Counts
+fn add_node(size: u64, levels: u64, parts: Counts) -> Counts
     ensures size { result.size ≡ min (size + parts.size) (2 ^ 64 - 1) }
     ensures levels { result.levels ≡ min (levels + parts.levels) (2 ^ 64 - 1) }
 {
@@ -352,7 +380,7 @@ fn digits(n: usize) -> u64
 impl Pattern {
     /// The number of nodes, or the greatest number of 64 bits where there are more.
     #[cycle(pattern_nodes)]
-    #[tactic(auto, using(crate::specs::ViewLaws::pat_of_row))]
+    #[tactic(auto, using(crate::specs::Laws::View::pat_of_row))]
     pub fn nodes(&self) -> u64
         ensures { result ≡ min (pat_nodes (pat_of self.now)) (2 ^ 64 - 1) }
     {
@@ -369,7 +397,7 @@ impl Pattern {
 }
 
 #[cycle(pattern_nodes)]
-#[tactic(auto, using(crate::specs::ViewLaws::pats_steps))]
+#[tactic(auto, using(crate::specs::Laws::View::pats_steps))]
 fn patterns_nodes(ps: &[Pattern]) -> u64
     ensures { result ≡ min (pats_nodes (pats_of ps.now)) (2 ^ 64 - 1) }
 {
@@ -406,7 +434,7 @@ fn qual_nodes(q: &Qual) -> u64
     }
 }
 
-#[tactic(auto, using(crate::specs::ViewLaws::defs_steps))]
+#[tactic(auto, using(crate::specs::Laws::View::defs_steps))]
 fn lets_nodes(binds: &[LetBind]) -> u64
     ensures { result ≡ min (defs_patterns (defs_in binds.now)) (2 ^ 64 - 1) }
 {

@@ -22,8 +22,9 @@ pub enum TokenKind {
 }
 
 /// What follows these bytes, where they stand at the front.
-pub fn behind<'a>(prefix: &[u8], bytes: &'a [u8]) -> Option<&'a [u8]>
-    ensures { MatchOption result (lexis.behind prefix.now bytes.now ≡ None) (λ r. lexis.behind prefix.now bytes.now ≡ Some r.now) }
+pub fn strip_front<'a>(prefix: &[u8], bytes: &'a [u8]) -> Option<&'a [u8]>
+    ensures { MatchOption result (lexis.behind prefix.now bytes.now ≡ None)
+        (λ r. lexis.behind prefix.now bytes.now ≡ Some r.now) }
 {
     let mut left = prefix;
     let mut rest = bytes;

@@ -3,10 +3,10 @@ use Rattle.std.proofs.Common.{ℕ, ◌≡◌, ◌+◌, ◌<◌, ◌≤◌, List,
 use Rattle.std.proofs.Math.Seq.{drop-cons}
 use Rattle.std.proofs.lemmas.List.{at_drop_all}
 use Rattle.aql_types.specs.Types.{Ty, apply, single}
-use Rattle.aql_types.specs.TypeLaws.{apply-apply, apply_same, apply_var, apply_all-append, absent_single}
+use Rattle.aql_types.specs.Laws.Types.{apply-apply, apply_same, apply_var, apply_all-append, absent_single}
 use Rattle.aql_types.specs.Unifiers.{Bindings, applied, as_subst}
 use Rattle.aql_types.specs.View.{type_of, bindings_of}
-use Rattle.aql_types.specs.ViewLaws.{types_last, equations_last}
+use Rattle.aql_types.specs.Laws.View.{types_last, equations_last}
 use Rattle.aql_types.specs.declared.subst.Binding.{Binding}
 
 -- the substitution that the replacements are does what they do

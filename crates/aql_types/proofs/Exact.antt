@@ -3,12 +3,12 @@ use Rattle.std.proofs.Common.{ℕ, zero, suc, ◌≡◌, ◌+◌, ◌<◌, ◌�
 use Rattle.std.specs.Cmp.{first_so, second_so}
 use Rattle.std.specs.Cmp.Derive.{both_true}
 use Rattle.std.proofs.lemmas.Bool.{eq-eqb}
-use Rattle.aql_types.specs.TypeLaws.{row_is, apply_var, respects_single, absent_single, within_before, fits_within, within_fits}
+use Rattle.aql_types.specs.Laws.Types.{row_is, apply_var, respects_single, absent_single, within_before, fits_within, within_fits}
 use Rattle.aql_types.proofs.Applying.{applied_is}
 use Rattle.aql_types.proofs.Moves.{Meets, move_meets, meets_move, MoveWithin, move_within}
 use Rattle.aql_types.proofs.Occurrences.{In, AllIn, StepIn, steps_in, replace_in, member, without, without_lt, member_without, variables, few_variables, its_variables, member_left, member_right}
 use Rattle.aql_types.proofs.Settling.{nodes_pos, size-append, Shrinks, move_shrinks}
-use Rattle.aql_types.specs.Solving.{Move, clash, more, binds, asks, Step, done, bound, went, act, steps, settle, size, replace, all_fit, sides_fit, then_bind, next, solve, solved}
+use Rattle.aql_types.specs.Solving.{Move, clash, more, binds, asks, SolveStep, done, bound, went, act, steps, settle, size, replace, all_fit, sides_fit, then_bind, next, solve, solved}
 use Rattle.aql_types.specs.Types.{Ty, var, Tys, no_type, type, Subst, apply, apply_all, occurs, nodes, IsWithin, fits, single}
 use Rattle.aql_types.specs.Unifiers.{Equations, Bindings, applied, as_subst, AllUnify, AllWithin, SidesWithin, IsSolution, IsBest, Unifies, IsMostGeneral}
 
@@ -30,12 +30,12 @@ sides_append u [] q h k = k
 sides_append u ((a, b) ∷ p) q h k = (h.0, h.1, sides_append u p q h.2 k)
 
 -- What a step says.
-abbrev StepMeets : Subst → Option Step → Type 0
+abbrev StepMeets : Subst → Option SolveStep → Type 0
 StepMeets u None = ⊥
 StepMeets u (Some done) = Unit {0}
 StepMeets u (Some (bound x t w)) = (u x ≡ apply u t) × AllUnify u w
 
-abbrev StepWithin : Subst → Option Step → Type 0
+abbrev StepWithin : Subst → Option SolveStep → Type 0
 StepWithin u None = Unit {0}
 StepWithin u (Some done) = Unit {0}
 StepWithin u (Some (bound x t w)) = SidesWithin u w
@@ -126,7 +126,7 @@ solve_none (suc n) vs le w us all e u k =
     after rest x t r m i a true f (Some bs) is e = cc
     after rest x t r m i a false f o is e = cc
 
-    go : Rest → (s : Option Step) → StepIn (λ x. member x vs) s → StepMeets u s → StepWithin u s → next (solve n) s us ≡ None → ⊥
+    go : Rest → (s : Option SolveStep) → StepIn (λ x. member x vs) s → StepMeets u s → StepWithin u s → next (solve n) s us ≡ None → ⊥
     go rest None i m h e = m
     go rest (Some done) i m h e = cc
     go rest (Some (bound x t r)) i m h e =
@@ -261,7 +261,7 @@ solve_some (suc n) v w us all bs e =
           };
         })
 
-    go : Rest → (s : Option Step) → StepIn v s → ((u : Subst) → AllUnify u w → StepMeets u s) → ((u : Subst) → StepMeets u s → AllUnify u w) →
+    go : Rest → (s : Option SolveStep) → StepIn v s → ((u : Subst) → AllUnify u w → StepMeets u s) → ((u : Subst) → StepMeets u s → AllUnify u w) →
         next (solve n) s us ≡ Some bs → Found v w us bs
     go rest None i f g e = cc
     go rest (Some done) i f g e =

@@ -1,7 +1,7 @@
 -- What one equation asks for is what it says.
 use Rattle.std.proofs.Common.{ℕ, ◌≡◌, Bool, true, false, ◌==◌, [], Option, Some, None, refl, sym, ap, ◌∙◌, arith, if◌then◌else◌}
 use Rattle.std.proofs.lemmas.Bool.{eqb-true, eq-eqb}
-use Rattle.aql_types.specs.TypeLaws.{row_is, count_apply, member_within, cell_within, PartsWithin, parts_within, first_within, rest_within}
+use Rattle.aql_types.specs.Laws.Types.{row_is, count_apply, member_within, cell_within, PartsWithin, parts_within, first_within, rest_within}
 use Rattle.aql_types.proofs.Occurs.{occurs_clash}
 use Rattle.aql_types.specs.Solving.{Move, clash, more, binds, is_var, bind, zipped, asks, asked, as_var, same_form, same_part}
 use Rattle.aql_types.specs.Types.{Ty, natural, truth, var, product, set_of, Tys, no_type, type, Subst, apply, apply_all, occurs, IsWithin, count, text, array_of}

@@ -2,7 +2,7 @@
 use Rattle.std.proofs.Common.{ℕ, zero, suc, ◌≡◌, ◌+◌, ◌<◌, ◌≤◌, Bool, true, false, ◌==◌, ◌||◌, List, [], ◌∷◌, ◌++◌, Option, Some, None, refl, ap, arith, if◌then◌else◌, length, inl, inr, ◌⊎◌}
 use Rattle.std.proofs.lemmas.Bool.{eqb-true, eq-eqb}
 use Rattle.aql_types.proofs.Occurs.{or_true, or_left, or_right, Was, was_in, was_there, was}
-use Rattle.aql_types.specs.Solving.{Move, clash, more, binds, is_var, bind, zipped, asks, asked, as_var, same_form, same_part, replace, Step, done, bound, went, act, steps}
+use Rattle.aql_types.specs.Solving.{Move, clash, more, binds, is_var, bind, zipped, asks, asked, as_var, same_form, same_part, replace, SolveStep, done, bound, went, act, steps}
 use Rattle.aql_types.specs.Types.{Ty, natural, truth, var, product, set_of, Tys, no_type, type, apply, occurs, occurs_all, nodes, nodes_all, single, count, text, array_of}
 use Rattle.aql_types.specs.Unifiers.{Equations}
 
@@ -75,7 +75,7 @@ pub all_in_append : (v : ℕ → Bool) (p w : Equations) → AllIn v p → AllIn
 all_in_append v [] w h k = k
 all_in_append v ((a, b) ∷ p) w h k = (h.0, h.1, all_in_append v p w h.2 k)
 
-abbrev pub StepIn : (ℕ → Bool) → Option Step → Type 0
+abbrev pub StepIn : (ℕ → Bool) → Option SolveStep → Type 0
 StepIn v None = Unit {0}
 StepIn v (Some done) = Unit {0}
 StepIn v (Some (bound x t w)) = (v x ≡ true) × In v t × (occurs x t ≡ false) × AllIn v w

@@ -6,11 +6,11 @@ use Rattle.std.proofs.lemmas.Bool.{eqb-true}
 use Rattle.std.proofs.Math.Seq.{drop-cons}
 use Rattle.std.proofs.lemmas.List.{at_drop_all}
 use Rattle.aql_types.specs.declared.ty.Ty as code
-use Rattle.aql_types.specs.Solving.{Move, clash, more, binds, is_var, bind, zipped, asks, asked, as_var, same_form, same_part, size, Step, done, bound, again, binding, went, act, steps, settle, replace, then_bind, next, solve, prefixed, all_fit, sides_fit}
+use Rattle.aql_types.specs.Solving.{Move, clash, more, binds, is_var, bind, zipped, asks, asked, as_var, same_form, same_part, size, SolveStep, done, bound, again, binding, went, act, steps, settle, replace, then_bind, next, solve, prefixed, all_fit, sides_fit}
 use Rattle.aql_types.specs.Types.{apply_all, single, fits, Ty, natural, truth, var, product, set_of, Tys, no_type, type, nodes, nodes_all, occurs, count, text, array_of}
 use Rattle.aql_types.specs.Unifiers.{Equations, Bindings}
-use Rattle.aql_types.specs.TypeLaws.{fits_within}
-use Rattle.aql_types.specs.ViewLaws.{equations_last, count_types}
+use Rattle.aql_types.specs.Laws.Types.{fits_within}
+use Rattle.aql_types.specs.Laws.View.{equations_last, count_types}
 use Rattle.aql_types.specs.View.{types_of, type_of, listed, onto, equations_of, bindings_of}
 
 pub zipped_last : (xs ys : List code.Ty) (x y : code.Ty) (w : Equations) → length xs ≡ length ys →
@@ -87,7 +87,7 @@ move_shrinks a b = go (as_var a) (as_var b)
     go None (Some y) = bind_shrinks (nodes a + nodes b) y a (omega (arith, nodes_pos a))
     go None None = form_shrinks a b
 
-act_same : (f g : Equations → Option Step) (n : ℕ) (mv : Move) (w : Equations) → Shrinks n mv →
+act_same : (f g : Equations → Option SolveStep) (n : ℕ) (mv : Move) (w : Equations) → Shrinks n mv →
     ((ps : Equations) → size ps < n → f (ps ++ w) ≡ g (ps ++ w)) → act f (went mv w) ≡ act g (went mv w)
 act_same f g n clash w s h = refl
 act_same f g n (more ps) w s h = h ps s

@@ -4,7 +4,7 @@ use Rattle.std.specs.Global.{Global}
 use Rattle.aql_types.specs.Types.{Ty, Tys, Subst}
 use Rattle.aql_types.specs.Unifiers.{Equations, Unifies, IsMostGeneral, IsSolution, IsBest}
 use Rattle.aql_types.specs.View.{type_of, types_of, equations_of, subst_of}
-use Rattle.aql_types.specs.Solving.{Step, done, bound, Went, again, binding}
+use Rattle.aql_types.specs.Solving.{SolveStep, done, bound, Went, again, binding}
 use Rattle.aql_types.specs.declared.ty.Ty as code_ty
 use Rattle.aql_types.specs.declared.step.Next.{Next}
 use Rattle.aql_types.specs.declared.step.Next.TheVariants as next
@@ -28,28 +28,32 @@ Solved (Err faults.Memory) w us = Unit {0}
 
 -- The steps of solving.
 
-abbrev pub step_of : Next → Step
+-- a step of the code's solver, as the definitions see it
+abbrev pub step_of : Next → SolveStep
 step_of next.Done = done
 step_of (next.Bound x t rest) = bound x (type_of t) (equations_of rest.items)
 
+-- what the code's solver made of an equation, as the definitions see it
 abbrev pub went_of : Moved → Went
 went_of (moved.Again w) = again (equations_of w.items)
 went_of (moved.Bound x t w) = binding x (type_of t) (equations_of w.items)
 
 -- Clash where the function on lists has no answer
-abbrev pub Fails : {Y : Type 0} → UnifyFault → Option Y → Type 0
-Fails faults.Memory o = Unit {0}
-Fails faults.Clash o = o ≡ None
+abbrev pub FailsUnifying : {Y : Type 0} → UnifyFault → Option Y → Type 0
+FailsUnifying faults.Memory o = Unit {0}
+FailsUnifying faults.Clash o = o ≡ None
 
 -- the answer is that of the function on lists
-abbrev pub Gives : {X Y : Type 0} → (X → Y) → Result X UnifyFault → Option Y → Type 0
-Gives view (Ok x) o = o ≡ Some (view x)
-Gives view (Err e) o = Fails e o
+abbrev pub GivesUnifier : {X Y : Type 0} → (X → Y) → Result X UnifyFault → Option Y → Type 0
+GivesUnifier view (Ok x) o = o ≡ Some (view x)
+GivesUnifier view (Err e) o = FailsUnifying e o
 
+-- the types of a list that is there
 abbrev pub items_in : Option (Vec code_ty.Ty Global) → Option Tys
 items_in None = None
 items_in (Some v) = Some (types_of v.items)
 
+-- the type that is there
 abbrev pub type_in : Option code_ty.Ty → Option Ty
 type_in None = None
 type_in (Some t) = Some (type_of t)

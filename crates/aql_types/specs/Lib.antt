@@ -1,11 +1,9 @@
 pub mod Answers
-pub mod OperationLaws
 pub mod OperationTypes
 pub mod Solving
-pub mod TypeLaws
 pub mod Types
 pub mod Unifiers
 pub mod ValueTypes
 pub mod Variables
 pub mod View
-pub mod ViewLaws
+pub mod Laws

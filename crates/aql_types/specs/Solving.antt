@@ -38,6 +38,7 @@ as_var (product ts) = None
 as_var (set_of t) = None
 as_var (array_of k t) = None
 
+-- whether the type is that of numbers
 abbrev pub is_natural : Ty → Bool
 is_natural natural = true
 is_natural truth = false
@@ -47,6 +48,7 @@ is_natural (product ts) = false
 is_natural (set_of t) = false
 is_natural (array_of k t) = false
 
+-- whether the type is that of truth values
 abbrev pub is_truth : Ty → Bool
 is_truth natural = false
 is_truth truth = true
@@ -56,6 +58,7 @@ is_truth (product ts) = false
 is_truth (set_of t) = false
 is_truth (array_of k t) = false
 
+-- whether the type is that of strings
 abbrev pub is_text : Ty → Bool
 is_text natural = false
 is_text truth = false
@@ -100,6 +103,7 @@ abbrev pub same_part : Ty → Option Ty → Move
 same_part a None = clash
 same_part a (Some b) = more ((a, b) ∷ [])
 
+-- what two products ask: as many parts, equal one by one
 abbrev pub same_product : Tys → Option Tys → Move
 same_product a None = clash
 same_product a (Some b) = if count a == count b then more (zipped a b) else clash
@@ -114,6 +118,7 @@ same_form (product a) b = same_product a (product_parts b)
 same_form (set_of a) b = same_part a (set_part b)
 same_form (array_of k a) b = same_part a (cell_part k b)
 
+-- what an equation asks: a variable bound to the other side, or two equal forms
 abbrev pub asked : Option ℕ → Option ℕ → Ty → Ty → Move
 asked (Some x) o a b = bind x b
 asked None (Some y) a b = bind y a
@@ -129,32 +134,35 @@ size [] = 0
 size ((a, b) ∷ w) = nodes a + nodes b + size w
 
 -- up to the next replacement: none is left, or that one is next and these equations are left
-pub data Step : Type 0 where
-  done : Step
-  bound : ℕ → Ty → Equations → Step
+pub data SolveStep : Type 0 where
+  done : SolveStep
+  bound : ℕ → Ty → Equations → SolveStep
 
 -- one equation's asks, among the others
 pub data Went : Type 0 where
   again : Equations → Went
   binding : ℕ → Ty → Equations → Went
 
+-- the equations behind what an equation asks, or a variable bound
 abbrev pub went : Move → Equations → Option Went
 went clash w = None
 went (more ps) w = Some (again (ps ++ w))
 went (binds x t) w = Some (binding x t w)
 
-abbrev pub act : (Equations → Option Step) → Option Went → Option Step
+-- goes on with the equations that are left, or stops at a variable that is bound
+abbrev pub act : (Equations → Option SolveStep) → Option Went → Option SolveStep
 act go None = None
 act go (Some (again w)) = go w
 act go (Some (binding x t w)) = Some (bound x t w)
 
 -- up to the next replacement, in at most m moves
-unfoldable pub steps : ℕ → Equations → Option Step
+unfoldable pub steps : ℕ → Equations → Option SolveStep
 steps m [] = Some done
 steps zero (p ∷ w) = None
 steps (suc m) ((a, b) ∷ w) = act (steps m) (went (asks a b) w)
 
-unfoldable pub settle : Equations → Option Step
+-- the equations worked off up to the next replacement
+unfoldable pub settle : Equations → Option SolveStep
 settle w = steps (size w) w
 
 -- the variable replaced in all equations
@@ -162,14 +170,17 @@ abbrev pub replace : ℕ → Ty → Equations → Equations
 replace x t [] = []
 replace x t ((a, b) ∷ w) = (apply (single x t) a, apply (single x t) b) ∷ replace x t w
 
+-- whether all types are within the limits
 abbrev pub all_fit : Tys → Bool
 all_fit no_type = true
 all_fit (type t ts) = fits t && all_fit ts
 
+-- whether both sides of all equations are within the limits
 abbrev pub sides_fit : Equations → Bool
 sides_fit [] = true
 sides_fit ((a, b) ∷ w) = fits a && fits b && sides_fit w
 
+-- a binding in front of those that follow, where these are there
 abbrev pub then_bind : ℕ → Ty → Option Bindings → Option Bindings
 then_bind x t None = None
 then_bind x t (Some s) = Some ((x, t) ∷ s)
@@ -178,7 +189,8 @@ then_bind x t (Some s) = Some ((x, t) ∷ s)
 abbrev pub fitted : (Equations → Tys → Option Bindings) → Equations → Tys → Option Bindings
 fitted go w us = if all_fit us && sides_fit w then go w us else None
 
-abbrev pub next : (Equations → Tys → Option Bindings) → Option Step → Tys → Option Bindings
+-- what follows a step: the end, or a replacement in all that is left
+abbrev pub next : (Equations → Tys → Option Bindings) → Option SolveStep → Tys → Option Bindings
 next go None us = None
 next go (Some done) us = Some []
 next go (Some (bound x t w)) us = then_bind x t (fitted go (replace x t w) (apply_all (single x t) us))
@@ -192,6 +204,7 @@ solve (suc n) w us = next (solve n) (settle w) us
 abbrev pub solved : Equations → Tys → Option Bindings
 solved w us = fitted (solve (size w + 1)) w us
 
+-- bindings in front of those that follow, where these are there
 abbrev pub prefixed : Bindings → Option Bindings → Option Bindings
 prefixed bs None = None
 prefixed bs (Some s) = Some (bs ++ s)

@@ -89,6 +89,7 @@ abbrev mutual
   is_type (set_of t) = is_type t
   is_type (array_of k t) = nat_le 1 k && nat_le k 8 && is_type t
 
+  -- whether all are types of the language
   pub are_types : Tys → Bool
   are_types no_type = true
   are_types (type t ts) = is_type t && are_types ts

@@ -11,12 +11,12 @@ use aql_value::Memory;
 use std::alloc::Global;
 
 /// The type with the variable replaced. A type without the variable is left as it is.
-#[tactic(auto, using(crate::specs::TypeLaws::absent_single))]
+#[tactic(auto, using(crate::specs::Laws::Types::absent_single))]
 pub fn replaced_in(alloc: Global, x: u64, t: Ty, with: &Ty) -> Result<Ty, Memory>
     ensures { IfOk result (λ made. type_of made ≡ apply (single x (type_of with.now)) (type_of t)) }
 {
     if t.has_variable(x) {
-        replaced(alloc, x, &t, with)
+        replace_in(alloc, x, &t, with)
     } else {
         Ok(t)
     }
@@ -25,7 +25,8 @@ pub fn replaced_in(alloc: Global, x: u64, t: Ty, with: &Ty) -> Result<Ty, Memory
 /// The types with the variable replaced.
 #[tactic(auto, using(crate::proofs::Applying::replacing_steps))]
 pub fn replaced_uses(alloc: Global, x: u64, ts: Vec<Ty>, with: &Ty) -> Result<Vec<Ty>, Memory>
-    ensures { IfOk result (λ made. types_of made.items ≡ apply_all (single x (type_of with.now)) (types_of ts.items)) }
+    ensures { IfOk result (λ made. types_of made.items ≡ apply_all (single x (type_of with.now))
+        (types_of ts.items)) }
 {
     let mut made = Vec::new(alloc);
     for t in ts {
@@ -43,7 +44,8 @@ pub fn replaced_work(
     t: &Ty,
     work: Vec<Equation>,
 ) -> Result<Vec<Equation>, Memory>
-    ensures { IfOk result (λ made. equations_of made.items ≡ replace x (type_of t.now) (equations_of work.items)) }
+    ensures { IfOk result (λ made. equations_of made.items ≡ replace x (type_of t.now)
+        (equations_of work.items)) }
 {
     let mut made = Vec::new(alloc);
     for e in work {
@@ -55,10 +57,11 @@ pub fn replaced_work(
 }
 
 // The type with the variable replaced, built anew.
-#[cycle(replaced)]
-#[tactic(auto, using(crate::specs::ViewLaws::type_of_row))]
-fn replaced(alloc: Global, x: u64, t: &Ty, with: &Ty) -> Result<Ty, Memory>
-    ensures { IfOk result (λ made. type_of made ≡ apply (single x (type_of with.now)) (type_of t.now)) }
+#[cycle(replace_in)]
+#[tactic(auto, using(crate::specs::Laws::View::type_of_row))]
+fn replace_in(alloc: Global, x: u64, t: &Ty, with: &Ty) -> Result<Ty, Memory>
+    ensures { IfOk result (λ made. type_of made ≡ apply (single x (type_of with.now))
+        (type_of t.now)) }
 {
     match t {
         Ty::Nat => Ok(Ty::Nat),
@@ -76,11 +79,11 @@ fn replaced(alloc: Global, x: u64, t: &Ty, with: &Ty) -> Result<Ty, Memory>
             Ok(row(items))
         }
         Ty::SetOf(t) => {
-            let t = replaced(alloc, x, t, with)?;
+            let t = replace_in(alloc, x, t, with)?;
             Ok(Ty::SetOf(Box::new(alloc, t)?))
         }
         Ty::ArrayOf { rank, cell } => {
-            let cell = replaced(alloc, x, cell, with)?;
+            let cell = replace_in(alloc, x, cell, with)?;
             Ok(Ty::ArrayOf {
                 rank: *rank,
                 cell: Box::new(alloc, cell)?,
@@ -89,14 +92,15 @@ fn replaced(alloc: Global, x: u64, t: &Ty, with: &Ty) -> Result<Ty, Memory>
     }
 }
 
-#[cycle(replaced)]
-#[tactic(auto, using(crate::specs::ViewLaws::list_steps))]
+#[cycle(replace_in)]
+#[tactic(auto, using(crate::specs::Laws::View::list_steps))]
 fn replaced_all(alloc: Global, x: u64, ts: &[Ty], with: &Ty) -> Result<Vec<Ty>, Memory>
-    ensures { IfOk result (λ made. types_of made.items ≡ apply_all (single x (type_of with.now)) (types_of ts.now)) }
+    ensures { IfOk result (λ made. types_of made.items ≡ apply_all (single x (type_of with.now))
+        (types_of ts.now)) }
 {
     let mut made = Vec::new(alloc);
     for t in ts {
-        let new = replaced(alloc, x, t, with)?;
+        let new = replace_in(alloc, x, t, with)?;
         made.push(new)?;
     }
     Ok(made)

@@ -3,7 +3,7 @@
 ghost use Rattle.std.specs.Prelude.{true, ◌≡◌, ◌+◌, IfOk, IfSome, [], ◌++◌, ◌∷◌, ◌&&◌};
 ghost use Rattle.aql_types.specs.Types as types;
 ghost use Rattle.aql_types.specs.View.{type_of, types_of, equations_of, listed, bindings_of};
-ghost use Rattle.aql_types.specs.Answers.{Gives, Unified, Solved};
+ghost use Rattle.aql_types.specs.Answers.{GivesUnifier, Unified, Solved};
 ghost use Rattle.aql_types.specs.Solving.{all_fit, sides_fit, size, solved};
 ghost use Rattle.aql_types.specs.Solving as solving;
 
@@ -41,7 +41,8 @@ fn solved_bindings(
     work: Vec<Equation>,
     uses: Vec<Ty>,
 ) -> Result<Vec<Binding>, UnifyFault>
-    ensures { Gives (λ found. bindings_of found.items) result (solved (equations_of work.items) (types_of uses.items)) }
+    ensures { GivesUnifier (λ found. bindings_of found.items) result
+        (solved (equations_of work.items) (types_of uses.items)) }
 {
     if !both_within(&uses, &work) {
         return Err(UnifyFault::Clash);
@@ -74,7 +75,8 @@ fn solve_up_to(
     work: Vec<Equation>,
     uses: Vec<Ty>,
 ) -> Result<Vec<Binding>, UnifyFault>
-    ensures { Gives (λ found. bindings_of found.items) result (solving.solve most (equations_of work.items) (types_of uses.items)) }
+    ensures { GivesUnifier (λ found. bindings_of found.items) result
+        (solving.solve most (equations_of work.items) (types_of uses.items)) }
 {
     let mut work = work;
     let mut uses = uses;
@@ -102,7 +104,7 @@ fn both_within(uses: &[Ty], work: &[Equation]) -> bool
     all_within(uses) && sides_within(work)
 }
 
-#[tactic(auto, using(crate::specs::ViewLaws::list_steps))]
+#[tactic(auto, using(crate::specs::Laws::View::list_steps))]
 fn all_within(ts: &[Ty]) -> bool
     ensures { result ≡ all_fit (types_of ts.now) }
 {
@@ -131,7 +133,8 @@ fn sides_within(work: &[Equation]) -> bool
 
 #[tactic(auto, using(crate::proofs::Settling::bindings_append))]
 fn push_binding(found: Vec<Binding>, x: u64, t: Ty) -> Result<Vec<Binding>, Memory>
-    ensures { IfOk result (λ f. bindings_of f.items ≡ bindings_of found.items ++ ((x, type_of t) ∷ [])) }
+    ensures { IfOk result (λ f. bindings_of f.items ≡ bindings_of found.items
+        ++ ((x, type_of t) ∷ [])) }
 {
     let mut found = found;
     found.push(Binding { variable: x, ty: t })?;

@@ -3,7 +3,7 @@
 ghost use Rattle.std.specs.Prelude.{◌≡◌, IfOk, Option, Some, List, [], if◌then◌else◌, length, ◌++◌, ◌∷◌, ◌==◌};
 ghost use Rattle.aql_types.specs.Types.{count};
 ghost use Rattle.aql_types.specs.View.{type_of, types_of, equations_of};
-ghost use Rattle.aql_types.specs.Answers.{Gives, step_of, went_of, items_in, type_in};
+ghost use Rattle.aql_types.specs.Answers.{GivesUnifier, step_of, went_of, items_in, type_in};
 ghost use Rattle.aql_types.specs.Solving.{went, settle, asks, same_form, same_part, same_product, is_natural, is_truth, is_text, set_part, cell_part, product_parts, more, clash, as_var, bind, zipped, is_var};
 
 use crate::equation::Equation;
@@ -28,7 +28,7 @@ pub enum Next {
 /// Takes equations, the last first, until one asks for a replacement. Clash where one cannot hold.
 #[tactic(auto, using(crate::proofs::Settling::settle_steps))]
 pub fn next_binding(work: Vec<Equation>) -> Result<Next, UnifyFault>
-    ensures { Gives step_of result (settle (equations_of work.items)) }
+    ensures { GivesUnifier step_of result (settle (equations_of work.items)) }
 {
     let mut work = work;
     while let Some(e) = work.pop() {
@@ -40,7 +40,7 @@ pub fn next_binding(work: Vec<Equation>) -> Result<Next, UnifyFault>
     Ok(Next::Done)
 }
 
-#[tactic(auto, using(crate::specs::ViewLaws::type_of_row))]
+#[tactic(auto, using(crate::specs::Laws::View::type_of_row))]
 fn is_variable(x: u64, t: &Ty) -> bool
     ensures { result ≡ is_var x (type_of t.now) }
 {
@@ -56,7 +56,7 @@ fn is_variable(x: u64, t: &Ty) -> bool
 }
 
 fn bind_to(x: u64, t: Ty, work: Vec<Equation>) -> Result<Moved, UnifyFault>
-    ensures { Gives went_of result (went (bind x (type_of t)) (equations_of work.items)) }
+    ensures { GivesUnifier went_of result (went (bind x (type_of t)) (equations_of work.items)) }
 {
     if is_variable(x, &t) {
         return Ok(Moved::Again(work));
@@ -70,7 +70,8 @@ fn bind_to(x: u64, t: Ty, work: Vec<Equation>) -> Result<Moved, UnifyFault>
 /// The equation put before others; it stands last in the list.
 #[tactic(auto, using(crate::proofs::Settling::work_steps))]
 pub fn push_pair(left: Ty, right: Ty, work: Vec<Equation>) -> Result<Vec<Equation>, Memory>
-    ensures { IfOk result (λ w. equations_of w.items ≡ (type_of left, type_of right) ∷ equations_of work.items) }
+    ensures { IfOk result (λ w. equations_of w.items ≡ (type_of left, type_of right) ∷ equations_of
+        work.items) }
 {
     let mut work = work;
     work.push(Equation { left, right })?;
@@ -80,7 +81,8 @@ pub fn push_pair(left: Ty, right: Ty, work: Vec<Equation>) -> Result<Vec<Equatio
 #[tactic(auto, using(crate::proofs::Settling::work_steps))]
 fn push_pairs(left: Vec<Ty>, right: Vec<Ty>, work: Vec<Equation>) -> Result<Vec<Equation>, Memory>
     requires { length left.items ≡ length right.items }
-    ensures { IfOk result (λ w. equations_of w.items ≡ zipped (types_of left.items) (types_of right.items) ++ equations_of work.items) }
+    ensures { IfOk result (λ w. equations_of w.items ≡ zipped (types_of left.items)
+        (types_of right.items) ++ equations_of work.items) }
 {
     let mut left = left;
     let mut right = right;
@@ -93,7 +95,7 @@ fn push_pairs(left: Vec<Ty>, right: Vec<Ty>, work: Vec<Equation>) -> Result<Vec<
     Ok(work)
 }
 
-#[tactic(auto, using(crate::specs::ViewLaws::type_of_row))]
+#[tactic(auto, using(crate::specs::Laws::View::type_of_row))]
 fn variable(t: &Ty) -> Option<u64>
     ensures { result ≡ as_var (type_of t.now) }
 {
@@ -108,14 +110,14 @@ fn variable(t: &Ty) -> Option<u64>
     }
 }
 
-#[tactic(auto, using(crate::specs::ViewLaws::count_types))]
+#[tactic(auto, using(crate::specs::Laws::View::count_types))]
 fn same_count(a: &[Ty], b: &[Ty]) -> bool
     ensures { result ≡ (count (types_of a.now) == count (types_of b.now)) }
 {
     a.len() == b.len()
 }
 
-#[tactic(auto, using(crate::specs::ViewLaws::type_of_row))]
+#[tactic(auto, using(crate::specs::Laws::View::type_of_row))]
 fn is_nat(t: &Ty) -> bool
     ensures { result ≡ is_natural (type_of t.now) }
 {
@@ -130,7 +132,7 @@ fn is_nat(t: &Ty) -> bool
     }
 }
 
-#[tactic(auto, using(crate::specs::ViewLaws::type_of_row))]
+#[tactic(auto, using(crate::specs::Laws::View::type_of_row))]
 fn is_bool(t: &Ty) -> bool
     ensures { result ≡ is_truth (type_of t.now) }
 {
@@ -145,7 +147,7 @@ fn is_bool(t: &Ty) -> bool
     }
 }
 
-#[tactic(auto, using(crate::specs::ViewLaws::type_of_row))]
+#[tactic(auto, using(crate::specs::Laws::View::type_of_row))]
 fn is_string(t: &Ty) -> bool
     ensures { result ≡ is_text (type_of t.now) }
 {
@@ -160,7 +162,7 @@ fn is_string(t: &Ty) -> bool
     }
 }
 
-#[tactic(auto, using(crate::specs::ViewLaws::type_of_row))]
+#[tactic(auto, using(crate::specs::Laws::View::type_of_row))]
 fn member_type(t: Ty) -> Option<Ty>
     ensures { type_in result ≡ set_part (type_of t) }
 {
@@ -175,7 +177,7 @@ fn member_type(t: Ty) -> Option<Ty>
     }
 }
 
-#[tactic(auto, using(crate::specs::ViewLaws::type_of_row))]
+#[tactic(auto, using(crate::specs::Laws::View::type_of_row))]
 fn cell_type(of: u64, t: Ty) -> Option<Ty>
     ensures { type_in result ≡ cell_part of (type_of t) }
 {
@@ -196,7 +198,7 @@ fn cell_type(of: u64, t: Ty) -> Option<Ty>
     }
 }
 
-#[tactic(auto, using(crate::specs::ViewLaws::type_of_row))]
+#[tactic(auto, using(crate::specs::Laws::View::type_of_row))]
 fn part_types(t: Ty) -> Option<Vec<Ty>>
     ensures { items_in result ≡ product_parts (type_of t) }
 {
@@ -212,7 +214,8 @@ fn part_types(t: Ty) -> Option<Vec<Ty>>
 }
 
 fn again_if(fine: bool, work: Vec<Equation>) -> Result<Moved, UnifyFault>
-    ensures { Gives went_of result (went (if fine then more [] else clash) (equations_of work.items)) }
+    ensures { GivesUnifier went_of result (went (if fine then more [] else clash)
+        (equations_of work.items)) }
 {
     if fine {
         Ok(Moved::Again(work))
@@ -222,7 +225,8 @@ fn again_if(fine: bool, work: Vec<Equation>) -> Result<Moved, UnifyFault>
 }
 
 fn members(left: Ty, right: Option<Ty>, work: Vec<Equation>) -> Result<Moved, UnifyFault>
-    ensures { Gives went_of result (went (same_part (type_of left) (type_in right)) (equations_of work.items)) }
+    ensures { GivesUnifier went_of result (went (same_part (type_of left) (type_in right))
+        (equations_of work.items)) }
 {
     match right {
         None => Err(UnifyFault::Clash),
@@ -235,7 +239,8 @@ fn members(left: Ty, right: Option<Ty>, work: Vec<Equation>) -> Result<Moved, Un
 
 #[tactic(auto, using(crate::proofs::Settling::count_steps))]
 fn tuples(left: Vec<Ty>, right: Option<Vec<Ty>>, work: Vec<Equation>) -> Result<Moved, UnifyFault>
-    ensures { Gives went_of result (went (same_product (types_of left.items) (items_in right)) (equations_of work.items)) }
+    ensures { GivesUnifier went_of result
+        (went (same_product (types_of left.items) (items_in right)) (equations_of work.items)) }
 {
     match right {
         None => Err(UnifyFault::Clash),
@@ -249,9 +254,10 @@ fn tuples(left: Vec<Ty>, right: Option<Vec<Ty>>, work: Vec<Equation>) -> Result<
     }
 }
 
-#[tactic(auto, using(crate::specs::ViewLaws::type_of_row))]
+#[tactic(auto, using(crate::specs::Laws::View::type_of_row))]
 fn parts(left: Ty, right: Ty, work: Vec<Equation>) -> Result<Moved, UnifyFault>
-    ensures { Gives went_of result (went (same_form (type_of left) (type_of right)) (equations_of work.items)) }
+    ensures { GivesUnifier went_of result (went (same_form (type_of left) (type_of right))
+        (equations_of work.items)) }
 {
     match left {
         Ty::Nat => again_if(is_nat(&right), work),
@@ -266,7 +272,8 @@ fn parts(left: Ty, right: Ty, work: Vec<Equation>) -> Result<Moved, UnifyFault>
 
 #[tactic(auto, unfolding(crate::specs::Solving::asks))]
 fn one_move(left: Ty, right: Ty, work: Vec<Equation>) -> Result<Moved, UnifyFault>
-    ensures { Gives went_of result (went (asks (type_of left) (type_of right)) (equations_of work.items)) }
+    ensures { GivesUnifier went_of result (went (asks (type_of left) (type_of right))
+        (equations_of work.items)) }
 {
     if let Some(x) = variable(&left) {
         return bind_to(x, right, work);

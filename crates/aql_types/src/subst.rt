@@ -26,7 +26,8 @@ impl Subst {
     /// The instance of a type.
     #[tactic(auto, using(crate::proofs::Applying::apply_steps))]
     pub fn apply(&self, alloc: Global, t: &Ty) -> Result<Ty, Memory>
-        ensures { IfOk result (λ made. type_of made ≡ types.apply (subst_of self.now) (type_of t.now)) }
+        ensures { IfOk result (λ made. type_of made ≡ types.apply (subst_of self.now)
+            (type_of t.now)) }
     {
         let mut made = t.copy(alloc)?;
         for b in &self.bindings {

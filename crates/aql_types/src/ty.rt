@@ -38,7 +38,7 @@ pub enum Scheme {
 impl Ty {
     /// The number of nodes, or the greatest number of 64 bits where there are more.
     #[cycle(nodes)]
-    #[tactic(auto, using(crate::specs::ViewLaws::type_of_row))]
+    #[tactic(auto, using(crate::specs::Laws::View::type_of_row))]
     pub fn nodes(&self) -> u64
         ensures { result ≡ min (types.nodes (type_of self.now)) (2 ^ 64 - 1) }
     {
@@ -55,7 +55,7 @@ impl Ty {
 
     /// The number of levels, or the greatest number of 64 bits where there are more.
     #[cycle(levels)]
-    #[tactic(auto, using(crate::specs::ViewLaws::type_of_row))]
+    #[tactic(auto, using(crate::specs::Laws::View::type_of_row))]
     pub fn levels(&self) -> u64
         ensures { result ≡ min (types.levels (type_of self.now)) (2 ^ 64 - 1) }
     {
@@ -80,7 +80,7 @@ impl Ty {
 
     /// Whether each tuple in it has two or more parts and each array a rank from 1 to 8.
     #[cycle(is_type)]
-    #[tactic(auto, using(crate::specs::ViewLaws::type_of_row))]
+    #[tactic(auto, using(crate::specs::Laws::View::type_of_row))]
     fn is_type(&self) -> bool
         ensures { result ≡ types.is_type (type_of self.now) }
     {
@@ -97,7 +97,7 @@ impl Ty {
 
     /// An equal type.
     #[cycle(copy)]
-    #[tactic(auto, using(crate::specs::ViewLaws::type_of_row))]
+    #[tactic(auto, using(crate::specs::Laws::View::type_of_row))]
     pub fn copy(&self, alloc: Global) -> Result<Ty, Memory>
         ensures { IfOk result (λ made. type_of made ≡ type_of self.now) }
     {
@@ -126,7 +126,7 @@ impl Ty {
 
     /// Whether the variable stands in the type.
     #[cycle(occurs)]
-    #[tactic(auto, using(crate::specs::ViewLaws::type_of_row))]
+    #[tactic(auto, using(crate::specs::Laws::View::type_of_row))]
     pub fn has_variable(&self, x: u64) -> bool
         ensures { result ≡ types.occurs x (type_of self.now) }
     {
@@ -169,7 +169,7 @@ pub fn row(items: Vec<Ty>) -> Ty
 }
 
 #[cycle(nodes)]
-#[tactic(auto, using(crate::specs::ViewLaws::list_steps))]
+#[tactic(auto, using(crate::specs::Laws::View::list_steps))]
 fn nodes_all(ts: &[Ty]) -> u64
     ensures { result ≡ min (types.nodes_all (types_of ts.now)) (2 ^ 64 - 1) }
 {
@@ -181,7 +181,7 @@ fn nodes_all(ts: &[Ty]) -> u64
 }
 
 #[cycle(levels)]
-#[tactic(auto, using(crate::specs::ViewLaws::list_steps))]
+#[tactic(auto, using(crate::specs::Laws::View::list_steps))]
 fn levels_all(ts: &[Ty]) -> u64
     ensures { result ≡ min (types.levels_all (types_of ts.now)) (2 ^ 64 - 1) }
 {
@@ -196,7 +196,7 @@ fn levels_all(ts: &[Ty]) -> u64
 }
 
 #[cycle(is_type)]
-#[tactic(auto, using(crate::specs::ViewLaws::count_types))]
+#[tactic(auto, using(crate::specs::Laws::View::count_types))]
 fn are_parts(ts: &[Ty]) -> bool
     ensures { result ≡ (nat_le 2 (count (types_of ts.now)) && types.are_types (types_of ts.now)) }
 {
@@ -204,7 +204,7 @@ fn are_parts(ts: &[Ty]) -> bool
 }
 
 #[cycle(is_type)]
-#[tactic(auto, using(crate::specs::ViewLaws::list_steps))]
+#[tactic(auto, using(crate::specs::Laws::View::list_steps))]
 fn are_types(ts: &[Ty]) -> bool
     ensures { result ≡ types.are_types (types_of ts.now) }
 {
@@ -217,7 +217,7 @@ fn are_types(ts: &[Ty]) -> bool
 }
 
 #[cycle(copy)]
-#[tactic(auto, using(crate::specs::ViewLaws::list_steps))]
+#[tactic(auto, using(crate::specs::Laws::View::list_steps))]
 fn copy_all(alloc: Global, ts: &[Ty]) -> Result<Vec<Ty>, Memory>
     ensures { IfOk result (λ made. types_of made.items ≡ types_of ts.now) }
 {
@@ -230,7 +230,7 @@ fn copy_all(alloc: Global, ts: &[Ty]) -> Result<Vec<Ty>, Memory>
 }
 
 #[cycle(occurs)]
-#[tactic(auto, using(crate::specs::ViewLaws::list_steps))]
+#[tactic(auto, using(crate::specs::Laws::View::list_steps))]
 fn has_variable_all(ts: &[Ty], x: u64) -> bool
     ensures { result ≡ types.occurs_all x (types_of ts.now) }
 {

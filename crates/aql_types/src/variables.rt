@@ -41,7 +41,7 @@ pub fn place_of(x: u64, names: &[u64]) -> usize
 
 // The variables seen before, and behind them those of a type that are new.
 #[cycle(variables_of)]
-#[tactic(auto, using(crate::specs::ViewLaws::type_of_row))]
+#[tactic(auto, using(crate::specs::Laws::View::type_of_row))]
 fn variables_of(t: &Ty, seen: Vec<u64>) -> Result<Vec<u64>, Memory>
     ensures { IfOk result (λ vs. vs.items ≡ variables.variables (type_of t.now) seen.items) }
 {
@@ -57,7 +57,7 @@ fn variables_of(t: &Ty, seen: Vec<u64>) -> Result<Vec<u64>, Memory>
 }
 
 #[cycle(variables_of)]
-#[tactic(auto, using(crate::specs::ViewLaws::list_steps))]
+#[tactic(auto, using(crate::specs::Laws::View::list_steps))]
 fn variables_of_all(ts: &[Ty], seen: Vec<u64>) -> Result<Vec<u64>, Memory>
     ensures { IfOk result (λ vs. vs.items ≡ variables_all (types_of ts.now) seen.items) }
 {

@@ -7,7 +7,7 @@ use Rattle.aql_value.specs.Datum.{Datum}
 use Rattle.aql_value.specs.Meaning.{datum}
 use Rattle.aql_value.specs.Order.{datum_cmp}
 use Rattle.aql_value.specs.Canon.{IsAscending, canon}
-use Rattle.aql_value.specs.SetLaws.{canon_merge-less, canon_merge-equal, canon_merge-greater, canon_ascending_cons, ascending_tail}
+use Rattle.aql_value.specs.Laws.Set.{canon_merge-less, canon_merge-equal, canon_merge-greater, canon_ascending_cons, ascending_tail}
 use Rattle.aql_value.specs.declared.value.Value.{Value}
 
 -- the meanings of the values that are left of a list, of which the first is taken out already

@@ -1,9 +1,9 @@
 -- The values of the language as mathematical data: what contracts see of a `Value`.
-use Rattle.std.specs.Prelude.{◌≡◌, ℕ, Bool, List, [], ◌∷◌, refl}
-use Rattle.std.proofs.Common.{ap}
+use Rattle.std.specs.Prelude.{ℕ, Bool, List, [], ◌∷◌}
 
 -- a natural, a truth value, a string of bytes, a tuple, a set by its ascending members, an array by its dimensions and its cells in row-major order
 mutual
+  -- a value of the language
   pub data Datum : Type 0 where
     natural : ℕ → Datum
     truth : Bool → Datum
@@ -12,6 +12,7 @@ mutual
     set : Data → Datum
     array : List ℕ → Data → Datum
 
+  -- values, in order
   pub data Data : Type 0 where
     nil : Data
     cons : Datum → Data → Data
@@ -30,14 +31,3 @@ list_of (cons x xs) = x ∷ list_of xs
 pub record Table : Type 0 where
   pub dims : List ℕ
   pub cells : List Datum
-
-pub list_of-data_of : (xs : List Datum) → list_of (data_of xs) ≡ xs
-list_of-data_of [] = refl
-list_of-data_of (x ∷ xs) = ap (λ ys. x ∷ ys) (list_of-data_of xs)
-
-pub data_of-list_of : (xs : Data) → data_of (list_of xs) ≡ xs
-data_of-list_of nil = refl
-data_of-list_of (cons x xs) = ap (cons x) (data_of-list_of xs)
-
--- the two undo each other
-pub ruleset data_lists = (list_of-data_of, data_of-list_of)

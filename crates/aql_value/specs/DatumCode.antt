@@ -10,6 +10,7 @@ Token = ℕ ⊎ (Bool ⊎ (List ℕ ⊎ (List ℕ ⊎ (Bool ⊎ Bool))))
 
 -- the tokens of a value, before others
 abbrev mutual
+  -- a value written out before others, each list behind its end
   pub spell : Datum → List Token → List Token
   spell (natural n) rest = inl n ∷ rest
   spell (truth b) rest = inr (inl b) ∷ rest
@@ -18,6 +19,7 @@ abbrev mutual
   spell (tuple xs) rest = spell_all xs (inr (inr (inr (inr (inl true)))) ∷ rest)
   spell (set xs) rest = spell_all xs (inr (inr (inr (inr (inl false)))) ∷ rest)
 
+  -- the same of the values of a list
   pub spell_all : Data → List Token → List Token
   spell_all nil rest = inr (inr (inr (inr (inr true)))) ∷ rest
   spell_all (cons x xs) rest = spell x (spell_all xs (inr (inr (inr (inr (inr false)))) ∷ rest))
@@ -56,6 +58,7 @@ run (inr (inr (inr (inr (inr false)))) ∷ ts) one all = run ts (under one) (con
 
 -- the tokens of a value put it on the stack
 mutual
+  -- what is written out reads back
   pub run-spell : (x : Datum) (ts : List Token) (one : List Datum) (all : List Data) → run (spell x ts) one all ≡ run ts (x ∷ one) all
   run-spell (natural n) ts one all = refl
   run-spell (truth b) ts one all = refl
@@ -64,6 +67,7 @@ mutual
   run-spell (tuple xs) ts one all = run-spell_all xs (inr (inr (inr (inr (inl true)))) ∷ ts) one all
   run-spell (set xs) ts one all = run-spell_all xs (inr (inr (inr (inr (inl false)))) ∷ ts) one all
 
+  -- the same of the values of a list
   pub run-spell_all : (xs : Data) (ts : List Token) (one : List Datum) (all : List Data) → run (spell_all xs ts) one all ≡ run ts one (xs ∷ all)
   run-spell_all nil ts one all = refl
   run-spell_all (cons x xs) ts one all =

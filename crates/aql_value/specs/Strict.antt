@@ -32,11 +32,13 @@ abbrev pub nullary : Option Datum → List Datum → Option Datum
 nullary o [] = o
 nullary o (a ∷ vs) = None
 
+-- an operation of one operand
 abbrev pub unary : (Datum → Option Datum) → List Datum → Option Datum
 unary f [] = None
 unary f (a ∷ []) = f a
 unary f (a ∷ b ∷ vs) = None
 
+-- an operation of two operands
 abbrev pub binary : (Datum → Datum → Option Datum) → List Datum → Option Datum
 binary f [] = None
 binary f (a ∷ []) = None

@@ -4,6 +4,7 @@ use Rattle.aql_value.specs.Datum.{Datum, natural, truth, text, tuple, set, array
 
 -- the nodes of a value, counted so that each value inside it has fewer
 abbrev mutual
+  -- the nodes of a value
   pub weight : Datum → ℕ
   weight (natural n) = 1
   weight (truth b) = 1
@@ -12,6 +13,7 @@ abbrev mutual
   weight (set xs) = 3 + weight_all xs
   weight (array ds xs) = 3 + weight_all xs
 
+  -- the nodes of values, and one for each
   pub weight_all : Data → ℕ
   weight_all nil = 1
   weight_all (cons x xs) = 1 + weight x + weight_all xs

@@ -9,7 +9,7 @@ use smallvec::SmallVec;
 pub type Index = SmallVec<u128, 8>;
 
 /// The number of cells of these dimensions, or 2^128-1 where it is larger. A 0 among them gives 0.
-#[tactic(auto, using(crate::specs::SaturationLaws::product_more))]
+#[tactic(auto, using(crate::specs::Laws::Saturation::product_more))]
 pub fn saturating_product(dims: &[u128]) -> u128
     ensures { result ≡ min (product dims.now) u128.MAX }
 {

@@ -5,13 +5,14 @@
 //! is the cell at an index. What each operation of the language makes of values stands in
 //! `specs/Operations.antt` and `specs/Strict.antt`.
 //!
-//! Read `value.rt`, `order.rt`, `sets.rt` and `indices.rt`; of `specs/` first `Datum`, `Meaning`,
+//! Read `value.rt`, `order.rt`, `sets.rt`, `indices.rt` and `made.rt`, which has boxes, lists and pairs of what was made; of `specs/` first `Datum`, `Meaning`,
 //! `Order`, `Canon` and `Indices`.
 #![tactic(auto)]
 
 mod arith;
 mod copies;
 mod indices;
+pub mod made;
 mod memory;
 mod ops;
 mod order;

@@ -11,7 +11,7 @@ use std::cmp::Ordering;
 use std::mem::drop;
 
 /// The set of the items: their strictly ascending list, each once.
-#[tactic(auto, using(crate::specs::SortedLaws::permutation_canon))]
+#[tactic(auto, using(crate::specs::Laws::Sorted::permutation_canon))]
 pub fn canon(alloc: Global, items: Items) -> Result<Ascending, Memory>
     ensures { IfOk result (λ set. set ≡ canon items) }
 {
@@ -30,7 +30,7 @@ pub fn merge(alloc: Global, a: Ascending, b: Ascending) -> Result<Ascending, Mem
 
 impl Ascending {
     /// The set of items that stand in order, an item perhaps several times. It takes no memory.
-    #[tactic(auto, using(crate::specs::SortedLaws::dedup_ascends, crate::specs::SortedLaws::dedup_canon))]
+    #[tactic(auto, using(crate::specs::Laws::Sorted::dedup_ascends, crate::specs::Laws::Sorted::dedup_canon))]
     pub fn from_sorted(items: Items) -> Ascending
         requires { IsSorted datum_cmp items }
         ensures { result ≡ canon items }

@@ -107,7 +107,7 @@ impl Model for Items {
 
     ghost size = { weight_list };
 
-    ghost use Rattle.aql_value.specs.WeightFalls.{most_le-weight};
+    ghost use Rattle.aql_value.specs.Laws.WeightFalls.{most_le-weight};
 
     ghost size_decreases = { λ a h. most_le-weight a.items.items };
 }

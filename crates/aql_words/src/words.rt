@@ -24,7 +24,8 @@ pub struct Options {
 /// The options that the words of a command line ask for, the first word being the program's name.
 pub fn read_words(alloc: Global, words: &[String]) -> Result<Options, WordFault>
     // The words have a reading, and these are its options.
-    ensures read { IfOk result (λ o. HasReading (map string_bytes words.now) × (o ≡ options_of (map string_bytes words.now))) }
+    ensures read { IfOk result (λ o. HasReading (map string_bytes words.now)
+        × (o ≡ options_of (map string_bytes words.now))) }
     ensures ranges { IfOk result AreInRange }
     // The words are blamed only where they have no reading.
     ensures usage { IsErrOf result WordFault.Usage → HasReading (map string_bytes words.now) → ⊥ }
@@ -66,17 +67,18 @@ fn asked_for<'a>(matches: &ArgMatches<'a>) -> Options
 fn number<'a>(matches: &ArgMatches<'a>, name: &str, most: u64) -> Option<u64>
     ensures { result ≡ number_at most name.now (rows_of (found_of matches.now)) }
 {
-    within(most, parsed(matches, name))
+    in_range(most, parse_number(matches, name))
 }
 
 // The number of an option as it was written.
-fn parsed<'a>(matches: &ArgMatches<'a>, name: &str) -> Option<u64>
-    ensures { result ≡ option_and_then number_of (one_of name.now (rows_of (found_of matches.now))) }
+fn parse_number<'a>(matches: &ArgMatches<'a>, name: &str) -> Option<u64>
+    ensures { result ≡ option_and_then number_of
+        (one_of name.now (rows_of (found_of matches.now))) }
 {
     matches.get_one::<u64>(name)
 }
 
-fn within(most: u64, number: Option<u64>) -> Option<u64>
+fn in_range(most: u64, number: Option<u64>) -> Option<u64>
     ensures { result ≡ up_to most number }
 {
     match number {

@@ -7,10 +7,10 @@ use Rattle.cdf_header.specs.declared.fault.CdfFault.{CdfFault}
 use Rattle.cdf_header.specs.declared.fault.CdfFault.TheVariants as faults
 use Rattle.cdf_header.specs.declared.fault.ReadError.{ReadError}
 use Rattle.cdf_header.specs.declared.fault.ReadError.TheVariants as errors
-use Rattle.cdf_header.specs.Gives.{Stops}
+use Rattle.cdf_header.specs.Gives.{FailsAt}
 use Rattle.cdf_header.specs.declared.fault.Fault.{Fault}
 use Rattle.cdf_header.specs.Header.{Head}
-use Rattle.cdf_header.specs.Format.{Format, Reads, run}
+use Rattle.cdf_header.specs.Format.{Format, PartFormat, run}
 use Rattle.cdf_header.proofs.Formats.{IsShort, run_more}
 
 pub front_grows : (bytes front piece new : List ℕ) (count room : ℕ) → IsFront bytes front → new ≡ front ++ take count piece → length piece ≡ room → length front + room ≤ length bytes
@@ -61,5 +61,5 @@ outside_answers read faults.Device h = tt
 outside_answers read faults.Memory h = tt
 
 -- the fault that a reader stopped with
-pub stopped : {X : Type 0} (part : Reads X) (bytes : List ℕ) (k : ℕ) (e : ReadError) (fault : Fault) → e ≡ errors.Fault fault → Stops part bytes k e → (next : X → Format) → run (part next) bytes k ≡ Err fault
-stopped part bytes k e fault is h = subst (λ x. Stops part bytes k x) is h
+pub stopped : {X : Type 0} (part : PartFormat X) (bytes : List ℕ) (k : ℕ) (e : ReadError) (fault : Fault) → e ≡ errors.Fault fault → FailsAt part bytes k e → (next : X → Format) → run (part next) bytes k ≡ Err fault
+stopped part bytes k e fault is h = subst (λ x. FailsAt part bytes k x) is h

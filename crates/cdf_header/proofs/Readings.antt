@@ -3,7 +3,7 @@ use Rattle.std.proofs.Common.{◌≡◌, ℕ, ◌<◌, ◌≤◌, min, List, len
 use Rattle.std.proofs.lemmas.List.{get_or-take}
 use Rattle.std.specs.Prelude.{[], IsTrue}
 use Rattle.aql_outside.specs.Contents.{Content, bytes_in, TellsSize}
-use Rattle.aql_outside.specs.ContentsLaws.{size-from_told}
+use Rattle.aql_outside.specs.Laws.Contents.{size-from_told}
 use Rattle.cdf_header.specs.declared.fault.CdfFault.{CdfFault}
 use Rattle.cdf_header.specs.declared.fault.CdfFault.TheVariants as faults
 use Rattle.cdf_header.specs.File.{most_header_bytes, IsOutside, IsOfHeader, IsFront, IsClassic}

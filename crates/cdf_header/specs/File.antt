@@ -84,36 +84,36 @@ abbrev pub IsClassic : List ℕ → Type 0
 IsClassic bytes = (4 ≤ length bytes) × (get_or bytes 0 0 ≡ 67) × (get_or bytes 1 0 ≡ 68) × (get_or bytes 2 0 ≡ 70)
 
 -- the versions that are read
-abbrev pub IsKnown : ℕ → Type 0
-IsKnown v = (v ≡ 1) ⊎ ((v ≡ 2) ⊎ (v ≡ 5))
+abbrev pub IsVersion : ℕ → Type 0
+IsVersion v = (v ≡ 1) ⊎ ((v ≡ 2) ⊎ (v ≡ 5))
 
 -- good fields behind the first four bytes spell the header
 pub record IsHeader (bytes : List ℕ) (h : Head) : Type 0 where
   pub classic : IsClassic bytes
-  pub known : IsKnown (version bytes)
+  pub known : IsVersion (version bytes)
   pub fields : List Field
   pub spells : Spells (header (length bytes) (version bytes) done) (first bytes) 4 fields h
 
 -- good fields spell the bytes before `at`, a field of a kind must come next, and none that is good stands there, for this reason
 pub record FirstFails (bytes : List ℕ) (at : ℕ) (why : Fault) : Type 0 where
   pub classic : IsClassic bytes
-  pub known : IsKnown (version bytes)
+  pub known : IsVersion (version bytes)
   pub fields : List Field
   pub kind : Kind
   pub fails : Fails (header (length bytes) (version bytes) done) (first bytes) 4 fields at kind
   pub cause : fault_at kind (first bytes) at ≡ Some why
 
 -- what is answered of a file of these bytes
-abbrev pub Reading : List ℕ → Result Head CdfFault → Type 0
-Reading bytes (Ok h) = IsHeader bytes h
-Reading bytes (Err faults.Absent) = ⊥
-Reading bytes (Err faults.NotClassic) = IsClassic bytes → ⊥
-Reading bytes (Err (faults.Version v)) = IsClassic bytes × (v ≡ version bytes) × (IsKnown v → ⊥)
-Reading bytes (Err (faults.Malformed k)) = FirstFails bytes k (Short k) ⊎ FirstFails bytes k (Malformed k)
-Reading bytes (Err (faults.TooMany l)) = (at : ℕ) × FirstFails bytes at (TooMany l)
-Reading bytes (Err faults.Device) = Unit {0}
-Reading bytes (Err faults.Memory) = Unit {0}
-Reading bytes (Err e) = ⊥
+abbrev pub HeaderAnswer : List ℕ → Result Head CdfFault → Type 0
+HeaderAnswer bytes (Ok h) = IsHeader bytes h
+HeaderAnswer bytes (Err faults.Absent) = ⊥
+HeaderAnswer bytes (Err faults.NotClassic) = IsClassic bytes → ⊥
+HeaderAnswer bytes (Err (faults.Version v)) = IsClassic bytes × (v ≡ version bytes) × (IsVersion v → ⊥)
+HeaderAnswer bytes (Err (faults.Malformed k)) = FirstFails bytes k (Short k) ⊎ FirstFails bytes k (Malformed k)
+HeaderAnswer bytes (Err (faults.TooMany l)) = (at : ℕ) × FirstFails bytes at (TooMany l)
+HeaderAnswer bytes (Err faults.Device) = Unit {0}
+HeaderAnswer bytes (Err faults.Memory) = Unit {0}
+HeaderAnswer bytes (Err e) = ⊥
 
 -- no file, or the device
 abbrev pub IsLost : CdfFault → Type 0
@@ -125,7 +125,7 @@ IsLost e = ⊥
 abbrev pub IsOfHeader : CdfFault → Type 0
 IsOfHeader faults.Absent = Unit {0}
 IsOfHeader faults.NotClassic = Unit {0}
-IsOfHeader (faults.Version v) = IsKnown v → ⊥
+IsOfHeader (faults.Version v) = IsVersion v → ⊥
 IsOfHeader (faults.Malformed k) = Unit {0}
 IsOfHeader (faults.TooMany l) = Unit {0}
 IsOfHeader faults.Device = Unit {0}

@@ -104,24 +104,25 @@ Fails (ask asked next) bytes k (x ∷ xs) at kind =
 -- ---- the header
 
 -- a part of a format: what must come, before whatever comes after it
-abbrev pub Reads : Type 0 → Type 0
-Reads X = (X → Format) → Format
+abbrev pub PartFormat : Type 0 → Type 0
+PartFormat X = (X → Format) → Format
 
 -- a part, and then one that depends on what it gave
 infixl 10 ◌>>=◌
-abbrev pub ◌>>=◌ : {X Y : Type 0} → Reads X → (X → Reads Y) → Reads Y
+-- a part, and then what comes by its contents
+abbrev pub ◌>>=◌ : {X Y : Type 0} → PartFormat X → (X → PartFormat Y) → PartFormat Y
 (part >>= f) next = part (λ x. f x next)
 
 -- a value for which no field must come
-abbrev pub give : {X : Type 0} → X → Reads X
+abbrev pub give : {X : Type 0} → X → PartFormat X
 give x next = next x
 
 -- a number of so many bytes that passes a test
-unfoldable pub num : ℕ → Test → Reads ℕ
+unfoldable pub num : ℕ → Test → PartFormat ℕ
 num w test next = ask (number w test) (λ bytes. next (big_number w bytes))
 
 -- so many bytes, padded to a multiple of four
-unfoldable pub str : ℕ → Reads (List ℕ)
+unfoldable pub str : ℕ → PartFormat (List ℕ)
 str n next = ask (text n) next
 
 -- the bytes of a number that counts
@@ -133,13 +134,13 @@ abbrev pub far : ℕ → ℕ
 far version = cond (nat_eq version 1) 4 8
 
 -- a name: how many bytes, and they
-unfoldable pub name : ℕ → Reads (List ℕ)
+unfoldable pub name : ℕ → PartFormat (List ℕ)
 name v = do
   n ← num (wide v) Any
   str n
 
 -- the count of a list, which may be absent
-unfoldable pub list : ℕ → ℕ → ℕ → ℕ → Reads ℕ
+unfoldable pub list : ℕ → ℕ → ℕ → ℕ → PartFormat ℕ
 list v own which most = do
   t ← num 4 (Tag own)
   num (wide v) (Count t which most)
@@ -159,28 +160,28 @@ is_some None = false
 is_some (Some x) = true
 
 -- so many items, each of a format that may depend on those before it
-unfoldable pub many : {X : Type 0} → (List X → Reads X) → ℕ → List X → Reads (List X)
+unfoldable pub many : {X : Type 0} → (List X → PartFormat X) → ℕ → List X → PartFormat (List X)
 many item zero xs = give xs
 many item (suc n) xs = do
   x ← item xs
   many item n (xs ++ x ∷ [])
 
 -- so many items whose values are of no matter
-unfoldable pub times : Reads (Unit {0}) → ℕ → Reads (Unit {0})
+unfoldable pub times : PartFormat (Unit {0}) → ℕ → PartFormat (Unit {0})
 times item zero = give tt
 times item (suc n) = do
   x ← item
   times item n
 
 -- a dimension behind others: its name, and its length, which is 0 for one of them at most
-unfoldable pub dimension : ℕ → List Dim → Reads Dim
+unfoldable pub dimension : ℕ → List Dim → PartFormat Dim
 dimension v ds = do
   s ← name v
   len ← num (wide v) (Extent (is_some (record_of ds)))
   give (record { name = s; len = len })
 
 -- the list of the dimensions
-unfoldable pub dims : ℕ → Reads (List Dim)
+unfoldable pub dims : ℕ → PartFormat (List Dim)
 dims v = do
   n ← list v 10 1 1024
   many (dimension v) n []
@@ -192,11 +193,11 @@ type_size kind =
     (cond (nat_eq kind 7) 1 (cond (nat_eq kind 8) 2 (cond (nat_eq kind 9) 4 8))))))
 
 -- so many bytes whose content is of no matter, padded to a multiple of four
-unfoldable pub skip : ℕ → Reads (Unit {0})
+unfoldable pub skip : ℕ → PartFormat (Unit {0})
 skip n next = ask (text n) (λ bytes. next tt)
 
 -- an attribute: its name, the number of its type, how many values, and they
-unfoldable pub attribute : ℕ → Reads (Unit {0})
+unfoldable pub attribute : ℕ → PartFormat (Unit {0})
 attribute v = do
   n ← num (wide v) Any
   s ← skip n
@@ -205,23 +206,23 @@ attribute v = do
   skip (m * type_size kind)
 
 -- a list of attributes
-unfoldable pub attributes : ℕ → Reads (Unit {0})
+unfoldable pub attributes : ℕ → PartFormat (Unit {0})
 attributes v = do
   n ← list v 12 2 8192
   times (attribute v) n
 
 -- the number of a dimension of a variable, behind those of others; the record dimension stands first
-unfoldable pub id : ℕ → List Dim → List ℕ → Reads ℕ
+unfoldable pub id : ℕ → List Dim → List ℕ → PartFormat ℕ
 id v ds is = num (wide v) (Id (length ds) (record_of ds) (nat_eq (length is) 0))
 
 -- the numbers of the dimensions of a variable
-unfoldable pub ids : ℕ → List Dim → Reads (List ℕ)
+unfoldable pub ids : ℕ → List Dim → PartFormat (List ℕ)
 ids v ds = do
   rank ← num (wide v) (Count 1 4 1024)
   many (id v ds) rank []
 
 -- a variable: its name, its dimensions, its attributes, its type, a size that is of no matter, and where it begins
-unfoldable pub variable : ℕ → List Dim → List Var → Reads Var
+unfoldable pub variable : ℕ → List Dim → List Var → PartFormat Var
 variable v ds vs = do
   s ← name v
   shape ← ids v ds
@@ -232,13 +233,13 @@ variable v ds vs = do
   give (record { name = s; ids = shape; kind = kind; begin = begin })
 
 -- the list of the variables
-unfoldable pub vars : ℕ → List Dim → Reads (List Var)
+unfoldable pub vars : ℕ → List Dim → PartFormat (List Var)
 vars v ds = do
   n ← list v 11 3 8192
   many (variable v ds) n []
 
 -- the fields behind the first four bytes, in a file of so many bytes
-unfoldable pub header : ℕ → ℕ → Reads Head
+unfoldable pub header : ℕ → ℕ → PartFormat Head
 header size v = do
   n ← num (wide v) Any
   ds ← dims v

@@ -1,9 +1,7 @@
 pub mod Header
 pub mod HeaderCode
 pub mod Format
-pub mod FormatLaws
 pub mod Gives
 pub mod File
-pub mod SizeLaws
-pub mod HeaderLaws
 pub mod Places
+pub mod Laws

@@ -1,7 +1,7 @@
 // The fields of a header, one at a time.
 ghost use Rattle.std.specs.Prelude.{◌≡◌, ◌⊎◌, ◌≤◌, ◌<◌, ◌*◌, ◌^◌, List, length, IfOk, None};
 ghost use Rattle.cdf_header.specs.Format.{num, flaw, str, name, list, skip};
-ghost use Rattle.cdf_header.specs.Gives.{Gives};
+ghost use Rattle.cdf_header.specs.Gives.{GivesPart};
 ghost use Rattle.cdf_header.specs.declared.test.Test.TheVariants.{NcType};
 
 use crate::fault::{Fault, ReadError};
@@ -19,7 +19,7 @@ pub(crate) fn number(
 ) -> Result<(u64, usize), ReadError>
     requires width { (width ≡ 4) ⊎ (width ≡ 8) }
     requires at { at ≤ length front.now.bytes.now }
-    ensures read { Gives (λ x. x) (num width test) front.now.bytes.now at result }
+    ensures read { GivesPart (λ x. x) (num width test) front.now.bytes.now at result }
     ensures good { IfOk result (λ x. flaw test at x.0 ≡ None) }
     ensures narrow { IfOk result (λ x. width ≡ 4 → x.0 < 2 ^ 32) }
 {
@@ -41,7 +41,7 @@ pub(crate) fn number(
 // The number of a type.
 pub(crate) fn type_of(front: &Front, at: usize) -> Result<(u32, usize), ReadError>
     requires at { at ≤ length front.now.bytes.now }
-    ensures { Gives (λ x. x) (num 4 (NcType front.now.version)) front.now.bytes.now at result }
+    ensures { GivesPart (λ x. x) (num 4 (NcType front.now.version)) front.now.bytes.now at result }
 {
     let (kind, at) = number(
         front,
@@ -57,7 +57,7 @@ pub(crate) fn type_of(front: &Front, at: usize) -> Result<(u32, usize), ReadErro
 #[tactic(auto, unfolding(crate::specs::Format::str))]
 fn text(alloc: Global, front: &Front, at: usize, len: u64) -> Result<(Vec<u8>, usize), ReadError>
     requires at { at ≤ length front.now.bytes.now }
-    ensures { Gives (λ x. x.items) (str len) front.now.bytes.now at result }
+    ensures { GivesPart (λ x. x.items) (str len) front.now.bytes.now at result }
 {
     let left = (front.bytes.len() - at) as u64;
     if left < len || left < len.div_ceil(4) * 4 {
@@ -75,7 +75,7 @@ pub(crate) fn name_of(
     at: usize,
 ) -> Result<(Vec<u8>, usize), ReadError>
     requires at { at ≤ length front.now.bytes.now }
-    ensures { Gives (λ x. x.items) (name front.now.version) front.now.bytes.now at result }
+    ensures { GivesPart (λ x. x.items) (name front.now.version) front.now.bytes.now at result }
 {
     let (len, at) = number(front, at, front.wide(), Test::Any)?;
     text(alloc, front, at, len)
@@ -91,7 +91,7 @@ pub(crate) fn list_of(
     most: u64,
 ) -> Result<(u64, usize), ReadError>
     requires at { at ≤ length front.now.bytes.now }
-    ensures read { Gives (λ x. x) (list front.now.version own which most)
+    ensures read { GivesPart (λ x. x) (list front.now.version own which most)
         front.now.bytes.now at result }
     ensures limit { IfOk result (λ x. x.0 ≤ most) }
 {
@@ -118,7 +118,7 @@ pub(crate) fn skip_over(
 ) -> Result<((), usize), ReadError>
     requires at { at ≤ length front.now.bytes.now }
     requires size { (1 ≤ size) × (size ≤ 8) }
-    ensures { Gives (λ _. tt) (skip (count * size)) front.now.bytes.now at result }
+    ensures { GivesPart (λ _. tt) (skip (count * size)) front.now.bytes.now at result }
 {
     let left = (front.bytes.len() - at) as u64;
     if left < count {

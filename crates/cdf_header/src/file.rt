@@ -3,7 +3,7 @@ ghost use Rattle.std.specs.Prelude.{◌≡◌, ◌≤◌, ◌<◌, min, length, 
 ghost use Rattle.std.specs.Str.{IsUtf8};
 ghost use Rattle.aql_outside.specs.Contents.{WhereTold, IsAbsent};
 ghost use Rattle.aql_outside.specs.Frames.{Leaves};
-ghost use Rattle.cdf_header.specs.File.{most_header_bytes, IsFront, StaysFront, IsOutside, IsDevice, IsAnswered, IsClassic, IsKnown, IsLost, IsOfHeader, fields_of, header_of};
+ghost use Rattle.cdf_header.specs.File.{most_header_bytes, IsFront, StaysFront, IsOutside, IsDevice, IsAnswered, IsClassic, IsVersion, IsLost, IsOfHeader, fields_of, header_of};
 
 use crate::fault::{CdfFault, Fault, ReadError};
 use crate::front::Front;
@@ -132,8 +132,8 @@ fn is_classic(front: &[u8]) -> bool
 }
 
 fn is_known(v: u8) -> bool
-    ensures yes { IsTrue result → IsKnown v }
-    ensures no { IsKnown v → IsTrue result }
+    ensures yes { IsTrue result → IsVersion v }
+    ensures no { IsVersion v → IsTrue result }
 {
     v == 1 || v == 2 || v == 5
 }

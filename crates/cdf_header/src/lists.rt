@@ -2,7 +2,7 @@
 ghost use Rattle.std.specs.Prelude.{◌≡◌, ◌≤◌, [], length, map, IfOk};
 ghost use Rattle.cdf_header.specs.Format.{many, times, dimension, dims, id, ids, attribute, attributes, variable, vars, header, record_of, type_size};
 ghost use Rattle.cdf_header.specs.Header.{dim, var, dims_in, vars_in};
-ghost use Rattle.cdf_header.specs.Gives.{Gives};
+ghost use Rattle.cdf_header.specs.Gives.{GivesPart};
 
 use crate::fault::{Fault, ReadError};
 use crate::fields::{list_of, name_of, number, skip_over, type_of};
@@ -35,7 +35,7 @@ fn dimension_of(
 ) -> Result<(Dimension, usize), ReadError>
     requires at { at ≤ length front.now.bytes.now }
     requires few { length before.now ≤ 1024 }
-    ensures { Gives dim (dimension front.now.version (map dim before.now))
+    ensures { GivesPart dim (dimension front.now.version (map dim before.now))
         front.now.bytes.now at result }
 {
     let (name, at) = name_of(alloc, front, at)?;
@@ -52,7 +52,7 @@ fn dimensions(
 ) -> Result<(Vec<Dimension>, usize), ReadError>
     requires at { at ≤ length front.now.bytes.now }
     requires few { count ≤ 1024 }
-    ensures read { Gives dims_in (many (dimension front.now.version) count [])
+    ensures read { GivesPart dims_in (many (dimension front.now.version) count [])
         front.now.bytes.now at result }
     ensures few { IfOk result (λ x. length x.0.items ≤ 1024) }
 {
@@ -69,7 +69,7 @@ fn dimensions(
 #[tactic(auto, unfolding(crate::specs::Format::dims))]
 fn dims_of(alloc: Global, front: &Front, at: usize) -> Result<(Vec<Dimension>, usize), ReadError>
     requires at { at ≤ length front.now.bytes.now }
-    ensures read { Gives dims_in (dims front.now.version) front.now.bytes.now at result }
+    ensures read { GivesPart dims_in (dims front.now.version) front.now.bytes.now at result }
     ensures few { IfOk result (λ x. length x.0.items ≤ 1024) }
 {
     let (count, at) = list_of(front, at, 10, 1, 1024)?;
@@ -96,7 +96,7 @@ pub(crate) fn size_of(kind: u32) -> u64
 #[tactic(auto, unfolding(crate::specs::Format::attribute))]
 fn attribute_of(front: &Front, at: usize) -> Result<((), usize), ReadError>
     requires at { at ≤ length front.now.bytes.now }
-    ensures { Gives (λ _. tt) (attribute front.now.version) front.now.bytes.now at result }
+    ensures { GivesPart (λ _. tt) (attribute front.now.version) front.now.bytes.now at result }
 {
     let (len, at) = number(front, at, front.wide(), Test::Any)?;
     let (_, at) = skip_over(front, at, len, 1)?;
@@ -107,7 +107,7 @@ fn attribute_of(front: &Front, at: usize) -> Result<((), usize), ReadError>
 
 fn attribute_list(front: &Front, at: usize, count: u64) -> Result<((), usize), ReadError>
     requires at { at ≤ length front.now.bytes.now }
-    ensures { Gives (λ _. tt) (times (attribute front.now.version) count)
+    ensures { GivesPart (λ _. tt) (times (attribute front.now.version) count)
         front.now.bytes.now at result }
 {
     let mut place = at;
@@ -121,7 +121,7 @@ fn attribute_list(front: &Front, at: usize, count: u64) -> Result<((), usize), R
 #[tactic(auto, unfolding(crate::specs::Format::attributes))]
 fn attributes_of(front: &Front, at: usize) -> Result<((), usize), ReadError>
     requires at { at ≤ length front.now.bytes.now }
-    ensures { Gives (λ _. tt) (attributes front.now.version) front.now.bytes.now at result }
+    ensures { GivesPart (λ _. tt) (attributes front.now.version) front.now.bytes.now at result }
 {
     let (count, at) = list_of(front, at, 12, 2, 8192)?;
     attribute_list(front, at, count)
@@ -136,7 +136,7 @@ fn id_of(
 ) -> Result<(u64, usize), ReadError>
     requires at { at ≤ length front.now.bytes.now }
     requires few { length dims.now ≤ 1024 }
-    ensures { Gives (λ x. x) (id front.now.version (map dim dims.now) before.now)
+    ensures { GivesPart (λ x. x) (id front.now.version (map dim dims.now) before.now)
         front.now.bytes.now at result }
 {
     let test = Test::Id {
@@ -156,7 +156,7 @@ fn id_list(
 ) -> Result<(Vec<u64>, usize), ReadError>
     requires at { at ≤ length front.now.bytes.now }
     requires few { length dims.now ≤ 1024 }
-    ensures { Gives (λ x. x.items) (many (id front.now.version (map dim dims.now)) count [])
+    ensures { GivesPart (λ x. x.items) (many (id front.now.version (map dim dims.now)) count [])
         front.now.bytes.now at result }
 {
     let mut found = Vec::new(alloc);
@@ -178,7 +178,7 @@ fn ids_of(
 ) -> Result<(Vec<u64>, usize), ReadError>
     requires at { at ≤ length front.now.bytes.now }
     requires few { length dims.now ≤ 1024 }
-    ensures { Gives (λ x. x.items) (ids front.now.version (map dim dims.now))
+    ensures { GivesPart (λ x. x.items) (ids front.now.version (map dim dims.now))
         front.now.bytes.now at result }
 {
     let (rank, at) = number(
@@ -204,7 +204,7 @@ fn variable_of(
 ) -> Result<(Variable, usize), ReadError>
     requires at { at ≤ length front.now.bytes.now }
     requires few { length dims.now ≤ 1024 }
-    ensures { Gives var (variable front.now.version (map dim dims.now) (map var before.now))
+    ensures { GivesPart var (variable front.now.version (map dim dims.now) (map var before.now))
         front.now.bytes.now at result }
 {
     let (name, at) = name_of(alloc, front, at)?;
@@ -234,7 +234,7 @@ fn variable_list(
 ) -> Result<(Vec<Variable>, usize), ReadError>
     requires at { at ≤ length front.now.bytes.now }
     requires few { length dims.now ≤ 1024 }
-    ensures { Gives vars_in (many (variable front.now.version (map dim dims.now)) count [])
+    ensures { GivesPart vars_in (many (variable front.now.version (map dim dims.now)) count [])
         front.now.bytes.now at result }
 {
     let mut found = Vec::new(alloc);
@@ -256,7 +256,7 @@ fn vars_of(
 ) -> Result<(Vec<Variable>, usize), ReadError>
     requires at { at ≤ length front.now.bytes.now }
     requires few { length dims.now ≤ 1024 }
-    ensures { Gives vars_in (vars front.now.version (map dim dims.now))
+    ensures { GivesPart vars_in (vars front.now.version (map dim dims.now))
         front.now.bytes.now at result }
 {
     let (count, at) = list_of(front, at, 11, 3, 8192)?;
@@ -270,7 +270,7 @@ pub(crate) fn header_of(
     size: u64,
 ) -> Result<(Header, usize), ReadError>
     requires magic { 4 ≤ length front.now.bytes.now }
-    ensures { Gives (λ x. x) (header size front.now.version) front.now.bytes.now 4 result }
+    ensures { GivesPart (λ x. x) (header size front.now.version) front.now.bytes.now 4 result }
 {
     let (numrecs, at) = number(front, 4, front.wide(), Test::Any)?;
     let (dims, at) = dims_of(alloc, front, at)?;

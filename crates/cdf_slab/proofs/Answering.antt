@@ -4,7 +4,7 @@ use Rattle.std.specs.List.{All}
 use Rattle.std.proofs.lemmas.List.Elements.{All-nil, All-cons}
 use Rattle.std.proofs.lemmas.List.{length-map}
 use Rattle.aql_value.specs.Indices.{indices, product}
-use Rattle.aql_value.specs.IndicesLaws.{length_indices}
+use Rattle.aql_value.specs.Laws.Indices.{length_indices}
 use Rattle.aql_value.specs.Datum.{Datum, Table}
 use Rattle.aql_value.specs.Partial.{◌>>=◌, each, or_else}
 use Rattle.cdf_header.specs.declared.fault.CdfFault.{CdfFault}
@@ -14,9 +14,9 @@ use Rattle.cdf_header.specs.Header.{Head, Var}
 use Rattle.cdf_header.specs.Places.{place, weights}
 use Rattle.cdf_slab.specs.declared.axes.Axis.{Axis}
 use Rattle.cdf_slab.specs.Numbers.{Number, number_at, cell_of}
-use Rattle.cdf_slab.specs.Slab.{point, cell_places, slab_numbers, slab, first_cut, index_fault, cut_fault, early_fault, negative_fault, slab_fault, Answers, AnswersEarly}
-use Rattle.cdf_slab.specs.Walk.{steps_of, steps, walk, capped, first_past, AreWithin}
-use Rattle.cdf_slab.specs.Going.{Goes}
+use Rattle.cdf_slab.specs.Slab.{point, cell_places, slab_numbers, slab, first_cut, index_fault, cut_fault, early_fault, negative_fault, slab_fault, IsSlabAnswer, AnswersEarly}
+use Rattle.cdf_slab.specs.Walk.{steps_of, steps, walk, capped, first_past, HaveRoom}
+use Rattle.cdf_slab.specs.Going.{AppendsCells}
 use Rattle.cdf_slab.proofs.Walking.{walk_places, capped-weights}
 use Rattle.cdf_slab.proofs.Cuts.{cut_capped, uncut_within, same_within}
 use Rattle.cdf_slab.proofs.Stepping.{length-weights}
@@ -48,15 +48,15 @@ walk_is_places h v ss cs ts axes size end l lt e =
     same_within size end (walk (steps_of axes) v.begin) (cell_places h v ss cs ts) (omega (arith, lt)) l.same (uncut_within size end (cell_places h v ss cs ts) e)
 
 pub walk_within : (h : Head) (v : Var) (ss cs ts : List ℕ) (axes : List Axis) (size end : ℕ) → Leads h v ss cs ts axes → end < 2 ^ 64 →
-    first_cut size end (cell_places h v ss cs ts) ≡ None → AreWithin size end (walk (steps_of axes) v.begin)
+    first_cut size end (cell_places h v ss cs ts) ≡ None → HaveRoom size end (walk (steps_of axes) v.begin)
 walk_within h v ss cs ts axes size end l lt e =
-    subst (AreWithin size end) (sym (walk_is_places h v ss cs ts axes size end l lt e)) (uncut_within size end (cell_places h v ss cs ts) e)
+    subst (HaveRoom size end) (sym (walk_is_places h v ss cs ts axes size end l lt e)) (uncut_within size end (cell_places h v ss cs ts) e)
 
 abbrev pub tabled : List ℕ → Option (List Datum) → Option Table
 tabled cs o = o >>= λ xs. Some (record { dims = cs; cells = xs })
 
 -- all cells were read
-pub read_all : (signed : Bool) (ns : List Number) (cs : List ℕ) (cells : List Datum) → Goes signed ns [] (Ok cells) →
+pub read_all : (signed : Bool) (ns : List Number) (cs : List ℕ) (cells : List Datum) → AppendsCells signed ns [] (Ok cells) →
     (negative_fault signed ns ≡ None) × (tabled cs (each (cell_of signed) ns) ≡ Some (record { dims = cs; cells = cells }))
 read_all signed ns cs cells g = (
   none signed g.1,
@@ -68,7 +68,7 @@ read_all signed ns cs cells g = (
     none false e = ap (option_map faults.Negative) (none_negative 0 ns g.0 e)
 
 -- a cell below 0, the device or want of memory ended it
-pub read_some : (signed : Bool) (ns : List Number) (array : Option Table) (e : CdfFault) → Goes signed ns [] (Err e) → Answers (negative_fault signed ns) array (Err e)
+pub read_some : (signed : Bool) (ns : List Number) (array : Option Table) (e : CdfFault) → AppendsCells signed ns [] (Err e) → IsSlabAnswer (negative_fault signed ns) array (Err e)
 read_some signed ns array (faults.Negative c) g =
     ap (λ b. negative_fault b ns) g.0 ∙ ap (option_map faults.Negative) g.1
 read_some signed ns array faults.Device g = tt
@@ -132,11 +132,11 @@ walk_found h v ss cs ts items axes end base l a c d lt none =
     ∙ walk_is_places h v ss cs ts items (type_size v.kind) h.bytes l (omega (arith, lt, c)) none
 
 pub room_found : (h : Head) (v : Var) (ss cs ts : List ℕ) (items axes : List Axis) (size end base : ℕ) → Leads h v ss cs ts items →
-    axes ≡ items → size ≡ type_size v.kind → end ≡ h.bytes → base ≡ v.begin → end < 2 ^ 64 → first_cut (type_size v.kind) h.bytes (cell_places h v ss cs ts) ≡ None → AreWithin size end (walk (steps_of axes) base)
+    axes ≡ items → size ≡ type_size v.kind → end ≡ h.bytes → base ≡ v.begin → end < 2 ^ 64 → first_cut (type_size v.kind) h.bytes (cell_places h v ss cs ts) ≡ None → HaveRoom size end (walk (steps_of axes) base)
 room_found h v ss cs ts items axes size end base l a b c d lt none =
-    subst (AreWithin size end) (sym (walk_found h v ss cs ts items axes end base l a c d lt none))
-    (subst (λ n. AreWithin n end (cell_places h v ss cs ts)) (sym b)
-    (subst (λ n. AreWithin (type_size v.kind) n (cell_places h v ss cs ts)) (sym c) (uncut_within (type_size v.kind) h.bytes (cell_places h v ss cs ts) none)))
+    subst (HaveRoom size end) (sym (walk_found h v ss cs ts items axes end base l a c d lt none))
+    (subst (λ n. HaveRoom n end (cell_places h v ss cs ts)) (sym b)
+    (subst (λ n. HaveRoom (type_size v.kind) n (cell_places h v ss cs ts)) (sym c) (uncut_within (type_size v.kind) h.bytes (cell_places h v ss cs ts) none)))
 
 pub places_many : (h : Head) (v : Var) (ss cs ts : List ℕ) → length (cell_places h v ss cs ts) ≡ product cs
 places_many h v ss cs ts = length-map (indices cs) (λ i. place h v (point ss ts i)) ∙ length_indices cs
@@ -146,10 +146,10 @@ cut_early o at e = subst (λ x. AnswersEarly (option_map faults.Cut x) (Err (fau
 
 -- what was read, in the words of the hyperslab
 pub goes_as : (signed : Bool) (bytes : List ℕ) (kind kind' : ℕ) (ps qs : List ℕ) (before : List Datum) (r : Result (List Datum) CdfFault) → kind ≡ kind' → ps ≡ qs → before ≡ [] →
-    Goes signed (map (number_at bytes kind) ps) before r → Goes signed (map (number_at bytes kind') qs) [] r
+    AppendsCells signed (map (number_at bytes kind) ps) before r → AppendsCells signed (map (number_at bytes kind') qs) [] r
 goes_as signed bytes kind kind' ps qs before r a b c g =
-    subst (λ k. Goes signed (map (number_at bytes k) qs) [] r) a
-    (subst (λ l. Goes signed (map (number_at bytes kind) l) [] r) b (subst (λ l. Goes signed (map (number_at bytes kind) ps) l r) c g))
+    subst (λ k. AppendsCells signed (map (number_at bytes k) qs) [] r) a
+    (subst (λ l. AppendsCells signed (map (number_at bytes kind) l) [] r) b (subst (λ l. AppendsCells signed (map (number_at bytes kind) ps) l r) c g))
 
 -- without cells
 none_empty : {X : Type 0} (xs : List X) → length xs ≡ 0 → xs ≡ []

@@ -2,10 +2,10 @@
 use Rattle.std.proofs.Common.{◌≡◌, ℕ, suc, ◌+◌, ◌*◌, ◌-◌, ◌^◌, ◌<◌, ◌≤◌, min, Bool, true, false, cond, nat_lt, if◌then◌else◌, List, [], ◌∷◌, ◌++◌, Option, Some, None, refl, sym, ap, ◌∙◌, arith, inl, inr}
 use Rattle.std.specs.List.{flat_map, range_with_len}
 use Rattle.std.proofs.lemmas.Bool.{cases_lt, lt-ltb, ltb-false}
-use Rattle.aql_value.specs.SaturationLaws.{saturating_product}
+use Rattle.aql_value.specs.Laws.Saturation.{saturating_product}
 use Rattle.cdf_slab.specs.Slab.{first_cut}
 use Rattle.aql_value.specs.Partial.{or_else}
-use Rattle.cdf_slab.specs.Walk.{Step, along, walk, capped, first_past, AreWithin}
+use Rattle.cdf_slab.specs.Walk.{DimensionStep, along, walk, capped, first_past, HaveRoom}
 use Rattle.cdf_slab.proofs.Walking.{map-append, capped-walk}
 
 -- the first block, and the others
@@ -25,7 +25,7 @@ first_past-append size end (p ∷ ps) qs =
     ap (cond (nat_lt end (p + size)) (Some p)) (first_past-append size end ps qs) ∙ sym (or_cond (nat_lt end (p + size)) p (first_past size end ps) (first_past size end qs))
 
 -- the blocks before i pass no end: the first place of the others is the first of all
-pub record CutSoFar (rest : List Step) (a : Step) (base i size end : ℕ) (total : Option ℕ) : Type 0 where
+pub record CutSoFar (rest : List DimensionStep) (a : DimensionStep) (base i size end : ℕ) (total : Option ℕ) : Type 0 where
   pub same : first_past size end (capped (flat_map (λ j. walk rest (along a base j)) (range_with_len i (a.count - i)))) ≡ total
 
 -- the place of an index, where sums and products stop at m
@@ -37,7 +37,7 @@ stopped start i stride weight base here index m e h =
     omega (arith, h, two)
 
 -- one block of places, and the others
-pub cut_next : (rest : List Step) (a : Step) (base i size end here index : ℕ) (found total : Option ℕ) → CutSoFar rest a base i size end total → i < a.count
+pub cut_next : (rest : List DimensionStep) (a : DimensionStep) (base i size end here index : ℕ) (found total : Option ℕ) → CutSoFar rest a base i size end total → i < a.count
     → index ≡ min (min (i * a.stride) (2 ^ 128 - 1) + a.start) (2 ^ 128 - 1) → here ≡ min (min (index * a.weight) (2 ^ 128 - 1) + base) (2 ^ 128 - 1)
     → found ≡ first_past size end (capped (walk rest here))
     → or_else found (first_past size end (capped (flat_map (λ j. walk rest (along a base j)) (range_with_len (i + 1) (a.count - (i + 1)))))) ≡ total
@@ -50,7 +50,7 @@ cut_next rest a base i size end here index found total so_far lt e h is =
     ∙ ap (first_past size end) (sym (map-append (λ p. min p (2 ^ 128 - 1)) (f i) others) ∙ ap capped (sym (blocks_next f i a.count lt)))
     ∙ so_far.same
 
-pub cut_done : (rest : List Step) (a : Step) (base i size end : ℕ) (total : Option ℕ) → CutSoFar rest a base i size end total → a.count ≤ i → None ≡ total
+pub cut_done : (rest : List DimensionStep) (a : DimensionStep) (base i size end : ℕ) (total : Option ℕ) → CutSoFar rest a base i size end total → a.count ≤ i → None ≡ total
 cut_done rest a base i size end total so_far le =
     sym (ap (λ ps. first_past size end (capped ps)) (blocks_done (λ j. walk rest (along a base j)) i a.count le)) ∙ so_far.same
 
@@ -77,13 +77,13 @@ uncut_first true m o e = absurd cc
 uncut_first false m o e = (refl, e)
 
 -- without a cut each place has room
-pub uncut_within : (size end : ℕ) (ps : List ℕ) → first_cut size end ps ≡ None → AreWithin size end ps
+pub uncut_within : (size end : ℕ) (ps : List ℕ) → first_cut size end ps ≡ None → HaveRoom size end ps
 uncut_within size end [] e = tt
 uncut_within size end (p ∷ ps) e =
     let r = uncut_first (nat_lt end (p + size)) (min p (2 ^ 128 - 1)) (first_cut size end ps) e in (ltb-false end (p + size) r.0, uncut_within size end ps r.1)
 
 -- places of two lists that are the same as far as 2^128-1, of which one has room below it, are the same
-pub same_within : (size end : ℕ) (ps qs : List ℕ) → end < 2 ^ 128 - 1 → capped ps ≡ capped qs → AreWithin size end qs → ps ≡ qs
+pub same_within : (size end : ℕ) (ps qs : List ℕ) → end < 2 ^ 128 - 1 → capped ps ≡ capped qs → HaveRoom size end qs → ps ≡ qs
 same_within size end [] [] lt e w = refl
 same_within size end [] (q ∷ qs) lt e w = absurd cc
 same_within size end (p ∷ ps) [] lt e w = absurd cc

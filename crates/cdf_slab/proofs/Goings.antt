@@ -3,18 +3,19 @@ use Rattle.std.proofs.Common.{◌≡◌, ℕ, ◌+◌, ◌<◌, ◌≤◌, Bool,
 use Rattle.std.proofs.lemmas.List.{append-nil}
 use Rattle.aql_value.specs.Datum.{Datum, natural}
 use Rattle.aql_value.specs.Partial.{◌>>=◌, each}
-use Rattle.aql_value.specs.PartialLaws.{then-is, each-length}
+use Rattle.aql_value.specs.Laws.Partial.{then-is, each-length}
 use Rattle.cdf_header.specs.declared.fault.CdfFault.{CdfFault}
 use Rattle.cdf_header.specs.declared.fault.CdfFault.TheVariants as faults
 use Rattle.std.specs.Prelude.{IfOk, IfErr}
-use Rattle.aql_value.specs.Lists.{Every, Every-append}
+use Rattle.aql_value.specs.Lists.{Every}
+use Rattle.aql_value.specs.Laws.Lists.{Every-append}
 use Rattle.cdf_slab.specs.Numbers.{Number, IsCell, cell_of}
 use Rattle.cdf_slab.specs.Slab.{first_negative, IsLate}
 use Rattle.cdf_header.specs.File.{IsOutside}
 use Rattle.cdf_slab.specs.Window.{IsOfPiece}
-use Rattle.cdf_slab.specs.Going.{Goes}
+use Rattle.cdf_slab.specs.Going.{AppendsCells}
 
-pub goes-none : (signed : Bool) (before : List Datum) → Goes signed [] before (Ok before)
+pub goes-none : (signed : Bool) (before : List Datum) → AppendsCells signed [] before (Ok before)
 goes-none signed before = ([], refl, sym (append-nil before))
 
 each-append : (signed : Bool) (ns ms : List Number) (xs ys : List Datum) → each (cell_of signed) ns ≡ Some xs → each (cell_of signed) ms ≡ Some ys → each (cell_of signed) (ns ++ ms) ≡ Some (xs ++ ys)
@@ -58,7 +59,7 @@ first_negative-stays k (n ∷ ns) ms c e = go n.0 (λ h. first_negative-stays (k
     go true h e = e
     go false h e = h e
 
-pub goes-then : (signed : Bool) (ns ms : List Number) (before mid : List Datum) (r : Result (List Datum) CdfFault) → Goes signed ns before (Ok mid) → Goes signed ms mid r → Goes signed (ns ++ ms) before r
+pub goes-then : (signed : Bool) (ns ms : List Number) (before mid : List Datum) (r : Result (List Datum) CdfFault) → AppendsCells signed ns before (Ok mid) → AppendsCells signed ms mid r → AppendsCells signed (ns ++ ms) before r
 goes-then signed ns ms before mid (Ok all) h k =
     (h.0 ++ k.0, each-append signed ns ms h.0 k.0 h.1 k.1, k.2 ∙ ap (λ l. l ++ k.0) h.2 ∙ append_assoc before h.0 k.0)
 goes-then signed ns ms before mid (Err (faults.Negative c)) h k =
@@ -79,7 +80,7 @@ goes-then signed ns ms before mid (Err (faults.Stride d)) h k = k
 goes-then signed ns ms before mid (Err (faults.Outside d)) h k = k
 goes-then signed ns ms before mid (Err (faults.Cut a)) h k = k
 
-pub goes-fails : (signed : Bool) (ns ms : List Number) (before : List Datum) (e : CdfFault) → Goes signed ns before (Err e) → Goes signed (ns ++ ms) before (Err e)
+pub goes-fails : (signed : Bool) (ns ms : List Number) (before : List Datum) (e : CdfFault) → AppendsCells signed ns before (Err e) → AppendsCells signed (ns ++ ms) before (Err e)
 goes-fails signed ns ms before (faults.Negative c) h = (h.0, first_negative-stays (length before) ns ms c h.1)
 goes-fails signed ns ms before faults.Device h = tt
 goes-fails signed ns ms before faults.Memory h = tt
@@ -104,7 +105,7 @@ cells-given signed (n ∷ ns) xs e =
     let z : a.0 ∷ b.0 ≡ xs = cc in
     subst (Every (IsCell signed)) z ((n, a.1), cells-given signed ns b.0 b.1)
 
-pub goes-kinds : (signed : Bool) (ns : List Number) (before : List Datum) (r : Result (List Datum) CdfFault) → Goes signed ns before r → Every (IsCell signed) before → IfOk r (Every (IsCell signed))
+pub goes-kinds : (signed : Bool) (ns : List Number) (before : List Datum) (r : Result (List Datum) CdfFault) → AppendsCells signed ns before r → Every (IsCell signed) before → IfOk r (Every (IsCell signed))
 goes-kinds signed ns before (Ok all) h k = subst (Every (IsCell signed)) (sym h.2) (Every-append (IsCell signed) before h.0 k (cells-given signed ns h.0 h.1))
 goes-kinds signed ns before (Err e) h k = tt
 
@@ -118,7 +119,7 @@ first_negative-below k (n ∷ ns) c e = go n.0 (λ h. first_negative-below (k + 
     go false h e = omega (arith, h e)
 
 -- a fault of reading numbers
-pub goes_late : (signed : Bool) (ns : List Number) (before : List Datum) (r : Result (List Datum) CdfFault) → Goes signed ns before r → IfErr r (IsLate signed (length before + length ns))
+pub goes_late : (signed : Bool) (ns : List Number) (before : List Datum) (r : Result (List Datum) CdfFault) → AppendsCells signed ns before r → IfErr r (IsLate signed (length before + length ns))
 goes_late signed ns before (Ok all) g = tt
 goes_late signed ns before (Err (faults.Negative c)) g = (g.0, first_negative-below (length before) ns c g.1)
 goes_late signed ns before (Err (faults.Cut at)) g = absurd g

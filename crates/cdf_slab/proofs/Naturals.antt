@@ -12,7 +12,7 @@ use Rattle.cdf_slab.specs.Numbers.{Number, has_sign, twos, number_of, cell_of}
 use Rattle.cdf_slab.specs.Run.{lowest, IsNatural}
 use Rattle.cdf_slab.specs.Slab.{first_negative}
 use Rattle.cdf_header.specs.File.{IsOutside}
-use Rattle.cdf_slab.specs.Going.{Goes}
+use Rattle.cdf_slab.specs.Going.{AppendsCells}
 use Rattle.std.proofs.lemmas.Bool.{lt-ltb, le-ltb}
 use Rattle.cdf_slab.proofs.Goings.{goes-then, goes-fails}
 use Rattle.cdf_slab.proofs.Walking.{map-append}
@@ -25,12 +25,12 @@ naturals_each kind (x ∷ xs) h =
     ap (λ n. cell_of false n >>= λ y. each (cell_of false) (map (number_of kind) xs) >>= λ ys. Some (y ∷ ys)) e
     ∙ ap (λ o. o >>= λ ys. Some (natural x ∷ ys)) (naturals_each kind xs (λ k lt. h (suc k) (omega (arith, lt))))
 
-naturals_go : (kind : ℕ) (ns : List ℕ) (before all : List Datum) → ((k : ℕ) → k < length ns → IsNatural kind (get_or ns k 0)) → all ≡ before ++ map natural ns → Goes false (map (number_of kind) ns) before (Ok all)
+naturals_go : (kind : ℕ) (ns : List ℕ) (before all : List Datum) → ((k : ℕ) → k < length ns → IsNatural kind (get_or ns k 0)) → all ≡ before ++ map natural ns → AppendsCells false (map (number_of kind) ns) before (Ok all)
 naturals_go kind ns before all h e = (map natural ns, naturals_each kind ns h, e)
 
 -- the naturals at the front
 pub naturals_first : (kind : ℕ) (ns : List ℕ) (n : ℕ) (before all : List Datum) → n ≤ length ns → ((k : ℕ) → k < n → IsNatural kind (get_or ns k 0)) → all ≡ before ++ map natural (take n ns) →
-    Goes false (map (number_of kind) (take n ns)) before (Ok all)
+    AppendsCells false (map (number_of kind) (take n ns)) before (Ok all)
 naturals_first kind ns n before all le h e =
     naturals_go kind (take n ns) before all
     (λ k lt.
@@ -38,47 +38,47 @@ naturals_first kind ns n before all le h e =
     subst (IsNatural kind) (sym (get_or-take n ns k 0 m)) (h k m)) e
 
 -- a number below 0, and then others
-negative_first : (kind : ℕ) (x : ℕ) (xs : List ℕ) (before : List Datum) → (number_of kind x).0 ≡ true → Goes false (map (number_of kind) (x ∷ xs)) before (Err (faults.Negative (length before)))
+negative_first : (kind : ℕ) (x : ℕ) (xs : List ℕ) (before : List Datum) → (number_of kind x).0 ≡ true → AppendsCells false (map (number_of kind) (x ∷ xs)) before (Err (faults.Negative (length before)))
 negative_first kind x xs before e = (refl, ap (λ b. if b then Some (length before) else first_negative (length before + 1) (map (number_of kind) xs)) e)
 
 -- naturals, a number below 0, and then others
-pub negative_go : (kind : ℕ) (ns : List ℕ) (n : ℕ) (before all : List Datum) → n < length ns → Goes false (map (number_of kind) (take n ns)) before (Ok all) → (number_of kind (get_or ns n 0)).0 ≡ true →
-    Goes false (map (number_of kind) ns) before (Err (faults.Negative (length all)))
+pub negative_go : (kind : ℕ) (ns : List ℕ) (n : ℕ) (before all : List Datum) → n < length ns → AppendsCells false (map (number_of kind) (take n ns)) before (Ok all) → (number_of kind (get_or ns n 0)).0 ≡ true →
+    AppendsCells false (map (number_of kind) ns) before (Err (faults.Negative (length all)))
 negative_go kind ns n before all lt g e =
     let split : map (number_of kind) (take n ns) ++ map (number_of kind) (get_or ns n 0 ∷ drop (n + 1) ns) ≡ map (number_of kind) ns =
     sym (map-append (number_of kind) (take n ns) (get_or ns n 0 ∷ drop (n + 1) ns))
     ∙ ap (map (number_of kind)) (ap (λ l. take n ns ++ l) (sym (drop_more ns n 0 lt)) ∙ take-append-drop n ns) in
-    subst (λ l. Goes false l before (Err (faults.Negative (length all)))) split
+    subst (λ l. AppendsCells false l before (Err (faults.Negative (length all)))) split
     (goes-then false (map (number_of kind) (take n ns)) (map (number_of kind) (get_or ns n 0 ∷ drop (n + 1) ns)) before all (Err (faults.Negative (length all))) g
     (negative_first kind (get_or ns n 0) (drop (n + 1) ns) all e))
 
 -- one number more
 pub goes_push : (signed : Bool) (kind : ℕ) (ns : List ℕ) (i x : ℕ) (before mid all : List Datum) → i < length ns → x ≡ get_or ns i 0 →
-    Goes signed (map (number_of kind) (take i ns)) before (Ok mid) → Goes signed (number_of kind x ∷ []) mid (Ok all) → Goes signed (map (number_of kind) (take (i + 1) ns)) before (Ok all)
+    AppendsCells signed (map (number_of kind) (take i ns)) before (Ok mid) → AppendsCells signed (number_of kind x ∷ []) mid (Ok all) → AppendsCells signed (map (number_of kind) (take (i + 1) ns)) before (Ok all)
 goes_push signed kind ns i x before mid all lt e g h =
     let split : map (number_of kind) (take i ns) ++ number_of kind x ∷ [] ≡ map (number_of kind) (take (i + 1) ns) =
     ap (λ y. map (number_of kind) (take i ns) ++ number_of kind y ∷ []) e
     ∙ sym (map-append (number_of kind) (take i ns) (get_or ns i 0 ∷ []))
     ∙ ap (map (number_of kind)) (sym (take_more ns i 0 lt)) in
-    subst (λ l. Goes signed l before (Ok all)) split
+    subst (λ l. AppendsCells signed l before (Ok all)) split
     (goes-then signed (map (number_of kind) (take i ns)) (number_of kind x ∷ []) before mid (Ok all) g h)
 
 -- a number that fails, and those behind it
 pub goes_stop : (signed : Bool) (kind : ℕ) (ns : List ℕ) (i x : ℕ) (before mid : List Datum) (fault : CdfFault) → i < length ns → x ≡ get_or ns i 0 →
-    Goes signed (map (number_of kind) (take i ns)) before (Ok mid) → Goes signed (number_of kind x ∷ []) mid (Err fault) → Goes signed (map (number_of kind) ns) before (Err fault)
+    AppendsCells signed (map (number_of kind) (take i ns)) before (Ok mid) → AppendsCells signed (number_of kind x ∷ []) mid (Err fault) → AppendsCells signed (map (number_of kind) ns) before (Err fault)
 goes_stop signed kind ns i x before mid fault lt e g h =
     let split : (map (number_of kind) (take i ns) ++ number_of kind x ∷ []) ++ map (number_of kind) (drop (i + 1) ns) ≡ map (number_of kind) ns =
     ap (λ y. (map (number_of kind) (take i ns) ++ number_of kind y ∷ []) ++ map (number_of kind) (drop (i + 1) ns)) e
     ∙ ap (λ l. l ++ map (number_of kind) (drop (i + 1) ns)) (sym (map-append (number_of kind) (take i ns) (get_or ns i 0 ∷ [])) ∙ ap (map (number_of kind)) (sym (take_more ns i 0 lt)))
     ∙ sym (map-append (number_of kind) (take (i + 1) ns) (drop (i + 1) ns))
     ∙ ap (map (number_of kind)) (take-append-drop (i + 1) ns) in
-    subst (λ l. Goes signed l before (Err fault)) split
+    subst (λ l. AppendsCells signed l before (Err fault)) split
     (goes-fails signed (map (number_of kind) (take i ns) ++ number_of kind x ∷ []) (map (number_of kind) (drop (i + 1) ns)) before fault
     (goes-then signed (map (number_of kind) (take i ns)) (number_of kind x ∷ []) before mid (Err fault) g h))
 
-pub goes_all : (signed : Bool) (kind : ℕ) (ns : List ℕ) (i : ℕ) (before all : List Datum) → length ns ≤ i → Goes signed (map (number_of kind) (take i ns)) before (Ok all) →
-    Goes signed (map (number_of kind) ns) before (Ok all)
-goes_all signed kind ns i before all le g = subst (λ l. Goes signed (map (number_of kind) l) before (Ok all)) (take_all i ns le) g
+pub goes_all : (signed : Bool) (kind : ℕ) (ns : List ℕ) (i : ℕ) (before all : List Datum) → length ns ≤ i → AppendsCells signed (map (number_of kind) (take i ns)) before (Ok all) →
+    AppendsCells signed (map (number_of kind) ns) before (Ok all)
+goes_all signed kind ns i before all le g = subst (λ l. AppendsCells signed (map (number_of kind) l) before (Ok all)) (take_all i ns le) g
 
 -- the least number below 0
 twos_below : (w x : ℕ) → x < 2 ^ (8 * w - 1) → twos w x ≡ (false, x)
@@ -109,7 +109,7 @@ pub natural_each : (kind x : ℕ) → lowest kind ≡ None → IsNatural kind x
 natural_each kind x e = no_lowest (has_sign kind) (type_size kind) x e
 
 -- a fault of the device, or want of memory, is one of reading any numbers
-pub outside_goes : (signed : Bool) (ns : List Number) (before : List Datum) (e : CdfFault) → IsOutside e → Goes signed ns before (Err e)
+pub outside_goes : (signed : Bool) (ns : List Number) (before : List Datum) (e : CdfFault) → IsOutside e → AppendsCells signed ns before (Err e)
 outside_goes signed ns before faults.Device out = tt
 outside_goes signed ns before faults.Memory out = tt
 outside_goes signed ns before faults.Absent out = absurd out

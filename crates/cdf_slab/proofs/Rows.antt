@@ -11,11 +11,11 @@ use Rattle.cdf_header.specs.Format.{type_size}
 use Rattle.cdf_header.specs.declared.fault.CdfFault.{CdfFault}
 use Rattle.cdf_slab.specs.declared.window.Window.{Window}
 use Rattle.cdf_slab.specs.Numbers.{Number, number_of, number_at}
-use Rattle.cdf_slab.specs.Run.{apart, run, HasRun, HoldsRun}
-use Rattle.cdf_slab.specs.Walk.{Step, along, walk, AreWithin, places_left, RoomSoFar, Turn}
+use Rattle.cdf_slab.specs.Run.{apart, run, HasAllBytes, HoldsRun}
+use Rattle.cdf_slab.specs.Walk.{DimensionStep, along, walk, HaveRoom, places_left, RoomSoFar, Turn}
 use Rattle.cdf_slab.specs.Slab.{IsLate}
 use Rattle.cdf_slab.specs.Window.{IsPiece}
-use Rattle.cdf_slab.specs.Going.{Goes}
+use Rattle.cdf_slab.specs.Going.{AppendsCells}
 use Rattle.cdf_slab.proofs.Blocks.{AreWithin-append, ReadSoFar, CountSoFar}
 use Rattle.cdf_slab.proofs.Goings.{goes-then, goes-fails, goes_late, late_more}
 use Rattle.cdf_slab.proofs.Pieces.{piece_number}
@@ -47,7 +47,7 @@ same_ranges f g i j (suc n) h =
     ap f p ∙ h (k + 1) (omega (arith, lt)) ∙ ap g q))
 
 -- the offset of an index further on
-along_on : (a : Step) (base i k step n : ℕ) → k < n → (2 ≤ n → step ≡ a.stride * a.weight) → along a base (i + k) ≡ along a base i + (0 + k) * step
+along_on : (a : DimensionStep) (base i k step n : ℕ) → k < n → (2 ≤ n → step ≡ a.stride * a.weight) → along a base (i + k) ≡ along a base i + (0 + k) * step
 along_on a base i zero step n lt e = let z : i + 0 ≡ i = omega arith in ap (along a base) z ∙ omega arith
 along_on a base i (suc k) step n lt e =
     let s = e (omega (arith, lt)) in
@@ -55,23 +55,23 @@ along_on a base i (suc k) step n lt e =
     ap (λ x. base + x) m ∙ omega arith ∙ ap (λ x. along a base i + (0 + suc k) * x) (sym s)
 
 -- the places of n indices from i on are a step apart
-row_apart : (a : Step) (base i n here step : ℕ) → here ≡ along a base i → (2 ≤ n → step ≡ a.stride * a.weight) → flat_map (λ j. walk [] (along a base j)) (range_with_len i n) ≡ apart here step n
+row_apart : (a : DimensionStep) (base i n here step : ℕ) → here ≡ along a base i → (2 ≤ n → step ≡ a.stride * a.weight) → flat_map (λ j. walk [] (along a base j)) (range_with_len i n) ≡ apart here step n
 row_apart a base i n here step h e =
     flat_map_single (along a base) (range_with_len i n)
     ∙ same_ranges (along a base) (λ k. here + k * step) i 0 n (λ k lt. along_on a base i k step n lt e ∙ ap (λ x. x + (0 + k) * step) (sym h))
 
 -- the places of n indices from i on, and then those behind them, which have room
-pub record RowTurn (a : Step) (base i n size end here step : ℕ) : Type 0 where
+pub record RowTurn (a : DimensionStep) (base i n size end here step : ℕ) : Type 0 where
   pub places : places_left [] a base i ≡ apart here step n ++ places_left [] a base (i + n)
   pub next : RoomSoFar [] a base (i + n) size end
 
-pub here_is : (a : Step) (base i size end here : ℕ) → Turn [] a base i size end here → here ≡ along a base i
+pub here_is : (a : DimensionStep) (base i size end here : ℕ) → Turn [] a base i size end here → here ≡ along a base i
 here_is a base i size end here t = let e = t.same in cc
 
 exact : (stride weight step m n : ℕ) → step ≡ min (stride * weight) m → (2 ≤ n → step < m) → 2 ≤ n → step ≡ stride * weight
 exact stride weight step m n e near two = let l = near two in omega (arith, e, l)
 
-pub row_turn : (a : Step) (base i n size end here step m : ℕ) → RoomSoFar [] a base i size end → Turn [] a base i size end here → i + n ≤ a.count →
+pub row_turn : (a : DimensionStep) (base i n size end here step m : ℕ) → RoomSoFar [] a base i size end → Turn [] a base i size end here → i + n ≤ a.count →
     step ≡ min (a.stride * a.weight) m → (2 ≤ n → step < m) → RowTurn a base i n size end here step
 row_turn a base i n size end here step m room t le s near =
     let c : a.count - i ≡ n + (a.count - (i + n)) = omega arith in
@@ -82,7 +82,7 @@ row_turn a base i n size end here step m room t le s near =
     ∙ ap (λ l. l ++ places_left [] a base (i + n)) (row_apart a base i n here step (here_is a base i size end here t) (exact a.stride a.weight step m n s near)) in
     record {
       places = places;
-      next = record { within = (AreWithin-append size end (apart here step n) (places_left [] a base (i + n)) (subst (AreWithin size end) places room.within)).1 };
+      next = record { within = (AreWithin-append size end (apart here step n) (places_left [] a base (i + n)) (subst (HaveRoom size end) places room.within)).1 };
     }
 
 -- the numbers of a run in a piece are those of the file
@@ -102,31 +102,31 @@ run_numbers bytes w kind size place step n is h p =
     ∙ sym (map-twice (number_at bytes kind) (λ k. place + k * step) (range_with_len 0 n))
 
 -- a run in a piece is one of its bytes from the first on
-pub has_run : (w : Window) (place size step n : ℕ) → HoldsRun w place size step n → HasRun (drop (place - w.at) w.bytes.items) size step n
+pub has_run : (w : Window) (place size step n : ℕ) → HoldsRun w place size step n → HasAllBytes (drop (place - w.at) w.bytes.items) size step n
 has_run w place size step n h = record { room = λ k lt. omega (arith, h.behind, h.before k lt, length-drop (place - w.at) w.bytes.items) }
 
-numbers-on : (bytes : List ℕ) (kind : ℕ) (a : Step) (base i n size end here step : ℕ) → RowTurn a base i n size end here step →
+numbers-on : (bytes : List ℕ) (kind : ℕ) (a : DimensionStep) (base i n size end here step : ℕ) → RowTurn a base i n size end here step →
     map (number_at bytes kind) (apart here step n) ++ map (number_at bytes kind) (places_left [] a base (i + n)) ≡ map (number_at bytes kind) (places_left [] a base i)
 numbers-on bytes kind a base i n size end here step t =
     sym (map-append (number_at bytes kind) (apart here step n) (places_left [] a base (i + n))) ∙ ap (map (number_at bytes kind)) (sym t.places)
 
-pub row_next : (signed : Bool) (bytes : List ℕ) (kind : ℕ) (a : Step) (base i n size end here step : ℕ) (total : List Number) (now more before : List Datum) →
-    ReadSoFar signed bytes kind [] a base i total now before → RowTurn a base i n size end here step → Goes signed (map (number_at bytes kind) (apart here step n)) now (Ok more) →
+pub row_next : (signed : Bool) (bytes : List ℕ) (kind : ℕ) (a : DimensionStep) (base i n size end here step : ℕ) (total : List Number) (now more before : List Datum) →
+    ReadSoFar signed bytes kind [] a base i total now before → RowTurn a base i n size end here step → AppendsCells signed (map (number_at bytes kind) (apart here step n)) now (Ok more) →
     ReadSoFar signed bytes kind [] a base (i + n) total more before
 row_next signed bytes kind a base i n size end here step total now more before s t g = record {
   whole = λ r k.
-      s.whole r (subst (λ l. Goes signed l now r) (numbers-on bytes kind a base i n size end here step t)
+      s.whole r (subst (λ l. AppendsCells signed l now r) (numbers-on bytes kind a base i n size end here step t)
       (goes-then signed (map (number_at bytes kind) (apart here step n)) (map (number_at bytes kind) (places_left [] a base (i + n))) now more r g k));
 }
 
-pub row_fails : (signed : Bool) (bytes : List ℕ) (kind : ℕ) (a : Step) (base i n size end here step : ℕ) (total : List Number) (now before : List Datum) (e : CdfFault) →
-    ReadSoFar signed bytes kind [] a base i total now before → RowTurn a base i n size end here step → Goes signed (map (number_at bytes kind) (apart here step n)) now (Err e) →
-    Goes signed total before (Err e)
+pub row_fails : (signed : Bool) (bytes : List ℕ) (kind : ℕ) (a : DimensionStep) (base i n size end here step : ℕ) (total : List Number) (now before : List Datum) (e : CdfFault) →
+    ReadSoFar signed bytes kind [] a base i total now before → RowTurn a base i n size end here step → AppendsCells signed (map (number_at bytes kind) (apart here step n)) now (Err e) →
+    AppendsCells signed total before (Err e)
 row_fails signed bytes kind a base i n size end here step total now before e s t g =
-    s.whole (Err e) (subst (λ l. Goes signed l now (Err e)) (numbers-on bytes kind a base i n size end here step t)
+    s.whole (Err e) (subst (λ l. AppendsCells signed l now (Err e)) (numbers-on bytes kind a base i n size end here step t)
     (goes-fails signed (map (number_at bytes kind) (apart here step n)) (map (number_at bytes kind) (places_left [] a base (i + n))) now e g))
 
-pub row_counts : (a : Step) (base i n size end here step now more before total : ℕ) → CountSoFar [] a base i now before total → RowTurn a base i n size end here step → more ≡ now + n →
+pub row_counts : (a : DimensionStep) (base i n size end here step now more before total : ℕ) → CountSoFar [] a base i now before total → RowTurn a base i n size end here step → more ≡ now + n →
     CountSoFar [] a base (i + n) more before total
 row_counts a base i n size end here step now more before total s t e = record {
   many = omega (
@@ -141,8 +141,8 @@ row_counts a base i n size end here step now more before total s t e = record {
 }
 
 -- the count of a fault of a run, in the words of the whole row
-pub row_late : (signed : Bool) (kind size : ℕ) (a : Step) (base i n end here step : ℕ) (from : List ℕ) (now : List Datum) (before total : ℕ) (e : CdfFault) →
-    CountSoFar [] a base i (length now) before total → RowTurn a base i n size end here step → Goes signed (map (number_of kind) (run size step n from)) now (Err e) → IsLate signed (before + total) e
+pub row_late : (signed : Bool) (kind size : ℕ) (a : DimensionStep) (base i n end here step : ℕ) (from : List ℕ) (now : List Datum) (before total : ℕ) (e : CdfFault) →
+    CountSoFar [] a base i (length now) before total → RowTurn a base i n size end here step → AppendsCells signed (map (number_of kind) (run size step n from)) now (Err e) → IsLate signed (before + total) e
 row_late signed kind size a base i n end here step from now before total e s t g =
     late_more signed _ (before + total) e
     (omega (
@@ -160,6 +160,6 @@ row_late signed kind size a base i n end here step from now before total e s t g
 -- what is made of a run in a piece is made of the file's numbers there
 pub run_told : (signed : Bool) (bytes : List ℕ) (w : Window) (kind size place step n : ℕ) (from : List ℕ) (now : List Datum) (r : Result (List Datum) CdfFault) →
     size ≡ type_size kind → HoldsRun w place size step n → IsPiece bytes w → from ≡ drop (place - w.at) w.bytes.items →
-    Goes signed (map (number_of kind) (run size step n from)) now r → Goes signed (map (number_at bytes kind) (apart place step n)) now r
+    AppendsCells signed (map (number_of kind) (run size step n from)) now r → AppendsCells signed (map (number_at bytes kind) (apart place step n)) now r
 run_told signed bytes w kind size place step n from now r is h p e g =
-    subst (λ l. Goes signed l now r) (ap (λ l. map (number_of kind) (run size step n l)) e ∙ run_numbers bytes w kind size place step n is h p) g
+    subst (λ l. AppendsCells signed l now r) (ap (λ l. map (number_of kind) (run size step n l)) e ∙ run_numbers bytes w kind size place step n is h p) g

@@ -5,7 +5,7 @@ use Rattle.cdf_header.specs.Header.{Dim, Var}
 use Rattle.cdf_header.specs.Format.{type_size}
 use Rattle.cdf_header.specs.Places.{len_at, lens, inner, is_over_records, recsize, weights_in, weights}
 use Rattle.cdf_slab.specs.declared.axes.Axis.{Axis}
-use Rattle.cdf_slab.specs.Walk.{Step, step_of, steps_of, steps, capped}
+use Rattle.cdf_slab.specs.Walk.{DimensionStep, step_of, steps_of, steps, capped}
 use Rattle.cdf_slab.proofs.Walking.{map-append}
 
 pub steps_more : (ss cs ts ws : List ℕ) (j a b d e : ℕ) → j < length ss → length cs ≡ length ss → length ts ≡ length ss → length ws ≡ length ss →
@@ -52,12 +52,12 @@ pub length-capped : (ws : List ℕ) → length (capped ws) ≡ length ws
 length-capped ws = length-map ws (λ w. min w (2 ^ 128 - 1))
 
 same_step : (s s' n n' t t' w w' : ℕ) → s ≡ s' → n ≡ n' → t ≡ t' → w ≡ w' →
-    ◌≡◌ {A = Step} (record { start = s; count = n; stride = t; weight = w }) (record { start = s'; count = n'; stride = t'; weight = w' })
+    ◌≡◌ {A = DimensionStep} (record { start = s; count = n; stride = t; weight = w }) (record { start = s'; count = n'; stride = t'; weight = w' })
 same_step s s' n n' t t' w w' a b c d =
-    ap {B = Step} (λ x. record { start = x; count = n; stride = t; weight = w }) a
-    ∙ ap {B = Step} (λ x. record { start = s'; count = x; stride = t; weight = w }) b
-    ∙ ap {B = Step} (λ x. record { start = s'; count = n'; stride = x; weight = w }) c
-    ∙ ap {B = Step} (λ x. record { start = s'; count = n'; stride = t'; weight = x }) d
+    ap {B = DimensionStep} (λ x. record { start = x; count = n; stride = t; weight = w }) a
+    ∙ ap {B = DimensionStep} (λ x. record { start = s'; count = x; stride = t; weight = w }) b
+    ∙ ap {B = DimensionStep} (λ x. record { start = s'; count = n'; stride = x; weight = w }) c
+    ∙ ap {B = DimensionStep} (λ x. record { start = s'; count = n'; stride = t'; weight = x }) d
 
 -- one dimension more
 pub axis_more : (axes new : List Axis) (x : Axis) (ss cs ts ws : List ℕ) (j a b d : ℕ) → new ≡ axes ++ x ∷ [] →

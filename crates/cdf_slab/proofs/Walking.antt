@@ -4,12 +4,12 @@ use Rattle.std.specs.List.{flat_map, range_with_len}
 use Rattle.std.proofs.Math.Nat.{add-mul, mul_assoc, mul_comm}
 use Rattle.aql_value.specs.Indices.{indices, product}
 use Rattle.aql_value.specs.IndicesLaws.{offset}
-use Rattle.aql_value.specs.SaturationLaws.{saturating_product}
+use Rattle.aql_value.specs.Laws.Saturation.{saturating_product}
 use Rattle.cdf_header.specs.Header.{Dim, Var, Head}
 use Rattle.cdf_header.specs.Format.{type_size}
 use Rattle.cdf_header.specs.Places.{lens, inner, is_record, recsize, place_of, weights_in, weights}
 use Rattle.cdf_slab.specs.Slab.{point, cell_places}
-use Rattle.cdf_slab.specs.Walk.{Step, steps, along, walk, capped}
+use Rattle.cdf_slab.specs.Walk.{DimensionStep, steps, along, walk, capped}
 
 -- lists by a function that is the same at each element
 pub same_map : {X Y : Type 0} (f g : X → Y) (xs : List X) → ((x : X) → f x ≡ g x) → map f xs ≡ map g xs
@@ -33,15 +33,15 @@ map-twice f g [] = refl
 map-twice f g (x ∷ xs) = ap (λ ys. f (g x) ∷ ys) (map-twice f g xs)
 
 -- the bytes from the base to an index
-abbrev dot : List Step → List ℕ → ℕ
+abbrev dot : List DimensionStep → List ℕ → ℕ
 dot [] at = 0
 dot (a ∷ axes) [] = 0
 dot (a ∷ axes) (i ∷ at) = (a.start + i * a.stride) * a.weight + dot axes at
 
-abbrev counts : List Step → List ℕ
+abbrev counts : List DimensionStep → List ℕ
 counts axes = map (λ a. a.count) axes
 
-walk_is : (axes : List Step) (base : ℕ) → walk axes base ≡ map (λ at. base + dot axes at) (indices (counts axes))
+walk_is : (axes : List DimensionStep) (base : ℕ) → walk axes base ≡ map (λ at. base + dot axes at) (indices (counts axes))
 unfolding indices
 walk_is [] base = ap (λ b. b ∷ []) (omega arith)
 walk_is (a ∷ axes) base =
@@ -117,7 +117,7 @@ same_capped f g (i ∷ xs) h =
     ∙ sym (map-append (λ p. min p (2 ^ 128 - 1)) (g i) (flat_map g xs))
 
 -- a base that has stopped leads to the same capped places
-pub capped-walk : (axes : List Step) (b c : ℕ) → min b (2 ^ 128 - 1) ≡ min c (2 ^ 128 - 1) → capped (walk axes b) ≡ capped (walk axes c)
+pub capped-walk : (axes : List DimensionStep) (b c : ℕ) → min b (2 ^ 128 - 1) ≡ min c (2 ^ 128 - 1) → capped (walk axes b) ≡ capped (walk axes c)
 capped-walk [] b c e = ap (λ p. p ∷ []) e
 capped-walk (a ∷ axes) b c e = same_capped (λ i. walk axes (along a b i)) (λ i. walk axes (along a c i)) (range_with_len 0 a.count)
     (λ i. capped-walk axes (along a b i) (along a c i) (omega (arith, e)))

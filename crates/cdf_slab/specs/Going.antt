@@ -12,12 +12,12 @@ use Rattle.cdf_slab.specs.declared.reading.Reading.{Reading}
 use Rattle.cdf_slab.specs.declared.window.Window.{Window}
 
 -- a cell more for each number, up to the first that gives none
-abbrev pub Goes : (signed : Bool) → List Number → (before : List Datum) → Result (List Datum) CdfFault → Type 0
-Goes signed ns before (Ok all) = (cells : List Datum) × (each (cell_of signed) ns ≡ Some cells) × (all ≡ before ++ cells)
-Goes signed ns before (Err (faults.Negative c)) = (signed ≡ false) × (first_negative (length before) ns ≡ Some c)
-Goes signed ns before (Err faults.Device) = Unit {0}
-Goes signed ns before (Err faults.Memory) = Unit {0}
-Goes signed ns before (Err e) = ⊥
+abbrev pub AppendsCells : (signed : Bool) → List Number → (before : List Datum) → Result (List Datum) CdfFault → Type 0
+AppendsCells signed ns before (Ok all) = (cells : List Datum) × (each (cell_of signed) ns ≡ Some cells) × (all ≡ before ++ cells)
+AppendsCells signed ns before (Err (faults.Negative c)) = (signed ≡ false) × (first_negative (length before) ns ≡ Some c)
+AppendsCells signed ns before (Err faults.Device) = Unit {0}
+AppendsCells signed ns before (Err faults.Memory) = Unit {0}
+AppendsCells signed ns before (Err e) = ⊥
 
 -- how many cells there are with those of these places behind them
 abbrev pub count_with : List Datum → (places : List ℕ) → ℕ
@@ -31,4 +31,4 @@ StaysKind signed before result = Every (IsCell signed) before → IfOk result (E
 abbrev pub ReadsPlaces : (bytes : List ℕ) → Reading → (before now : Window) → (places : List ℕ) → (cells : List Datum) → Result (List Datum) CdfFault → Type 0
 ReadsPlaces bytes reading before now places cells result =
     reading.end ≤ length bytes → IsPiece bytes before
-    → Goes reading.signed (map (number_at bytes reading.kind) places) cells result × IfOk result (λ _. IsPiece bytes now)
+    → AppendsCells reading.signed (map (number_at bytes reading.kind) places) cells result × IfOk result (λ _. IsPiece bytes now)

@@ -15,7 +15,7 @@ abbrev pub run : (size step n : ℕ) → List ℕ → List ℕ
 run size step n bytes = map (λ k. big_number size (drop (k * step) bytes)) (range_with_len 0 n)
 
 -- the list has all of their bytes
-pub record HasRun (bytes : List ℕ) (size step n : ℕ) : Type 0 where
+pub record HasAllBytes (bytes : List ℕ) (size step n : ℕ) : Type 0 where
   pub room : (k : ℕ) → k < n → k * step + size ≤ length bytes
 
 -- n numbers of so many bytes, a step apart from an offset on, stand in the piece

@@ -91,21 +91,21 @@ slab_fault bytes h v start count stride signed =
     or_else (early_fault h v start count stride) (negative_fault signed (slab_numbers bytes h v start count stride))
 
 -- what is answered, where the file is told: the hyperslab where there is no fault, and else the first; the device and memory apart
-abbrev pub Answers : Option CdfFault → Option Table → Result Table CdfFault → Type 0
-Answers fault array (Ok found) = (fault ≡ None) × (array ≡ Some found)
-Answers fault array (Err faults.Device) = Unit {0}
-Answers fault array (Err faults.Memory) = Unit {0}
-Answers fault array (Err e) = fault ≡ Some e
+abbrev pub IsSlabAnswer : Option CdfFault → Option Table → Result Table CdfFault → Type 0
+IsSlabAnswer fault array (Ok found) = (fault ≡ None) × (array ≡ Some found)
+IsSlabAnswer fault array (Err faults.Device) = Unit {0}
+IsSlabAnswer fault array (Err faults.Memory) = Unit {0}
+IsSlabAnswer fault array (Err e) = fault ≡ Some e
 
 -- the same by the file's bytes and what is asked for
 abbrev pub AnswersSlab : (bytes : List ℕ) → Head → Var → (start count stride : List ℕ) → (signed : Bool) → Result Table CdfFault → Type 0
 AnswersSlab bytes h v start count stride signed result =
-    h.bytes ≡ length bytes → Answers (slab_fault bytes h v start count stride signed) (slab bytes h v start count stride signed) result
+    h.bytes ≡ length bytes → IsSlabAnswer (slab_fault bytes h v start count stride signed) (slab bytes h v start count stride signed) result
 
 -- the same where the variable, the strides and the indices are right
 abbrev pub AnswersRead : (bytes : List ℕ) → Head → Var → (start count stride : List ℕ) → (signed : Bool) → Result Table CdfFault → Type 0
 AnswersRead bytes h v start count stride signed result =
-    h.bytes ≡ length bytes → Answers (or_else (cut_fault h v start count stride) (negative_fault signed (slab_numbers bytes h v start count stride))) (slab bytes h v start count stride signed) result
+    h.bytes ≡ length bytes → IsSlabAnswer (or_else (cut_fault h v start count stride) (negative_fault signed (slab_numbers bytes h v start count stride))) (slab bytes h v start count stride signed) result
 
 -- a fault that the header tells is answered, memory apart
 abbrev pub AnswersEarly : Option CdfFault → Result Table CdfFault → Type 0

@@ -5,43 +5,43 @@ use Rattle.cdf_header.specs.Places.{saturated}
 use Rattle.cdf_slab.specs.declared.axes.Axis.{Axis}
 
 -- one dimension of a hyperslab: where it starts, how many, how far apart, and the bytes from one index to the next
-pub record Step : Type 0 where
+pub record DimensionStep : Type 0 where
   pub start : ℕ
   pub count : ℕ
   pub stride : ℕ
   pub weight : ℕ
 
 -- what the code holds as such a dimension
-abbrev pub step_of : Axis → Step
+abbrev pub step_of : Axis → DimensionStep
 step_of a = record { start = a.start; count = a.count; stride = a.stride; weight = a.weight }
 
 -- the same of each
-abbrev pub steps_of : List Axis → List Step
+abbrev pub steps_of : List Axis → List DimensionStep
 steps_of axes = map step_of axes
 
 -- the steps of these lists
-abbrev pub steps : (start count stride weights : List ℕ) → List Step
+abbrev pub steps : (start count stride weights : List ℕ) → List DimensionStep
 steps (s ∷ ss) (c ∷ cs) (t ∷ ts) (w ∷ ws) = record { start = s; count = c; stride = t; weight = w } ∷ steps ss cs ts ws
 steps ss cs ts ws = []
 
 -- the offset of index i of a dimension
-abbrev pub along : Step → ℕ → ℕ → ℕ
+abbrev pub along : DimensionStep → ℕ → ℕ → ℕ
 along a base i = base + (a.start + i * a.stride) * a.weight
 
 -- the offsets of the cells from a base on
-abbrev pub walk : List Step → ℕ → List ℕ
+abbrev pub walk : List DimensionStep → ℕ → List ℕ
 walk [] base = base ∷ []
 walk (a ∷ axes) base = flat_map (λ i. walk axes (along a base i)) (range_with_len 0 a.count)
 
 -- the offset of the last index of each dimension
-abbrev pub last_place : List Step → ℕ → ℕ
+abbrev pub last_place : List DimensionStep → ℕ → ℕ
 last_place [] base = base
 last_place (a ∷ axes) base = last_place axes (along a base (a.count - 1))
 
 -- each has room for a number of so many bytes before the end
-abbrev pub AreWithin : (size end : ℕ) → List ℕ → Type 0
-AreWithin size end [] = Unit {0}
-AreWithin size end (p ∷ ps) = (p + size ≤ end) × AreWithin size end ps
+abbrev pub HaveRoom : (size end : ℕ) → List ℕ → Type 0
+HaveRoom size end [] = Unit {0}
+HaveRoom size end (p ∷ ps) = (p + size ≤ end) × HaveRoom size end ps
 
 -- each that is larger than 2^128-1 as that number
 abbrev pub capped : List ℕ → List ℕ
@@ -53,14 +53,14 @@ first_past size end [] = None
 first_past size end (p ∷ ps) = cond (nat_lt end (p + size)) (Some p) (first_past size end ps)
 
 -- the places at the index i of the first dimension and behind it
-abbrev pub places_left : (rest : List Step) (a : Step) (base i : ℕ) → List ℕ
+abbrev pub places_left : (rest : List DimensionStep) (a : DimensionStep) (base i : ℕ) → List ℕ
 places_left rest a base i = flat_map (λ j. walk rest (along a base j)) (range_with_len i (a.count - i))
 
 -- these have room
-pub record RoomSoFar (rest : List Step) (a : Step) (base i size end : ℕ) : Type 0 where
-  pub within : AreWithin size end (places_left rest a base i)
+pub record RoomSoFar (rest : List DimensionStep) (a : DimensionStep) (base i size end : ℕ) : Type 0 where
+  pub within : HaveRoom size end (places_left rest a base i)
 
 -- `here` is the place of index i, and those behind it have room
-pub record Turn (rest : List Step) (a : Step) (base i size end here : ℕ) : Type 0 where
+pub record Turn (rest : List DimensionStep) (a : DimensionStep) (base i size end here : ℕ) : Type 0 where
   pub same : walk rest here ≡ walk rest (along a base i)
   pub next : RoomSoFar rest a base (i + 1) size end

@@ -11,7 +11,7 @@ pub record IsPiece (bytes : List ℕ) (w : Window) : Type 0 where
   pub whole : w.short ≡ false
 
 -- so many bytes at an offset stand in the piece
-pub record Holds (w : Window) (place size : ℕ) : Type 0 where
+pub record HasBytes (w : Window) (place size : ℕ) : Type 0 where
   pub behind : w.at ≤ place
   pub before : place + size ≤ w.at + length w.bytes.items
 

@@ -7,7 +7,7 @@ ghost use Rattle.cdf_header.specs.File.{IsDevice};
 ghost use Rattle.cdf_slab.specs.Going.{count_with, StaysKind, ReadsPlaces};
 ghost use Rattle.cdf_slab.specs.Numbers.{IsWidth};
 ghost use Rattle.cdf_slab.specs.Slab.{IsLate};
-ghost use Rattle.cdf_slab.specs.Walk.{step_of, steps_of, walk, AreWithin, RoomSoFar, Turn};
+ghost use Rattle.cdf_slab.specs.Walk.{step_of, steps_of, walk, HaveRoom, RoomSoFar, Turn};
 
 use crate::axes::Axis;
 use crate::reading::Reading;
@@ -33,7 +33,7 @@ fn place_along(a: Axis, rest: &[Axis], base: u128, i: u64, reading: Reading) -> 
     requires room { RoomSoFar (steps_of rest.now) (step_of a) base i reading.size reading.end }
     requires below { i < a.count }
     ensures turn { Turn (steps_of rest.now) (step_of a) base i reading.size reading.end result }
-    ensures within { AreWithin reading.size reading.end (walk (steps_of rest.now) result) }
+    ensures within { HaveRoom reading.size reading.end (walk (steps_of rest.now) result) }
 {
     let index = u128::from(i)
         .saturating_mul(a.stride)
@@ -60,7 +60,7 @@ fn read_row<F: Files>(
     cells: Builder,
 ) -> Result<Builder, CdfFault>
     requires size { IsWidth reading.size }
-    requires within { AreWithin reading.size reading.end (walk (step_of a ∷ []) base) }
+    requires within { HaveRoom reading.size reading.end (walk (step_of a ∷ []) base) }
     ensures frame { Leaves F.holds F.faults F.quiet (IsDevice result) files.old files.new }
     ensures late { IfErr result
         (IsLate reading.signed (count_with cells (walk (step_of a ∷ []) base))) }
@@ -116,7 +116,7 @@ pub(crate) fn read_cells<F: Files>(
 ) -> Result<Builder, CdfFault>
     requires size { IsWidth reading.size }
     requires some { 1 ≤ length axes.now }
-    requires within { AreWithin reading.size reading.end (walk (steps_of axes.now) base) }
+    requires within { HaveRoom reading.size reading.end (walk (steps_of axes.now) base) }
     ensures frame { Leaves F.holds F.faults F.quiet (IsDevice result) files.old files.new }
     ensures late { IfErr result
         (IsLate reading.signed (count_with cells (walk (steps_of axes.now) base))) }

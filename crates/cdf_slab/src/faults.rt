@@ -3,7 +3,7 @@
 ghost use Rattle.std.specs.Prelude.{◌≡◌, ◌+◌, ◌<◌, ◌≤◌, min, length};
 ghost use Rattle.cdf_header.specs.Places.{variable_at, shape, saturated};
 ghost use Rattle.cdf_slab.specs.Slab.{first_zero, first_outside, passes, wrong_variable, is_floating};
-ghost use Rattle.cdf_slab.specs.Walk.{steps_of, walk, last_place, first_past, capped, AreWithin};
+ghost use Rattle.cdf_slab.specs.Walk.{steps_of, walk, last_place, first_past, capped, HaveRoom};
 
 use crate::axes::Axis;
 use cdf_header::{CdfFault, Header};
@@ -95,9 +95,9 @@ pub(crate) fn cut_from(end: u64, size: u64, axes: &[Axis], base: u128) -> Option
 
 /// The end of the last number, past which no other stands.
 pub(crate) fn last_end(end: u64, size: u64, axes: &[Axis], base: u128) -> u64
-    requires { AreWithin size end (walk (steps_of axes.now) base) }
+    requires { HaveRoom size end (walk (steps_of axes.now) base) }
     ensures is { result ≡ min (last_place (steps_of axes.now) base + size) end }
-    ensures within { AreWithin size result (walk (steps_of axes.now) base) }
+    ensures within { HaveRoom size result (walk (steps_of axes.now) base) }
 {
     let last = last_from(axes, base);
     let to = last.saturating_add(u128::from(size));

@@ -2,14 +2,14 @@
 
 ghost use Rattle.std.specs.Prelude.{◌≡◌, ℕ, ◌<◌, ◌≤◌, true, length, slice_index};
 ghost use Rattle.cdf_slab.specs.Numbers.{number_of, twos, IsWidth};
-ghost use Rattle.cdf_slab.specs.Run.{run, HasRun, lowest, IsNatural};
+ghost use Rattle.cdf_slab.specs.Run.{run, HasAllBytes, lowest, IsNatural};
 
 use byteorder::{BigEndian, ByteOrder};
 
 /// The numbers that stand in these bytes a step apart, as many as there is room for.
 pub(crate) fn decode(bytes: &[u8], size: u64, step: usize, numbers: &mut [u64])
     requires size { IsWidth size }
-    requires room { HasRun bytes.now size step (length numbers.old) }
+    requires room { HasAllBytes bytes.now size step (length numbers.old) }
     ensures { numbers.new ≡ run size step (length numbers.old) bytes.now }
 {
     match size {
@@ -21,7 +21,7 @@ pub(crate) fn decode(bytes: &[u8], size: u64, step: usize, numbers: &mut [u64])
 }
 
 fn decode_bytes(bytes: &[u8], step: usize, numbers: &mut [u64])
-    requires { HasRun bytes.now 1 step (length numbers.old) }
+    requires { HasAllBytes bytes.now 1 step (length numbers.old) }
     ensures { numbers.new ≡ run 1 step (length numbers.old) bytes.now }
 {
     for (k, x) in numbers.iter_mut().enumerate() {
@@ -30,7 +30,7 @@ fn decode_bytes(bytes: &[u8], step: usize, numbers: &mut [u64])
 }
 
 fn decode_shorts(bytes: &[u8], step: usize, numbers: &mut [u64])
-    requires { HasRun bytes.now 2 step (length numbers.old) }
+    requires { HasAllBytes bytes.now 2 step (length numbers.old) }
     ensures { numbers.new ≡ run 2 step (length numbers.old) bytes.now }
 {
     for (k, x) in numbers.iter_mut().enumerate() {
@@ -39,7 +39,7 @@ fn decode_shorts(bytes: &[u8], step: usize, numbers: &mut [u64])
 }
 
 fn decode_ints(bytes: &[u8], step: usize, numbers: &mut [u64])
-    requires { HasRun bytes.now 4 step (length numbers.old) }
+    requires { HasAllBytes bytes.now 4 step (length numbers.old) }
     ensures { numbers.new ≡ run 4 step (length numbers.old) bytes.now }
 {
     for (k, x) in numbers.iter_mut().enumerate() {
@@ -48,7 +48,7 @@ fn decode_ints(bytes: &[u8], step: usize, numbers: &mut [u64])
 }
 
 fn decode_longs(bytes: &[u8], step: usize, numbers: &mut [u64])
-    requires { HasRun bytes.now 8 step (length numbers.old) }
+    requires { HasAllBytes bytes.now 8 step (length numbers.old) }
     ensures { numbers.new ≡ run 8 step (length numbers.old) bytes.now }
 {
     for (k, x) in numbers.iter_mut().enumerate() {
@@ -64,13 +64,13 @@ pub(crate) fn naturals_before(kind: u32, numbers: &[u64]) -> usize
         → (number_of kind (slice_index numbers.now result)).0 ≡ true }
 {
     match lowest_below(kind) {
-        Some(limit) => before(limit, numbers),
+        Some(limit) => count_below(limit, numbers),
         None => numbers.len(),
     }
 }
 
 // How many numbers stand before the first that reaches a limit.
-fn before(limit: u64, numbers: &[u64]) -> usize
+fn count_below(limit: u64, numbers: &[u64]) -> usize
     ensures within { result ≤ length numbers.now }
     ensures smaller { (k : ℕ) → k < result → slice_index numbers.now k < limit }
     ensures reached { result < length numbers.now → limit ≤ slice_index numbers.now result }

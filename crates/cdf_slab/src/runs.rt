@@ -2,9 +2,9 @@
 
 ghost use Rattle.std.specs.Prelude.{◌≡◌, ◌+◌, [], ◌∷◌, false, length, map, IfOk};
 ghost use Rattle.cdf_header.specs.File.{IsDevice};
-ghost use Rattle.cdf_slab.specs.Going.{Goes};
+ghost use Rattle.cdf_slab.specs.Going.{AppendsCells};
 ghost use Rattle.cdf_slab.specs.Numbers.{number_of, IsWidth};
-ghost use Rattle.cdf_slab.specs.Run.{run, HasRun};
+ghost use Rattle.cdf_slab.specs.Run.{run, HasAllBytes};
 
 use crate::numbers::{decode, naturals_before, number};
 use crate::reading::Reading;
@@ -19,7 +19,7 @@ pub(crate) fn push_number(
     x: u64,
     cells: Builder,
 ) -> Result<Builder, CdfFault>
-    ensures goes { Goes reading.signed (number_of reading.kind x ∷ []) cells result }
+    ensures goes { AppendsCells reading.signed (number_of reading.kind x ∷ []) cells result }
     ensures many { IfOk result (λ all. length all ≡ length cells + 1) }
     ensures own { IsDevice result → ⊥ }
 {
@@ -47,8 +47,8 @@ pub(crate) fn push_run(
     cells: Builder,
 ) -> Result<Builder, CdfFault>
     requires size { IsWidth reading.size }
-    requires room { HasRun bytes.now reading.size step count }
-    ensures goes { Goes reading.signed
+    requires room { HasAllBytes bytes.now reading.size step count }
+    ensures goes { AppendsCells reading.signed
         (map (number_of reading.kind) (run reading.size step count bytes.now)) cells result }
     ensures many { IfOk result (λ all. length all ≡ length cells + count) }
     ensures own { IsDevice result → ⊥ }
@@ -73,7 +73,8 @@ fn push_each(
     numbers: &[u64],
     cells: Builder,
 ) -> Result<Builder, CdfFault>
-    ensures goes { Goes reading.signed (map (number_of reading.kind) numbers.now) cells result }
+    ensures goes { AppendsCells reading.signed (map (number_of reading.kind) numbers.now) cells
+        result }
     ensures many { IfOk result (λ all. length all ≡ length cells + length numbers.now) }
     ensures own { IsDevice result → ⊥ }
 {
@@ -94,7 +95,7 @@ fn push_naturals(
     numbers: &[u64],
     cells: Builder,
 ) -> Result<Builder, CdfFault>
-    ensures goes { Goes false (map (number_of kind) numbers.now) cells result }
+    ensures goes { AppendsCells false (map (number_of kind) numbers.now) cells result }
     ensures many { IfOk result (λ all. length all ≡ length cells + length numbers.now) }
     ensures own { IsDevice result → ⊥ }
 {

@@ -116,7 +116,7 @@ fn read_named<F: Files>(
         return Err(fault);
     }
     if saturating_product(asked.count) == 0 {
-        return Ok(shaped(alloc, Builder::new(alloc), asked.count)?);
+        return Ok(array_of(alloc, Builder::new(alloc), asked.count)?);
     }
     read_some(alloc, files, name, header, v, asked)
 }
@@ -162,13 +162,13 @@ fn read_some<F: Files>(
     };
     let none = Builder::new(alloc);
     match read_cells(files, name, &mut buffers, reading, &axes, base, none) {
-        Ok(cells) => Ok(shaped(alloc, cells, asked.count)?),
+        Ok(cells) => Ok(array_of(alloc, cells, asked.count)?),
         Err(fault) => Err(fault),
     }
 }
 
 // The array of these dimensions and cells.
-fn shaped(alloc: Global, cells: Builder, count: &[u128]) -> Result<Flat, Memory>
+fn array_of(alloc: Global, cells: Builder, count: &[u128]) -> Result<Flat, Memory>
     requires some { 1 ≤ length count.now }
     requires few { length count.now ≤ 8 }
     requires many { product count.now ≡ length cells }

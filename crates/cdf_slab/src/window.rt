@@ -6,7 +6,7 @@ ghost use Rattle.aql_outside.specs.Frames.{Leaves};
 ghost use Rattle.cdf_header.specs.File.{IsDevice, IsOutside};
 ghost use Rattle.cdf_slab.specs.Numbers.{IsWidth};
 ghost use Rattle.cdf_slab.specs.Run.{HoldsRun};
-ghost use Rattle.cdf_slab.specs.Window.{IsPiece, Holds, IsLoaded, StaysPiece, IsOfPiece};
+ghost use Rattle.cdf_slab.specs.Window.{IsPiece, HasBytes, IsLoaded, StaysPiece, IsOfPiece};
 
 use crate::reading::Reading;
 use aql_outside::Files;
@@ -39,8 +39,8 @@ impl Window {
 
     // Whether a number of so many bytes at an offset stands in the piece.
     fn has(&self, place: u64, size: u64) -> bool
-        ensures yes { IsTrue result → Holds self.now place size }
-        ensures no { Holds self.now place size → IsTrue result }
+        ensures yes { IsTrue result → HasBytes self.now place size }
+        ensures no { HasBytes self.now place size → IsTrue result }
     {
         if place < self.at {
             return false;
@@ -64,7 +64,7 @@ impl Window {
     // most so many.
     fn many(&self, place: u64, size: u64, step: u64, most: u64) -> u64
         requires size { 1 ≤ size }
-        requires holds { Holds self.now place size }
+        requires holds { HasBytes self.now place size }
         requires some { 1 ≤ most }
         ensures some { 1 ≤ result }
         ensures most { result ≤ most }
@@ -121,7 +121,7 @@ fn hold<F: Files>(
     requires within { place + size ≤ end }
     ensures frame { Leaves F.holds F.faults F.quiet (IsDevice result) files.old files.new }
     ensures late { IfErr result IsOfPiece }
-    ensures holds { IfOk result (λ _. Holds window.new place size) }
+    ensures holds { IfOk result (λ _. HasBytes window.new place size) }
     ensures told { WhereTold (F.holds files.old) name.now
         (λ bytes. StaysPiece bytes end window.old window.new result) }
 {

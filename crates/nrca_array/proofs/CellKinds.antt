@@ -1,11 +1,12 @@
 -- Which lists of cells are packed, and what one cell more makes of it.
 use Rattle.std.proofs.Common.{◌≡◌, ℕ, ◌*◌, ◌≤◌, Bool, List, [], ◌∷◌, ◌++◌, length, map, Option, Some, None, refl, sym, ◌∙◌, ap, arith}
 use Rattle.std.specs.Option.{option_map}
-use Rattle.aql_value.specs.Datum.{Datum, natural, truth, text, tuple, set, array, data_of, list_of, data_of-list_of}
+use Rattle.aql_value.specs.Datum.{Datum, natural, truth, text, tuple, set, array, data_of, list_of}
+use Rattle.aql_value.specs.Laws.Datum.{data_of-list_of}
 use Rattle.aql_value.specs.Operations.{as_natural, as_truth}
-use Rattle.aql_value.specs.OperationsLaws.{each-naturals}
+use Rattle.aql_value.specs.Laws.Operations.{each-naturals}
 use Rattle.aql_value.specs.Partial.{◌>>=◌, each}
-use Rattle.aql_value.specs.PartialLaws.{then-none, each-append_none}
+use Rattle.aql_value.specs.Laws.Partial.{then-none, each-append_none}
 use Rattle.nrca_array.specs.Packing.{width_for, spelled, truth_byte, naturals_packing, truths_packing, pairs_packing, first, packing, as_pair, parts_pair, pair_datum}
 
 each-truths : (bs : List Bool) → each as_truth (map truth bs) ≡ Some bs

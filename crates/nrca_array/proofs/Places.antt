@@ -4,8 +4,9 @@ use Rattle.std.specs.Prelude.{slice_get, nat_lt}
 use Rattle.std.specs.Cmp.Lexicographic.{pointwise}
 use Rattle.aql_value.specs.Datum.{Datum, Table}
 use Rattle.aql_value.specs.Indices.{product, cell, IsTable}
-use Rattle.aql_value.specs.IndicesLaws.{offset, paired_is}
-use Rattle.aql_value.specs.RowMajorLaws.{offset_of_below, offset_of_within}
+use Rattle.aql_value.specs.IndicesLaws.{offset}
+use Rattle.aql_value.specs.Laws.Indices.{paired_is}
+use Rattle.aql_value.specs.Laws.RowMajor.{offset_of_below, offset_of_within}
 
 pub place_within : (t : Table) (dims at : List ℕ) → dims ≡ t.dims → IsTable t → pointwise nat_lt at dims ≡ true → offset dims at < length t.cells
 place_within t dims at d i e = omega (arith, offset_of_within dims at (offset dims at) (offset_of_below dims at e), i.full, ap product d)

@@ -28,6 +28,7 @@ numbers_in w n bytes = numbers_at (width_bytes w) n bytes
 abbrev pub little_in : Width → ℕ → List ℕ
 little_in w x = little_bytes (width_bytes w) x
 
+-- the number that is spelled in so many bytes
 abbrev pub spelled_in : Width → List ℕ → List ℕ
 spelled_in w ns = spelled (width_bytes w) ns
 

@@ -63,7 +63,7 @@ impl Numbers {
             count,
             bytes,
         } = self;
-        let (width, mut bytes) = widened(alloc, width, count, bytes, Width::least(x))?;
+        let (width, mut bytes) = widen(alloc, width, count, bytes, Width::least(x))?;
         put(&mut bytes, width, x)?;
         Ok(Numbers {
             width,
@@ -82,7 +82,7 @@ impl Numbers {
             bytes,
         } = self;
         let least = Width::least(u128::from(greatest_of(xs)));
-        let (width, mut bytes) = widened(alloc, width, count, bytes, least)?;
+        let (width, mut bytes) = widen(alloc, width, count, bytes, least)?;
         put_all(&mut bytes, width, xs)?;
         Ok(Numbers {
             width,
@@ -161,7 +161,7 @@ fn greatest_of(xs: &[u64]) -> u64
 }
 
 // The first numbers of one width, in the greater of the two widths.
-fn widened(
+fn widen(
     alloc: Global,
     width: Width,
     count: usize,

@@ -2,7 +2,7 @@
 use Rattle.std.proofs.Common.{◌≡◌, ℕ, zero, suc, ◌+◌, ◌-◌, ◌*◌, ◌<◌, ◌≤◌, ◌^◌, min, Bool, true, false, List, [], ◌∷◌, ◌++◌, length, map, take, get_or, Some, None, refl, sym, ap, subst, ◌∙◌, arith}
 use Rattle.std.proofs.lemmas.List.{take_more, map-append, length-map}
 use Rattle.aql_value.specs.Indices.{product}
-use Rattle.aql_value.specs.SaturationLaws.{saturating_step}
+use Rattle.aql_value.specs.Laws.Saturation.{saturating_step}
 use Rattle.nrca_term.specs.declared.term.Core.{Core}
 use Rattle.nrca_term.specs.declared.trace.Rule.TheVariants.{A6}
 use Rattle.nrca_term.specs.View.{term_of}
@@ -11,7 +11,8 @@ use Rattle.nrca_term.specs.Firm.{number_of}
 use Rattle.nrca_term.specs.Nodes.{number, dim_term, literal_term}
 use Rattle.nrca_term.specs.Rules.{in_first, sizes_term, constant_literal}
 use Rattle.aql_value.specs.Lists.{below}
-use Rattle.nrca_laws.specs.Fitting.{Fits, IsRight, right-side}
+use Rattle.nrca_laws.specs.Fitting.{RuleFits, IsRight}
+use Rattle.nrca_laws.specs.Laws.Fitting.{right-side}
 use Rattle.nrca_arrayrules.proofs.Sides.{plain-same}
 use Rattle.nrca_arrayrules.specs.Constants.{CountsCells, IsConstantArray}
 
@@ -95,7 +96,7 @@ literal-same k m ds es cs xs e =
     (cc, r.0, plain-same cs xs r.1)
 
 -- A6 fits exactly the dimensions of a constant array
-pub a6_tells : (b : Bool) (k : ℕ) (t o : Term) (ds cs : List Term) → t ≡ dim_term k o → o ≡ literal_term ds cs → (b ≡ true → IsConstantArray k ds cs) → (IsConstantArray k ds cs → b ≡ true) → Fits A6 b t
+pub a6_tells : (b : Bool) (k : ℕ) (t o : Term) (ds cs : List Term) → t ≡ dim_term k o → o ≡ literal_term ds cs → (b ≡ true → IsConstantArray k ds cs) → (IsConstantArray k ds cs → b ≡ true) → RuleFits A6 b t
 a6_tells true k t o ds cs h e f g =
     let w = f refl in
     (sizes_term (map number w.0), in_first (map (λ i. length w.0 + i) (below (length cs))), (w.0, cs, h ∙ ap (dim_term k) (e ∙ ap (λ xs. literal_term xs cs) w.1) ∙ ap (λ n. dim_term n (constant_literal w.0 cs)) w.2, w.3, refl, refl))
@@ -104,7 +105,7 @@ a6_tells false k t o ds cs h e f g = λ r ws y.
     let q : false ≡ true = g (y.0, z.1, z.0, y.3 ∙ ap length (sym z.2)) in cc
 
 -- the dimensions are the right side of A6
-pub a6_right : (k : ℕ) (t o r : Term) (ds cs : List Term) → t ≡ dim_term k o → o ≡ literal_term ds cs → Fits A6 true t → r ≡ sizes_term ds → IsRight A6 t r
+pub a6_right : (k : ℕ) (t o r : Term) (ds cs : List Term) → t ≡ dim_term k o → o ≡ literal_term ds cs → RuleFits A6 true t → r ≡ sizes_term ds → IsRight A6 t r
 a6_right k t o r ds cs h e f p =
     let z = literal-same k (length f.2.0) ds (map number f.2.0) cs f.2.1 (ap (dim_term k) (sym e) ∙ sym h ∙ f.2.2) in
     right-side A6 t r f.1 (f.2.0, f.2.1, f.2.2, f.2.3, p ∙ ap sizes_term z.1, f.2.5)

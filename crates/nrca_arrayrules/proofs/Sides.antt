@@ -5,10 +5,11 @@ use Rattle.nrca_term.specs.declared.trace.Rule.TheVariants.{A3, A7}
 use Rattle.nrca_term.specs.Term.{Term, none, plain, WellFormed, Closed, weight_of, parts_of}
 use Rattle.nrca_term.specs.Nodes.{let_term, tuple_term, dim_term, tab_term, sub_term}
 use Rattle.nrca_term.specs.Subst.{shift_term, shift_parts, top_var}
-use Rattle.nrca_term.specs.ShiftLaws.{top_var-shift_le, shift_parts-plain}
-use Rattle.nrca_term.specs.TypedForm.{top_var-closed}
+use Rattle.nrca_term.specs.Laws.Shift.{top_var-shift_le, shift_parts-plain}
+use Rattle.nrca_term.specs.Laws.TypedForm.{top_var-closed}
 use Rattle.nrca_term.specs.Rules.{in_first, sizes_term}
-use Rattle.nrca_laws.specs.Fitting.{Fits, IsInside, IsRight, right-side}
+use Rattle.nrca_laws.specs.Fitting.{RuleFits, IsSmallPart, IsRight}
+use Rattle.nrca_laws.specs.Laws.Fitting.{right-side}
 
 -- a truth value is not its negation
 pub false-true : false ≡ true → ⊥
@@ -32,25 +33,25 @@ ranks : (k : ℕ) (ds es : List Term) (x y : Term) → dim_term k (tab_term ds x
 ranks k ds es x y e = let a : k ≡ length es = cc in let b : length ds ≡ length es = cc in a ∙ sym b
 
 -- A3 fits the dimensions of a tabulation exactly where the rank is the number of bounds
-pub a3_tells : (k n : ℕ) (t o x : Term) (ds : List Term) → t ≡ dim_term k o → o ≡ tab_term ds x → length ds ≡ n → Fits A3 (nat_eq k n) t
+pub a3_tells : (k n : ℕ) (t o x : Term) (ds : List Term) → t ≡ dim_term k o → o ≡ tab_term ds x → length ds ≡ n → RuleFits A3 (nat_eq k n) t
 a3_tells k n t o x ds h e l = at (nat_eq k n) refl
   where
-    at : (b : Bool) → nat_eq k n ≡ b → Fits A3 b t
+    at : (b : Bool) → nat_eq k n ≡ b → RuleFits A3 b t
     at true q = (sizes_term ds, in_first (length ds ∷ []), (ds, x, h ∙ ap (dim_term k) e ∙ ap (λ n. dim_term n (tab_term ds x)) (eqb-true k n q ∙ sym l), refl, refl))
     at false q = λ r ws y. eqb-false k n q (ranks k ds y.0 x y.1 (ap (dim_term k) (sym e) ∙ sym h ∙ y.2) ∙ l)
 
 -- the sizes are the right side of A3
-pub a3_right : (k : ℕ) (t o x r : Term) (ds : List Term) → t ≡ dim_term k o → o ≡ tab_term ds x → Fits A3 true t → r ≡ sizes_term ds → IsRight A3 t r
+pub a3_right : (k : ℕ) (t o x r : Term) (ds : List Term) → t ≡ dim_term k o → o ≡ tab_term ds x → RuleFits A3 true t → r ≡ sizes_term ds → IsRight A3 t r
 a3_right k t o x r ds h e f p =
     let n : k ≡ length ds = ranks k ds f.2.0 x f.2.1 (ap (dim_term k) (sym e) ∙ sym h ∙ f.2.2) in
     right-side A3 t r (in_first (length ds ∷ [])) (ds, x, h ∙ ap (dim_term k) e ∙ ap (λ n. dim_term n (tab_term ds x)) n, p, refl)
 
 -- A7 fits a subscript of a let
-pub a7_fits_sub : (t o e b : Term) (is : List Term) → t ≡ sub_term o is → o ≡ let_term e b → Fits A7 true t
+pub a7_fits_sub : (t o e b : Term) (is : List Term) → t ≡ sub_term o is → o ≡ let_term e b → RuleFits A7 true t
 a7_fits_sub t o e b is h k = (let_term e (sub_term b (map (shift_term 0 1) is)), [], (e, b, inl (is, h ∙ ap (λ x. sub_term x is) k, refl), refl))
 
 -- A7 fits the dimensions of a let
-pub a7_fits_dim : (k : ℕ) (t o e b : Term) → t ≡ dim_term k o → o ≡ let_term e b → Fits A7 true t
+pub a7_fits_dim : (k : ℕ) (t o e b : Term) → t ≡ dim_term k o → o ≡ let_term e b → RuleFits A7 true t
 a7_fits_dim k t o e b h l = (let_term e (dim_term k b), [], (e, b, inr (k, h ∙ ap (dim_term k) l, refl), refl))
 
 -- the let of the subscript, its indices shifted, is the right side of A7
@@ -62,7 +63,7 @@ pub a7_dim : (k : ℕ) (t o e b r y : Term) → t ≡ dim_term k o → o ≡ let
 a7_dim k t o e b r y h l p q = right-side A7 t r [] (e, b, inr (k, h ∙ ap (dim_term k) l, p ∙ ap (let_term e) q), refl)
 
 -- there is room for one more variable around the indices of a subscript
-pub indices_room : (t o : Term) (is : List Term) → t ≡ sub_term o is → WellFormed (tuple_term is) → IsInside t → top_var (shift_term 0 1 (tuple_term is)) < 2 ^ 64
+pub indices_room : (t o : Term) (is : List Term) → t ≡ sub_term o is → WellFormed (tuple_term is) → IsSmallPart t → top_var (shift_term 0 1 (tuple_term is)) < 2 ^ 64
 indices_room t o is s h i =
     let c : Closed i.0 (tuple_term is) = (tt, (subst (Closed i.0) s i.1).1.1) in
     let w : weight_of t ≡ weight_of (sub_term o is) = ap weight_of s in

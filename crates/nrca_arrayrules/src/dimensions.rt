@@ -4,7 +4,7 @@ ghost use Rattle.std.specs.Prelude.{true, ◌≡◌, ◌↔◌, IsTrue};
 ghost use Rattle.nrca_term.specs.View.{term_of, terms_of};
 ghost use Rattle.nrca_term.specs.Rules.{sizes_term};
 ghost use Rattle.nrca_term.specs.declared.trace.Rule.TheVariants.{A3, A6};
-ghost use Rattle.nrca_laws.specs.Fitting.{Fits, IsRight};
+ghost use Rattle.nrca_laws.specs.Fitting.{RuleFits, IsRight};
 ghost use Rattle.nrca_arrayrules.specs.Constants.{CountsCells, IsConstantArray};
 
 use nrca_term::{Core, Terms};
@@ -12,7 +12,7 @@ use std::mem;
 
 /// Whether the term is the dimensions of a tabulation, at its own rank.
 pub fn fits_a3(term: &Core) -> bool
-    ensures { Fits A3 result (term_of term.now) }
+    ensures { RuleFits A3 result (term_of term.now) }
 {
     match term {
         Core::Dim { rank, array } => match &**array {
@@ -25,7 +25,7 @@ pub fn fits_a3(term: &Core) -> bool
 
 /// The bounds: one number, or a tuple.
 pub fn a3(term: Core) -> Core
-    requires { Fits A3 true (term_of term) }
+    requires { RuleFits A3 true (term_of term) }
     ensures { IsRight A3 (term_of term) (term_of result) }
 {
     match term {
@@ -43,7 +43,7 @@ pub fn a3(term: Core) -> Core
 /// Whether the term is the dimensions, at its own rank, of a literal array whose dimensions are numbers and whose cells are
 /// as many as these say.
 pub fn fits_a6(term: &Core) -> bool
-    ensures { Fits A6 result (term_of term.now) }
+    ensures { RuleFits A6 result (term_of term.now) }
 {
     match term {
         Core::Dim { rank, array } => match &**array {
@@ -59,7 +59,7 @@ pub fn fits_a6(term: &Core) -> bool
 
 /// The dimensions of the literal: one number, or a tuple.
 pub fn a6(term: Core) -> Core
-    requires { Fits A6 true (term_of term) }
+    requires { RuleFits A6 true (term_of term) }
     ensures { IsRight A6 (term_of term) (term_of result) }
 {
     match term {

@@ -5,14 +5,14 @@ ghost use Rattle.nrca_term.specs.View.{term_of, terms_of};
 ghost use Rattle.nrca_term.specs.Nodes.{tuple_term};
 ghost use Rattle.nrca_term.specs.Subst.{shift_term, top_var};
 ghost use Rattle.nrca_term.specs.declared.trace.Rule.TheVariants.{A7};
-ghost use Rattle.nrca_laws.specs.Fitting.{Fits, IsInside, IsRight};
+ghost use Rattle.nrca_laws.specs.Fitting.{RuleFits, IsSmallPart, IsRight};
 
 use nrca_subst::shift;
 use nrca_term::{Core, Terms, open, put};
 
 /// Whether the term is a subscript or the dimensions of a let.
 pub fn fits_a7(term: &Core) -> bool
-    ensures { Fits A7 result (term_of term.now) }
+    ensures { RuleFits A7 result (term_of term.now) }
 {
     match term {
         Core::Sub { array, at: _ } => match **array {
@@ -29,8 +29,8 @@ pub fn fits_a7(term: &Core) -> bool
 
 /// The let around the subscript, whose indices are shifted, or around the dimensions.
 pub fn a7(term: Core) -> Core
-    requires fits { Fits A7 true (term_of term) }
-    requires inside { IsInside (term_of term) }
+    requires fits { RuleFits A7 true (term_of term) }
+    requires inside { IsSmallPart (term_of term) }
     ensures { IsRight A7 (term_of term) (term_of result) }
 {
     match term {

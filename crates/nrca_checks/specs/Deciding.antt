@@ -26,8 +26,8 @@ decided_of c (node (Form.strict (Strict.compare op)) (part zero a (part zero b n
 decided_of c _ = None
 
 -- the comparison has that truth value, wherever the facts hold and both sides have values
-abbrev pub Decides : Facts → Term → Option Bool → Type 0
-Decides c t o = (V : Outcomes) (vals : List Datum) → Stands V c vals → (op : CompareOp) (a b : Term) (v w : Datum) (k : Bool) →
+abbrev pub DecidesTruth : Facts → Term → Option Bool → Type 0
+DecidesTruth c t o = (V : Outcomes) (vals : List Datum) → Stands V c vals → (op : CompareOp) (a b : Term) (v w : Datum) (k : Bool) →
     t ≡ compare_term op a b → o ≡ Some k → cden V vals a ≡ Some v → cden V vals b ≡ Some w → cden V vals t ≡ Some (truth k)
 
 -- the comparison is decided, wherever its sides have spans of which one lies wholly below the other

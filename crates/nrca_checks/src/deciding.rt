@@ -6,7 +6,7 @@ ghost use Rattle.aql_value.specs.Ops.{compare_by};
 ghost use Rattle.nrca_term.specs.View.{term_of};
 ghost use Rattle.nrca_ranges.specs.Context.{context_of};
 ghost use Rattle.nrca_ranges.specs.Spans.{span_of};
-ghost use Rattle.nrca_checks.specs.Deciding.{decision, decided_of, Decides, DecidesApart};
+ghost use Rattle.nrca_checks.specs.Deciding.{decision, decided_of, DecidesTruth, DecidesApart};
 
 use aql_value::CompareOp;
 use nrca_ranges::{Ctx, Interval, span};
@@ -15,7 +15,7 @@ use nrca_term::Core;
 /// The truth value of a comparison one side of which lies wholly below the other, by their spans.
 pub fn decided(ctx: &Ctx, term: &Core) -> Option<bool>
     ensures exact { result ≡ decided_of (context_of ctx.now) (term_of term.now) }
-    ensures value { Decides (context_of ctx.now) (term_of term.now) result }
+    ensures value { DecidesTruth (context_of ctx.now) (term_of term.now) result }
     ensures apart { DecidesApart (context_of ctx.now) (term_of term.now) result }
 {
     by_spans(ctx, term)

@@ -2,14 +2,14 @@
 
 ghost use Rattle.nrca_term.specs.View.{term_of};
 ghost use Rattle.nrca_term.specs.declared.trace.Rule.TheVariants.{C1, C2, C3, C4};
-ghost use Rattle.nrca_laws.specs.Fitting.{Fits};
+ghost use Rattle.nrca_laws.specs.Fitting.{RuleFits};
 ghost use Rattle.nrca_checks.specs.Comparing.{Compares};
 
 use nrca_term::Core;
 
 /// Whether C1 fits the term.
 pub fn fits_c1(term: &Core) -> bool
-    ensures fits { Fits C1 result (term_of term.now) }
+    ensures fits { RuleFits C1 result (term_of term.now) }
     ensures comparison { Compares result (term_of term.now) }
 {
     compares(term)
@@ -17,7 +17,7 @@ pub fn fits_c1(term: &Core) -> bool
 
 /// Whether C2 fits the term.
 pub fn fits_c2(term: &Core) -> bool
-    ensures fits { Fits C2 result (term_of term.now) }
+    ensures fits { RuleFits C2 result (term_of term.now) }
     ensures comparison { Compares result (term_of term.now) }
 {
     compares(term)
@@ -25,7 +25,7 @@ pub fn fits_c2(term: &Core) -> bool
 
 /// Whether C3 fits the term.
 pub fn fits_c3(term: &Core) -> bool
-    ensures fits { Fits C3 result (term_of term.now) }
+    ensures fits { RuleFits C3 result (term_of term.now) }
     ensures comparison { Compares result (term_of term.now) }
 {
     compares(term)
@@ -33,7 +33,7 @@ pub fn fits_c3(term: &Core) -> bool
 
 /// Whether C4 fits the term.
 pub fn fits_c4(term: &Core) -> bool
-    ensures fits { Fits C4 result (term_of term.now) }
+    ensures fits { RuleFits C4 result (term_of term.now) }
     ensures comparison { Compares result (term_of term.now) }
 {
     compares(term)

@@ -2,7 +2,7 @@
 
 ghost use Rattle.std.specs.Prelude.{◌≡◌, true, IfOk, OnOk};
 ghost use Rattle.nrca_term.specs.View.{term_of};
-ghost use Rattle.nrca_ranges.specs.Context.{context_of, Inside};
+ghost use Rattle.nrca_ranges.specs.Context.{context_of, IsSmallTerm};
 ghost use Rattle.nrca_defined.specs.Defined.{IsDefinedIn, AlwaysFits};
 ghost use Rattle.nrca_defined.specs.Walk.{firm_at, arith_of};
 
@@ -16,7 +16,7 @@ use std::alloc::Global;
 /// Where memory is wanting, the context is left inside of a part.
 #[cycle(defined)]
 pub fn defined(alloc: Global, term: &Core, ctx: &mut Ctx) -> Result<bool, Memory>
-    requires inside { Inside ctx.old.depth (term_of term.now) }
+    requires inside { IsSmallTerm ctx.old.depth (term_of term.now) }
     ensures back { OnOk result (context_of ctx.new ≡ context_of ctx.old) }
     ensures globals { ctx.new.globals ≡ ctx.old.globals }
     ensures sound { IfOk result (λ b. b ≡ true → IsDefinedIn ctx.old (term_of term.now)) }
@@ -33,7 +33,7 @@ pub fn defined(alloc: Global, term: &Core, ctx: &mut Ctx) -> Result<bool, Memory
 // Whether a term that is not firm is sure to have a value.
 #[cycle(defined)]
 fn finer(alloc: Global, term: &Core, ctx: &mut Ctx) -> Result<bool, Memory>
-    requires inside { Inside ctx.old.depth (term_of term.now) }
+    requires inside { IsSmallTerm ctx.old.depth (term_of term.now) }
     ensures back { OnOk result (context_of ctx.new ≡ context_of ctx.old) }
     ensures globals { ctx.new.globals ≡ ctx.old.globals }
     ensures sound { IfOk result (λ b. b ≡ true → IsDefinedIn ctx.old (term_of term.now)) }
@@ -53,7 +53,7 @@ fn finer_arith(
     b: &Core,
     ctx: &mut Ctx,
 ) -> Result<bool, Memory>
-    requires inside { Inside ctx.old.depth (arith_of op a.now b.now) }
+    requires inside { IsSmallTerm ctx.old.depth (arith_of op a.now b.now) }
     ensures back { OnOk result (context_of ctx.new ≡ context_of ctx.old) }
     ensures globals { ctx.new.globals ≡ ctx.old.globals }
     ensures sound { IfOk result (λ d. d ≡ true → IsDefinedIn ctx.old (arith_of op a.now b.now)) }

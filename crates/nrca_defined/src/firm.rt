@@ -4,7 +4,7 @@ ghost use Rattle.std.specs.Prelude.{◌≡◌, ◌&&◌, true, is_some, Some, �
 ghost use Rattle.nrca_term.specs.Term.{form_of};
 ghost use Rattle.nrca_term.specs.View.{term_of};
 ghost use Rattle.nrca_term.specs.Firm as pure;
-ghost use Rattle.nrca_ranges.specs.Context.{context_of, Inside};
+ghost use Rattle.nrca_ranges.specs.Context.{context_of, IsSmallTerm};
 ghost use Rattle.nrca_ranges.specs.Entered.{is_shaped};
 ghost use Rattle.nrca_ranges.specs.Spans.{span_of, IsOrdered};
 ghost use Rattle.nrca_defined.specs.Walk.{IsOther, firm_at, span_at, parts_firm_at, arith_of};
@@ -32,7 +32,7 @@ fn wants_all(term: &Core) -> bool
 }
 
 // Whether position n, counted from 1, has a shape.
-#[tactic(auto, using(nrca_ranges::specs::Entered::positions))]
+#[tactic(auto, using(nrca_ranges::specs::Laws::Entered::positions))]
 fn has_value(globals: &[Option<Shape>], n: u64) -> bool
     ensures { result ≡ is_shaped globals.now n }
 {
@@ -105,7 +105,7 @@ fn all_of(own: bool, left: bool, right: bool) -> bool
 /// it back; where memory is wanting, the context is left inside of a part.
 #[cycle(firmness)]
 pub fn firmness(alloc: Global, term: &Core, ctx: &mut Ctx) -> Result<FirmSpan, Memory>
-    requires inside { Inside ctx.old.depth (term_of term.now) }
+    requires inside { IsSmallTerm ctx.old.depth (term_of term.now) }
     ensures back { OnOk result (context_of ctx.new ≡ context_of ctx.old) }
     ensures globals { ctx.new.globals ≡ ctx.old.globals }
     ensures firm { IfOk result (λ f. f.firm ≡ firm_at ctx.old (term_of term.now)) }
@@ -127,7 +127,7 @@ fn arith_firmness(
     b: &Core,
     ctx: &mut Ctx,
 ) -> Result<FirmSpan, Memory>
-    requires inside { Inside ctx.old.depth (arith_of op a.now b.now) }
+    requires inside { IsSmallTerm ctx.old.depth (arith_of op a.now b.now) }
     ensures back { OnOk result (context_of ctx.new ≡ context_of ctx.old) }
     ensures globals { ctx.new.globals ≡ ctx.old.globals }
     ensures firm { IfOk result (λ f. f.firm ≡ firm_at ctx.old (arith_of op a.now b.now)) }
@@ -146,7 +146,7 @@ fn arith_firmness(
 // A node that is not arithmetic.
 #[cycle(firmness)]
 fn other_firmness(alloc: Global, term: &Core, ctx: &mut Ctx) -> Result<FirmSpan, Memory>
-    requires inside { Inside ctx.old.depth (term_of term.now) }
+    requires inside { IsSmallTerm ctx.old.depth (term_of term.now) }
     requires other { IsOther (form_of (term_of term.now)) }
     ensures back { OnOk result (context_of ctx.new ≡ context_of ctx.old) }
     ensures globals { ctx.new.globals ≡ ctx.old.globals }
@@ -165,7 +165,7 @@ fn other_firmness(alloc: Global, term: &Core, ctx: &mut Ctx) -> Result<FirmSpan,
 // Whether all parts are firm, or of a default one of them: each at its own place.
 #[cycle(firmness)]
 fn parts_firm(alloc: Global, term: &Core, ctx: &mut Ctx) -> Result<bool, Memory>
-    requires inside { Inside ctx.old.depth (term_of term.now) }
+    requires inside { IsSmallTerm ctx.old.depth (term_of term.now) }
     ensures back { OnOk result (context_of ctx.new ≡ context_of ctx.old) }
     ensures globals { ctx.new.globals ≡ ctx.old.globals }
     ensures firm { IfOk result (λ b. b ≡ parts_firm_at ctx.old (term_of term.now)) }

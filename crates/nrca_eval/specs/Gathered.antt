@@ -7,9 +7,9 @@ use Rattle.nrca_par.specs.declared.fault.EvalFault.{EvalFault}
 use Rattle.nrca_par.specs.declared.fault.EvalFault.TheVariants.{Memory}
 use Rattle.nrca_forms.specs.declared.index.Indexed.{Indexed}
 use Rattle.nrca_forms.specs.Indexing.{pairs_of, pairs_run}
-use Rattle.nrca_runs.specs.declared.done.Counted.{Counted}
-use Rattle.nrca_runs.specs.Runs.{lists_join}
-use Rattle.nrca_runs.specs.Within.{Within, itself}
+use Rattle.nrca_loops.specs.declared.done.Counted.{Counted}
+use Rattle.nrca_loops.specs.Runs.{lists_join}
+use Rattle.nrca_loops.specs.Within.{Within, itself}
 
 -- the answers joined in their order, beginning with that of no piece, and their turns added
 abbrev pub Gathers : {A : Type 0} → (A → A → A) → A → ℕ → List (Counted A) → Result (Counted A) EvalFault → Type 0

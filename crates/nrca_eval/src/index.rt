@@ -3,19 +3,19 @@
 ghost use Rattle.std.specs.Prelude.{◌≡◌, ◌∷◌, [], None};
 ghost use Rattle.aql_value.specs.Operations.{as_set, only};
 ghost use Rattle.nrca_array.specs.Held.{held_datum};
-ghost use Rattle.nrca_runs.specs.Parts.{held_values, parts_value};
-ghost use Rattle.nrca_runs.specs.Scope.{boxed_value, held_value};
+ghost use Rattle.nrca_loops.specs.Parts.{held_values, parts_value};
+ghost use Rattle.nrca_loops.specs.Scope.{boxed_value, held_value};
 ghost use Rattle.aql_value.specs.Strict.{Strict};
 ghost use Rattle.nrca_eval.specs.Limits.{AreLimits};
-ghost use Rattle.nrca_runs.specs.Evaluates.{Applies, strict_form};
+ghost use Rattle.nrca_loops.specs.Evaluates.{Applies, strict_form};
 
 use crate::loops::index_pieces;
 use aql_outside::Gate;
 use aql_value::{Ascending, Value};
 use nrca_array::Held;
 use nrca_forms::{index_pairs, strict};
+use nrca_loops::{Counted, to_box};
 use nrca_par::EvalFault;
-use nrca_runs::{Counted, boxed};
 use nrca_term::Core;
 use std::alloc::Global;
 use std::thread::Threads;
@@ -36,7 +36,7 @@ pub(crate) fn strict_kept<R: Threads + Sync, G: Gate>(
 {
     let made = strict_pieces(rt, alloc, term, parts, budget, workers, gate)?;
     Ok(Counted {
-        answer: boxed(alloc, made.answer)?,
+        answer: to_box(alloc, made.answer)?,
         turns: made.turns,
     })
 }
@@ -133,7 +133,7 @@ fn index_value<R: Threads + Sync, G: Gate>(
 }
 
 // The set that a value is.
-#[tactic(auto, using(aql_value::specs::Datum::data_lists))]
+#[tactic(auto, using(aql_value::specs::Laws::Datum::data_lists))]
 fn set_of(value: Held) -> Option<Ascending>
     ensures { result ≡ as_set (held_datum value) }
 {

@@ -2,14 +2,14 @@
 
 ghost use Rattle.std.specs.Prelude.{◌≡◌, [], Some, IfOk};
 ghost use Rattle.nrca_forms.specs.Indexing.{pairs_of};
-ghost use Rattle.nrca_runs.specs.Runs.{sums_join, sets_join, lists_join};
+ghost use Rattle.nrca_loops.specs.Runs.{sums_join, sets_join, lists_join};
 ghost use Rattle.nrca_eval.specs.Gathered.{Gathers, gathered_pairs};
 
 use aql_value::{Ascending, Items, Memory, canon};
 use nrca_array::Builder;
 use nrca_forms::{Indexed, join_pairs};
+use nrca_loops::{Counted, join_cells, join_sets, join_sums};
 use nrca_par::EvalFault;
-use nrca_runs::{Counted, join_cells, join_sets, join_sums};
 use std::alloc::Global;
 
 /// The sum of the sums. Spent exactly where the turns pass the budget.

@@ -5,24 +5,30 @@
 //! not inside a piece is cut into pieces, each of which runs in a thread of its own; a loop inside
 //! a piece runs there.
 //!
-//! Read `specs/Limits.antt` and `Gathered`; then `wide.rt`, one function a form, and `index.rt`, `loops.rt` and `joins.rt`.
+//! The evaluation in one thread is `serial`: `eval`, and `sum_run`, `members_run` and `cells_run`, which answer a run of the
+//! members or cells of a loop, each with a budget of its own; `nrca_loops` joins runs that follow each other.
+//!
+//! Read `specs/Parts`, `Runs` and `Loops` with `serial`, one function a form, whose laws stand in `specs/Laws/Form`; then
+//! `specs/Limits` and `Gathered` with `wide`, one function a form again, and `index`, `loops` and `joins`.
 #![tactic(auto)]
 
 mod index;
 mod joins;
 mod loops;
+mod serial;
 mod wide;
 
 ghost use Rattle.std.specs.Prelude.{◌≤◌};
 ghost use Rattle.nrca_term.specs.View.{term_of};
-ghost use Rattle.nrca_runs.specs.Evaluates.{EvaluatesClosed};
+ghost use Rattle.nrca_loops.specs.Evaluates.{EvaluatesClosed};
 
-use crate::wide::wide;
+use crate::wide::eval_wide;
 use aql_outside::Gate;
+use nrca_loops::{Env, from_box};
+pub use nrca_loops::{Done, Globals};
 use nrca_par::EvalFault;
-use nrca_runs::{Env, unboxed};
-pub use nrca_runs::{Done, Globals};
 use nrca_term::Core;
+pub use serial::{cells_run, eval, members_run, sum_run};
 use std::alloc::Global;
 use std::thread::Threads;
 
@@ -41,9 +47,9 @@ pub fn evaluate<R: Threads + Sync, G: Gate>(
     requires workers { (1 ≤ workers) × (workers ≤ 64) }
     ensures { EvaluatesClosed budget globals.now (term_of term.now) result }
 {
-    let found = wide(rt, alloc, term, globals, &Env::Empty, budget, workers, gate)?;
+    let found = eval_wide(rt, alloc, term, globals, &Env::Empty, budget, workers, gate)?;
     Ok(Done {
-        value: unboxed(found.answer),
+        value: from_box(found.answer),
         turns: u128::from(found.turns),
     })
 }

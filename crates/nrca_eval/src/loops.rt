@@ -5,18 +5,18 @@ ghost use Rattle.std.specs.Prelude.{◌≡◌, ◌^◌, ◌≤◌, length, IfOk}
 ghost use Rattle.std.specs.Option.{option_map};
 ghost use Rattle.aql_value.specs.Canon.{canon};
 ghost use Rattle.aql_value.specs.Indices.{product};
-ghost use Rattle.nrca_runs.specs.Runs.{member_list};
+ghost use Rattle.nrca_loops.specs.Runs.{member_list};
 ghost use Rattle.nrca_eval.specs.Gathered.{ReadsPairs};
-ghost use Rattle.nrca_serial.specs.Loops.{Fills, Sums, Unites};
+ghost use Rattle.nrca_eval.specs.Loops.{Fills, Sums, Unites};
 
 use crate::joins::{joined_cells, joined_pairs, joined_sets, joined_sums};
+use crate::serial::{cells_run, members_run, sum_run};
 use aql_outside::Gate;
 use aql_value::{Ascending, Dims, Items, Memory};
 use nrca_array::Builder;
 use nrca_forms::{Indexed, index_run};
+use nrca_loops::{Counted, Env, Globals, Members};
 use nrca_par::{EvalFault, canon_wide, map_pieces};
-use nrca_runs::{Counted, Env, Globals, Members};
-use nrca_serial::{cells_run, members_run, sum_run};
 use nrca_term::Core;
 use std::alloc::Global;
 use std::thread::Threads;
@@ -41,7 +41,8 @@ pub(crate) fn sum_pieces<R: Threads + Sync, G: Gate>(
 {
     let run = move |from: u64, to: u64| -> Result<Counted<Option<u128>>, EvalFault>
         requires { (from ≤ to) × (to ≤ length (member_list members.now)) }
-        ensures { Sums budget globals.entry.now env.entry.now body.entry.now members.entry.now from to result }
+        ensures { Sums budget globals.entry.now env.entry.now body.entry.now members.entry.now from
+            to result }
     { sum_run(alloc, body, globals, env, members, from, to, budget) };
     let sums = map_pieces(rt, alloc, count, workers, gate, run)?;
     joined_sums(&sums, budget)
@@ -68,7 +69,8 @@ pub(crate) fn union_pieces<R: Threads + Sync, G: Gate>(
 {
     let run = move |from: u64, to: u64| -> Result<Counted<Option<Ascending>>, EvalFault>
         requires { (from ≤ to) × (to ≤ length (member_list members.now)) }
-        ensures { Unites budget globals.entry.now env.entry.now body.entry.now members.entry.now from to result }
+        ensures { Unites budget globals.entry.now env.entry.now body.entry.now members.entry.now
+            from to result }
     { union_piece(rt, alloc, body, globals, env, members, from, to, budget) };
     let sets = map_pieces(rt, alloc, count, workers, gate, run)?;
     joined_sets(alloc, sets, budget)
@@ -132,7 +134,8 @@ pub(crate) fn cells_pieces<R: Threads + Sync, G: Gate>(
 {
     let run = move |from: u64, to: u64| -> Result<Counted<Option<Builder>>, EvalFault>
         requires { (from ≤ to) × (to ≤ product dims.now) }
-        ensures { Fills budget globals.entry.now env.entry.now body.entry.now dims.entry.now from to result }
+        ensures { Fills budget globals.entry.now env.entry.now body.entry.now dims.entry.now from to
+            result }
     { cells_run(alloc, body, globals, env, dims, from, to, budget) };
     let runs = map_pieces(rt, alloc, count, workers, gate, run)?;
     joined_cells(alloc, runs, budget)

@@ -3,22 +3,22 @@
 ghost use Rattle.std.specs.Prelude.{◌≡◌, true};
 ghost use Rattle.nrca_term.specs.Term.{form_of};
 ghost use Rattle.nrca_term.specs.View.{term_of, terms_of};
-ghost use Rattle.nrca_serial.specs.Parts.{is_strict_form, part_terms};
+ghost use Rattle.nrca_eval.specs.Parts.{is_strict_form, part_terms};
 ghost use Rattle.nrca_eval.specs.Limits.{AreLimits};
-ghost use Rattle.nrca_runs.specs.Evaluates.{Evaluates, EvaluatesAll, EvaluatesSet, default_of, if_of, let_of, sum_loop, tab_of, union_loop};
+ghost use Rattle.nrca_loops.specs.Evaluates.{Evaluates, EvaluatesAll, EvaluatesSet, default_of, if_of, let_of, sum_loop, tab_of, union_loop};
 
 use crate::index::strict_kept;
 use crate::loops::{cells_pieces, sum_pieces, union_pieces};
+use crate::serial::eval;
 use aql_outside::Gate;
 use aql_value::saturating_product;
 use nrca_array::Held;
 use nrca_forms::{numbers, sum_of, table_of, union_of};
-use nrca_par::EvalFault;
-use nrca_runs::{
-    Counted, Env, Globals, Members, as_members, boxed, keep_part, members_below, members_of_both,
-    parts_kept, truth_kept, unboxed,
+use nrca_loops::{
+    Counted, Env, Globals, Members, as_members, from_box, keep_part, members_below,
+    members_of_both, parts_kept, to_box, truth_kept,
 };
-use nrca_serial::eval;
+use nrca_par::EvalFault;
 use nrca_term::{Core, Terms};
 use std::alloc::Global;
 use std::thread::Threads;
@@ -28,9 +28,9 @@ use std::thread::Threads;
 /// left is Spent before its first turn. Each loop runs in pieces, each in a thread of its own; a
 /// loop inside a piece runs there. The value stands on the heap, so that a level of the recursion
 /// keeps little on the stack.
-#[cycle(wide)]
+#[cycle(eval_wide)]
 #[inline(never)]
-pub(crate) fn wide<R: Threads + Sync, G: Gate>(
+pub(crate) fn eval_wide<R: Threads + Sync, G: Gate>(
     rt: &R,
     alloc: Global,
     term: &Core,
@@ -80,13 +80,13 @@ fn leaf(
 {
     let done = eval(alloc, term, globals, env, budget)?;
     Ok(Counted {
-        answer: boxed(alloc, done.answer)?,
+        answer: to_box(alloc, done.answer)?,
         turns: done.turns,
     })
 }
 
 // A form that evaluates all its parts and binds nothing.
-#[cycle(wide)]
+#[cycle(eval_wide)]
 #[inline(never)]
 fn wide_strict<R: Threads + Sync, G: Gate>(
     rt: &R,
@@ -119,7 +119,7 @@ fn wide_strict<R: Threads + Sync, G: Gate>(
 }
 
 // Every part of a node, from the left, under the variables around the node.
-#[cycle(wide)]
+#[cycle(eval_wide)]
 #[inline(never)]
 fn wide_parts<R: Threads + Sync, G: Gate>(
     rt: &R,
@@ -139,7 +139,7 @@ fn wide_parts<R: Threads + Sync, G: Gate>(
     for i in 0..term.parts() {
         match term.part(i) {
             Some(part) => {
-                let done = wide(rt, alloc, part, globals, env, budget - turns, workers, gate)?;
+                let done = eval_wide(rt, alloc, part, globals, env, budget - turns, workers, gate)?;
                 keep_part(&mut parts, done.answer)?;
                 turns += done.turns;
             }
@@ -153,7 +153,7 @@ fn wide_parts<R: Threads + Sync, G: Gate>(
 }
 
 // Terms in a row, from the left.
-#[cycle(wide)]
+#[cycle(eval_wide)]
 #[inline(never)]
 fn wide_all<R: Threads + Sync, G: Gate>(
     rt: &R,
@@ -171,7 +171,7 @@ fn wide_all<R: Threads + Sync, G: Gate>(
     let mut parts = Some(Vec::new(alloc));
     let mut turns = 0;
     for term in &terms.0 {
-        let done = wide(rt, alloc, term, globals, env, budget - turns, workers, gate)?;
+        let done = eval_wide(rt, alloc, term, globals, env, budget - turns, workers, gate)?;
         parts = parts_kept(parts, done.answer)?;
         turns += done.turns;
     }
@@ -181,7 +181,7 @@ fn wide_all<R: Threads + Sync, G: Gate>(
     })
 }
 
-#[cycle(wide)]
+#[cycle(eval_wide)]
 #[inline(never)]
 fn wide_let<R: Threads + Sync, G: Gate>(
     rt: &R,
@@ -197,11 +197,13 @@ fn wide_let<R: Threads + Sync, G: Gate>(
     requires { AreLimits budget workers }
     ensures { Evaluates budget globals.now env.now (let_of bound.now body.now) result }
 {
-    let Counted { answer, turns } = wide(rt, alloc, bound, globals, env, budget, workers, gate)?;
+    let Counted { answer, turns } = eval_wide(
+        rt, alloc, bound, globals, env, budget, workers, gate,
+    )?;
     match answer {
         Some(value) => {
             let inner = Env::Bound(&value, &*env);
-            let done = wide(
+            let done = eval_wide(
                 rt,
                 alloc,
                 body,
@@ -223,7 +225,7 @@ fn wide_let<R: Threads + Sync, G: Gate>(
     }
 }
 
-#[cycle(wide)]
+#[cycle(eval_wide)]
 #[inline(never)]
 fn wide_if<R: Threads + Sync, G: Gate>(
     rt: &R,
@@ -240,18 +242,20 @@ fn wide_if<R: Threads + Sync, G: Gate>(
     requires { AreLimits budget workers }
     ensures { Evaluates budget globals.now env.now (if_of test.now yes.now no.now) result }
 {
-    let Counted { answer, turns } = wide(rt, alloc, test, globals, env, budget, workers, gate)?;
+    let Counted { answer, turns } = eval_wide(
+        rt, alloc, test, globals, env, budget, workers, gate,
+    )?;
     let left = budget - turns;
     match truth_kept(answer) {
         Some(true) => {
-            let done = wide(rt, alloc, yes, globals, env, left, workers, gate)?;
+            let done = eval_wide(rt, alloc, yes, globals, env, left, workers, gate)?;
             Ok(Counted {
                 answer: done.answer,
                 turns: turns + done.turns,
             })
         }
         Some(false) => {
-            let done = wide(rt, alloc, no, globals, env, left, workers, gate)?;
+            let done = eval_wide(rt, alloc, no, globals, env, left, workers, gate)?;
             Ok(Counted {
                 answer: done.answer,
                 turns: turns + done.turns,
@@ -264,7 +268,7 @@ fn wide_if<R: Threads + Sync, G: Gate>(
     }
 }
 
-#[cycle(wide)]
+#[cycle(eval_wide)]
 #[inline(never)]
 fn wide_default<R: Threads + Sync, G: Gate>(
     rt: &R,
@@ -280,14 +284,16 @@ fn wide_default<R: Threads + Sync, G: Gate>(
     requires { AreLimits budget workers }
     ensures { Evaluates budget globals.now env.now (default_of first.now second.now) result }
 {
-    let Counted { answer, turns } = wide(rt, alloc, first, globals, env, budget, workers, gate)?;
+    let Counted { answer, turns } = eval_wide(
+        rt, alloc, first, globals, env, budget, workers, gate,
+    )?;
     match answer {
         Some(value) => Ok(Counted {
             answer: Some(value),
             turns,
         }),
         None => {
-            let done = wide(
+            let done = eval_wide(
                 rt,
                 alloc,
                 second,
@@ -306,7 +312,7 @@ fn wide_default<R: Threads + Sync, G: Gate>(
 }
 
 // The members of a loop's operand. Those of `gen` and of `union` are not made into a set.
-#[cycle(wide)]
+#[cycle(eval_wide)]
 #[inline(never)]
 fn wide_members<R: Threads + Sync, G: Gate>(
     rt: &R,
@@ -323,20 +329,20 @@ fn wide_members<R: Threads + Sync, G: Gate>(
 {
     match over {
         Core::Gen(number) => {
-            let Counted { answer, turns } = wide(
+            let Counted { answer, turns } = eval_wide(
                 rt, alloc, number, globals, env, budget, workers, gate,
             )?;
-            let members = members_below(unboxed(answer), budget - turns)?;
+            let members = members_below(from_box(answer), budget - turns)?;
             Ok(Counted {
                 answer: members.answer,
                 turns: turns + members.turns,
             })
         }
         Core::Union(first, second) => {
-            let Counted { answer, turns } = wide(
+            let Counted { answer, turns } = eval_wide(
                 rt, alloc, first, globals, env, budget, workers, gate,
             )?;
-            let other = wide(
+            let other = eval_wide(
                 rt,
                 alloc,
                 second,
@@ -347,21 +353,21 @@ fn wide_members<R: Threads + Sync, G: Gate>(
                 gate,
             )?;
             Ok(Counted {
-                answer: members_of_both(unboxed(answer), unboxed(other.answer)),
+                answer: members_of_both(from_box(answer), from_box(other.answer)),
                 turns: turns + other.turns,
             })
         }
         _ => {
-            let set = wide(rt, alloc, over, globals, env, budget, workers, gate)?;
+            let set = eval_wide(rt, alloc, over, globals, env, budget, workers, gate)?;
             Ok(Counted {
-                answer: as_members(unboxed(set.answer)),
+                answer: as_members(from_box(set.answer)),
                 turns: set.turns,
             })
         }
     }
 }
 
-#[cycle(wide)]
+#[cycle(eval_wide)]
 #[inline(never)]
 fn wide_sum<R: Threads + Sync, G: Gate>(
     rt: &R,
@@ -408,12 +414,12 @@ fn wide_sum<R: Threads + Sync, G: Gate>(
     drop(members);
     let run = run?;
     Ok(Counted {
-        answer: boxed(alloc, sum_of(run.answer))?,
+        answer: to_box(alloc, sum_of(run.answer))?,
         turns: turns + count + run.turns,
     })
 }
 
-#[cycle(wide)]
+#[cycle(eval_wide)]
 #[inline(never)]
 fn wide_union<R: Threads + Sync, G: Gate>(
     rt: &R,
@@ -460,12 +466,12 @@ fn wide_union<R: Threads + Sync, G: Gate>(
     drop(members);
     let run = run?;
     Ok(Counted {
-        answer: boxed(alloc, union_of(run.answer))?,
+        answer: to_box(alloc, union_of(run.answer))?,
         turns: turns + count + run.turns,
     })
 }
 
-#[cycle(wide)]
+#[cycle(eval_wide)]
 #[inline(never)]
 fn wide_tab<R: Threads + Sync, G: Gate>(
     rt: &R,
@@ -509,7 +515,7 @@ fn wide_tab<R: Threads + Sync, G: Gate>(
         gate,
     )?;
     Ok(Counted {
-        answer: boxed(alloc, table_of(dims, run.answer)?)?,
+        answer: to_box(alloc, table_of(dims, run.answer)?)?,
         turns: turns + count + run.turns,
     })
 }

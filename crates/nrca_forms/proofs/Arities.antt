@@ -6,7 +6,7 @@ use Rattle.std.proofs.lemmas.List.{length-take}
 use Rattle.aql_value.specs.Datum.{Datum}
 use Rattle.aql_value.specs.Operations.{as_natural, array_of, only, literal_of}
 use Rattle.aql_value.specs.Partial.{◌>>=◌, each, if_some}
-use Rattle.aql_value.specs.PartialLaws.{each-length, then-none}
+use Rattle.aql_value.specs.Laws.Partial.{each-length, then-none}
 use Rattle.aql_value.specs.Strict.{Strict, unary, binary, gen_turns, index_turns}
 use Rattle.nrca_array.specs.declared.held.Held.{Held}
 use Rattle.aql_value.specs.declared.memory.Memory.{Memory}
@@ -14,14 +14,14 @@ use Rattle.nrca_par.specs.declared.fault.EvalFault.{EvalFault}
 use Rattle.nrca_par.specs.declared.fault.EvalFault.TheVariants as fault
 use Rattle.nrca_term.specs.Term.{form_of}
 use Rattle.nrca_term.specs.View.{term_of}
-use Rattle.nrca_term.specs.Equations.{term_of-Tuple, term_of-Tab, term_of-Sub, term_of-Literal, length-terms_of}
+use Rattle.nrca_term.specs.Laws.Equations.{term_of-Tuple, term_of-Tab, term_of-Sub, term_of-Literal, length-terms_of}
 use Rattle.nrca_term.specs.declared.term.Core.{Core}
 use Rattle.nrca_term.specs.declared.term.Terms.{Terms}
 use Rattle.nrca_term.specs.declared.term.Core.TheVariants as core
-use Rattle.nrca_runs.specs.declared.done.Counted.{Counted}
-use Rattle.nrca_runs.specs.Parts.{pair_in, strict_of}
-use Rattle.nrca_runs.specs.Scope.{held_value}
-use Rattle.nrca_runs.specs.Within.{Within}
+use Rattle.nrca_loops.specs.declared.done.Counted.{Counted}
+use Rattle.nrca_loops.specs.Parts.{pair_in, strict_of}
+use Rattle.nrca_loops.specs.Scope.{held_value}
+use Rattle.nrca_loops.specs.Within.{Within}
 
 pub tuple_form : (ts : Terms) → strict_of (form_of (term_of (core.Tuple ts))) ≡ Strict.tuple
 tuple_form ts = ap (λ t. strict_of (form_of t)) (term_of-Tuple ts)

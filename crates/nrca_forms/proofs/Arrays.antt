@@ -3,12 +3,13 @@ use Rattle.std.proofs.Common.{◌≡◌, ℕ, ◌<◌, ◌≤◌, Bool, true, fa
 use Rattle.std.specs.Prelude.{nat_lt, nat_eq, ◌&&◌, if◌then◌else◌}
 use Rattle.std.proofs.lemmas.List.{length-map}
 use Rattle.std.proofs.lemmas.Bool.{le-ltb}
-use Rattle.aql_value.specs.Datum.{Datum, array, data_of, list_of-data_of}
+use Rattle.aql_value.specs.Datum.{Datum, array, data_of}
+use Rattle.aql_value.specs.Laws.Datum.{list_of-data_of}
 use Rattle.aql_value.specs.Indices.{product, indices}
-use Rattle.aql_value.specs.IndicesLaws.{length_indices}
-use Rattle.aql_value.specs.Lists.{Every-onto}
+use Rattle.aql_value.specs.Laws.Indices.{length_indices}
+use Rattle.aql_value.specs.Laws.Lists.{Every-onto}
 use Rattle.aql_value.specs.Operations.{as_array, array_of, is_rank, dims_above, all_in_range, set_of, values_at}
-use Rattle.aql_value.specs.OperationsLaws.{array_of-made}
+use Rattle.aql_value.specs.Laws.Operations.{array_of-made}
 use Rattle.aql_value.specs.Partial.{◌>>=◌, if_some}
 use Rattle.nrca_forms.specs.Indexing.{pairs_value, pairs_turns, AreRanked}
 use Rattle.nrca_forms.proofs.Extents.{length-dims_above}

@@ -7,16 +7,17 @@ use Rattle.std.specs.Option.{option_map}
 use Rattle.std.proofs.lemmas.List.{take_more, take_all, length-map, map-append}
 use Rattle.std.proofs.Math.ListN.{get_or-map}
 use Rattle.std.proofs.lemmas.Option.{slice_get-map, slice_get-get_or, slice_get_read}
-use Rattle.aql_value.specs.Lists.{below, length-below, Every}
+use Rattle.aql_value.specs.Lists.{below, Every}
+use Rattle.aql_value.specs.Laws.Lists.{length-below}
 use Rattle.aql_value.specs.Operations.{greater_each, dims_above, all_in_range}
 use Rattle.aql_value.specs.Datum.{Datum}
 use Rattle.aql_value.specs.Meaning.{datum}
 use Rattle.aql_value.specs.Operations.{as_natural, as_tuple, index_numbers}
 use Rattle.aql_value.specs.Partial.{◌>>=◌, each}
-use Rattle.aql_value.specs.PartialLaws.{each-none}
+use Rattle.aql_value.specs.Laws.Partial.{each-none}
 use Rattle.aql_value.specs.declared.value.Value.{Value}
 use Rattle.nrca_forms.specs.Indexing.{extent, ranked_numbers}
-use Rattle.nrca_runs.specs.RunLaws.{map_pushed, each-more}
+use Rattle.nrca_loops.specs.Laws.Run.{map_pushed, each-more}
 
 pub length-greater_each : (xs ys : List ℕ) → length (greater_each xs ys) ≡ min (length xs) (length ys)
 length-greater_each [] ys = omega arith

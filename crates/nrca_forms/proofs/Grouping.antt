@@ -13,9 +13,9 @@ use Rattle.std.proofs.lemmas.List.Elements.{filter-append}
 use Rattle.aql_value.specs.Datum.{Datum}
 use Rattle.aql_value.specs.Indices.{product, indices, offset_of}
 use Rattle.aql_value.specs.IndicesLaws.{offset}
-use Rattle.aql_value.specs.Lists.{Every-get}
+use Rattle.aql_value.specs.Laws.Lists.{Every-get}
 use Rattle.aql_value.specs.Operations.{values_at}
-use Rattle.aql_value.specs.RowMajorLaws.{place_of_index, indices_below, row_major, offset_of_below, offset_of_within}
+use Rattle.aql_value.specs.Laws.RowMajor.{place_of_index, indices_below, row_major, offset_of_below, offset_of_within}
 use Rattle.nrca_forms.specs.Indexing.{push_group, put_group}
 
 same_index : (xs ys : List ℕ) → pointwise nat_eq xs ys ≡ true → xs ≡ ys

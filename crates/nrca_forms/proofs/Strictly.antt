@@ -5,15 +5,16 @@ use Rattle.std.specs.Option.{option_map}
 use Rattle.std.proofs.lemmas.List.{length-map, map-append, length-take, take-map, drop-map}
 use Rattle.std.proofs.lemmas.Option.{slice_get_past}
 use Rattle.aql_value.specs.Datum.{Datum, natural, tuple, data_of}
-use Rattle.aql_value.specs.Lists.{below, below-last}
+use Rattle.aql_value.specs.Lists.{below}
+use Rattle.aql_value.specs.Laws.Lists.{below-last}
 use Rattle.aql_value.specs.Operations.{as_natural, only, nth, index_value, array_of, literal_of}
-use Rattle.aql_value.specs.OperationsLaws.{tuple_of-if}
+use Rattle.aql_value.specs.Laws.Operations.{tuple_of-if}
 use Rattle.aql_value.specs.Partial.{◌>>=◌, each}
-use Rattle.aql_value.specs.PartialLaws.{each-append, each-length}
+use Rattle.aql_value.specs.Laws.Partial.{each-append, each-length}
 use Rattle.aql_value.specs.Strict.{Strict, strict_turns}
 use Rattle.nrca_array.specs.declared.held.Held.{Held}
 use Rattle.nrca_array.specs.Held.{held_datum}
-use Rattle.nrca_runs.specs.Parts.{numbers_with}
+use Rattle.nrca_loops.specs.Parts.{numbers_with}
 
 pub then_map : {A B : Type 0} (f : A → B) (o : Option A) → (o >>= λ x. Some (f x)) ≡ option_map f o
 then_map f None = refl

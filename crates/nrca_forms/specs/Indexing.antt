@@ -17,18 +17,20 @@ use Rattle.aql_value.specs.Partial.{◌>>=◌, each, if_some}
 use Rattle.aql_value.specs.declared.value.Value.{Value}
 use Rattle.nrca_array.specs.declared.held.Held.{Held}
 use Rattle.nrca_par.specs.declared.fault.EvalFault.{EvalFault}
-use Rattle.nrca_runs.specs.declared.done.Counted.{Counted}
-use Rattle.nrca_runs.specs.Scope.{held_value}
-use Rattle.nrca_runs.specs.Within.{Within}
+use Rattle.nrca_loops.specs.declared.done.Counted.{Counted}
+use Rattle.nrca_loops.specs.Scope.{held_value}
+use Rattle.nrca_loops.specs.Within.{Within}
 use Rattle.nrca_forms.specs.declared.index.Indexed.{Indexed}
 
 -- a pair of an index and a value
 abbrev pub pair_of : Indexed → List ℕ × Datum
 pair_of p = (p.at, datum p.value)
 
+-- the indices and values of a list of the code
 abbrev pub pairs_in : Vec Indexed Global → List (List ℕ × Datum)
 pairs_in ps = map pair_of ps.items
 
+-- pairs of an index and a value, where they are there
 abbrev pub pairs_of : Option (Vec Indexed Global) → Option (List (List ℕ × Datum))
 pairs_of o = option_map (λ ps. map pair_of ps.items) o
 
@@ -93,6 +95,7 @@ ranged_dims ds = if all_in_range ds then Some ds else None
 abbrev pub values_by_index : List ℕ → List (List ℕ × Datum) → List (List Datum)
 values_by_index ds ps = map (λ at. values_at at ps) (indices ds)
 
+-- the sets of the values at each index, in row-major order
 abbrev pub set_cells : List ℕ → List (List ℕ × Datum) → List Datum
 set_cells ds ps = map (λ at. set_of (values_at at ps)) (indices ds)
 
@@ -100,6 +103,7 @@ set_cells ds ps = map (λ at. set_of (values_at at ps)) (indices ds)
 abbrev pub values_of : Vec Value Global → List Datum
 values_of vs = map datum vs.items
 
+-- the values of each list
 abbrev pub groups_in : Vec (Vec Value Global) Global → List (List Datum)
 groups_in vs = map values_of vs.items
 
@@ -111,5 +115,6 @@ push_group p v groups = set groups p (get_or groups p [] ++ v ∷ [])
 abbrev pub put_group : (dims at : List ℕ) → Datum → List (List Datum) → List (List Datum)
 put_group dims at v groups = if pointwise nat_lt at dims then push_group (offset dims at) v groups else groups
 
+-- the lists with the value behind the others of its index
 abbrev pub PutsAt : (dims at : List ℕ) → Value → Vec (Vec Value Global) Global → Vec (Vec Value Global) Global → Type 0
 PutsAt dims at v groups r = groups_in r ≡ put_group dims at (datum v) (groups_in groups)

@@ -1,3 +1,3 @@
 pub mod Indexing
-pub mod IndexLaws
 pub mod Made
+pub mod Laws

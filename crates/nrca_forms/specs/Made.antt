@@ -11,9 +11,9 @@ use Rattle.nrca_array.specs.declared.held.Held.{Held}
 use Rattle.nrca_array.specs.Held.{held_datum}
 use Rattle.nrca_par.specs.declared.fault.EvalFault.{EvalFault}
 use Rattle.nrca_par.specs.declared.fault.EvalFault.TheVariants as fault
-use Rattle.nrca_runs.specs.declared.done.Counted.{Counted}
-use Rattle.nrca_runs.specs.Parts.{held_values, parts_value, cell_in, numbers_in}
-use Rattle.nrca_runs.specs.Scope.{held_value}
+use Rattle.nrca_loops.specs.declared.done.Counted.{Counted}
+use Rattle.nrca_loops.specs.Parts.{held_values, parts_value, cell_in, numbers_in}
+use Rattle.nrca_loops.specs.Scope.{held_value}
 
 -- it is what the form makes of the values of its parts
 abbrev pub Makes : Strict → Vec Held Global → Option Held → Type 0

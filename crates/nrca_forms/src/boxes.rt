@@ -3,18 +3,18 @@
 ghost use Rattle.std.specs.Prelude.{◌≡◌, IfOk};
 ghost use Rattle.aql_value.specs.Operations.{dim_of};
 ghost use Rattle.nrca_array.specs.Held.{held_datum};
-ghost use Rattle.nrca_runs.specs.Parts.{parts_value};
-ghost use Rattle.nrca_runs.specs.Scope.{boxed_value};
-ghost use Rattle.nrca_runs.specs.Within.{Within};
+ghost use Rattle.nrca_loops.specs.Parts.{parts_value};
+ghost use Rattle.nrca_loops.specs.Scope.{boxed_value};
+ghost use Rattle.nrca_loops.specs.Within.{Within};
 ghost use Rattle.nrca_forms.specs.Made.{kept_cell};
-ghost use Rattle.nrca_runs.specs.Evaluates.{Applies, strict_form};
+ghost use Rattle.nrca_loops.specs.Evaluates.{Applies, strict_form};
 
 use crate::forms::strict;
 use crate::operations::{cell_of_parts, dim};
 use aql_value::Memory;
 use nrca_array::Held;
+use nrca_loops::{Counted, to_box};
 use nrca_par::EvalFault;
-use nrca_runs::{Counted, boxed};
 use nrca_term::Core;
 use std::alloc::Global;
 
@@ -28,7 +28,7 @@ pub fn cell_boxed(
     ensures { IfOk result (λ v. boxed_value v ≡ kept_cell array.now at) }
 {
     let cell = cell_of_parts(alloc, array, at)?;
-    boxed(alloc, cell)
+    to_box(alloc, cell)
 }
 
 /// The dimensions of an array of that rank, on the heap and without turns.
@@ -43,7 +43,7 @@ pub fn dim_boxed(
 {
     let dims = dim(alloc, array, rank)?;
     Ok(Counted {
-        answer: boxed(alloc, dims)?,
+        answer: to_box(alloc, dims)?,
         turns: 0,
     })
 }
@@ -60,7 +60,7 @@ pub fn strict_boxed(
 {
     let made = strict(alloc, term, parts, budget)?;
     Ok(Counted {
-        answer: boxed(alloc, made.answer)?,
+        answer: to_box(alloc, made.answer)?,
         turns: made.turns,
     })
 }

@@ -5,10 +5,10 @@ ghost use Rattle.aql_value.specs.Datum.{text, set, nil};
 ghost use Rattle.aql_value.specs.Meaning.{datum};
 ghost use Rattle.aql_value.specs.Operations.{part_of, get_of, dim_of, arith_of, compare_of, union_of as union_datum, literal_of, only};
 ghost use Rattle.aql_value.specs.Strict.{nullary, unary, binary, sub_value, Strict};
-ghost use Rattle.nrca_runs.specs.Scope.{held_value};
-ghost use Rattle.nrca_runs.specs.Parts.{held_values, parts_value, pair_in};
+ghost use Rattle.nrca_loops.specs.Scope.{held_value};
+ghost use Rattle.nrca_loops.specs.Parts.{held_values, parts_value, pair_in};
 ghost use Rattle.nrca_forms.specs.Made.{IsFreed, Makes, held_pair};
-ghost use Rattle.nrca_runs.specs.Evaluates.{Applies, strict_form};
+ghost use Rattle.nrca_loops.specs.Evaluates.{Applies, strict_form};
 
 use crate::index::index_set;
 use crate::operations::{
@@ -16,8 +16,8 @@ use crate::operations::{
 };
 use aql_value::{ArithOp, CompareOp, Items, Memory, Str, Value, canon};
 use nrca_array::Held;
+use nrca_loops::Counted;
 use nrca_par::EvalFault;
-use nrca_runs::Counted;
 use nrca_term::Core;
 use std::alloc::Global;
 
@@ -35,13 +35,13 @@ pub fn strict(
     ensures { Applies held_value budget (strict_form term.now) (parts_value parts) result }
 {
     match parts {
-        Some(parts) => made(alloc, term, parts, budget),
+        Some(parts) => make_value(alloc, term, parts, budget),
         None => Ok(free(None)),
     }
 }
 
 #[tactic(auto, using(crate::proofs::Arities::made_forms))]
-fn made(
+fn make_value(
     alloc: Global,
     term: &Core,
     parts: Vec<Held>,
@@ -54,18 +54,18 @@ fn made(
         Core::Index { rank, pairs: _ } => made_index(alloc, *rank, parts, budget),
         Core::Nat(n) => Ok(free(constant(parts, Value::Nat(*n)))),
         Core::Bool(b) => Ok(free(constant(parts, Value::Bool(*b)))),
-        Core::Text(s) => freed(made_text(alloc, parts, s)),
-        Core::Tuple(_) => freed(tuple(alloc, parts)),
-        Core::Proj { at, of, part: _ } => freed(made_proj(alloc, parts, *at, *of)),
+        Core::Text(s) => free_value(made_text(alloc, parts, s)),
+        Core::Tuple(_) => free_value(tuple(alloc, parts)),
+        Core::Proj { at, of, part: _ } => free_value(made_proj(alloc, parts, *at, *of)),
         Core::Arith(op, _, _) => Ok(free(made_arith(parts, *op))),
-        Core::Compare(op, _, _) => freed(made_comparison(alloc, parts, *op)),
-        Core::Empty => freed(made_empty(alloc, parts)),
-        Core::Single(_) => freed(made_single(alloc, parts)),
-        Core::Union(_, _) => freed(made_union(alloc, parts)),
-        Core::Get(_) => freed(made_get(alloc, parts)),
-        Core::Sub { array: _, at: _ } => freed(made_sub(alloc, parts)),
-        Core::Dim { rank, array: _ } => freed(made_dim(alloc, parts, *rank)),
-        Core::Literal { dims, cells: _ } => freed(made_literal(alloc, dims.0.len(), parts)),
+        Core::Compare(op, _, _) => free_value(made_comparison(alloc, parts, *op)),
+        Core::Empty => free_value(made_empty(alloc, parts)),
+        Core::Single(_) => free_value(made_single(alloc, parts)),
+        Core::Union(_, _) => free_value(made_union(alloc, parts)),
+        Core::Get(_) => free_value(made_get(alloc, parts)),
+        Core::Sub { array: _, at: _ } => free_value(made_sub(alloc, parts)),
+        Core::Dim { rank, array: _ } => free_value(made_dim(alloc, parts, *rank)),
+        Core::Literal { dims, cells: _ } => free_value(made_literal(alloc, dims.0.len(), parts)),
         Core::Bottom => Ok(free(None)),
         Core::Var(_) => Ok(free(None)),
         Core::Global(_) => Ok(free(None)),
@@ -79,7 +79,7 @@ fn made(
 }
 
 // A value that was made without turns of its own.
-fn freed(value: Result<Option<Held>, Memory>) -> Result<Counted<Option<Held>>, EvalFault>
+fn free_value(value: Result<Option<Held>, Memory>) -> Result<Counted<Option<Held>>, EvalFault>
     ensures { IsFreed value result }
 {
     Ok(free(value?))

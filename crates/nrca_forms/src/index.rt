@@ -9,18 +9,18 @@ ghost use Rattle.aql_value.specs.Operations.{as_natural, as_tuple, as_indexed, d
 ghost use Rattle.aql_value.specs.Partial.{each};
 ghost use Rattle.nrca_array.specs.Held.{held_datum};
 ghost use Rattle.nrca_forms.specs.Indexing.{pair_of, pairs_of, pairs_run, extent, indexed_pair, AreRanked, push_group, ranked_numbers, values_of, AddsPair, MakesArray, groups_in, index_lists, ranged_dims, set_cells, values_by_index, PutsAt, greater_dims, pairs_in};
-ghost use Rattle.nrca_runs.specs.Runs.{lists_join};
-ghost use Rattle.nrca_runs.specs.Scope.{held_value};
+ghost use Rattle.nrca_loops.specs.Runs.{lists_join};
+ghost use Rattle.nrca_loops.specs.Scope.{held_value};
 ghost use Rattle.aql_value.specs.Strict.{Strict};
-ghost use Rattle.nrca_runs.specs.Evaluates.{Applies};
+ghost use Rattle.nrca_loops.specs.Evaluates.{Applies};
 
 use crate::operations::{free, table_of};
 use aql_value::{
     Ascending, Dims, Items, Memory, Value, canon, is_below, place, saturating_product,
 };
 use nrca_array::{Builder, Held};
+use nrca_loops::{Counted, member_at, set_of, with_cell};
 use nrca_par::EvalFault;
-use nrca_runs::{Counted, member_at, set_of, with_cell};
 use std::alloc::Global;
 
 /// An index and a value that is paired with it.
@@ -130,7 +130,7 @@ fn numbers_of(alloc: Global, rank: u64, index: &Value) -> Result<Option<Dims>, M
     match row_items(index) {
         Some(items) => {
             let numbers = naturals_of(alloc, items)?;
-            Ok(ranked(numbers, rank))
+            Ok(with_rank(numbers, rank))
         }
         None => Ok(None),
     }
@@ -174,7 +174,7 @@ fn natural_of(value: &Value) -> Option<u128>
 }
 
 // The parts of the tuple that a value is.
-#[tactic(auto, using(aql_value::specs::Datum::data_lists))]
+#[tactic(auto, using(aql_value::specs::Laws::Datum::data_lists))]
 fn row_items(value: &Value) -> Option<&Items>
     ensures { option_map (λ items. items.now) result ≡ as_tuple (datum value.now) }
 {
@@ -185,7 +185,7 @@ fn row_items(value: &Value) -> Option<&Items>
 }
 
 // The numbers, where there are as many as the rank.
-fn ranked(numbers: Option<Dims>, rank: u64) -> Option<Dims>
+fn with_rank(numbers: Option<Dims>, rank: u64) -> Option<Dims>
     ensures { result ≡ ranked_numbers rank numbers }
 {
     match numbers {
@@ -255,7 +255,7 @@ fn extents_of(alloc: Global, rank: u64, pairs: &[Indexed]) -> Result<Vec<Option<
     let mut dims = zero_extents(alloc, rank)?;
     let count = pairs.len();
     for k in 0..count {
-        dims = raised(alloc, &pairs[count - 1 - k].at, dims.as_slice())?;
+        dims = raise_dims(alloc, &pairs[count - 1 - k].at, dims.as_slice())?;
     }
     Ok(dims)
 }
@@ -271,7 +271,7 @@ fn zero_extents(alloc: Global, rank: u64) -> Result<Vec<Option<u128>>, Memory>
 }
 
 // The least dimensions that are no smaller and that one index more is below.
-fn raised(alloc: Global, at: &Dims, dims: &[Option<u128>]) -> Result<Vec<Option<u128>>, Memory>
+fn raise_dims(alloc: Global, at: &Dims, dims: &[Option<u128>]) -> Result<Vec<Option<u128>>, Memory>
     ensures { IfOk result (λ ds. map extent ds.items ≡ greater_dims at.now dims.now) }
 {
     let mut all = Vec::new(alloc);
@@ -324,12 +324,12 @@ fn cells_of(
     requires { count ≡ product dims.now }
     ensures { IfOk result (λ cells. cells ≡ set_cells dims.now (pairs_in pairs)) }
 {
-    let groups = grouped(alloc, dims, pairs, count)?;
+    let groups = group_values(alloc, dims, pairs, count)?;
     sets_of(alloc, groups)
 }
 
 // The values paired with each index, in row-major order.
-fn grouped(
+fn group_values(
     alloc: Global,
     dims: &Dims,
     pairs: Vec<Indexed>,
@@ -341,13 +341,13 @@ fn grouped(
     let mut groups = empty_groups(alloc, count)?;
     for pair in pairs {
         let Indexed { at, value } = pair;
-        groups = placed(groups, dims, &at, value)?;
+        groups = place_value(groups, dims, &at, value)?;
     }
     Ok(groups)
 }
 
 // The values paired with each index, with one more pair.
-fn placed(
+fn place_value(
     groups: Vec<Vec<Value>>,
     dims: &Dims,
     at: &Dims,

@@ -8,18 +8,18 @@ ghost use Rattle.aql_value.specs.Indices.{cell};
 ghost use Rattle.aql_value.specs.Lists.{below};
 ghost use Rattle.aql_value.specs.Strict.{sub_value, Strict};
 ghost use Rattle.nrca_array.specs.Held.{held_datum};
-ghost use Rattle.nrca_runs.specs.Scope.{held_value};
-ghost use Rattle.nrca_runs.specs.Parts.{held_values, parts_value, numbers_in, numbers_with, table_in};
+ghost use Rattle.nrca_loops.specs.Scope.{held_value};
+ghost use Rattle.nrca_loops.specs.Parts.{held_values, parts_value, numbers_in, numbers_with, table_in};
 ghost use Rattle.nrca_forms.specs.Made.{dims_datum, items_in, kept_cell};
-ghost use Rattle.nrca_runs.specs.Evaluates.{Applies};
+ghost use Rattle.nrca_loops.specs.Evaluates.{Applies};
 
-use aql_made::{both, listed};
+use aql_value::made::{both, make_list};
 use aql_value::{
     ArithOp, Ascending, Cells, CompareOp, Dims, Index, Items, Memory, Parts, Value, canon, merge,
 };
 use nrca_array::{Builder, Flat, Held};
+use nrca_loops::{Counted, into_value, item, natural, row_of, set_of, with_cell};
 use nrca_par::EvalFault;
-use nrca_runs::{Counted, into_value, item, natural, row_of, set_of, with_cell};
 use std::alloc::Global;
 
 // A value that takes no turns of its own.
@@ -68,7 +68,7 @@ fn naturals_below(alloc: Global, n: u64) -> Result<Ascending, Memory>
 pub(crate) fn single(alloc: Global, v: Held) -> Result<Held, Memory>
     ensures { IfOk result (λ r. held_datum r ≡ set_of (held_datum v ∷ [])) }
 {
-    let items = listed(alloc, into_value(alloc, v))?;
+    let items = make_list(alloc, into_value(alloc, v))?;
     Ok(Held::Value(Value::Members(canon(alloc, Items { items })?)))
 }
 
@@ -219,7 +219,7 @@ fn cell_at(alloc: Global, array: &Held, at: &Dims) -> Result<Option<Held>, Memor
     cell(alloc, array, &at)
 }
 
-#[tactic(auto, using(aql_value::specs::Datum::data_lists))]
+#[tactic(auto, using(aql_value::specs::Laws::Datum::data_lists))]
 fn cell(alloc: Global, array: &Held, at: &Index) -> Result<Option<Held>, Memory>
     ensures { IfOk result (λ r. held_value r ≡ cell_of (held_datum array.now) at.now.items) }
 {
@@ -348,7 +348,7 @@ pub fn sum_of(sum: Option<u128>) -> Option<Held>
 }
 
 /// A set as a value.
-#[tactic(auto, using(aql_value::specs::Datum::data_lists))]
+#[tactic(auto, using(aql_value::specs::Laws::Datum::data_lists))]
 pub fn union_of(members: Option<Ascending>) -> Option<Held>
     ensures { held_value result ≡ option_map (λ ms. set (data_of ms)) members }
 {

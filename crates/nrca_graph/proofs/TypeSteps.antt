@@ -4,7 +4,7 @@ use Rattle.aql_types.specs.Types as types
 use Rattle.aql_types.specs.Types.{Tys, no_type, type, append}
 use Rattle.aql_types.specs.declared.ty.Ty.{Ty}
 use Rattle.aql_types.specs.View.{type_of, types_of}
-use Rattle.aql_types.specs.ViewLaws.{types_last}
+use Rattle.aql_types.specs.Laws.View.{types_last}
 use Rattle.nrca_graph.specs.Encoding.{natural_types}
 
 append-natural : (n : ℕ) → append (natural_types n) (type types.natural no_type) ≡ natural_types (suc n)

@@ -9,7 +9,8 @@ use Rattle.aql_value.specs.declared.memory.Memory.{Memory}
 use Rattle.aql_value.specs.declared.value.Value.{Value}
 use Rattle.aql_value.specs.Operations.{index_value, set_of}
 use Rattle.nrca_graph.specs.Encoding.{pair, graph, encoding, IsPairAt}
-use Rattle.nrca_graph.specs.EncodingOrder.{encodings-list, IsOrderedAs, encoded-order}
+use Rattle.nrca_graph.specs.EncodingOrder.{IsOrderedAs}
+use Rattle.nrca_graph.specs.Laws.EncodingOrder.{encodings-list, encoded-order}
 
 -- no cells
 pub graph-empty : (ats : List (List ℕ)) → graph ats [] ≡ []

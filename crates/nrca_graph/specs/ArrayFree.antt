@@ -144,6 +144,7 @@ abbrev mutual
   pub array_free : Term → Term
   array_free (node f ps) = array_free_node f (array_free_parts ps)
 
+  -- the array-free forms of the parts
   pub array_free_parts : Parts → Parts
   array_free_parts none = none
   array_free_parts (part k t ps) = part k (array_free t) (array_free_parts ps)

@@ -39,6 +39,7 @@ abbrev mutual
   pub graph_turns : Outcomes → List Datum → Term → ℕ
   graph_turns V vals (node f ps) = own_graph_turns f (part_values V vals ps) + parts_graph_turns V vals f (part_values V vals ps) 0 ps
 
+  -- the bound of the turns of the parts from number i on
   pub parts_graph_turns : Outcomes → List Datum → Form → List Part → ℕ → Parts → ℕ
   parts_graph_turns V vals f worths i none = 0
   parts_graph_turns V vals f worths i (part k t ps) = total (λ new. graph_turns V (new ++ vals) t) (entered f worths i) + parts_graph_turns V vals f worths (suc i) ps

@@ -1,4 +1,28 @@
 -- What is claimed of encoding and of the array-free form.
+pub mod ArrayFreeTypes
+pub mod Dimensions
+pub mod EncodedSets
+pub mod EncodedTypes
+pub mod EncodingOrder
+pub mod Filled
+pub mod Greatest
+pub mod IndexNode
+pub mod IndexOrder
+pub mod KeptForms
+pub mod LiteralNode
+pub mod Means
+pub mod NestTurns
+pub mod Nests
+pub mod NoArrays
+pub mod Paired
+pub mod StrictForms
+pub mod SubscriptNode
+pub mod Tabulated
+pub mod TabulationNode
+pub mod TranslatedParts
+pub mod TypedForms
+pub mod TypedTerms
+pub mod Unions
 use Rattle.std.specs.Prelude.{◌≡◌, ◌<◌, ◌^◌, List, map}
 use Rattle.aql_value.specs.Datum.{Datum}
 use Rattle.aql_types.specs.Types.{Ty, Subst, apply, IsType}

@@ -6,14 +6,14 @@ ghost use Rattle.aql_types.specs.View.{type_of, types_of};
 ghost use Rattle.nrca_graph.specs.Encoding.{encoding_type, encoding_types, array_type, natural_types};
 ghost use Rattle.nrca_graph.specs.Coded.{IsPairType};
 
-use aql_made::{boxed, listed_both};
 use aql_types::ty::{Ty, row};
 use aql_value::Memory;
+use aql_value::made::{make_box, make_pair_list};
 use std::alloc::Global;
 
 /// The type of the encoded values of a type: an array's is that of the pairs of its dimensions and its graph.
 #[cycle(encode_type)]
-#[tactic(auto, using(aql_types::specs::ViewLaws::type_of_row))]
+#[tactic(auto, using(aql_types::specs::Laws::View::type_of_row))]
 pub fn encode_type(alloc: Global, t: &Ty) -> Result<Ty, Memory>
     ensures { IfOk result (λ made. type_of made ≡ encoding_type (type_of t.now)) }
 {
@@ -28,7 +28,7 @@ pub fn encode_type(alloc: Global, t: &Ty) -> Result<Ty, Memory>
         }
         Ty::SetOf(t) => {
             let t = encode_type(alloc, t);
-            Ok(Ty::SetOf(boxed(alloc, t)?))
+            Ok(Ty::SetOf(make_box(alloc, t)?))
         }
         Ty::ArrayOf { rank, cell } => {
             let cell = encode_type(alloc, cell);
@@ -38,7 +38,7 @@ pub fn encode_type(alloc: Global, t: &Ty) -> Result<Ty, Memory>
 }
 
 #[cycle(encode_type)]
-#[tactic(auto, using(aql_types::specs::ViewLaws::list_steps))]
+#[tactic(auto, using(aql_types::specs::Laws::View::list_steps))]
 fn encode_types(alloc: Global, ts: &[Ty]) -> Result<Vec<Ty>, Memory>
     ensures { IfOk result (λ made. types_of made.items ≡ encoding_types (types_of ts.now)) }
 {
@@ -62,13 +62,13 @@ fn array_type(alloc: Global, rank: u64, cell: Result<Ty, Memory>) -> Result<Ty, 
 fn set_type(alloc: Global, member: Result<Ty, Memory>) -> Result<Ty, Memory>
     ensures { IfOk result (λ made. IsOkAnd member (λ m. type_of made ≡ types.set_of (type_of m))) }
 {
-    Ok(Ty::SetOf(boxed(alloc, member)?))
+    Ok(Ty::SetOf(make_box(alloc, member)?))
 }
 
 fn pair_type(alloc: Global, s: Result<Ty, Memory>, t: Result<Ty, Memory>) -> Result<Ty, Memory>
     ensures { IfOk result (λ u. IsOkAnd s (λ a. IsOkAnd t (λ b. IsPairType a b u))) }
 {
-    let items = listed_both(alloc, s, t)?;
+    let items = make_pair_list(alloc, s, t)?;
     Ok(row(items))
 }
 

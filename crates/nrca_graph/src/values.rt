@@ -9,9 +9,9 @@ ghost use Rattle.nrca_graph.specs.Encoding.{encoding, graph, IsPairAt};
 ghost use Rattle.nrca_graph.specs.EncodingOrder.{IsOrderedAs};
 ghost use Rattle.nrca_graph.specs.Coded.{IsPair, graph_set};
 
-use aql_made::listed_both;
+use aql_value::made::make_pair_list;
 use aql_value::{Ascending, Cells, Items, Memory, Parts, Value, canon};
-use nrca_runs::{set_index, zeros};
+use nrca_loops::{set_index, zeros};
 use std::alloc::Global;
 
 /// The value without arrays: an array is the pair of its dimensions, a natural or from rank 2 a tuple of naturals, and the
@@ -125,7 +125,7 @@ fn pair_value(
 ) -> Result<Value, Memory>
     ensures { IfOk result (λ u. IsOkAnd v (λ a. IsOkAnd w (λ b. IsPair a b u))) }
 {
-    let items = listed_both(alloc, v, w)?;
+    let items = make_pair_list(alloc, v, w)?;
     match Parts::new(Items { items }) {
         Some(parts) => Ok(Value::Row(parts)),
         None => unreachable!(),

@@ -3,10 +3,11 @@ use Rattle.std.specs.Prelude.{◌≡◌, ℕ, zero, suc, true, [], ◌∷◌, Li
 use Rattle.std.proofs.Common.{subst, arith, ap, ◌∙◌}
 use Rattle.aql_value.specs.declared.ops.CompareOp.TheVariants as compare_op
 use Rattle.aql_value.specs.Datum.{natural, truth}
-use Rattle.aql_value.specs.Lists.{Every, Every-impl}
+use Rattle.aql_value.specs.Lists.{Every}
+use Rattle.aql_value.specs.Laws.Lists.{Every-impl}
 use Rattle.aql_value.specs.Strict.{Strict}
 use Rattle.aql_types.specs.Types as types
-use Rattle.aql_types.specs.OperationLaws.{some-list}
+use Rattle.aql_types.specs.Laws.Operation.{some-list}
 use Rattle.nrca_term.specs.declared.trace.Rule.TheVariants.{I1, L1, A1, C4}
 use Rattle.nrca_term.specs.declared.trace.Step as code
 use Rattle.nrca_term.specs.Term.{Term, none, part}
@@ -18,8 +19,8 @@ use Rattle.nrca_term.specs.Facts.{enter_facts, context_at, facts_at}
 use Rattle.nrca_term.specs.Firm.{firm, is_defined}
 use Rattle.nrca_term.specs.Rules.{Side, IsDefined, DefinedAt, Step, Replay}
 use Rattle.nrca_term.specs.Normal.{FirmAt}
-use Rattle.nrca_laws.specs.Typed.{typed-head, typed-strict, typed-sum}
-use Rattle.nrca_laws.specs.Ways.{firm-side}
+use Rattle.nrca_laws.specs.Laws.Typed.{typed-head, typed-strict, typed-sum}
+use Rattle.nrca_laws.specs.Laws.Ways.{firm-side}
 
 -- `summap(fn \x => [[j | \j<1000000000000]][x])!(gen!3)`, where x has a name of its own at first
 abbrev bound : ℕ

@@ -6,7 +6,7 @@ use Rattle.aql_value.specs.declared.ops.ArithOp.TheVariants.{Add, Quotient}
 use Rattle.aql_value.specs.declared.ops.CompareOp.{CompareOp}
 use Rattle.aql_value.specs.Lists.{Every}
 use Rattle.aql_value.specs.Strict.{Strict}
-use Rattle.aql_types.specs.OperationLaws.{some-list}
+use Rattle.aql_types.specs.Laws.Operation.{some-list}
 use Rattle.nrca_term.specs.declared.trace.Rule.{Rule}
 use Rattle.nrca_term.specs.declared.trace.Rule.TheVariants.{B1, K1, L1, L2, L3, A2, A3, A4, A6, A7}
 use Rattle.nrca_term.specs.Term.{Term, Parts, node, none, part, plain, Form, child_of, parts_of, form_of}
@@ -17,10 +17,11 @@ use Rattle.nrca_term.specs.Facts.{Facts, no_facts, enter_facts}
 use Rattle.nrca_term.specs.Firm.{is_defined}
 use Rattle.nrca_term.specs.Rules.{Way, Redex, Folds, arithmetic, numbers, truths, texts, generated, member, misshapen, dimension_terms, index_variables}
 use Rattle.nrca_term.specs.Normal.{is_check, FirmAt, IsNormalAt, IsNormal}
-use Rattle.nrca_laws.specs.Lefts.{left_form, redex-left}
-use Rattle.nrca_laws.specs.Unique.{ways-fixed}
-use Rattle.nrca_laws.specs.Unused.{uses-shifted}
-use Rattle.nrca_laws.specs.Search.{AllPlaces, FirstParts, all-node}
+use Rattle.nrca_laws.specs.Laws.Lefts.{left_form, redex-left}
+use Rattle.nrca_laws.specs.Laws.Unique.{ways-fixed}
+use Rattle.nrca_laws.specs.Laws.Unused.{uses-shifted}
+use Rattle.nrca_laws.specs.Search.{AllPlaces, FirstParts}
+use Rattle.nrca_laws.specs.Laws.Search.{all-node}
 
 -- a leaf has no part
 nothing : (i : ℕ) (u : Term) → child_of none i ≡ Some u → ⊥

@@ -6,7 +6,7 @@ use Rattle.aql_value.specs.declared.ops.ArithOp.TheVariants.{Add}
 use Rattle.aql_value.specs.declared.ops.CompareOp.TheVariants as compare_op
 use Rattle.aql_value.specs.Datum.{natural}
 use Rattle.aql_value.specs.Indices.{indices}
-use Rattle.aql_types.specs.OperationLaws.{some-list}
+use Rattle.aql_types.specs.Laws.Operation.{some-list}
 use Rattle.nrca_term.specs.declared.trace.Rule.TheVariants.{L1, A3, A5, A6, N2}
 use Rattle.nrca_term.specs.Term.{Term}
 use Rattle.nrca_term.specs.Nodes.{variable, position, number, bottom_term, let_term, if_term, default_term, arith_term, less_term, tab_term, sub_term, dim_term, literal_term}

@@ -1,4 +1,27 @@
 -- What is claimed of the rules, of their conditions, of steps, of chains of steps and of the search for the next step.
+pub mod Arrays
+pub mod Beta
+pub mod Chains
+pub mod Constants
+pub mod Dims
+pub mod Firms
+pub mod Fitting
+pub mod Keeping
+pub mod Lefts
+pub mod Lowering
+pub mod Meanings
+pub mod Operations
+pub mod Search
+pub mod Sets
+pub mod Spans
+pub mod Steps
+pub mod Typed
+pub mod Types
+pub mod Unique
+pub mod Unused
+pub mod Uses
+pub mod Ways
+pub mod Weights
 use Rattle.std.specs.Prelude.{◌≡◌, ℕ, ◌+◌, ◌^◌, ◌≤◌, true, List, [], length, Some}
 use Rattle.aql_value.specs.Datum.{Datum}
 use Rattle.aql_value.specs.Lists.{Every}
@@ -17,8 +40,8 @@ use Rattle.nrca_term.specs.Facts.{Facts, facts_at, Stands}
 use Rattle.nrca_term.specs.Firm.{span, firm, is_defined}
 use Rattle.nrca_term.specs.Rules.{Way, Redex, IsDefined, DefinedAt, Step, Replay}
 use Rattle.nrca_term.specs.Normal.{FirmAt, IsNormalAt}
-use Rattle.nrca_term.specs.Valid.{HasConstants, AreOutcomes}
-use Rattle.nrca_laws.specs.Spans.{Within}
+use Rattle.nrca_term.specs.Valid.{HasConstants, AreValidOutcomes}
+use Rattle.nrca_laws.specs.Spans.{IsInSpan}
 use Rattle.nrca_laws.specs.Search.{AllBefore}
 use Rattle.nrca_laws.specs.Fitting.{HasMeaning}
 
@@ -47,7 +70,7 @@ RulesFixWays = (R : Rule) (l r s : Term) (ws us : List Way) → Redex R l r ws �
 -- the value of a term is a number within its span, wherever the facts hold
 abbrev pub SpansHold : Type 0
 SpansHold = (V : Outcomes) (vals : List Datum) (c : Facts) → Stands V c vals →
-    (t : Term) (x : ℕ × ℕ) (v : Datum) → span c t ≡ Some x → cden V vals t ≡ Some v → Within x v
+    (t : Term) (x : ℕ × ℕ) (v : Datum) → span c t ≡ Some x → cden V vals t ≡ Some v → IsInSpan x v
 
 -- a firm typed term has a value, wherever the facts hold
 abbrev pub FirmTermsAreDefined : Type 0
@@ -63,7 +86,7 @@ FirmWaysAreDefined = (given : List Ty) (V : Outcomes) → OutcomesHave (instance
 
 -- a step keeps the meaning of a closed typed term with valid constants, at outcomes that are values of their types
 abbrev pub StepsKeepMeaning : Type 0
-StepsKeepMeaning = (given : List Ty) (V : Outcomes) → OutcomesHave (instances given) V → AreOutcomes V →
+StepsKeepMeaning = (given : List Ty) (V : Outcomes) → OutcomesHave (instances given) V → AreValidOutcomes V →
     (R : Rule) (path : List ℕ) (t u : Term) (T : Ty) → ctyped (instances given) [] t T → HasConstants t →
     Step V R path t u → cden V [] t ≡ cden V [] u
 
@@ -82,7 +105,7 @@ StepsLower = (given : List Ty) (V : Outcomes) (R : Rule) (path : List ℕ) (t u 
 
 -- a chain of steps keeps the meaning, as a step does
 abbrev pub ChainsKeepMeaning : Type 0
-ChainsKeepMeaning = (given : List Ty) (V : Outcomes) → OutcomesHave (instances given) V → AreOutcomes V →
+ChainsKeepMeaning = (given : List Ty) (V : Outcomes) → OutcomesHave (instances given) V → AreValidOutcomes V →
     (trace : List code.Step) (t u : Term) (T : Ty) → ctyped (instances given) [] t T → HasConstants t →
     Replay V trace t u → cden V [] t ≡ cden V [] u
 

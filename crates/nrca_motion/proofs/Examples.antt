@@ -7,7 +7,7 @@ use Rattle.std.proofs.Common.{ap, sym, subst}
 use Rattle.aql_value.specs.Strict.{Strict}
 use Rattle.nrca_term.specs.Term.{Term, Parts, Form, node, form_of, parts_of, child_of, binders_of}
 use Rattle.nrca_term.specs.Rules.{LoopOf}
-use Rattle.aql_types.specs.OperationLaws.{some-list}
+use Rattle.aql_types.specs.Laws.Operation.{some-list}
 use Rattle.nrca_motion.specs.declared.moves.MoveRule.{MoveRule}
 use Rattle.nrca_term.specs.Nodes.{variable, number, truth_term, bottom_term, empty_term, single_term, big_union_term, sum_term, gen_term, if_term, let_term, less_term}
 use Rattle.nrca_term.specs.Meaning.{Outcomes, cden}

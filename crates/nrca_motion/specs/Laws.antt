@@ -1,4 +1,15 @@
 -- What is claimed of the moves: of one move at a place, of chains of moves, and of the turns of a move.
+pub mod Bounds
+pub mod Counting
+pub mod LetMoves
+pub mod LetTurns
+pub mod LetTypes
+pub mod Lowering
+pub mod Rotating
+pub mod Steps
+pub mod TestMoves
+pub mod TestTypes
+pub mod Weights
 use Rattle.std.specs.Prelude.{◌≡◌, ℕ, ◌+◌, ◌^◌, ◌<◌, ◌≤◌, Bool, true, List, [], length, Some}
 use Rattle.aql_value.specs.Datum.{Datum}
 use Rattle.aql_value.specs.Lists.{Every}

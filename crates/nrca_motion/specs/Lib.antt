@@ -1,13 +1,4 @@
 pub mod Laws
 pub mod Moves
-pub mod Rotating
-pub mod LetMoves
-pub mod TestMoves
-pub mod LetTypes
-pub mod TestTypes
-pub mod Steps
-pub mod LetTurns
 pub mod Counting
 pub mod Lowering
-pub mod Bounds
-pub mod Weights

@@ -15,17 +15,17 @@ Joins P from to (x ∷ xs) = (mid : ℕ) × (from ≤ mid) × (mid ≤ to) × P 
 
 module _ {F T : Type 0} (g : Shared F (ℕ × (ℕ × Unit {0})) (Result T EvalFault)) (f : F) where
   -- x is an answer that f may give on the run from a up to b
-  abbrev pub Answers : ℕ → ℕ → Result T EvalFault → Type 0
-  Answers a b r = g.post f (a, (b, tt)) r
+  abbrev pub IsPieceAnswer : ℕ → ℕ → Result T EvalFault → Type 0
+  IsPieceAnswer a b r = g.post f (a, (b, tt)) r
 
   -- in place j of xs stands an answer that f may give on piece j
   abbrev pub GivesPieces : ℕ → ℕ → List T → Type 0
-  GivesPieces n count xs = (j : ℕ) (d : T) → j < count → Answers (piece_start n count j) (piece_start n count (j + 1)) (Ok (slice_index_or xs j d))
+  GivesPieces n count xs = (j : ℕ) (d : T) → j < count → IsPieceAnswer (piece_start n count j) (piece_start n count (j + 1)) (Ok (slice_index_or xs j d))
 
   -- f may give Spent on some piece
   abbrev pub SpentSomewhere : ℕ → ℕ → Type 0
-  SpentSomewhere n count = (j : ℕ) × (j < count) × Answers (piece_start n count j) (piece_start n count (j + 1)) (Err Spent)
+  SpentSomewhere n count = (j : ℕ) × (j < count) × IsPieceAnswer (piece_start n count j) (piece_start n count (j + 1)) (Err Spent)
 
   -- f may give Spent on some run within the first n members
   abbrev pub SpentOnRun : ℕ → Type 0
-  SpentOnRun n = (a b : ℕ) × (a < b) × (b ≤ n) × Answers a b (Err Spent)
+  SpentOnRun n = (a b : ℕ) × (a < b) × (b ≤ n) × IsPieceAnswer a b (Err Spent)

@@ -1,7 +1,7 @@
 ghost use Rattle.std.specs.Prelude.{◌≡◌, ℕ, ◌+◌, ◌/◌, ◌^◌, ◌<◌, ◌≤◌, min, map, IfOk, IfErr, vec_len};
 ghost use Rattle.std.specs.List.{Contains};
 ghost use Rattle.nrca_par.specs.declared.fault.EvalFault.TheVariants.{Spent};
-ghost use Rattle.nrca_par.specs.Pieces.{piece_start, Answers, Joins, GivesPieces, SpentSomewhere, SpentOnRun};
+ghost use Rattle.nrca_par.specs.Pieces.{piece_start, IsPieceAnswer, Joins, GivesPieces, SpentSomewhere, SpentOnRun};
 
 use crate::fault::EvalFault;
 use aql_outside::Gate;
@@ -42,14 +42,17 @@ pub fn map_pieces<
     requires accepts { (a b : ℕ) → a < b → b ≤ n → F.pre work a b }
     ensures count { IfOk result (λ v. vec_len v ≡ min n workers) }
     ensures each { IfOk result (λ v. GivesPieces F.Fn work n (min n workers) v.items) }
-    ensures joined { IfOk result (λ v. Joins (λ a b x. Answers F.Fn work a b (Ok x)) 0 n v.items) }
+    ensures joined { IfOk result (λ v. Joins (λ a b x. IsPieceAnswer F.Fn work a b (Ok x)) 0 n
+        v.items) }
     ensures spent { IfErr result (λ e. e ≡ Spent → SpentSomewhere F.Fn work n (min n workers)) }
     ensures ran { IfErr result (λ e. e ≡ Spent → SpentOnRun F.Fn work n) }
 {
     let work = &work;
     let run = move |j: usize| -> Result<T, EvalFault>
-        requires { (1 ≤ workers) × (workers ≤ 64) × (n ≤ 2 ^ 32) × (j < min n workers) × ((a b : ℕ) → a < b → b ≤ n → F.pre work.now a b) }
-        ensures { F.post work.entry.now (piece_start n (min n workers) j) (piece_start n (min n workers) (j + 1)) result }
+        requires { (1 ≤ workers) × (workers ≤ 64) × (n ≤ 2 ^ 32) × (j < min n workers)
+            × ((a b : ℕ) → a < b → b ≤ n → F.pre work.now a b) }
+        ensures { F.post work.entry.now (piece_start n (min n workers) j)
+            (piece_start n (min n workers) (j + 1)) result }
     {
         let number = j as u64;
         gate.pass(number);
@@ -57,11 +60,11 @@ pub fn map_pieces<
         work(from, to)
     };
     let answers = thread::map_indices(rt, alloc, n.min(workers) as usize, &run)?;
-    gathered(alloc, answers)
+    gather(alloc, answers)
 }
 
 // The values, in order, or the first fault.
-fn gathered<T: Drop>(alloc: Global, answers: Vec<Result<T, EvalFault>>) -> Result<Vec<T>, EvalFault>
+fn gather<T: Drop>(alloc: Global, answers: Vec<Result<T, EvalFault>>) -> Result<Vec<T>, EvalFault>
     ensures values { IfOk result (λ v. answers.items ≡ map Ok v.items) }
     ensures spent { IfErr result (λ e. e ≡ Spent → Contains answers.items (Err Spent)) }
 {

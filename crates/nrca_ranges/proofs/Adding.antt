@@ -5,19 +5,19 @@ use Rattle.aql_value.specs.declared.ops.CompareOp.TheVariants.{Less}
 use Rattle.nrca_term.specs.declared.term.Core.{Core}
 use Rattle.nrca_term.specs.declared.term.Core.TheVariants.{Var, Compare}
 use Rattle.nrca_term.specs.declared.term.Terms.{Terms}
-use Rattle.nrca_term.specs.Equations.{term_of-Var, term_of-Compare, length-terms_of}
+use Rattle.nrca_term.specs.Laws.Equations.{term_of-Var, term_of-Compare, length-terms_of}
 use Rattle.nrca_term.specs.Nodes.{variable, less_term, loop_term, tab_term}
 use Rattle.nrca_term.specs.Term.{Form, form_of, parts_of, Term, Parts, none, part, plain, Closed, PartsClosed, WellFormed, weight_of, list_weight}
 use Rattle.nrca_term.specs.Subst.{shift_term, top_var}
-use Rattle.nrca_term.specs.ShiftLaws.{top_var-shift_le}
-use Rattle.nrca_term.specs.TypedForm.{top_var-closed}
-use Rattle.nrca_term.specs.WellFormed.{well_formed-Core}
+use Rattle.nrca_term.specs.Laws.Shift.{top_var-shift_le}
+use Rattle.nrca_term.specs.Laws.TypedForm.{top_var-closed}
+use Rattle.nrca_term.specs.Laws.WellFormed.{well_formed-Core}
 use Rattle.nrca_term.specs.View.{term_of, terms_of}
 use Rattle.nrca_term.specs.Facts as facts
 use Rattle.nrca_term.specs.Facts.{Facts, fact, bound_facts, tab_facts, added}
 use Rattle.nrca_ranges.specs.declared.context.Fact.{Fact}
-use Rattle.nrca_ranges.specs.Context.{fact_of, facts_in, Inside, HasRoom, HaveRoom, below_bounds}
-use Rattle.nrca_term.specs.Variants.{parts_weight-plain}
+use Rattle.nrca_ranges.specs.Context.{fact_of, facts_in, IsSmallTerm, HasRoom, HaveRoom, below_bounds}
+use Rattle.nrca_term.specs.Laws.Variants.{parts_weight-plain}
 
 -- facts and a number of variables
 abbrev pub context : List facts.Fact → ℕ → Facts
@@ -86,14 +86,14 @@ closed-rooms n by (x ∷ xs) ps w c l =
     (closed-room n by (term_of x) (w x) (subst (λ m. Closed m (term_of x)) (omega arith) c.0) (omega (arith, l)), closed-rooms n by xs ps w c.1 (omega (arith, l)))
 
 -- the operand of a loop has room for the variable of its body
-pub loop-room : (f : Form) (d : ℕ) (t o b : Term) → t ≡ loop_term f o b → WellFormed o → Inside d t → (d < 2000000) × HasRoom 1 o
+pub loop-room : (f : Form) (d : ℕ) (t o b : Term) → t ≡ loop_term f o b → WellFormed o → IsSmallTerm d t → (d < 2000000) × HasRoom 1 o
 loop-room f d t o b e w i =
     let c : Closed (d + 0) o = (subst (Closed d) e i.0).1.0 in
     let n : d + weight_of (loop_term f o b) ≤ 1280000 = subst (λ u. d + weight_of u ≤ 1280000) e i.1 in
     (omega (arith, n), closed-room (d + 0) 1 o w c (omega (arith, n)))
 
 -- the bounds of a tabulation have room for the variables of its body
-pub tab-room : (d : ℕ) (t : Term) (ts : Terms) (b : Term) → t ≡ tab_term (terms_of ts) b → Inside d t → (d + vec_len ts.0 < 2000000) × HaveRoom (vec_len ts.0) (terms_of ts)
+pub tab-room : (d : ℕ) (t : Term) (ts : Terms) (b : Term) → t ≡ tab_term (terms_of ts) b → IsSmallTerm d t → (d + vec_len ts.0 < 2000000) × HaveRoom (vec_len ts.0) (terms_of ts)
 tab-room d t ts b e i =
     let c = (subst (Closed d) e i.0).1 in
     let n : d + weight_of (tab_term (terms_of ts) b) ≤ 1280000 = subst (λ u. d + weight_of u ≤ 1280000) e i.1 in

@@ -42,12 +42,13 @@ at_mark m c = record { facts = take m.facts c.facts; depth = m.depth }
 abbrev pub entered : Ctx → Term → ℕ → Facts
 entered c t i = facts.enter_facts (context_of c) t i
 
+-- the context in part i of a term
 abbrev pub IsEntered : Ctx → Core → ℕ → Ctx → Type 0
 IsEntered c t i r = context_of r ≡ entered c (term_of t) i
 
 -- a term whose variables are among n, and which with them weighs at most 1,280,000
-abbrev pub Inside : ℕ → Term → Type 0
-Inside n t = Closed n t × (n + weight_of t ≤ 1280000)
+abbrev pub IsSmallTerm : ℕ → Term → Type 0
+IsSmallTerm n t = Closed n t × (n + weight_of t ≤ 1280000)
 
 -- the numbers of the term's variables stay below 2^64 where `by` is added
 abbrev pub HasRoom : ℕ → Term → Type 0
@@ -59,11 +60,12 @@ HaveRoom by [] = Unit {0}
 HaveRoom by (t ∷ ts) = HasRoom by t × HaveRoom by ts
 
 -- the second list of kept facts is the first with these facts behind it
-abbrev pub Adds : List Fact → List Fact → List facts.Fact → Type 0
-Adds old new fs = facts_in new ≡ facts_in old ++ fs
+abbrev pub AddsFacts : List Fact → List Fact → List facts.Fact → Type 0
+AddsFacts old new fs = facts_in new ≡ facts_in old ++ fs
 
+-- a list of facts with these behind it
 abbrev pub AddsTo : Vec Fact Global → List facts.Fact → Vec Fact Global → Type 0
-AddsTo old fs new = Adds old.items new.items fs
+AddsTo old fs new = AddsFacts old.items new.items fs
 
 -- the facts that hold in a part of a term beside those that hold around the term
 abbrev pub facts_inside : ℕ → Term → ℕ → List facts.Fact
@@ -95,15 +97,19 @@ facts_by_bounds n ts d = below_bounds n n ts d
 abbrev pub part_facts : ℕ → Core → ℕ → List facts.Fact
 part_facts d t i = facts_inside d (term_of t) i
 
+-- the facts that a test gives
 abbrev pub test_facts : Core → Known → ℕ → List facts.Fact
 test_facts t k d = facts_by_test (term_of t) (known_of k) d
 
+-- the facts that a loop's operand gives
 abbrev pub loop_facts : Core → ℕ → List facts.Fact
 loop_facts t d = facts_by_loop (term_of t) d
 
+-- the fact that an index is below its bound
 abbrev pub bound_fact : (i rank : ℕ) → Core → ℕ → List facts.Fact
 bound_fact i rank t d = below_bound i rank (term_of t) d ∷ []
 
+-- the facts that the bounds of a tabulation give
 abbrev pub bounds_facts : Terms → ℕ → List facts.Fact
 bounds_facts ts d = facts_by_bounds (vec_len ts.0) (terms_of ts) d
 

@@ -4,7 +4,7 @@ ghost use Rattle.std.specs.Prelude.{◌≡◌, ◌<◌, IfOk, OnOk};
 ghost use Rattle.nrca_term.specs.Term.{parts_of, count};
 ghost use Rattle.nrca_term.specs.View.{term_of};
 ghost use Rattle.nrca_term.specs.Facts.{no_facts};
-ghost use Rattle.nrca_ranges.specs.Context.{context_of, at_mark, Inside, HasRoom, AddsTo, IsEntered, LeaveRoom, bound_fact, bounds_facts, loop_facts, part_facts, test_facts};
+ghost use Rattle.nrca_ranges.specs.Context.{context_of, at_mark, IsSmallTerm, HasRoom, AddsTo, IsEntered, LeaveRoom, bound_fact, bounds_facts, loop_facts, part_facts, test_facts};
 
 use crate::shape::Shape;
 use aql_value::{CompareOp, Memory};
@@ -62,7 +62,7 @@ impl Ctx {
     /// it keeps copies. Where memory is wanting, some of them may have been added.
     pub fn push(&mut self, alloc: Global, parent: &Core, part: u64) -> Result<Mark, Memory>
         requires has { part < count (parts_of (term_of parent.now)) }
-        requires inside { Inside self.old.depth (term_of parent.now) }
+        requires inside { IsSmallTerm self.old.depth (term_of parent.now) }
         ensures entered { OnOk result (IsEntered self.old parent.now part self.new) }
         ensures back { IfOk result (λ m. at_mark m (context_of self.new) ≡ context_of self.old) }
         ensures globals { self.new.globals ≡ self.old.globals }
@@ -95,7 +95,7 @@ fn add_facts(
     parent: &Core,
     part: u64,
 ) -> Result<(), Memory>
-    requires { Inside depth (term_of parent.now) }
+    requires { IsSmallTerm depth (term_of parent.now) }
     ensures { OnOk result (AddsTo facts.old (part_facts depth parent.now part) facts.new) }
 {
     match parent {

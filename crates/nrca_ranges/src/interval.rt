@@ -118,7 +118,7 @@ pub fn arith_span(
 }
 
 // What a comparison by < says of variable `i`, where `k` variables more stand around the place.
-fn bounded(i: u64, k: u64, a: &Core, b: &Core) -> Option<Interval>
+fn bound_of(i: u64, k: u64, a: &Core, b: &Core) -> Option<Interval>
     ensures exact { span_of result ≡ firm.bounded_variable i k (term_of a.now, term_of b.now) }
     ensures ordered { IsOrdered result }
 {
@@ -148,7 +148,7 @@ fn fact_span(depth: u64, i: u64, fact: &Fact) -> Option<Interval>
     match fact.known {
         Known::Domain => match &fact.comparison {
             Core::Compare(CompareOp::Less, a, b) => {
-                bounded(i, depth.saturating_sub(fact.depth), a, b)
+                bound_of(i, depth.saturating_sub(fact.depth), a, b)
             }
             _ => None,
         },

@@ -156,7 +156,7 @@ fn arith_interval(op: ArithOp, a: Interval, b: Interval) -> Interval
 }
 
 // What is known of a position's value; of an array nothing, since a copy of its dimensions takes memory.
-#[tactic(auto, using(crate::specs::Shapes::positions))]
+#[tactic(auto, using(crate::specs::Laws::Shapes::positions))]
 fn position_shape(ctx: &Ctx, n: u64) -> Shape
     ensures { IsPositionShape ctx.now n result }
 {

@@ -8,7 +8,8 @@ use Rattle.nrca_term.specs.Subst.{is_strict, strict_uses, parts_strict_uses, use
 use Rattle.nrca_subst.specs.Depth.{IsDepth}
 use Rattle.nrca_subst.proofs.Deeper.{is_depth-deeper}
 use Rattle.nrca_setrules.specs.Strictly.{CountsStrict, CountsPart, strict_in}
-use Rattle.nrca_laws.specs.Fitting.{Fits, IsRight, right-side}
+use Rattle.nrca_laws.specs.Fitting.{RuleFits, IsRight}
+use Rattle.nrca_laws.specs.Laws.Fitting.{right-side}
 
 -- the strict uses of variable n in the first i parts of a node, part j being the first of them
 unfoldable pub first_strict : ℕ → Form → ℕ → ℕ → Parts → ℕ
@@ -107,17 +108,17 @@ let-same : (e b f c : Term) → let_term e b ≡ let_term f c → (e ≡ f) × (
 let-same e b f c s = (cc, cc)
 
 -- L2 fits where both counts are one
-pub l2_fits : (t e b : Term) (m n : ℕ) → t ≡ let_term e b → m ≡ min (uses_of 0 b) (2 ^ 64 - 1) → n ≡ min (strict_uses 0 b) (2 ^ 64 - 1) → m ≡ 1 → n ≡ 1 → Fits L2 true t
+pub l2_fits : (t e b : Term) (m n : ℕ) → t ≡ let_term e b → m ≡ min (uses_of 0 b) (2 ^ 64 - 1) → n ≡ min (strict_uses 0 b) (2 ^ 64 - 1) → m ≡ 1 → n ≡ 1 → RuleFits L2 true t
 l2_fits t e b m n h u s p q = (subst_term 0 e b, [], (e, b, omega (arith, u, p), omega (arith, s, q), h, refl, refl))
 
 -- L2 does not fit where they are not
-pub l2_unfit : (t e b : Term) (m n : ℕ) → t ≡ let_term e b → m ≡ min (uses_of 0 b) (2 ^ 64 - 1) → n ≡ min (strict_uses 0 b) (2 ^ 64 - 1) → ((m ≡ 1) × (n ≡ 1) → ⊥) → Fits L2 false t
+pub l2_unfit : (t e b : Term) (m n : ℕ) → t ≡ let_term e b → m ≡ min (uses_of 0 b) (2 ^ 64 - 1) → n ≡ min (strict_uses 0 b) (2 ^ 64 - 1) → ((m ≡ 1) × (n ≡ 1) → ⊥) → RuleFits L2 false t
 l2_unfit t e b m n h u s out = λ r ws x.
     let z = (let-same e b x.0 x.1 (sym h ∙ x.4)).1 in
     out (omega (arith, u, ap (uses_of 0) z, x.2), omega (arith, s, ap (strict_uses 0) z, x.3))
 
 -- L2 fits exactly where both counts are one
-pub l2_tells : (a : Bool) (t e b : Term) (m n : ℕ) → t ≡ let_term e b → m ≡ min (uses_of 0 b) (2 ^ 64 - 1) → n ≡ min (strict_uses 0 b) (2 ^ 64 - 1) → (a ≡ true → (m ≡ 1) × (n ≡ 1)) → ((m ≡ 1) × (n ≡ 1) → a ≡ true) → Fits L2 a t
+pub l2_tells : (a : Bool) (t e b : Term) (m n : ℕ) → t ≡ let_term e b → m ≡ min (uses_of 0 b) (2 ^ 64 - 1) → n ≡ min (strict_uses 0 b) (2 ^ 64 - 1) → (a ≡ true → (m ≡ 1) × (n ≡ 1)) → ((m ≡ 1) × (n ≡ 1) → a ≡ true) → RuleFits L2 a t
 l2_tells true t e b m n h u s f g = let k = f refl in l2_fits t e b m n h u s k.0 k.1
 l2_tells false t e b m n h u s f g = l2_unfit t e b m n h u s (λ k. let z : false ≡ true = g k in cc)
 
@@ -126,5 +127,5 @@ l2-put : (t e b c d : Term) → t ≡ let_term e b → t ≡ let_term c d → (u
 l2-put t e b c d h k p = let z = (let-same e b c d (sym h ∙ k)).1 in (ap (uses_of 0) z ∙ p.0, ap (strict_uses 0) z ∙ p.1)
 
 -- the substituted body is the right side of L2
-pub l2_right : (t e b r : Term) → Fits L2 true t → t ≡ let_term e b → r ≡ subst_term 0 e b → IsRight L2 t r
+pub l2_right : (t e b r : Term) → RuleFits L2 true t → t ≡ let_term e b → r ≡ subst_term 0 e b → IsRight L2 t r
 l2_right t e b r f h p = let k = l2-put t e b f.2.0 f.2.1 h f.2.4 (f.2.2, f.2.3) in right-side L2 t r [] (e, b, k.0, k.1, h, p, refl)

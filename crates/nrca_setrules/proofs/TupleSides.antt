@@ -5,7 +5,8 @@ use Rattle.nrca_term.specs.declared.trace.Rule.TheVariants.{P1, P2}
 use Rattle.nrca_term.specs.Term.{Term, none, plain, parts_of, child_of, count}
 use Rattle.nrca_term.specs.Nodes.{let_term, proj_term, tuple_term}
 use Rattle.nrca_term.specs.Rules.{in_first, others}
-use Rattle.nrca_laws.specs.Fitting.{Fits, IsRight, right-side}
+use Rattle.nrca_laws.specs.Fitting.{RuleFits, IsRight}
+use Rattle.nrca_laws.specs.Laws.Fitting.{right-side}
 use Rattle.nrca_setrules.proofs.Sides.{right_of}
 
 -- the parts of a tuple
@@ -27,7 +28,7 @@ within (t ∷ ts) zero r e = omega arith
 within (t ∷ ts) (suc j) r e = omega (arith, within ts j r e)
 
 -- P1 fits a component that the tuple has
-pub p1_fits : (at of : ℕ) (t o : Term) (ts : List Term) → t ≡ proj_term at of o → o ≡ tuple_term ts → (1 ≤ at) × (at ≤ of) × (of ≡ length ts) → Fits P1 true t
+pub p1_fits : (at of : ℕ) (t o : Term) (ts : List Term) → t ≡ proj_term at of o → o ≡ tuple_term ts → (1 ≤ at) × (at ≤ of) × (of ≡ length ts) → RuleFits P1 true t
 p1_fits zero of t o ts h k c = absurd (omega (arith, c.0))
 p1_fits (suc j) of t o ts h k c =
     let r = there ts j (omega (arith, c.1, c.2)) in
@@ -44,21 +45,21 @@ proj-same a b m n ts us e = (cc, cc, plain-same ts us cc)
     plain-same (t ∷ ts) (u ∷ us) e = let x : t ≡ u = cc in let y : ts ≡ us = plain-same ts us cc in ap (λ z. z ∷ ts) x ∙ ap (λ zs. u ∷ zs) y
 
 -- what the reading of P1 has for the parts of the term
-p1_parts : (at of : ℕ) (t o : Term) (ts : List Term) → t ≡ proj_term at of o → o ≡ tuple_term ts → (f : Fits P1 true t) → (at ≡ suc f.2.0) × (of ≡ length ts) × (slice_get ts f.2.0 ≡ Some f.0)
+p1_parts : (at of : ℕ) (t o : Term) (ts : List Term) → t ≡ proj_term at of o → o ≡ tuple_term ts → (f : RuleFits P1 true t) → (at ≡ suc f.2.0) × (of ≡ length ts) × (slice_get ts f.2.0 ≡ Some f.0)
 p1_parts at of t o ts h k f =
     let e = proj-same at (suc f.2.0) of (length f.2.1) ts f.2.1 (ap (proj_term at of) (sym k) ∙ sym h ∙ f.2.2) in
     (e.0, e.1 ∙ ap length (sym e.2), ap (λ us. slice_get us f.2.0) e.2 ∙ f.2.3)
 
 -- P1 does not fit where the tuple has no such component
-pub p1_unfit : (at of : ℕ) (t o : Term) (ts : List Term) → t ≡ proj_term at of o → o ≡ tuple_term ts → ((1 ≤ at) × (at ≤ of) × (of ≡ length ts) → ⊥) → Fits P1 false t
+pub p1_unfit : (at of : ℕ) (t o : Term) (ts : List Term) → t ≡ proj_term at of o → o ≡ tuple_term ts → ((1 ≤ at) × (at ≤ of) × (of ≡ length ts) → ⊥) → RuleFits P1 false t
 p1_unfit at of t o ts h k out = λ r ws x.
-    let f : Fits P1 true t = (r, ws, x) in
+    let f : RuleFits P1 true t = (r, ws, x) in
     let e = p1_parts at of t o ts h k f in
     let l = within ts f.2.0 f.0 e.2 in
     out (omega (arith, e.0), omega (arith, e.0, e.1, l), e.1)
 
 -- P1 fits exactly where the tuple has the component
-pub p1_tells : (b : Bool) (at of n : ℕ) (t o : Term) (ts : List Term) → t ≡ proj_term at of o → o ≡ tuple_term ts → length ts ≡ n → (b ≡ true → (1 ≤ at) × (at ≤ of) × (of ≡ n)) → ((1 ≤ at) × (at ≤ of) × (of ≡ n) → b ≡ true) → Fits P1 b t
+pub p1_tells : (b : Bool) (at of n : ℕ) (t o : Term) (ts : List Term) → t ≡ proj_term at of o → o ≡ tuple_term ts → length ts ≡ n → (b ≡ true → (1 ≤ at) × (at ≤ of) × (of ≡ n)) → ((1 ≤ at) × (at ≤ of) × (of ≡ n) → b ≡ true) → RuleFits P1 b t
 p1_tells true at of n t o ts h k e y x = let c = y refl in p1_fits at of t o ts h k (c.0, c.1, c.2 ∙ sym e)
 p1_tells false at of n t o ts h k e y x = p1_unfit at of t o ts h k (λ c. let z : false ≡ true = x (c.0, c.1, c.2 ∙ e) in cc)
 
@@ -72,7 +73,7 @@ proj-parts : (a b m n : ℕ) (o p : Term) → proj_term a m o ≡ proj_term b n 
 proj-parts a b m n o p e = (cc, cc)
 
 -- the place of the component is a part of the tuple
-pub p1_within : (at of : ℕ) (t o : Term) → t ≡ proj_term at of o → Fits P1 true t → (1 ≤ at) × (at - 1 < count (parts_of o))
+pub p1_within : (at of : ℕ) (t o : Term) → t ≡ proj_term at of o → RuleFits P1 true t → (1 ≤ at) × (at - 1 < count (parts_of o))
 p1_within at of t o h f =
     let e = proj-parts at (suc f.2.0) of (length f.2.1) o (tuple_term f.2.1) (sym h ∙ f.2.2) in
     let n : count (parts_of o) ≡ length f.2.1 = ap (λ x. count (parts_of x)) e.1 ∙ count-plain f.2.1 in
@@ -83,7 +84,7 @@ some-is : (r s : Term) → Some r ≡ Some s → r ≡ s
 some-is r s e = cc
 
 -- the part at the place is the right side of P1
-pub p1_right : (at of i : ℕ) (t o r : Term) → t ≡ proj_term at of o → Fits P1 true t → i ≡ at - 1 → Some r ≡ child_of (parts_of o) i → IsRight P1 t r
+pub p1_right : (at of i : ℕ) (t o r : Term) → t ≡ proj_term at of o → RuleFits P1 true t → i ≡ at - 1 → Some r ≡ child_of (parts_of o) i → IsRight P1 t r
 p1_right at of i t o r h f s q =
     let e = proj-parts at (suc f.2.0) of (length f.2.1) o (tuple_term f.2.1) (sym h ∙ f.2.2) in
     let j : i ≡ f.2.0 = omega (arith, e.0, s) in
@@ -91,7 +92,7 @@ p1_right at of i t o r h f s q =
     right_of P1 t r f (some-is f.0 r z)
 
 -- P2 fits a component of a let
-pub p2_fits : (j n : ℕ) (t o e b : Term) → t ≡ proj_term j n o → o ≡ let_term e b → Fits P2 true t
+pub p2_fits : (j n : ℕ) (t o e b : Term) → t ≡ proj_term j n o → o ≡ let_term e b → RuleFits P2 true t
 p2_fits j n t o e b h k = (let_term e (proj_term j n b), [], (j, n, e, b, h ∙ ap (proj_term j n) k, refl, refl))
 
 -- the let of the component is the right side of P2

@@ -5,14 +5,14 @@ ghost use Rattle.nrca_term.specs.View.{term_of};
 ghost use Rattle.nrca_term.specs.Nodes.{bottom_term};
 ghost use Rattle.nrca_term.specs.declared.trace.Rule.TheVariants.{B1};
 ghost use Rattle.nrca_setrules.specs.Strictly.{IsStrictBottom};
-ghost use Rattle.nrca_laws.specs.Fitting.{Fits, IsRight};
+ghost use Rattle.nrca_laws.specs.Fitting.{RuleFits, IsRight};
 
 use crate::strictness::strict;
 use nrca_term::Core;
 
 /// Whether a strict part of the term is Bottom.
 pub fn fits_b1(term: &Core) -> bool
-    ensures { Fits B1 result (term_of term.now) }
+    ensures { RuleFits B1 result (term_of term.now) }
 {
     for i in 0..term.parts() {
         if spoils(term, i) {
@@ -24,7 +24,7 @@ pub fn fits_b1(term: &Core) -> bool
 
 /// Bottom.
 pub fn b1(_term: Core) -> Core
-    requires { Fits B1 true (term_of _term) }
+    requires { RuleFits B1 true (term_of _term) }
     ensures { IsRight B1 (term_of _term) (term_of result) }
 {
     Core::Bottom

@@ -3,7 +3,7 @@
 ghost use Rattle.std.specs.Prelude.{true, ◌≡◌, ◌↔◌, IsTrue, IfOk};
 ghost use Rattle.nrca_term.specs.View.{term_of};
 ghost use Rattle.nrca_term.specs.declared.trace.Rule.TheVariants.{L1, L2, L3};
-ghost use Rattle.nrca_laws.specs.Fitting.{Fits, IsInside, IsRight};
+ghost use Rattle.nrca_laws.specs.Fitting.{RuleFits, IsSmallPart, IsRight};
 
 use crate::strictness::count_strict;
 use aql_value::Memory;
@@ -13,7 +13,7 @@ use std::alloc::Global;
 
 /// Whether the term is a let of an atom: a variable, a position, a number, a truth value, a text or the empty set.
 pub fn fits_l1(term: &Core) -> bool
-    ensures { Fits L1 result (term_of term.now) }
+    ensures { RuleFits L1 result (term_of term.now) }
 {
     match term {
         Core::Let(bound, _) => match **bound {
@@ -31,8 +31,8 @@ pub fn fits_l1(term: &Core) -> bool
 
 /// The body with the atom for the variable.
 pub fn l1(alloc: Global, term: Core) -> Result<Core, Memory>
-    requires fits { Fits L1 true (term_of term) }
-    requires inside { IsInside (term_of term) }
+    requires fits { RuleFits L1 true (term_of term) }
+    requires inside { IsSmallPart (term_of term) }
     ensures { IfOk result (λ t. IsRight L1 (term_of term) (term_of t)) }
 {
     match term {
@@ -46,7 +46,7 @@ pub fn l1(alloc: Global, term: Core) -> Result<Core, Memory>
 
 /// Whether the term is a let whose variable is used once, and there under strict parts alone.
 pub fn fits_l2(term: &Core) -> bool
-    ensures { Fits L2 result (term_of term.now) }
+    ensures { RuleFits L2 result (term_of term.now) }
 {
     match term {
         Core::Let(_, body) => {
@@ -61,8 +61,8 @@ pub fn fits_l2(term: &Core) -> bool
 
 /// The body with the bound term for the variable.
 pub fn l2(alloc: Global, term: Core) -> Result<Core, Memory>
-    requires fits { Fits L2 true (term_of term) }
-    requires inside { IsInside (term_of term) }
+    requires fits { RuleFits L2 true (term_of term) }
+    requires inside { IsSmallPart (term_of term) }
     ensures { IfOk result (λ t. IsRight L2 (term_of term) (term_of t)) }
 {
     match term {
@@ -76,7 +76,7 @@ pub fn l2(alloc: Global, term: Core) -> Result<Core, Memory>
 
 /// Whether the term is a let whose variable is not used.
 pub fn fits_l3(term: &Core) -> bool
-    ensures { Fits L3 result (term_of term.now) }
+    ensures { RuleFits L3 result (term_of term.now) }
 {
     match term {
         Core::Let(_, body) => uses(body, 0) == 0,
@@ -86,8 +86,8 @@ pub fn fits_l3(term: &Core) -> bool
 
 /// The body, shifted back. That the bound term is defined belongs to the condition.
 pub fn l3(alloc: Global, term: Core) -> Result<Core, Memory>
-    requires fits { Fits L3 true (term_of term) }
-    requires inside { IsInside (term_of term) }
+    requires fits { RuleFits L3 true (term_of term) }
+    requires inside { IsSmallPart (term_of term) }
     ensures { IfOk result (λ t. IsRight L3 (term_of term) (term_of t)) }
 {
     match term {

@@ -3,14 +3,14 @@
 ghost use Rattle.std.specs.Prelude.{true};
 ghost use Rattle.nrca_term.specs.View.{term_of};
 ghost use Rattle.nrca_term.specs.declared.trace.Rule.TheVariants.{S1, S2, S3, S4, S5, S6, S7, S8, S9};
-ghost use Rattle.nrca_laws.specs.Fitting.{Fits, IsInside, IsRight};
+ghost use Rattle.nrca_laws.specs.Fitting.{RuleFits, IsSmallPart, IsRight};
 
 use crate::boxes::shift_body;
 use nrca_term::{Core, open, put};
 
 /// Whether the term is a big union over the empty set.
 pub fn fits_s1(term: &Core) -> bool
-    ensures { Fits S1 result (term_of term.now) }
+    ensures { RuleFits S1 result (term_of term.now) }
 {
     match term {
         Core::BigUnion { over, body: _ } => match **over {
@@ -23,7 +23,7 @@ pub fn fits_s1(term: &Core) -> bool
 
 /// The empty set.
 pub fn s1(_term: Core) -> Core
-    requires { Fits S1 true (term_of _term) }
+    requires { RuleFits S1 true (term_of _term) }
     ensures { IsRight S1 (term_of _term) (term_of result) }
 {
     Core::Empty
@@ -31,7 +31,7 @@ pub fn s1(_term: Core) -> Core
 
 /// Whether the term is a big union over a set of one member.
 pub fn fits_s2(term: &Core) -> bool
-    ensures { Fits S2 result (term_of term.now) }
+    ensures { RuleFits S2 result (term_of term.now) }
 {
     match term {
         Core::BigUnion { over, body: _ } => match **over {
@@ -44,7 +44,7 @@ pub fn fits_s2(term: &Core) -> bool
 
 /// The body under a let of the member.
 pub fn s2(term: Core) -> Core
-    requires { Fits S2 true (term_of term) }
+    requires { RuleFits S2 true (term_of term) }
     ensures { IsRight S2 (term_of term) (term_of result) }
 {
     match term {
@@ -58,7 +58,7 @@ pub fn s2(term: Core) -> Core
 
 /// Whether the term is a big union over a big union.
 pub fn fits_s3(term: &Core) -> bool
-    ensures { Fits S3 result (term_of term.now) }
+    ensures { RuleFits S3 result (term_of term.now) }
 {
     match term {
         Core::BigUnion { over, body: _ } => match **over {
@@ -71,8 +71,8 @@ pub fn fits_s3(term: &Core) -> bool
 
 /// Of the big union with body b over the big union over e of m: the big union over e of the big union over m of b, shifted.
 pub fn s3(term: Core) -> Core
-    requires fits { Fits S3 true (term_of term) }
-    requires inside { IsInside (term_of term) }
+    requires fits { RuleFits S3 true (term_of term) }
+    requires inside { IsSmallPart (term_of term) }
     ensures { IsRight S3 (term_of term) (term_of result) }
 {
     match term {
@@ -105,7 +105,7 @@ pub fn s3(term: Core) -> Core
 
 /// Whether the term is a sum over the empty set.
 pub fn fits_s4(term: &Core) -> bool
-    ensures { Fits S4 result (term_of term.now) }
+    ensures { RuleFits S4 result (term_of term.now) }
 {
     match term {
         Core::Sum { over, body: _ } => match **over {
@@ -118,7 +118,7 @@ pub fn fits_s4(term: &Core) -> bool
 
 /// Zero.
 pub fn s4(_term: Core) -> Core
-    requires { Fits S4 true (term_of _term) }
+    requires { RuleFits S4 true (term_of _term) }
     ensures { IsRight S4 (term_of _term) (term_of result) }
 {
     Core::Nat(0)
@@ -126,7 +126,7 @@ pub fn s4(_term: Core) -> Core
 
 /// Whether the term is a sum over a set of one member.
 pub fn fits_s5(term: &Core) -> bool
-    ensures { Fits S5 result (term_of term.now) }
+    ensures { RuleFits S5 result (term_of term.now) }
 {
     match term {
         Core::Sum { over, body: _ } => match **over {
@@ -139,7 +139,7 @@ pub fn fits_s5(term: &Core) -> bool
 
 /// The body under a let of the member.
 pub fn s5(term: Core) -> Core
-    requires { Fits S5 true (term_of term) }
+    requires { RuleFits S5 true (term_of term) }
     ensures { IsRight S5 (term_of term) (term_of result) }
 {
     match term {
@@ -153,7 +153,7 @@ pub fn s5(term: Core) -> Core
 
 /// Whether the term is a big union whose body is the set of its variable alone.
 pub fn fits_s6(term: &Core) -> bool
-    ensures { Fits S6 result (term_of term.now) }
+    ensures { RuleFits S6 result (term_of term.now) }
 {
     match term {
         Core::BigUnion { over: _, body } => match &**body {
@@ -169,7 +169,7 @@ pub fn fits_s6(term: &Core) -> bool
 
 /// The set over which it is.
 pub fn s6(term: Core) -> Core
-    requires { Fits S6 true (term_of term) }
+    requires { RuleFits S6 true (term_of term) }
     ensures { IsRight S6 (term_of term) (term_of result) }
 {
     match term {
@@ -180,7 +180,7 @@ pub fn s6(term: Core) -> Core
 
 /// Whether the term is a union with the empty set, on either side.
 pub fn fits_s7(term: &Core) -> bool
-    ensures { Fits S7 result (term_of term.now) }
+    ensures { RuleFits S7 result (term_of term.now) }
 {
     match term {
         Core::Union(left, right) => match **right {
@@ -196,7 +196,7 @@ pub fn fits_s7(term: &Core) -> bool
 
 /// The other set; the left one where both are empty.
 pub fn s7(term: Core) -> Core
-    requires { Fits S7 true (term_of term) }
+    requires { RuleFits S7 true (term_of term) }
     ensures { IsRight S7 (term_of term) (term_of result) }
 {
     match term {
@@ -213,7 +213,7 @@ pub fn s7(term: Core) -> Core
 
 /// Whether the term takes the member of a set of one member.
 pub fn fits_s8(term: &Core) -> bool
-    ensures { Fits S8 result (term_of term.now) }
+    ensures { RuleFits S8 result (term_of term.now) }
 {
     match term {
         Core::Get(part) => match **part {
@@ -226,7 +226,7 @@ pub fn fits_s8(term: &Core) -> bool
 
 /// The member.
 pub fn s8(term: Core) -> Core
-    requires { Fits S8 true (term_of term) }
+    requires { RuleFits S8 true (term_of term) }
     ensures { IsRight S8 (term_of term) (term_of result) }
 {
     match term {
@@ -240,7 +240,7 @@ pub fn s8(term: Core) -> Core
 
 /// Whether the term is a big union or a sum over a let.
 pub fn fits_s9(term: &Core) -> bool
-    ensures { Fits S9 result (term_of term.now) }
+    ensures { RuleFits S9 result (term_of term.now) }
 {
     match term {
         Core::BigUnion { over, body: _ } => match **over {
@@ -257,8 +257,8 @@ pub fn fits_s9(term: &Core) -> bool
 
 /// The let around the loop, whose body is shifted.
 pub fn s9(term: Core) -> Core
-    requires fits { Fits S9 true (term_of term) }
-    requires inside { IsInside (term_of term) }
+    requires fits { RuleFits S9 true (term_of term) }
+    requires inside { IsSmallPart (term_of term) }
     ensures { IsRight S9 (term_of term) (term_of result) }
 {
     match term {

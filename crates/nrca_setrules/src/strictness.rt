@@ -59,7 +59,7 @@ fn strict_in_part(term: &Core, i: u64, at: u128) -> u64
 }
 
 // Whether the form always evaluates its part i, and is undefined where that part is.
-#[tactic(auto, using(nrca_term::specs::Equations::list_forms))]
+#[tactic(auto, using(nrca_term::specs::Laws::Equations::list_forms))]
 pub(crate) fn strict(term: &Core, i: u64) -> bool
     ensures { result ≡ is_strict (form_of (term_of term.now)) i }
 {

@@ -3,13 +3,13 @@
 ghost use Rattle.std.specs.Prelude.{true};
 ghost use Rattle.nrca_term.specs.View.{term_of};
 ghost use Rattle.nrca_term.specs.declared.trace.Rule.TheVariants.{I1, I2, N1, N2};
-ghost use Rattle.nrca_laws.specs.Fitting.{Fits, IsRight};
+ghost use Rattle.nrca_laws.specs.Fitting.{RuleFits, IsRight};
 
 use nrca_term::{Core, open, put};
 
 /// Whether the term is an `if` whose test is a truth value.
 pub fn fits_i1(term: &Core) -> bool
-    ensures { Fits I1 result (term_of term.now) }
+    ensures { RuleFits I1 result (term_of term.now) }
 {
     match term {
         Core::If(test, _, _) => match **test {
@@ -22,7 +22,7 @@ pub fn fits_i1(term: &Core) -> bool
 
 /// The branch that the test takes.
 pub fn i1(term: Core) -> Core
-    requires { Fits I1 true (term_of term) }
+    requires { RuleFits I1 true (term_of term) }
     ensures { IsRight I1 (term_of term) (term_of result) }
 {
     match term {
@@ -37,7 +37,7 @@ pub fn i1(term: Core) -> Core
 
 /// Whether the term is a big union or a sum over an `if` whose second branch is the empty set.
 pub fn fits_i2(term: &Core) -> bool
-    ensures { Fits I2 result (term_of term.now) }
+    ensures { RuleFits I2 result (term_of term.now) }
 {
     match term {
         Core::BigUnion { over, body: _ } => match &**over {
@@ -60,7 +60,7 @@ pub fn fits_i2(term: &Core) -> bool
 
 /// The `if` around the loop, whose second branch is what the loop is over the empty set.
 pub fn i2(term: Core) -> Core
-    requires { Fits I2 true (term_of term) }
+    requires { RuleFits I2 true (term_of term) }
     ensures { IsRight I2 (term_of term) (term_of result) }
 {
     match term {
@@ -104,7 +104,7 @@ pub fn i2(term: Core) -> Core
 
 /// Whether the term is a default whose first part is Bottom.
 pub fn fits_n1(term: &Core) -> bool
-    ensures { Fits N1 result (term_of term.now) }
+    ensures { RuleFits N1 result (term_of term.now) }
 {
     match term {
         Core::Default(first, _) => match **first {
@@ -117,7 +117,7 @@ pub fn fits_n1(term: &Core) -> bool
 
 /// The second part.
 pub fn n1(term: Core) -> Core
-    requires { Fits N1 true (term_of term) }
+    requires { RuleFits N1 true (term_of term) }
     ensures { IsRight N1 (term_of term) (term_of result) }
 {
     match term {
@@ -128,7 +128,7 @@ pub fn n1(term: Core) -> Core
 
 /// Whether the term is a default. That its first part is defined belongs to the condition.
 pub fn fits_n2(term: &Core) -> bool
-    ensures { Fits N2 result (term_of term.now) }
+    ensures { RuleFits N2 result (term_of term.now) }
 {
     match term {
         Core::Default(_, _) => true,
@@ -138,7 +138,7 @@ pub fn fits_n2(term: &Core) -> bool
 
 /// The first part.
 pub fn n2(term: Core) -> Core
-    requires { Fits N2 true (term_of term) }
+    requires { RuleFits N2 true (term_of term) }
     ensures { IsRight N2 (term_of term) (term_of result) }
 {
     match term {

@@ -4,13 +4,13 @@ ghost use Rattle.std.specs.Prelude.{true, ◌≡◌, ◌<◌, ◌≤◌, ◌↔�
 ghost use Rattle.nrca_term.specs.View.{term_of};
 ghost use Rattle.nrca_term.specs.Term.{parts_of, child_of, count};
 ghost use Rattle.nrca_term.specs.declared.trace.Rule.TheVariants.{P1, P2};
-ghost use Rattle.nrca_laws.specs.Fitting.{Fits, IsRight};
+ghost use Rattle.nrca_laws.specs.Fitting.{RuleFits, IsRight};
 
 use nrca_term::{Core, open, put};
 
 /// Whether the term is a component of a tuple that has it.
 pub fn fits_p1(term: &Core) -> bool
-    ensures { Fits P1 result (term_of term.now) }
+    ensures { RuleFits P1 result (term_of term.now) }
 {
     match term {
         Core::Proj { at, of, part } => match &**part {
@@ -26,7 +26,7 @@ pub fn fits_p1(term: &Core) -> bool
 
 /// The component. That the other components are defined belongs to the condition.
 pub fn p1(term: Core) -> Core
-    requires { Fits P1 true (term_of term) }
+    requires { RuleFits P1 true (term_of term) }
     ensures { IsRight P1 (term_of term) (term_of result) }
 {
     match term {
@@ -41,7 +41,7 @@ pub fn p1(term: Core) -> Core
 
 /// Whether the term is a component of a let.
 pub fn fits_p2(term: &Core) -> bool
-    ensures { Fits P2 result (term_of term.now) }
+    ensures { RuleFits P2 result (term_of term.now) }
 {
     match term {
         Core::Proj { at: _, of: _, part } => match **part {
@@ -54,7 +54,7 @@ pub fn fits_p2(term: &Core) -> bool
 
 /// The let around the component of its body.
 pub fn p2(term: Core) -> Core
-    requires { Fits P2 true (term_of term) }
+    requires { RuleFits P2 true (term_of term) }
     ensures { IsRight P2 (term_of term) (term_of result) }
 {
     match term {

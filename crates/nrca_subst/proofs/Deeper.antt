@@ -4,7 +4,7 @@ use Rattle.std.proofs.lemmas.Bool.{lt-ltb, le-ltb, ne_eqb}
 use Rattle.nrca_term.specs.Term.{Term, form_of, parts_of, child_of, binders_of, variable_of}
 use Rattle.nrca_term.specs.Nodes.{variable}
 use Rattle.nrca_term.specs.Subst.{shift_term, subst_term, top_var}
-use Rattle.nrca_subst.specs.Depth.{IsDepth, Fits, Substitutes}
+use Rattle.nrca_subst.specs.Depth.{IsDepth, DepthFits, Substitutes}
 use Rattle.nrca_subst.proofs.SubstWalk.{subst_part, subst_part-deeper, top_var-subst}
 
 -- under k binders more
@@ -24,8 +24,8 @@ substitutes-part at depth k n w t u h d =
     ∙ (let e : at + (n + k) ≡ at + n + k = omega arith in ap (λ m. subst_term m (shift_term 0 (n + k) w) t) e)
     ∙ subst_part-deeper (at + n) n k w t
 
-pub fits-part : (at depth k : ℕ) (w t : Term) (i : ℕ) (u : Term) → variable_of (form_of t) ≡ None → child_of (parts_of t) i ≡ Some u → k ≡ binders_of (parts_of t) i → Fits at depth w t →
-    Fits at (min (depth + k) (2 ^ 128 - 1)) w u
+pub fits-part : (at depth k : ℕ) (w t : Term) (i : ℕ) (u : Term) → variable_of (form_of t) ≡ None → child_of (parts_of t) i ≡ Some u → k ≡ binders_of (parts_of t) i → DepthFits at depth w t →
+    DepthFits at (min (depth + k) (2 ^ 128 - 1)) w u
 fits-part at depth k w t i u o e b h = (
   h.0 + k,
   is_depth-deeper depth k h.0 h.1,
@@ -58,7 +58,7 @@ substitutes-above at depth i w l m h n d =
     rw (le-ltb i (at + n) (omega (arith, z)), ne_eqb i (at + n) (λ e. omega (arith, e, z))) refl
 
 -- where the variable is replaced, the term put in fits under its binders
-pub fits-here : (at depth i : ℕ) (w : Term) → i < 2 ^ 64 → at < 2 ^ 64 → i ≡ min (depth + at) (2 ^ 128 - 1) → Fits at depth w (variable i) → top_var (shift_term 0 (i - at) w) < 2 ^ 64
+pub fits-here : (at depth i : ℕ) (w : Term) → i < 2 ^ 64 → at < 2 ^ 64 → i ≡ min (depth + at) (2 ^ 128 - 1) → DepthFits at depth w (variable i) → top_var (shift_term 0 (i - at) w) < 2 ^ 64
 fits-here at depth i w l m h f =
     let z : i ≡ at + f.0 = omega (arith, f.1) in
     let y : i - at ≡ f.0 = omega (arith, z) in

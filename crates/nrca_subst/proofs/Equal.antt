@@ -6,7 +6,7 @@ use Rattle.nrca_term.specs.Nodes.{variable}
 use Rattle.nrca_term.specs.Subst.{shift_form, shift_term, shift_parts}
 use Rattle.nrca_subst.specs.Depth.{IsDepth, TellsShifted}
 use Rattle.nrca_subst.proofs.Deeper.{is_depth-deeper}
-use Rattle.nrca_term.specs.Entering.{child-counted}
+use Rattle.nrca_term.specs.Laws.Entering.{child-counted}
 
 -- the first parts of u are those of t, shifted
 abbrev pub FirstShifted : ℕ → ℕ → Term → Term → ℕ → Type 0

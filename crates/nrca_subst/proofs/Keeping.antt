@@ -5,12 +5,12 @@ use Rattle.nrca_term.specs.Meaning.{cden}
 use Rattle.nrca_term.specs.Turns.{settle}
 use Rattle.nrca_term.specs.Typing.{instances, ctyped}
 use Rattle.nrca_term.specs.Subst.{shift_term, subst_term, strict_uses}
-use Rattle.nrca_term.specs.Shifting.{cden-shift_term}
-use Rattle.nrca_term.specs.TurnsShift.{settle-shift_term}
-use Rattle.nrca_term.specs.TypingShift.{ctyped-shift_term}
-use Rattle.nrca_term.specs.Substituting.{cden-subst_term}
-use Rattle.nrca_term.specs.Undefined.{cden-subst_term-undefined}
-use Rattle.nrca_term.specs.TypingSubst.{ctyped-subst_term}
+use Rattle.nrca_term.specs.Laws.Shifting.{cden-shift_term}
+use Rattle.nrca_term.specs.Laws.TurnsShift.{settle-shift_term}
+use Rattle.nrca_term.specs.Laws.TypingShift.{ctyped-shift_term}
+use Rattle.nrca_term.specs.Laws.Substituting.{cden-subst_term}
+use Rattle.nrca_term.specs.Laws.Undefined.{cden-subst_term-undefined}
+use Rattle.nrca_term.specs.Laws.TypingSubst.{ctyped-subst_term}
 use Rattle.nrca_subst.specs.Laws.{IsShifted, KeepsTypesShifted, IsSubstituted, IsUndefinedWith, KeepsTypesSubstituted}
 
 shift_at : (from by m n : ℕ) (t u : Term) → m ≡ from → n ≡ by → u ≡ shift_term from by t → u ≡ shift_term m n t

@@ -11,8 +11,8 @@ abbrev pub IsDepth : ℕ → ℕ → Type 0
 IsDepth depth n = min n (2 ^ 64) ≡ min depth (2 ^ 64)
 
 -- for one such number of binders no variable number passes 64 bits
-abbrev pub Fits : ℕ → ℕ → Term → Term → Type 0
-Fits at depth w t = (n : ℕ) × IsDepth depth n × (top_var (subst_term (at + n) (shift_term 0 n w) t) < 2 ^ 64)
+abbrev pub DepthFits : ℕ → ℕ → Term → Term → Type 0
+DepthFits at depth w t = (n : ℕ) × IsDepth depth n × (top_var (subst_term (at + n) (shift_term 0 n w) t) < 2 ^ 64)
 
 -- for every such number of binders u is t with w put in
 abbrev pub Substitutes : ℕ → ℕ → Term → Term → Term → Type 0

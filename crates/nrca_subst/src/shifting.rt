@@ -63,7 +63,7 @@ fn shift_parts_in(term: &mut Core, from: u64, by: u64)
 
 // Past the greatest number no variable is free.
 #[cycle(shift)]
-#[tactic(auto, using(nrca_term::specs::ShiftLaws::shifting))]
+#[tactic(auto, using(nrca_term::specs::Laws::Shift::shifting))]
 fn shift_under(part: &mut Core, from: u64, binders: u64, by: u64)
     requires { top_var (shift_term (from + binders) by (term_of part.old)) < 2 ^ 64 }
     ensures { term_of part.new ≡ shift_term (from + binders) by (term_of part.old) }

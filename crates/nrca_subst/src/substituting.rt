@@ -6,7 +6,7 @@ ghost use Rattle.nrca_term.specs.Subst.{subst_term, top_var};
 ghost use Rattle.nrca_term.specs.Term.{form_of, variable_of};
 ghost use Rattle.nrca_term.specs.View.{term_of};
 ghost use Rattle.nrca_subst.specs.Laws.{IsSubst, KeepsMeaning, StaysUndefined, KeepsTypes};
-ghost use Rattle.nrca_subst.specs.Depth.{Fits, SubstitutesIn, ReplacesVariable};
+ghost use Rattle.nrca_subst.specs.Depth.{DepthFits, SubstitutesIn, ReplacesVariable};
 
 use crate::shifting::{discard, shift};
 use aql_value::Memory;
@@ -30,7 +30,7 @@ pub fn subst(alloc: Global, term: Core, at: u64, with: &Core) -> Result<Core, Me
 // In place, under `depth` binders, or under as many that no variable is as high as their number.
 #[cycle(subst)]
 fn subst_in(alloc: Global, term: &mut Core, at: u64, depth: u128, with: &Core) -> Result<(), Memory>
-    requires { Fits at depth (term_of with.now) (term_of term.old) }
+    requires { DepthFits at depth (term_of with.now) (term_of term.old) }
     ensures { OnOk result (SubstitutesIn at depth with.now term.old term.new) }
 {
     match term.variable() {
@@ -49,7 +49,7 @@ fn subst_variable(
     depth: u128,
     with: &Core,
 ) -> Result<(), Memory>
-    requires { Fits at depth (term_of with.now) (variable i) }
+    requires { DepthFits at depth (term_of with.now) (variable i) }
     ensures { OnOk result (ReplacesVariable at depth with.now i term.new) }
 {
     let replaced = depth.saturating_add(at as u128);
@@ -75,7 +75,7 @@ fn subst_parts_in(
     with: &Core,
 ) -> Result<(), Memory>
     requires other { variable_of (form_of (term_of term.old)) ≡ None }
-    requires fits { Fits at depth (term_of with.now) (term_of term.old) }
+    requires fits { DepthFits at depth (term_of with.now) (term_of term.old) }
     ensures { OnOk result (SubstitutesIn at depth with.now term.old term.new) }
 {
     let mut part = Core::Bottom;

@@ -5,7 +5,7 @@ use Rattle.nrca_term.specs.declared.term.Core.{Core}
 use Rattle.nrca_term.specs.declared.term.Terms.{Terms}
 use Rattle.nrca_term.specs.declared.term.Core.TheVariants.{Tab, Literal}
 use Rattle.nrca_term.specs.View.{term_of, terms_of}
-use Rattle.nrca_term.specs.Equations.{term_of-Tab, term_of-Literal, length-terms_of}
+use Rattle.nrca_term.specs.Laws.Equations.{term_of-Tab, term_of-Literal, length-terms_of}
 use Rattle.nrca_term.specs.Term.{parts_of, Term, Parts, none, part, plain, child_of}
 
 pub child_of-plain_below : (ts : List Term) (ps : Parts) (i : ℕ) → i < length ts → child_of (plain ts none) i ≡ child_of (plain ts ps) i

@@ -9,7 +9,7 @@ use Rattle.nrca_term.specs.Term.{Term, Parts, Form, node, none, part, plain, for
 use Rattle.nrca_term.specs.Nodes.{bottom_term}
 use Rattle.nrca_term.specs.Hollow.{hollow, hollow_parts, bottoms}
 use Rattle.nrca_term.specs.View.{term_of, terms_of}
-use Rattle.nrca_term.specs.Equations.{term_of-Tuple, term_of-Tab, term_of-Sub, term_of-Literal}
+use Rattle.nrca_term.specs.Laws.Equations.{term_of-Tuple, term_of-Tab, term_of-Sub, term_of-Literal}
 
 -- the first n parts as they are, Bottom in the place of the others
 unfoldable pub fill : ℕ → Parts → Parts

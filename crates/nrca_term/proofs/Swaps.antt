@@ -6,9 +6,9 @@ use Rattle.nrca_term.specs.declared.term.Core.TheVariants.{Tuple, Tab, Sub, Lite
 use Rattle.nrca_term.specs.View.{term_of, terms_of}
 use Rattle.nrca_term.specs.Term.{Term, Parts, Form, node, none, part, plain, parts_of, count, child_of, set_child, with_part}
 use Rattle.aql_value.specs.Strict.{Strict}
-use Rattle.nrca_term.specs.Equations.{term_of-Tuple, term_of-Tab, term_of-Sub, term_of-Literal, length-terms_of}
+use Rattle.nrca_term.specs.Laws.Equations.{term_of-Tuple, term_of-Tab, term_of-Sub, term_of-Literal, length-terms_of}
 use Rattle.nrca_term.proofs.Children.{child_of_present, child_of-plain_past, numbered}
-use Rattle.nrca_term.specs.Variants.{count-plain}
+use Rattle.nrca_term.specs.Laws.Variants.{count-plain}
 
 set_child-plain_below : (ts : List Term) (ps : Parts) (i : ℕ) (u : Term) → i < length ts → plain (slice_set ts i u) ps ≡ set_child (plain ts ps) i u
 set_child-plain_below [] ps i u h = absurd (omega arith)

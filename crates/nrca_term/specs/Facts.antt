@@ -27,6 +27,7 @@ pub record Fact : Type 0 where
   pub known : Known
   pub depth : ℕ
 
+-- a comparison that is known in this way, read under so many variables
 abbrev pub fact : Term → Known → ℕ → Fact
 fact t k d = record { comparison = t; known = k; depth = d }
 
@@ -44,6 +45,7 @@ abbrev pub compared : Form → Parts → Known → ℕ → List Fact
 compared (Form.strict (Strict.compare op)) ps k d = fact (node (Form.strict (Strict.compare op)) ps) k d ∷ []
 compared _ ps k d = []
 
+-- the fact that the test of a choice gives in a branch: the test itself, where it is a comparison
 abbrev pub test_fact : Parts → Known → ℕ → List Fact
 test_fact none k d = []
 test_fact (part n (node f qs) ps) k d = compared f qs k d
@@ -53,6 +55,7 @@ abbrev pub generated : Form → Parts → ℕ → List Fact
 generated (Form.strict Strict.gen) (part n e none) d = fact (less_term (variable 0) (shift_term 0 1 e)) domain (d + 1) ∷ []
 generated _ ps d = []
 
+-- the fact that a loop gives in its body: the member is below the bound, where the operand is `gen` of one
 abbrev pub loop_fact : Parts → ℕ → List Fact
 loop_fact none d = []
 loop_fact (part n (node f qs) ps) d = generated f qs d
@@ -91,6 +94,7 @@ added d (Form.strict s) ps i = []
 abbrev pub enter_facts : Facts → Term → ℕ → Facts
 enter_facts c t i = record { facts = c.facts ++ added c.depth (form_of t) (parts_of t) i; depth = c.depth + binders_of (parts_of t) i }
 
+-- the context in a part that is there, and that of the node where there is none
 abbrev pub context_below : {C : Type 0} → C → Option Term → (Term → C) → C
 context_below c None f = c
 context_below c (Some u) f = f u
@@ -112,6 +116,7 @@ Holds V vals d f = (f.depth ≤ d) × (cden V (drop (d - f.depth) vals) f.compar
 abbrev pub Stands : Outcomes → Facts → List Datum → Type 0
 Stands V c vals = (length vals ≡ c.depth) × Every (Holds V vals c.depth) c.facts
 
+-- one of the facts has the property
 abbrev pub SomeFact : List Fact → (Fact → Type 0) → Type 0
 SomeFact [] P = ⊥
 SomeFact (f ∷ F) P = P f ⊎ SomeFact F P

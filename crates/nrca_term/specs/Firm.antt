@@ -32,6 +32,7 @@ as_less _ = None
 abbrev pub within_range : ℕ → ℕ → Span
 within_range low high = if nat_lt high (2 ^ 128) then Some (low, high) else None
 
+-- a span of two spans, none where one is wanting
 abbrev pub both : Span → Span → (ℕ × ℕ → ℕ × ℕ → Span) → Span
 both a b f = a >>= λ x. b >>= f x
 
@@ -49,6 +50,7 @@ arith_span Monus a b n = a >>= λ x. Some (0, x.1)
 arith_span Quotient a b n = by_number n (λ m. a >>= λ x. Some (0, x.1))
 arith_span Remainder a b n = by_number n (λ m. Some (0, m - 1))
 
+-- whether the fact comes from a tabulation's or a loop's bound
 abbrev pub is_domain : Known → Bool
 is_domain domain = true
 is_domain test = false
@@ -62,10 +64,12 @@ bounded_variable i k p = as_variable p.0 >>= λ j. number_of p.1 >>= λ n. if na
 abbrev pub fact_span : ℕ → ℕ → Fact → Span
 fact_span d i f = if is_domain f.known then (as_less f.comparison >>= bounded_variable i (d - f.depth)) else None
 
+-- the first span, or the second where there is none
 abbrev pub or_span : Span → Span → Span
 or_span (Some x) s = Some x
 or_span None s = s
 
+-- the span of a variable, by the first of the facts that gives it one
 abbrev pub variable_span : ℕ → ℕ → List Fact → Span
 variable_span d i [] = None
 variable_span d i (f ∷ F) = or_span (fact_span d i f) (variable_span d i F)
@@ -134,10 +138,12 @@ abbrev mutual
   pub sure : (ℕ → Bool) → Term → Bool
   sure D (node f ps) = form_sure D f && (if wants_all f then all_sure D ps else some_sure D ps)
 
+  -- whether every part is sure to have a value, facts aside
   pub all_sure : (ℕ → Bool) → Parts → Bool
   all_sure D none = true
   all_sure D (part k t ps) = sure D t && all_sure D ps
 
+  -- whether some part is sure to have a value, facts aside
   pub some_sure : (ℕ → Bool) → Parts → Bool
   some_sure D none = false
   some_sure D (part k t ps) = sure D t || some_sure D ps
@@ -155,6 +161,7 @@ abbrev pub second_number : Parts → Option ℕ
 second_number (part k a (part l b none)) = number_of b
 second_number _ = None
 
+-- whether an operation whose parts are firm has a value: arithmetic by the spans, the others by their form
 abbrev pub strict_firm : Strict → Span → Parts → Bool
 strict_firm (Strict.arith op) s ps = arith_firm op s (second_number ps)
 strict_firm c s ps = strict_sure c

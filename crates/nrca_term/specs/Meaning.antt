@@ -88,6 +88,7 @@ abbrev mutual
   pub cden : Outcomes → List Datum → Term → Option Datum
   cden V vals (node f ps) = form_value V vals f (part_values V vals ps)
 
+  -- the values of the parts, each a function of its own variables' values
   pub part_values : Outcomes → List Datum → Parts → List Part
   part_values V vals none = []
   part_values V vals (part k t ps) = at_length k (λ new. cden V (new ++ vals) t) ∷ part_values V vals ps

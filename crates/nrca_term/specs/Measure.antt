@@ -17,14 +17,17 @@ abbrev mutual
   pub nodes_of : Term → ℕ
   nodes_of (node f ps) = suc (parts_nodes ps)
 
+  -- the nodes of all parts
   pub parts_nodes : Parts → ℕ
   parts_nodes none = 0
   parts_nodes (part k t ps) = nodes_of t + parts_nodes ps
 
+-- the nodes of the first part
 abbrev pub first_nodes : Parts → ℕ
 first_nodes none = 0
 first_nodes (part k t ps) = nodes_of t
 
+-- the pairs that a node makes with the nodes of its first part, where its form makes any
 abbrev pub own_pairs : Bool → Parts → ℕ
 own_pairs true ps = first_nodes ps
 own_pairs false ps = 0
@@ -34,6 +37,7 @@ abbrev mutual
   pub pairs_of : Term → ℕ
   pairs_of (node f ps) = own_pairs (has_operand f) ps + parts_pairs ps
 
+  -- the pairs within all parts
   pub parts_pairs : Parts → ℕ
   parts_pairs none = 0
   parts_pairs (part k t ps) = pairs_of t + parts_pairs ps

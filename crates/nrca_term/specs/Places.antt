@@ -53,6 +53,7 @@ abbrev pub place_of : Term → List ℕ → Option Term
 place_of t [] = Some t
 place_of t (i ∷ path) = child_of (parts_of t) i >>= λ u. place_of u path
 
+-- what comes below a child that is there, and nothing where there is none
 abbrev pub reach_each : Option Term → (Term → List (List Datum)) → List (List Datum)
 reach_each None f = []
 reach_each (Some u) f = f u

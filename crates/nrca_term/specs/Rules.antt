@@ -74,6 +74,7 @@ abbrev mutual
   pub replace_dims : ℕ → Term → Term → Term
   replace_dims at size (node f ps) = if is_dim_of at f ps then size else node f (replace_dims_parts at size ps)
 
+  -- the same in each part, under its own variables
   pub replace_dims_parts : ℕ → Term → Parts → Parts
   replace_dims_parts at size none = none
   replace_dims_parts at size (part k t ps) = part k (replace_dims (at + k) (shift_term 0 k size) t) (replace_dims_parts at size ps)
@@ -83,6 +84,7 @@ abbrev mutual
   pub dims_of_var : ℕ → Term → ℕ
   dims_of_var at (node f ps) = (if is_dim_of at f ps then 1 else 0) + parts_dims_of_var at ps
 
+  -- how often the parts ask for the dimensions of the variable
   pub parts_dims_of_var : ℕ → Parts → ℕ
   parts_dims_of_var at none = 0
   parts_dims_of_var at (part k t ps) = dims_of_var (at + k) t + parts_dims_of_var at ps
@@ -138,6 +140,7 @@ pub data Subscript (l r : Term) (ws : List Way) : Type 0 where
   outside : (ns : List ℕ) (cs : List Term) (is : List ℕ) → l ≡ sub_term (constant_literal ns cs) (map number is) → product ns ≡ length cs →
       length ns ≡ length is → ((p : ℕ) → slice_get (indices ns) p ≡ Some is → ⊥) → r ≡ bottom_term → ws ≡ [] → Subscript l r ws
 
+-- the term is a comparison
 abbrev pub IsComparison : Term → Type 0
 IsComparison l = (op : CompareOp) × (a : Term) × (b : Term) × (l ≡ compare_term op a b)
 

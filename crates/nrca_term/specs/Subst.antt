@@ -3,6 +3,7 @@
 use Rattle.std.specs.Prelude.{ℕ, zero, suc, ◌+◌, ◌-◌, max, nat_lt, nat_eq, Bool, true, false, List, [], ◌∷◌, if◌then◌else◌}
 use Rattle.nrca_term.specs.Term.{Term, Parts, node, none, part, Form}
 
+-- a form whose own variable, if it is one from a number on, is raised
 abbrev pub shift_form : ℕ → ℕ → Form → Form
 shift_form from by (Form.var i) = Form.var (if nat_lt i from then i else i + by)
 shift_form from by (Form.global n) = Form.global n
@@ -19,6 +20,7 @@ abbrev mutual
   pub shift_term : ℕ → ℕ → Term → Term
   shift_term from by (node f ps) = node (shift_form from by f) (shift_parts from by ps)
 
+  -- the parts shifted, each under its own variables
   pub shift_parts : ℕ → ℕ → Parts → Parts
   shift_parts from by none = none
   shift_parts from by (part k t ps) = part k (shift_term (from + k) by t) (shift_parts from by ps)
@@ -28,6 +30,7 @@ abbrev pub subst_var : ℕ → Term → ℕ → Term
 subst_var at with i =
     if nat_lt i at then node (Form.var i) none else (if nat_eq i at then with else node (Form.var (i - 1)) none)
 
+-- a node after a substitution: the term in place of the variable, and each other form as it is
 abbrev pub subst_node : ℕ → Term → Form → Parts → Term
 subst_node at with (Form.var i) ps = subst_var at with i
 subst_node at with (Form.global n) ps = node (Form.global n) ps
@@ -44,10 +47,12 @@ abbrev mutual
   pub subst_term : ℕ → Term → Term → Term
   subst_term at with (node f ps) = subst_node at with f (subst_parts at with ps)
 
+  -- the substitution in each part, under its own variables
   pub subst_parts : ℕ → Term → Parts → Parts
   subst_parts at with none = none
   subst_parts at with (part k t ps) = part k (subst_term (at + k) (shift_term 0 k with) t) (subst_parts at with ps)
 
+-- 1 where the form is the variable
 abbrev pub form_uses : ℕ → Form → ℕ
 form_uses at (Form.var i) = if nat_eq i at then 1 else 0
 form_uses at (Form.global n) = 0
@@ -64,10 +69,12 @@ abbrev mutual
   pub uses_of : ℕ → Term → ℕ
   uses_of at (node f ps) = form_uses at f + parts_uses at ps
 
+  -- how often the variable stands in the parts
   pub parts_uses : ℕ → Parts → ℕ
   parts_uses at none = 0
   parts_uses at (part k t ps) = uses_of (at + k) t + parts_uses at ps
 
+-- whether the part is the first one
 abbrev pub is_first : ℕ → Bool
 is_first zero = true
 is_first (suc i) = false
@@ -90,10 +97,12 @@ abbrev mutual
   pub strict_uses : ℕ → Term → ℕ
   strict_uses at (node f ps) = form_uses at f + parts_strict_uses at f 0 ps
 
+  -- how often the variable stands in the parts that are always evaluated
   pub parts_strict_uses : ℕ → Form → ℕ → Parts → ℕ
   parts_strict_uses at f i none = 0
   parts_strict_uses at f i (part k t ps) = (if is_strict f i then strict_uses (at + k) t else 0) + parts_strict_uses at f (suc i) ps
 
+-- the number of the form's variable, 0 where it is none
 abbrev pub form_top : Form → ℕ
 form_top (Form.var i) = i
 form_top (Form.global n) = 0
@@ -110,6 +119,7 @@ abbrev mutual
   pub top_var : Term → ℕ
   top_var (node f ps) = max (form_top f) (parts_top ps)
 
+  -- the greatest variable number in the parts
   pub parts_top : Parts → ℕ
   parts_top none = 0
   parts_top (part k t ps) = max (top_var t) (parts_top ps)

@@ -16,6 +16,7 @@ pub data Form : Type 0 where
   strict : Strict → Form
 
 mutual
+  -- a core term: a form and its parts
   pub data Term : Type 0 where
     node : Form → Parts → Term
 
@@ -29,9 +30,11 @@ abbrev pub plain : List Term → Parts → Parts
 plain [] ps = ps
 plain (t ∷ ts) ps = part 0 t (plain ts ps)
 
+-- the form of a term
 abbrev pub form_of : Term → Form
 form_of (node f ps) = f
 
+-- the parts of a term
 abbrev pub parts_of : Term → Parts
 parts_of (node f ps) = ps
 
@@ -52,6 +55,7 @@ binders_of none i = 0
 binders_of (part k t ps) zero = k
 binders_of (part k t ps) (suc i) = binders_of ps i
 
+-- the parts with another term in the place of child i
 abbrev pub set_child : Parts → ℕ → Term → Parts
 set_child none i u = none
 set_child (part k t ps) zero u = part k u ps
@@ -84,10 +88,12 @@ abbrev mutual
   pub weight_of : Term → ℕ
   weight_of (node f ps) = form_weight f + parts_weight ps
 
+  -- the weight of all parts
   pub parts_weight : Parts → ℕ
   parts_weight none = 0
   parts_weight (part k t ps) = weight_of t + parts_weight ps
 
+-- the weight of all terms
 abbrev pub list_weight : List Term → ℕ
 list_weight [] = 0
 list_weight (t ∷ ts) = weight_of t + list_weight ts
@@ -122,10 +128,12 @@ abbrev mutual
   pub WellFormed : Term → Type 0
   WellFormed (node f ps) = LeafIsBare f ps × PartsWellFormed f 0 ps
 
+  -- each part from number i on has the variables that the form binds there, and is well formed
   pub PartsWellFormed : Form → ℕ → Parts → Type 0
   PartsWellFormed f i none = Unit {0}
   PartsWellFormed f i (part k t ps) = (k ≡ form_binders f i) × WellFormed t × PartsWellFormed f (suc i) ps
 
+-- the form's variable, if it is one, is among n
 abbrev pub FormClosed : ℕ → Form → Type 0
 FormClosed n (var i) = i < n
 FormClosed n _ = Unit {0}
@@ -135,6 +143,7 @@ abbrev mutual
   pub Closed : ℕ → Term → Type 0
   Closed n (node f ps) = FormClosed n f × PartsClosed n ps
 
+  -- each part's variables are its own or among n
   pub PartsClosed : ℕ → Parts → Type 0
   PartsClosed n none = Unit {0}
   PartsClosed n (part k t ps) = Closed (n + k) t × PartsClosed n ps

@@ -24,6 +24,7 @@ abbrev mutual
   pub settle : Outcomes → List Datum → Term → ℕ
   settle V vals (node f ps) = own_turns f (part_values V vals ps) + parts_settle V vals f (part_values V vals ps) 0 ps
 
+  -- the turns of the parts from number i on: of each, once for each list of values that comes to it
   pub parts_settle : Outcomes → List Datum → Form → List Part → ℕ → Parts → ℕ
   parts_settle V vals f worths i none = 0
   parts_settle V vals f worths i (part k t ps) =

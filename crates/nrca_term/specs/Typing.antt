@@ -14,6 +14,7 @@ pub record Arg : Type 0 where
   pub own : List Ty
   pub has : Ty
 
+-- a part with variables of these types, and a value of that type
 abbrev pub arg : List Ty → Ty → Arg
 arg own has = record { own = own; has = has }
 
@@ -35,6 +36,7 @@ abbrev mutual
   pub ctyped : (ℕ → Ty → Type 0) → List Ty → Term → Ty → Type 0
   ctyped G env (node f ps) T = IsType T × (args : List Arg) × form_rule G env f args T × parts_typed G env ps args
 
+  -- the parts have these types, each under its own variables
   pub parts_typed : (ℕ → Ty → Type 0) → List Ty → Parts → List Arg → Type 0
   parts_typed G env none args = args ≡ []
   parts_typed G env (part k t ps) args =

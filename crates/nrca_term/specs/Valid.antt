@@ -16,10 +16,11 @@ abbrev mutual
   pub HasConstants : Term → Type 0
   HasConstants (node f ps) = FormConstant f × PartsHaveConstants ps
 
+  -- the constants in the parts are values of the language
   pub PartsHaveConstants : Parts → Type 0
   PartsHaveConstants none = Unit {0}
   PartsHaveConstants (part k t ps) = HasConstants t × PartsHaveConstants ps
 
 -- each outcome that is defined is a value of the language
-abbrev pub AreOutcomes : Outcomes → Type 0
-AreOutcomes V = (n : ℕ) (v : Datum) → outcome V n ≡ Some v → IsValue v
+abbrev pub AreValidOutcomes : Outcomes → Type 0
+AreValidOutcomes V = (n : ℕ) (v : Datum) → outcome V n ≡ Some v → IsValue v

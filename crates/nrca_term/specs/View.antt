@@ -40,6 +40,7 @@ node_term (Core-F.Dim rank a) = node (Form.strict (Strict.dim rank)) (plain (a.v
 node_term (Core-F.Index rank a) = node (Form.strict (Strict.index rank)) (plain (a.value ∷ []) none)
 node_term (Core-F.Literal ds cs) = node (Form.strict (Strict.literal (length ds))) (plain ds (plain cs none))
 
+-- the list of terms that a node of the code holds
 abbrev pub list_of : Terms-F Term (List Term) → List Term
 list_of ts = ts.0.items
 
@@ -47,6 +48,7 @@ list_of ts = ts.0.items
 abbrev pub term_of : Core → Term
 term_of = fold-Core Term (List Term) node_term list_of
 
+-- the terms that a list of the code holds
 abbrev pub terms_of : Terms → List Term
 terms_of ts = map term_of ts.0.items
 

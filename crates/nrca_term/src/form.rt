@@ -87,7 +87,7 @@ impl<'a> Form<'a> {
 
 impl Core {
     /// The form: what a node is beside its parts.
-    #[tactic(auto, using(crate::specs::Equations::list_forms))]
+    #[tactic(auto, using(crate::specs::Laws::Equations::list_forms))]
     pub fn form(&self) -> Form<'_>
         ensures { pure_form result ≡ form_of (term_of self.now) }
     {

@@ -3,9 +3,10 @@ use Rattle.std.specs.Prelude.{map}
 use Rattle.std.specs.String.{string_bytes}
 use Rattle.aql_outside.specs.Causes.{Rose}
 use Rattle.aql_session.specs.Device.{source_of, sink_of, files_of}
-use Rattle.aql_status.specs.Codes.{code_of, status_is}
-use Rattle.aql_status.specs.declared.status.Status.{Status}
-use Rattle.aql_status.specs.declared.status.Status.TheVariants as status
+use Rattle.aql_run.specs.Codes.{code_of}
+use Rattle.aql_run.specs.Laws.Codes.{status_is}
+use Rattle.aql_run.specs.declared.status.Status.{Status}
+use Rattle.aql_run.specs.declared.status.Status.TheVariants as status
 use Rattle.aql_run.specs.Devices.{Devices}
 use Rattle.aql_run.proofs.Endings.{reported_files, reported_input, reported_sample, reported_serves}
 use Rattle.aql_run.proofs.run.Goals as goal
@@ -18,14 +19,14 @@ one_of s a b n is (inr e) = inr (status_is s b n is e)
 pub returns : goal.returns
 returns g c =
     let words = map string_bytes c.args.words.now in
-    let n = c.reported.result.status in
+    let n = c.report_run.result.status in
     let d : Devices = record {
-      source = source_of g.S.Source c.args.input.now c.reported.new.input;
-      sink = sink_of g.O.Sink c.args.output.now c.reported.new.output;
-      files = files_of g.F.Files c.args.files.now c.reported.new.files;
+      source = source_of g.S.Source c.args.input.now c.report_run.new.input;
+      sink = sink_of g.O.Sink c.args.output.now c.report_run.new.output;
+      files = files_of g.F.Files c.args.files.now c.report_run.new.files;
     } in
     let (s, is, (taken, written, consumed, appended, few, (cause, complete))) =
-    reported_serves words (Rose d.sink.faults_before d.sink.faults_after) d c.reported.result c.lexed.ensures c.reported.ensures.output.failed c.reported.ensures.serves in
+    reported_serves words (Rose d.sink.faults_before d.sink.faults_after) d c.report_run.result c.tokens_exist.ensures c.report_run.ensures.output.failed c.report_run.ensures.serves in
     record {
       status = s;
       number = is;
@@ -36,22 +37,22 @@ returns g c =
       few = few;
       cause = cause;
       complete = complete;
-      usage = λ e. (c.reported.ensures.untouched_input (is ∙ ap code_of e), c.reported.ensures.untouched_output (is ∙ ap code_of e));
-      sample = λ m asked. c.reported.ensures.sample m (reported_sample words m asked);
+      usage = λ e. (c.report_run.ensures.untouched_input (is ∙ ap code_of e), c.report_run.ensures.untouched_output (is ∙ ap code_of e));
+      sample = λ m asked. c.report_run.ensures.sample m (reported_sample words m asked);
       input = record {
-        later = c.reported.ensures.later_input;
-        failed = λ e. reported_input words d c.reported.result c.reported.ensures.serves (is ∙ ap code_of e);
-        noticed = λ q less. one_of s status.Input status.Output n is (c.reported.ensures.noticed_input q less);
+        later = c.report_run.ensures.later_input;
+        failed = λ e. reported_input words d c.report_run.result c.report_run.ensures.serves (is ∙ ap code_of e);
+        noticed = λ q less. one_of s status.Input status.Output n is (c.report_run.ensures.noticed_input q less);
       };
       output = record {
-        later = c.reported.ensures.output.later;
-        failed = λ e. c.reported.ensures.output.failed (is ∙ ap code_of e);
-        noticed = λ q less. status_is s status.Output n is (c.reported.ensures.output.noticed q less);
+        later = c.report_run.ensures.output.later;
+        failed = λ e. c.report_run.ensures.output.failed (is ∙ ap code_of e);
+        noticed = λ q less. status_is s status.Output n is (c.report_run.ensures.output.noticed q less);
       };
       files = record {
-        later = c.reported.ensures.later_files;
-        failed = λ e. reported_files words d c.reported.result c.reported.ensures.serves (is ∙ ap code_of e);
-        noticed = λ q less. one_of s status.Files status.Output n is (c.reported.ensures.noticed_files q less);
+        later = c.report_run.ensures.later_files;
+        failed = λ e. reported_files words d c.report_run.result c.report_run.ensures.serves (is ∙ ap code_of e);
+        noticed = λ q less. one_of s status.Files status.Output n is (c.report_run.ensures.noticed_files q less);
       };
-      kept = c.reported.ensures.kept;
+      kept = c.report_run.ensures.kept;
     }

@@ -6,7 +6,7 @@ use Rattle.aql_value.specs.Strict.{Strict}
 use Rattle.aql_syntax.specs.Tree as tree
 use Rattle.aql_syntax.specs.Tree.{Tree, Trees, Axes, Defs, count_trees, append}
 use Rattle.aql_syntax.specs.View.{pat_of, tree_of, trees_of, quals_of, axes_in, defs_in, of_one, of_two}
-use Rattle.aql_syntax.specs.ViewLaws.{tree_of-Row, tree_of-Members, tree_of-Comp, tree_of-Literal, tree_of-Sub, axes_of-items, defs_of-items}
+use Rattle.aql_syntax.specs.Laws.View.{tree_of-Row, tree_of-Members, tree_of-Comp, tree_of-Literal, tree_of-Sub, axes_of-items, defs_of-items}
 use Rattle.aql_syntax.specs.declared.ast.Expr.{Expr}
 use Rattle.aql_syntax.specs.declared.ast.Qual.{Qual}
 use Rattle.aql_syntax.specs.declared.ast.Bind.{Bind}
@@ -58,14 +58,14 @@ list_copied F (Ok made) (Ok u) t xs ys h k i s = h ∙ ap F (k ∙ ap trees_of i
 pub ast::Expr::copy-returns-in-Comp : goal.ast::Expr::copy-returns-in-Comp
 ast::Expr::copy-returns-in-Comp t c =
     two_copied tree.comp (λ (u : Box Expr Global). tree_of u.value) (λ (z : Vec Qual Global). quals_of z.items) _ _ _ _ _ _ _ _
-    c.comprehended.ensures c.copied.ensures (ap tree_of c.deref-in-Comp.ensures) c.copy_quals.ensures (ap quals_of c.deref-in-Comp-2.ensures.value)
+    c.make_comprehension.ensures c.copy_parts.ensures (ap tree_of c.deref-in-Comp.ensures) c.copy_quals.ensures (ap quals_of c.deref-in-Comp-2.ensures.value)
     (sym (ap tree_of c.in-Comp.is ∙ tree_of-Comp c.in-Comp.head c.in-Comp.quals))
 
 pub ast::Expr::copy-returns-in-Literal : goal.ast::Expr::copy-returns-in-Literal
 ast::Expr::copy-returns-in-Literal t c =
     two_copied (λ (ds : Trees) (cs : Trees). tree.op (Strict.literal (count_trees ds)) (append ds cs))
     (λ (u : Vec Expr Global). trees_of u.items) (λ (z : Vec Expr Global). trees_of z.items) _ _ _ _ _ _ _ _
-    c.listed.ensures c.copy_exprs-in-Literal.ensures (ap trees_of c.deref-in-Literal.ensures.value)
+    c.make_literal.ensures c.copy_exprs-in-Literal.ensures (ap trees_of c.deref-in-Literal.ensures.value)
     c.copy_exprs-in-Literal-2.ensures (ap trees_of c.deref-in-Literal-2.ensures.value)
     (sym (ap tree_of c.in-Literal.is ∙ tree_of-Literal c.in-Literal.dims c.in-Literal.cells))
 
@@ -73,80 +73,80 @@ pub ast::Expr::copy-returns-in-Sub : goal.ast::Expr::copy-returns-in-Sub
 ast::Expr::copy-returns-in-Sub t c =
     two_copied (λ (a : Tree) (at : Trees). tree.op Strict.sub (tree.tree a at))
     (λ (u : Box Expr Global). tree_of u.value) (λ (z : Vec Expr Global). trees_of z.items) _ _ _ _ _ _ _ _
-    c.subscripted.ensures c.copied-in-Sub.ensures (ap tree_of c.deref-in-Sub.ensures)
+    c.make_subscript.ensures c.copy_parts-in-Sub.ensures (ap tree_of c.deref-in-Sub.ensures)
     c.copy_exprs-in-Sub.ensures (ap trees_of c.deref-in-Sub-2.ensures.value)
     (sym (ap tree_of c.in-Sub.is ∙ tree_of-Sub c.in-Sub.array c.in-Sub.at))
 
 pub ast::Expr::copy-returns-in-And : goal.ast::Expr::copy-returns-in-And
 ast::Expr::copy-returns-in-And t c =
     two_boxes tree.conjunction _ _ _ _ _ _ c.in-And.a c.in-And.b c.on_two.ensures
-    c.copied-in-And.ensures c.deref-in-And.ensures c.copied-in-And-2.ensures c.deref-in-And-2.ensures (sym (ap tree_of c.in-And.is))
+    c.copy_parts-in-And.ensures c.deref-in-And.ensures c.copy_parts-in-And-2.ensures c.deref-in-And-2.ensures (sym (ap tree_of c.in-And.is))
 
 pub ast::Expr::copy-returns-in-Or : goal.ast::Expr::copy-returns-in-Or
 ast::Expr::copy-returns-in-Or t c =
     two_boxes tree.disjunction _ _ _ _ _ _ c.in-Or.a c.in-Or.b c.on_two-in-Or.ensures
-    c.copied-in-Or.ensures c.deref-in-Or.ensures c.copied-in-Or-2.ensures c.deref-in-Or-2.ensures (sym (ap tree_of c.in-Or.is))
+    c.copy_parts-in-Or.ensures c.deref-in-Or.ensures c.copy_parts-in-Or-2.ensures c.deref-in-Or-2.ensures (sym (ap tree_of c.in-Or.is))
 
 pub ast::Expr::copy-returns-in-Compare : goal.ast::Expr::copy-returns-in-Compare
 ast::Expr::copy-returns-in-Compare t c =
     two_boxes (of_two (Strict.compare c.in-Compare.o)) _ _ _ _ _ _ c.in-Compare.a c.in-Compare.b c.on_two-in-Compare.ensures
-    c.copied-in-Compare.ensures c.deref-in-Compare.ensures c.copied-in-Compare-2.ensures c.deref-in-Compare-2.ensures (sym (ap tree_of c.in-Compare.is))
+    c.copy_parts-in-Compare.ensures c.deref-in-Compare.ensures c.copy_parts-in-Compare-2.ensures c.deref-in-Compare-2.ensures (sym (ap tree_of c.in-Compare.is))
 
 pub ast::Expr::copy-returns-in-Arith : goal.ast::Expr::copy-returns-in-Arith
 ast::Expr::copy-returns-in-Arith t c =
     two_boxes (of_two (Strict.arith c.in-Arith.o)) _ _ _ _ _ _ c.in-Arith.a c.in-Arith.b c.on_two-in-Arith.ensures
-    c.copied-in-Arith.ensures c.deref-in-Arith.ensures c.copied-in-Arith-2.ensures c.deref-in-Arith-2.ensures (sym (ap tree_of c.in-Arith.is))
+    c.copy_parts-in-Arith.ensures c.deref-in-Arith.ensures c.copy_parts-in-Arith-2.ensures c.deref-in-Arith-2.ensures (sym (ap tree_of c.in-Arith.is))
 
 pub ast::Expr::copy-returns-in-Union : goal.ast::Expr::copy-returns-in-Union
 ast::Expr::copy-returns-in-Union t c =
     two_boxes (of_two Strict.union) _ _ _ _ _ _ c.in-Union.a c.in-Union.b c.on_two-in-Union.ensures
-    c.copied-in-Union.ensures c.deref-in-Union.ensures c.copied-in-Union-2.ensures c.deref-in-Union-2.ensures (sym (ap tree_of c.in-Union.is))
+    c.copy_parts-in-Union.ensures c.deref-in-Union.ensures c.copy_parts-in-Union-2.ensures c.deref-in-Union-2.ensures (sym (ap tree_of c.in-Union.is))
 
 pub ast::Expr::copy-returns-in-Default : goal.ast::Expr::copy-returns-in-Default
 ast::Expr::copy-returns-in-Default t c =
-    two_boxes tree.default _ _ _ _ _ _ c.in-Default.a c.in-Default.b c.defaulted.ensures
-    c.copied-in-Default.ensures c.deref-in-Default.ensures c.copied-in-Default-2.ensures c.deref-in-Default-2.ensures (sym (ap tree_of c.in-Default.is))
+    two_boxes tree.default _ _ _ _ _ _ c.in-Default.a c.in-Default.b c.make_default.ensures
+    c.copy_parts-in-Default.ensures c.deref-in-Default.ensures c.copy_parts-in-Default-2.ensures c.deref-in-Default-2.ensures (sym (ap tree_of c.in-Default.is))
 
 pub ast::Expr::copy-returns-in-Not : goal.ast::Expr::copy-returns-in-Not
 ast::Expr::copy-returns-in-Not t c =
-    one_box tree.negation _ _ _ _ c.in-Not.a c.negated.ensures c.copied-in-Not.ensures c.deref-in-Not.ensures (sym (ap tree_of c.in-Not.is))
+    one_box tree.negation _ _ _ _ c.in-Not.a c.make_negation.ensures c.copy_parts-in-Not.ensures c.deref-in-Not.ensures (sym (ap tree_of c.in-Not.is))
 
 pub ast::Expr::copy-returns-in-Gen : goal.ast::Expr::copy-returns-in-Gen
 ast::Expr::copy-returns-in-Gen t c =
-    one_box (of_one Strict.gen) _ _ _ _ c.in-Gen.a c.on_one.ensures c.copied-in-Gen.ensures c.deref-in-Gen.ensures (sym (ap tree_of c.in-Gen.is))
+    one_box (of_one Strict.gen) _ _ _ _ c.in-Gen.a c.on_one.ensures c.copy_parts-in-Gen.ensures c.deref-in-Gen.ensures (sym (ap tree_of c.in-Gen.is))
 
 pub ast::Expr::copy-returns-in-Get : goal.ast::Expr::copy-returns-in-Get
 ast::Expr::copy-returns-in-Get t c =
-    one_box (of_one Strict.get) _ _ _ _ c.in-Get.a c.on_one-in-Get.ensures c.copied-in-Get.ensures c.deref-in-Get.ensures (sym (ap tree_of c.in-Get.is))
+    one_box (of_one Strict.get) _ _ _ _ c.in-Get.a c.on_one-in-Get.ensures c.copy_parts-in-Get.ensures c.deref-in-Get.ensures (sym (ap tree_of c.in-Get.is))
 
 pub ast::Expr::copy-returns-in-Len : goal.ast::Expr::copy-returns-in-Len
 ast::Expr::copy-returns-in-Len t c =
-    one_box (of_one (Strict.dim 1)) _ _ _ _ c.in-Len.a c.length.ensures c.copied-in-Len.ensures c.deref-in-Len.ensures (sym (ap tree_of c.in-Len.is))
+    one_box (of_one (Strict.dim 1)) _ _ _ _ c.in-Len.a c.length.ensures c.copy_parts-in-Len.ensures c.deref-in-Len.ensures (sym (ap tree_of c.in-Len.is))
 
 pub ast::Expr::copy-returns-in-Dim : goal.ast::Expr::copy-returns-in-Dim
 ast::Expr::copy-returns-in-Dim t c =
-    one_box (of_one (Strict.dim c.in-Dim.rank)) _ _ _ _ c.in-Dim.array c.on_one-in-Dim.ensures c.copied-in-Dim.ensures c.deref-in-Dim.ensures (sym (ap tree_of c.in-Dim.is))
+    one_box (of_one (Strict.dim c.in-Dim.rank)) _ _ _ _ c.in-Dim.array c.on_one-in-Dim.ensures c.copy_parts-in-Dim.ensures c.deref-in-Dim.ensures (sym (ap tree_of c.in-Dim.is))
 
 pub ast::Expr::copy-returns-in-Index : goal.ast::Expr::copy-returns-in-Index
 ast::Expr::copy-returns-in-Index t c =
-    one_box (of_one (Strict.index c.in-Index.rank)) _ _ _ _ c.in-Index.pairs c.on_one-in-Index.ensures c.copied-in-Index.ensures c.deref-in-Index.ensures (sym (ap tree_of c.in-Index.is))
+    one_box (of_one (Strict.index c.in-Index.rank)) _ _ _ _ c.in-Index.pairs c.on_one-in-Index.ensures c.copy_parts-in-Index.ensures c.deref-in-Index.ensures (sym (ap tree_of c.in-Index.is))
 
 pub ast::Expr::copy-returns-in-If : goal.ast::Expr::copy-returns-in-If
 ast::Expr::copy-returns-in-If t c =
     three_copied tree.choice (λ (u : Box Expr Global). tree_of u.value) _ _ _ _ _ _ _ _ _ c.in-If.a c.in-If.b c.choice.ensures
-    c.copied-in-If.ensures (ap tree_of c.deref-in-If.ensures) c.copied-in-If-2.ensures c.deref-in-If-2.ensures c.copied-in-If-3.ensures c.deref-in-If-3.ensures
+    c.copy_parts-in-If.ensures (ap tree_of c.deref-in-If.ensures) c.copy_parts-in-If-2.ensures c.deref-in-If-2.ensures c.copy_parts-in-If-3.ensures c.deref-in-If-3.ensures
     (sym (ap tree_of c.in-If.is))
 
 pub ast::Expr::copy-returns-in-Fun : goal.ast::Expr::copy-returns-in-Fun
 ast::Expr::copy-returns-in-Fun t c =
     three_copied tree.function (λ (u : Pattern). pat_of u) _ _ _ _ _ _ _ _ _ c.in-Fun.body c.in-Fun.argument c.function.ensures
-    c.copy-in-Fun.ensures refl c.copied-in-Fun.ensures c.deref-in-Fun.ensures c.copied-in-Fun-2.ensures c.deref-in-Fun-2.ensures
+    c.copy-in-Fun.ensures refl c.copy_parts-in-Fun.ensures c.deref-in-Fun.ensures c.copy_parts-in-Fun-2.ensures c.deref-in-Fun-2.ensures
     (sym (ap tree_of c.in-Fun.is))
 
 pub ast::Expr::copy-returns-in-SumMap : goal.ast::Expr::copy-returns-in-SumMap
 ast::Expr::copy-returns-in-SumMap t c =
     three_copied tree.summap (λ (u : Pattern). pat_of u) _ _ _ _ _ _ _ _ _ c.in-SumMap.body c.in-SumMap.over c.function-in-SumMap.ensures
-    c.copy-in-SumMap.ensures refl c.copied-in-SumMap.ensures c.deref-in-SumMap.ensures c.copied-in-SumMap-2.ensures c.deref-in-SumMap-2.ensures
+    c.copy-in-SumMap.ensures refl c.copy_parts-in-SumMap.ensures c.deref-in-SumMap.ensures c.copy_parts-in-SumMap-2.ensures c.deref-in-SumMap-2.ensures
     (sym (ap tree_of c.in-SumMap.is))
 
 pub ast::Expr::copy-returns-in-Row : goal.ast::Expr::copy-returns-in-Row
@@ -161,11 +161,11 @@ ast::Expr::copy-returns-in-Members t c =
 pub ast::Expr::copy-returns-in-Tab : goal.ast::Expr::copy-returns-in-Tab
 ast::Expr::copy-returns-in-Tab t c =
     two_copied (λ (b : Tree) (xs : Axes). tree.tab xs b) (λ (u : Box Expr Global). tree_of u.value) (λ (z : Vec Bind Global). axes_in z.items) _ _ _ _ _ _ _ _
-    c.tabulated.ensures c.copied-in-Tab.ensures (ap tree_of c.deref-in-Tab.ensures) c.copy_binds.ensures (ap axes_in c.deref-in-Tab-2.ensures.value)
+    c.make_tabulation.ensures c.copy_parts-in-Tab.ensures (ap tree_of c.deref-in-Tab.ensures) c.copy_binds.ensures (ap axes_in c.deref-in-Tab-2.ensures.value)
     (ap (λ (xs : Axes). tree.tab xs (tree_of c.in-Tab.body.value)) (sym (axes_of-items c.in-Tab.binds)) ∙ sym (ap tree_of c.in-Tab.is))
 
 pub ast::Expr::copy-returns-in-Let : goal.ast::Expr::copy-returns-in-Let
 ast::Expr::copy-returns-in-Let t c =
     two_copied (λ (ds : Defs) (b : Tree). tree.bindings ds b) (λ (z : Vec LetBind Global). defs_in z.items) (λ (u : Box Expr Global). tree_of u.value) _ _ _ _ _ _ _ _
-    c.bound.ensures c.copy_lets.ensures (ap defs_in c.deref-in-Let.ensures.value) c.copied-in-Let.ensures (ap tree_of c.deref-in-Let-2.ensures)
+    c.bound.ensures c.copy_lets.ensures (ap defs_in c.deref-in-Let.ensures.value) c.copy_parts-in-Let.ensures (ap tree_of c.deref-in-Let-2.ensures)
     (ap (λ (ds : Defs). tree.bindings ds (tree_of c.in-Let.body.value)) (sym (defs_of-items c.in-Let.binds)) ∙ sym (ap tree_of c.in-Let.is))

@@ -1,5 +1,5 @@
 use Rattle.std.proofs.Common.{◌∙◌, ap, sym, Ok}
-use Rattle.aql_csv.specs.Typed.{members_typed}
+use Rattle.aql_csv.specs.Laws.Typed.{members_typed}
 use Rattle.aql_csv.proofs.file.set_in.Goals as goal
 
 pub returns-clause-typed : goal.returns-clause-typed

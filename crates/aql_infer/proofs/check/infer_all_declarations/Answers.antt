@@ -1,8 +1,8 @@
 use Rattle.std.proofs.Common.{List, ap, sym, ◌∙◌, subst, take, ◌+◌, length}
 use Rattle.aql_syntax.specs.View.{decl_of, decls_of}
-use Rattle.aql_constraints.specs.Principal.{IsInferred}
-use Rattle.aql_constraints.specs.View.{scheme_of, schemes_of}
-use Rattle.aql_constraints.specs.declared.names.Position.{Position}
+use Rattle.aql_infer_steps.specs.Principal.{IsInferred}
+use Rattle.aql_infer_steps.specs.View.{scheme_of, schemes_of}
+use Rattle.aql_infer_steps.specs.declared.names.Position.{Position}
 use Rattle.aql_infer.proofs.Progress.{Progress, checked_more, count_more}
 use Rattle.aql_infer.proofs.check.infer_all_declarations.Goals as goal
 

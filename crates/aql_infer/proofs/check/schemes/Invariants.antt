@@ -1,5 +1,5 @@
 use Rattle.std.proofs.Common.{◌≡◌, ◌++◌, drop}
-use Rattle.aql_constraints.specs.Typed.{sorts_of}
+use Rattle.aql_infer_steps.specs.Typed.{sorts_of}
 use Rattle.aql_infer.specs.Checked.{found_sorts}
 use Rattle.aql_infer.proofs.check.schemes.Given as goal
 

@@ -12,4 +12,4 @@ spelled t None e = none_spelled t e
 spelled t (Some g) e = spelled_so ALL t g e
 
 pub returns : goal.returns
-returns c = spelled c.args.text.now c.spelled.result c.spelled.ensures
+returns c = spelled c.args.text.now c.find_spelling.result c.find_spelling.ensures

@@ -3,8 +3,8 @@ use Rattle.std.proofs.lemmas.Grind.{common_steps}
 use Rattle.aql_syntax.specs.Tree.{Declaration}
 use Rattle.aql_syntax.specs.View.{decl_of, decls_of}
 use Rattle.aql_syntax.specs.Grammar.{ReadsDecls, decls_none}
-use Rattle.aql_grammar.specs.Scripts.{decl_sound, decl_shrinks, decl_none, reads_next, no_longer}
-use Rattle.aql_phrases.specs.Words.{lexemes}
+use Rattle.aql_parse_spec.specs.Laws.Scripts.{decl_sound, decl_shrinks, decl_none, reads_next, no_longer}
+use Rattle.aql_parse.specs.Words.{lexemes}
 use Rattle.aql_parse.proofs.Said.{decls_last, decls_length, lexemes_length}
 use Rattle.aql_parse.proofs.scripts.declarations.Goals as goal
 

@@ -1,7 +1,7 @@
 use Rattle.std.proofs.Common.{length}
 use Rattle.aql_syntax.specs.View.{decls_of}
 use Rattle.aql_syntax.specs.Grammar.{ReadsDecls}
-use Rattle.aql_phrases.specs.Words.{lexemes}
+use Rattle.aql_parse.specs.Words.{lexemes}
 use Rattle.aql_parse.proofs.scripts.declarations.Given as goal
 
 abbrev pub invariant-loop-rest : goal.invariant-loop-rest

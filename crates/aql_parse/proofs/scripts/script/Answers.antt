@@ -1,6 +1,6 @@
 use Rattle.std.proofs.Common.{ap, ◌∙◌, subst}
 use Rattle.aql_parse.specs.Parsed.{Parsed}
-use Rattle.aql_phrases.specs.Words.{lexemes}
+use Rattle.aql_parse.specs.Words.{lexemes}
 use Rattle.aql_parse.proofs.scripts.script.Goals as goal
 
 pub returns : goal.returns

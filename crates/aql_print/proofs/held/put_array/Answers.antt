@@ -1,10 +1,10 @@
 use Rattle.std.proofs.Common.{◌++◌, ◌∷◌, [], List, ℕ, ap, ◌∙◌, subst}
 use Rattle.aql_value.specs.Datum.{data_of, Table}
-use Rattle.aql_texts.specs.Appends.{AppendsPrefix}
-use Rattle.aql_texts.specs.Joined.{separated}
-use Rattle.aql_texts.specs.ValueText.{texts, dims_text}
+use Rattle.aql_print.specs.Appends.{AppendsPrefix}
+use Rattle.aql_print.specs.Joined.{separated}
+use Rattle.aql_print.specs.ValueText.{texts, dims_text}
 use Rattle.aql_print.proofs.Chains.{then}
-use Rattle.aql_texts.specs.PrefixLaws.{prefix_first, prefix_second, prefix_whole}
+use Rattle.aql_print.specs.Laws.Prefix.{prefix_first, prefix_second, prefix_whole}
 use Rattle.aql_print.proofs.held.put_array.Goals as goal
 
 -- the cells, and what stands behind them

@@ -2,9 +2,9 @@ use Rattle.std.proofs.Common.{◌++◌, ◌∷◌, [], get_or, ap, ◌∙◌, re
 use Rattle.std.proofs.lemmas.List.{take_all}
 use Rattle.aql_value.specs.Datum.{data_of}
 use Rattle.aql_value.specs.Meaning.{datum}
-use Rattle.aql_texts.specs.Joined.{separated}
-use Rattle.aql_texts.specs.ValueText.{text, texts}
-use Rattle.aql_texts.specs.PrefixLaws.{prefix_whole, prefix_before, prefix_text, both_whole, length-texts, text_in}
+use Rattle.aql_print.specs.Joined.{separated}
+use Rattle.aql_print.specs.ValueText.{text, texts}
+use Rattle.aql_print.specs.Laws.Prefix.{prefix_whole, prefix_before, prefix_text, both_whole, length-texts, text_in}
 use Rattle.aql_print.proofs.held.put_cells.Goals as goal
 
 pub returns-in_err-put_before-clause-prefix : goal.returns-in_err-put_before-clause-prefix

@@ -1,7 +1,7 @@
 use Rattle.std.proofs.Common.{◌≡◌, ◌++◌, take, codes}
 use Rattle.aql_value.specs.Datum.{data_of}
-use Rattle.aql_texts.specs.Joined.{separated}
-use Rattle.aql_texts.specs.ValueText.{texts}
+use Rattle.aql_print.specs.Joined.{separated}
+use Rattle.aql_print.specs.ValueText.{texts}
 use Rattle.aql_print.proofs.held.put_cells.Given as goal
 
 -- the cells so far are written

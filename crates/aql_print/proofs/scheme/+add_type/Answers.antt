@@ -1,9 +1,9 @@
 use Rattle.std.proofs.Common.{[], ◌∷◌, ◌++◌, ap, ◌∙◌, sym, arith}
 use Rattle.std.proofs.lemmas.List.{take_all}
 use Rattle.aql_types.specs.View.{type_of, types_of}
-use Rattle.aql_texts.specs.Joined.{separated}
+use Rattle.aql_print.specs.Joined.{separated}
 use Rattle.aql_print.specs.TypeText.{part_text, part_texts, type_text}
-use Rattle.aql_texts.specs.PrefixLaws.{both_whole}
+use Rattle.aql_print.specs.Laws.Prefix.{both_whole}
 use Rattle.aql_print.proofs.TypeParts.{length-parts, part_at}
 use Rattle.aql_print.proofs.scheme.+add_type.Goals as goal
 

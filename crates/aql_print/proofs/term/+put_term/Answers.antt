@@ -2,13 +2,13 @@ use Rattle.std.proofs.Common.{◌≡◌, ◌+◌, ◌++◌, ◌∷◌, [], lengt
 use Rattle.std.proofs.lemmas.List.{take_all}
 use Rattle.nrca_term.specs.Term.{weight_of}
 use Rattle.nrca_term.specs.View.{term_of, terms_of}
-use Rattle.nrca_term.specs.Equations.{length-terms_of}
+use Rattle.nrca_term.specs.Laws.Equations.{length-terms_of}
 use Rattle.aql_print.specs.CoreText.{bounds_text, core_text}
-use Rattle.aql_texts.specs.Names.{bound_text}
-use Rattle.aql_texts.specs.Joined.{separated}
+use Rattle.aql_print.specs.Names.{bound_text}
+use Rattle.aql_print.specs.Joined.{separated}
 use Rattle.aql_print.proofs.Chains.{then, core_at, core_count, length-bounds_text, bound_at, regroup}
 use Rattle.aql_print.proofs.CoreEquations.{text-let, text-if, text-sub, text-literal, text-tab}
-use Rattle.aql_texts.specs.PrefixLaws.{both_whole}
+use Rattle.aql_print.specs.Laws.Prefix.{both_whole}
 use Rattle.aql_print.proofs.Weights.{weight_at, weight-tuple, weight-sub, weight-literal, weight-tab}
 use Rattle.aql_print.proofs.term.+put_term.Goals as goal
 

@@ -2,7 +2,7 @@ use Rattle.std.proofs.Common.{◌≡◌, ◌+◌, ◌*◌, ◌++◌, take, map, 
 use Rattle.nrca_term.specs.Term.{weight_of, list_weight}
 use Rattle.nrca_term.specs.View.{term_of, terms_of}
 use Rattle.aql_print.specs.CoreText.{bounds_text, core_text}
-use Rattle.aql_texts.specs.Joined.{separated}
+use Rattle.aql_print.specs.Joined.{separated}
 use Rattle.aql_print.proofs.term.+put_term.Given as goal
 
 abbrev pub decreases-put_term : goal.decreases-put_term

@@ -2,10 +2,10 @@ use Rattle.std.proofs.Common.{◌≡◌, ◌<◌, ◌++◌, ◌∷◌, [], List,
 use Rattle.std.proofs.Math.ListN.{get_or-map}
 use Rattle.std.proofs.lemmas.List.{length-map}
 use Rattle.nrca_term.specs.declared.trace.Step.{Step}
-use Rattle.aql_texts.specs.Appends.{AppendsPrefix}
-use Rattle.aql_texts.specs.Joined.{separated}
+use Rattle.aql_print.specs.Appends.{AppendsPrefix}
+use Rattle.aql_print.specs.Joined.{separated}
 use Rattle.aql_print.specs.TraceText.{rule_text, rule_texts, trace_text}
-use Rattle.aql_texts.specs.PrefixLaws.{prefix_before, prefix_text, both_whole}
+use Rattle.aql_print.specs.Laws.Prefix.{prefix_before, prefix_text, both_whole}
 use Rattle.aql_print.proofs.trace.print_trace.Goals as goal
 
 some_rule : (steps : List Step) (i : ℕ) → i < length steps → separated (32 ∷ []) (rule_texts steps) ≡ trace_text steps

@@ -1,5 +1,5 @@
 use Rattle.std.proofs.Common.{◌≡◌, ◌++◌, take, codes}
-use Rattle.aql_texts.specs.Joined.{separated}
+use Rattle.aql_print.specs.Joined.{separated}
 use Rattle.aql_print.specs.TraceText.{rule_texts}
 use Rattle.aql_print.proofs.trace.print_trace.Given as goal
 

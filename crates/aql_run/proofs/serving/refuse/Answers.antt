@@ -1,7 +1,7 @@
 use Rattle.std.proofs.KnownBytes.{Appends-nil}
 use Rattle.std.specs.Prelude.{codes}
 use Rattle.aql_session.specs.Device.{sink_of}
-use Rattle.aql_lines.specs.Lines.{at_byte, in_declaration}
+use Rattle.aql_run.specs.Lines.{at_byte, in_declaration}
 use Rattle.aql_run.proofs.Endings.{refused_text, refused_deep, refused_syntax, refused_type, refused_large, refused_unbuilt, refused_memory}
 use Rattle.aql_run.proofs.serving.refuse.Goals as goal
 

@@ -2,12 +2,12 @@ use Rattle.std.proofs.Common.{◌∙◌, refl, sym, ap, subst}
 use Rattle.std.proofs.KnownBytes.{Appends-nil}
 use Rattle.std.specs.Prelude.{codes}
 use Rattle.aql_session.specs.Device.{sink_of}
-use Rattle.aql_lines.specs.Lines.{in_declaration, of_file}
+use Rattle.aql_run.specs.Lines.{in_declaration, of_file}
 use Rattle.aql_session.specs.declared.answer.StepFault.{StepFault}
 use Rattle.aql_run.specs.Outcome.{stop_of}
 use Rattle.aql_run.specs.Ending.{Stopped, stop_status, stop_line}
 use Rattle.aql_run.specs.declared.report.Stop.TheVariants as stops
-use Rattle.aql_status.specs.declared.status.Status.TheVariants as status
+use Rattle.aql_run.specs.declared.status.Status.TheVariants as status
 use Rattle.aql_run.proofs.Endings.{stopped_as, stopped_memory}
 use Rattle.aql_run.proofs.serving.stop_at.Goals as goal
 

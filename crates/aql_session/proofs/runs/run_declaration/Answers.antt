@@ -1,5 +1,5 @@
 use Rattle.std.proofs.Common.{Some, refl, ap, ◌∙◌}
-use Rattle.aql_outside.specs.CausesLaws.{none_blamed}
+use Rattle.aql_outside.specs.Laws.Causes.{none_blamed}
 use Rattle.aql_syntax.specs.Tree.{val, bare}
 use Rattle.aql_syntax.specs.View.{decl_of, tree_of}
 use Rattle.aql_session.specs.Numbered.{so_far}

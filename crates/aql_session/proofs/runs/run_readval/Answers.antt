@@ -1,7 +1,7 @@
 use Rattle.std.proofs.Common.{◌+◌, ◌<◌, ◌^◌, subst, arith}
 use Rattle.aql_syntax.specs.Tree.{read}
 use Rattle.aql_syntax.specs.View.{reader_of}
-use Rattle.nrca_runs.specs.Scope.{held_value}
+use Rattle.nrca_loops.specs.Scope.{held_value}
 use Rattle.aql_session.specs.Numbered.{so_far}
 use Rattle.aql_session.specs.Runs.{IsRun, budget_of, declaration_of, declarations_of, sorts_at}
 use Rattle.aql_session.specs.Step.{IsCause, ReadsNoFile}

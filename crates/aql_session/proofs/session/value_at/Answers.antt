@@ -1,5 +1,5 @@
 use Rattle.std.proofs.Common.{◌∙◌, ap}
-use Rattle.nrca_runs.specs.Scope.{held_value}
+use Rattle.nrca_loops.specs.Scope.{held_value}
 use Rattle.aql_session.proofs.Binding.{held-copied, value-there, value-past}
 use Rattle.aql_session.proofs.session.value_at.Goals as goal
 

@@ -1,7 +1,7 @@
 use Rattle.std.proofs.Common.{ap}
 use Rattle.aql_syntax.specs.Tree as tree
 use Rattle.aql_syntax.specs.View.{tree_of}
-use Rattle.aql_syntax.specs.ViewLaws.{defs_of-made}
+use Rattle.aql_syntax.specs.Laws.View.{defs_of-made}
 use Rattle.aql_syntax.proofs.build.let_in.Goals as goal
 
 pub returns : goal.returns

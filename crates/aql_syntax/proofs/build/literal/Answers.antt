@@ -4,7 +4,7 @@ use Rattle.aql_syntax.specs.Tree as tree
 use Rattle.aql_syntax.specs.Tree.{Trees, count_trees, append}
 use Rattle.aql_syntax.specs.View.{tree_row, trees_of}
 use Rattle.aql_syntax.specs.declared.ast.Expr.TheBlock.{hidden-the_row-Expr-0}
-use Rattle.aql_syntax.specs.ViewLaws.{tree_row-vec}
+use Rattle.aql_syntax.specs.Laws.View.{tree_row-vec}
 use Rattle.aql_syntax.proofs.build.literal.Goals as goal
 
 pub returns : goal.returns

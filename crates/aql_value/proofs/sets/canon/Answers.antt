@@ -1,5 +1,5 @@
 use Rattle.std.proofs.Common.{rules}
-use Rattle.aql_value.specs.SortedLaws.{sorted_meaning}
+use Rattle.aql_value.specs.Laws.Sorted.{sorted_meaning}
 use Rattle.aql_value.proofs.sets.canon.Goals as goal
 
 pub from_sorted-requires : goal.from_sorted-requires

@@ -1,11 +1,13 @@
 use Rattle.std.proofs.Common.{◌^◌, ◌<◌, ◌≤◌, length, map, sym, ap, ◌∙◌, subst, arith}
 use Rattle.std.specs.List.{All}
-use Rattle.aql_value.specs.Datum.{data_of, list_of-data_of}
+use Rattle.aql_value.specs.Datum.{data_of}
+use Rattle.aql_value.specs.Laws.Datum.{list_of-data_of}
 use Rattle.aql_value.specs.Meaning.{datum}
 use Rattle.aql_value.specs.Canon.{IsAscending}
 use Rattle.aql_value.specs.Indices.{IsTable}
-use Rattle.aql_value.specs.Valid.{IsValue, AreValues, AreValues-take}
-use Rattle.aql_value.specs.MeaningLaws.{length_meaning, get_or_meaning}
+use Rattle.aql_value.specs.Valid.{IsValue, AreValues}
+use Rattle.aql_value.specs.Laws.Valid.{AreValues-take}
+use Rattle.aql_value.specs.Laws.Meaning.{length_meaning, get_or_meaning}
 use Rattle.aql_value.proofs.validity.+valid.Goals as goal
 
 pub all_valid-loop-x-preserved : goal.all_valid-loop-x-preserved

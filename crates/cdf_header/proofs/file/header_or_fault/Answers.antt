@@ -2,9 +2,9 @@ use Rattle.std.proofs.Common.{rules, arith, ◌≡◌, Err, length, ap, subst, s
 use Rattle.std.proofs.lemmas.Grind.{common_steps}
 use Rattle.std.proofs.lemmas.Result.{err_from_is_err_and}
 use Rattle.aql_outside.specs.Contents.{bytes_in}
-use Rattle.cdf_header.specs.File.{IsClassic, IsKnown, IsAnswered, fields_of, version}
+use Rattle.cdf_header.specs.File.{IsClassic, IsVersion, IsAnswered, fields_of, version}
 use Rattle.cdf_header.specs.declared.fault.CdfFault.TheVariants as faults
-use Rattle.cdf_header.specs.HeaderLaws.{header_of-fields, header_of-not_classic, header_of-version}
+use Rattle.cdf_header.specs.Laws.Header.{header_of-fields, header_of-not_classic, header_of-version}
 use Rattle.cdf_header.proofs.Readings.{outside_of_header, begun, same_byte, classic_on, classic_back}
 use Rattle.cdf_header.proofs.file.header_or_fault.Goals as goal
 
@@ -22,7 +22,7 @@ returns-then-not-is_known-clause-told g c = λ bytes there.
     there c.in-Ok-Some.field-0-is c.in-Ok-Some.ensures.told c.in-Ok-Some.ensures.kept c.min-most.ensures c.min-target.ensures c.new-front.ensures.items c.in_ok-whole.ensures.told c.in_ok-whole.ensures.whole c.in_ok-whole.ensures.within in
     let here : IsClassic c.grow.new.front.items = rw (← c.deref.ensures.value) (search rules) in
     let v : c.index-v.result.now ≡ version bytes = grind (arith, common_steps, same_byte bytes c.grow.new.front.items 3 b.is_front (omega (arith, here.0))) in
-    let other : IsKnown (version bytes) → ⊥ = λ k. (let h = c.if-not-is_known.ensures.no (rw v k) in search (rules, h)) in
+    let other : IsVersion (version bytes) → ⊥ = λ k. (let h = c.if-not-is_known.ensures.no (rw v k) in search (rules, h)) in
     header_of-version bytes (classic_on bytes c.grow.new.front.items b.is_front b.within here) other ∙ ap (λ n. Err (faults.Version n)) (sym v)
 
 pub returns-clause-told : goal.returns-clause-told
@@ -31,7 +31,7 @@ returns-clause-told g c = λ bytes there.
     there c.in-Ok-Some.field-0-is c.in-Ok-Some.ensures.told c.in-Ok-Some.ensures.kept c.min-most.ensures c.min-target.ensures c.new-front.ensures.items c.in_ok-whole.ensures.told c.in_ok-whole.ensures.whole c.in_ok-whole.ensures.within in
     let here : IsClassic c.grow.new.front.items = rw (← c.deref.ensures.value) (search rules) in
     let v : c.index-v.result.now ≡ version bytes = grind (arith, common_steps, same_byte bytes c.grow.new.front.items 3 b.is_front (omega (arith, here.0))) in
-    let known : IsKnown (version bytes) = rw (← v) (search rules) in
+    let known : IsVersion (version bytes) = rw (← v) (search rules) in
     let kept : g.F.Files.holds c.grow.new.files ≡ g.F.Files.holds c.args.files.now = c.in_ok-whole.ensures.frame.kept ∙ c.in-Ok-Some.ensures.kept in
     let told = c.read_fields.ensures.told bytes (ap (λ h. bytes_in h c.args.name.now) kept ∙ there) b.size_is b.full b.is_front in
     subst (λ m. IsAnswered m c.read_fields.result) (sym (header_of-fields bytes (classic_on bytes c.grow.new.front.items b.is_front b.within here) known))

@@ -1,6 +1,6 @@
 use Rattle.std.proofs.Common.{arith, ◌≡◌, ◌++◌, length, take, eq-eqb}
 use Rattle.std.proofs.lemmas.Grind.{common_steps}
-use Rattle.aql_outside.specs.ContentsLaws.{given-from_told}
+use Rattle.aql_outside.specs.Laws.Contents.{given-from_told}
 use Rattle.cdf_header.proofs.Fronts.{front_grows}
 use Rattle.cdf_header.proofs.file.read_piece.Goals as goal
 

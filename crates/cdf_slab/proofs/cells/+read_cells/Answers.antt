@@ -3,7 +3,7 @@ use Rattle.std.specs.Prelude.{IfOk, IfErr}
 use Rattle.aql_outside.specs.Contents.{bytes_in}
 use Rattle.cdf_slab.specs.Walk.{steps_of, walk}
 use Rattle.cdf_slab.specs.Slab.{IsLate}
-use Rattle.aql_outside.specs.CausesLaws.{blamed_as, blamed_then}
+use Rattle.aql_outside.specs.Laws.Causes.{blamed_as, blamed_then}
 use Rattle.cdf_slab.proofs.Blocks.{read_next, read_fails, read_done, count_next, count_late, count_done, one_is}
 use Rattle.cdf_slab.proofs.cells.+read_cells.Goals as goal
 

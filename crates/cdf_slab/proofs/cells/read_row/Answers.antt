@@ -1,9 +1,9 @@
 use Rattle.std.proofs.Common.{◌+◌, ◌^◌, ◌-◌, ◌≤◌, map, Ok, Err, ap, sym, subst, ◌∙◌, arith}
 use Rattle.aql_outside.specs.Contents.{bytes_in}
 use Rattle.cdf_slab.specs.Numbers.{number_of}
-use Rattle.cdf_slab.specs.Run.{run, HasRun}
+use Rattle.cdf_slab.specs.Run.{run, HasAllBytes}
 use Rattle.cdf_slab.specs.Walk.{step_of}
-use Rattle.aql_outside.specs.CausesLaws.{blamed_as, blamed_then}
+use Rattle.aql_outside.specs.Laws.Causes.{blamed_as, blamed_then}
 use Rattle.cdf_slab.proofs.Blocks.{read_done}
 use Rattle.cdf_slab.proofs.Goings.{goes-kinds, piece_late}
 use Rattle.cdf_slab.proofs.Rows.{row_turn, row_next, row_fails, row_counts, row_late, run_told, has_run}
@@ -14,7 +14,7 @@ from-bytes-requires-clause-within g c = omega (arith, c.in-Ok.ensures.some, c.in
 
 pub push_run-requires-clause-room : goal.push_run-requires-clause-room
 push_run-requires-clause-room g c =
-    subst (λ l. HasRun l c.args.reading.size c.step_along-step.result c.in-Ok.count) (sym c.from-bytes.ensures) (has_run c.run_in.new.window _ _ _ _ c.in-Ok.ensures.run)
+    subst (λ l. HasAllBytes l c.args.reading.size c.step_along-step.result c.in-Ok.count) (sym c.from-bytes.ensures) (has_run c.run_in.new.window _ _ _ _ c.in-Ok.ensures.run)
 
 pub row-preserved : goal.row-preserved
 row-preserved g c =

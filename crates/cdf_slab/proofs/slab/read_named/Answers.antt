@@ -1,7 +1,7 @@
 use Rattle.std.proofs.Common.{◌≡◌, Some, sym, ap, subst, ◌∙◌, arith}
 use Rattle.cdf_header.specs.Places.{variable_at}
 use Rattle.aql_value.specs.Indices.{product}
-use Rattle.cdf_slab.specs.Slab.{slab_numbers, slab, cut_fault, negative_fault, Answers, AnswersEarly}
+use Rattle.cdf_slab.specs.Slab.{slab_numbers, slab, cut_fault, negative_fault, IsSlabAnswer, AnswersEarly}
 use Rattle.aql_value.specs.Partial.{or_else}
 use Rattle.cdf_slab.proofs.Answering.{early-none, empty_early, empty_told}
 use Rattle.cdf_slab.proofs.Requests.{index_request}
@@ -20,7 +20,7 @@ pub returns-then-saturating_product-eq0-clause-told : goal.returns-then-saturati
 returns-then-saturating_product-eq0-clause-told g c = λ bytes there is.
     let zero : product c.args.asked.now.count.now ≡ 0 = omega (arith, c.saturating_product.ensures, c.if-saturating_product-eq0.true) in
     let r = empty_told bytes c.args.header.now (variable_at c.args.header.now c.args.v) c.args.asked.now.start.now c.args.asked.now.count.now c.args.asked.now.stride.now c.args.asked.now.signed zero (sym c.first_fault.ensures.which ∙ c.in_default.is) in
-    (r.0, r.1 ∙ ap (λ cells. Some (record { dims = c.args.asked.now.count.now; cells = cells })) (sym c.new.ensures) ∙ ap Some (sym c.in_ok-shaped.ensures.made))
+    (r.0, r.1 ∙ ap (λ cells. Some (record { dims = c.args.asked.now.count.now; cells = cells })) (sym c.new.ensures) ∙ ap Some (sym c.in_ok-array_of.ensures.made))
 
 pub returns-clause-early : goal.returns-clause-early
 returns-clause-early g c =
@@ -29,7 +29,7 @@ returns-clause-early g c =
 
 pub returns-clause-told : goal.returns-clause-told
 returns-clause-told g c = λ bytes there is.
-    subst (λ o. Answers (or_else (or_else o (cut_fault c.args.header.now (variable_at c.args.header.now c.args.v) c.args.asked.now.start.now c.args.asked.now.count.now c.args.asked.now.stride.now))
+    subst (λ o. IsSlabAnswer (or_else (or_else o (cut_fault c.args.header.now (variable_at c.args.header.now c.args.v) c.args.asked.now.start.now c.args.asked.now.count.now c.args.asked.now.stride.now))
     (negative_fault c.args.asked.now.signed (slab_numbers bytes c.args.header.now (variable_at c.args.header.now c.args.v) c.args.asked.now.start.now c.args.asked.now.count.now c.args.asked.now.stride.now)))
     (slab bytes c.args.header.now (variable_at c.args.header.now c.args.v) c.args.asked.now.start.now c.args.asked.now.count.now c.args.asked.now.stride.now c.args.asked.now.signed) c.read_some.result)
     (sym (sym c.first_fault.ensures.which ∙ c.in_default.is)) (c.read_some.ensures.told bytes there is)

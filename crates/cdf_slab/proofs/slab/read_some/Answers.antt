@@ -4,9 +4,9 @@ use Rattle.aql_value.specs.Indices.{product}
 use Rattle.cdf_header.specs.declared.fault.CdfFault.TheVariants as faults
 use Rattle.cdf_header.specs.Format.{type_size}
 use Rattle.cdf_header.specs.Places.{variable_at, weights}
-use Rattle.cdf_slab.specs.Slab.{most_cells, cell_places, slab_numbers, slab, first_cut, negative_fault, Answers}
+use Rattle.cdf_slab.specs.Slab.{most_cells, cell_places, slab_numbers, slab, first_cut, negative_fault, IsSlabAnswer}
 use Rattle.aql_value.specs.Partial.{or_else}
-use Rattle.cdf_slab.specs.Walk.{steps_of, walk, AreWithin, capped}
+use Rattle.cdf_slab.specs.Walk.{steps_of, walk, HaveRoom, capped}
 use Rattle.cdf_slab.proofs.Answering.{leads, cut_found, walk_found, room_found, places_many, cut_early, goes_as, read_all, read_some, early-none, counts_small}
 use Rattle.cdf_slab.proofs.Goings.{late_more}
 use Rattle.cdf_slab.proofs.Stepping.{some_axes, length-weights, length-capped}
@@ -61,10 +61,10 @@ read_cells-requires-clause-some g c =
 
 pub read_cells-requires-clause-within : goal.read_cells-requires-clause-within
 read_cells-requires-clause-within g c =
-    subst (λ l. AreWithin c.width-size.result c.last_end.result (walk (steps_of l) c.from-base.result)) (c.deref-2.ensures.value ∙ sym c.deref-3.ensures.value) c.last_end.ensures.within
+    subst (λ l. HaveRoom c.width-size.result c.last_end.result (walk (steps_of l) c.from-base.result)) (c.deref-2.ensures.value ∙ sym c.deref-3.ensures.value) c.last_end.ensures.within
 
-pub shaped-requires-clause-many : goal.shaped-requires-clause-many
-shaped-requires-clause-many g c =
+pub array_of-requires-clause-many : goal.array_of-requires-clause-many
+array_of-requires-clause-many g c =
     let h = c.args.header.now in
     let v = variable_at c.args.header.now c.args.v in
     let small : c.bytes-end.result < 2 ^ 64 = search rules in
@@ -103,7 +103,7 @@ returns-in-Ok-clause-told g c = λ bytes there is.
     c.deref-3.ensures.value c.bytes-end.ensures (c.from-base.ensures ∙ c.begin.ensures) small none in
     let r = c.in-Ok.ensures.told bytes there (omega (arith, is, c.bytes-end.ensures, c.last_end.ensures.is)) (c.new.ensures bytes) in
     let a = read_all c.args.asked.now.signed (slab_numbers bytes h v c.args.asked.now.start.now c.args.asked.now.count.now c.args.asked.now.stride.now) c.args.asked.now.count.now c.in-Ok.cells (goes_as c.args.asked.now.signed bytes c.kind.result v.kind _ (cell_places h v c.args.asked.now.start.now c.args.asked.now.count.now c.args.asked.now.stride.now) c.new-none.result (Ok c.in-Ok.cells) c.kind.ensures visited c.new-none.ensures r.0) in
-    (ap (λ o. or_else (option_map faults.Cut o) (negative_fault c.args.asked.now.signed (slab_numbers bytes h v c.args.asked.now.start.now c.args.asked.now.count.now c.args.asked.now.stride.now))) none ∙ a.0, a.1 ∙ ap Some (sym c.in_ok-shaped-in-Ok.ensures.made))
+    (ap (λ o. or_else (option_map faults.Cut o) (negative_fault c.args.asked.now.signed (slab_numbers bytes h v c.args.asked.now.start.now c.args.asked.now.count.now c.args.asked.now.stride.now))) none ∙ a.0, a.1 ∙ ap Some (sym c.in_ok-array_of-in-Ok.ensures.made))
 
 pub returns-clause-early : goal.returns-clause-early
 returns-clause-early g c =
@@ -130,12 +130,12 @@ returns-clause-told g c = λ bytes there is.
     let visited = walk_found h v c.args.asked.now.start.now c.args.asked.now.count.now c.args.asked.now.stride.now c.in_ok-axes.axes.items c.deref-3.result.now c.bytes-end.result c.from-base.result l
     c.deref-3.ensures.value c.bytes-end.ensures (c.from-base.ensures ∙ c.begin.ensures) small none in
     let r = c.in-Err.ensures.told bytes there (omega (arith, is, c.bytes-end.ensures, c.last_end.ensures.is)) (c.new.ensures bytes) in
-    subst (λ o. Answers (or_else (option_map faults.Cut o) (negative_fault c.args.asked.now.signed (slab_numbers bytes h v c.args.asked.now.start.now c.args.asked.now.count.now c.args.asked.now.stride.now)))
+    subst (λ o. IsSlabAnswer (or_else (option_map faults.Cut o) (negative_fault c.args.asked.now.signed (slab_numbers bytes h v c.args.asked.now.start.now c.args.asked.now.count.now c.args.asked.now.stride.now)))
     (slab bytes h v c.args.asked.now.start.now c.args.asked.now.count.now c.args.asked.now.stride.now c.args.asked.now.signed) (Err c.in-Err.fault)) (sym none)
     (read_some c.args.asked.now.signed (slab_numbers bytes h v c.args.asked.now.start.now c.args.asked.now.count.now c.args.asked.now.stride.now) (slab bytes h v c.args.asked.now.start.now c.args.asked.now.count.now c.args.asked.now.stride.now c.args.asked.now.signed) c.in-Err.fault (goes_as c.args.asked.now.signed bytes c.kind.result v.kind _ (cell_places h v c.args.asked.now.start.now c.args.asked.now.count.now c.args.asked.now.stride.now) c.new-none.result (Err c.in-Err.fault) c.kind.ensures visited c.new-none.ensures r.0))
 
-pub returns-in_err-shaped-in-Ok-clause-untouched : goal.returns-in_err-shaped-in-Ok-clause-untouched
-returns-in_err-shaped-in-Ok-clause-untouched g c = λ f e.
+pub returns-in_err-array_of-in-Ok-clause-untouched : goal.returns-in_err-array_of-in-Ok-clause-untouched
+returns-in_err-array_of-in-Ok-clause-untouched g c = λ f e.
     let h = c.args.header.now in
     let v = variable_at c.args.header.now c.args.v in
     let small : c.bytes-end.result < 2 ^ 64 = search rules in

@@ -1,6 +1,6 @@
 use Rattle.std.proofs.Common.{rules}
 use Rattle.nrca_term.specs.View.{term_of, terms_of}
-use Rattle.nrca_term.specs.AsVariant.{as-Dim, as-Literal}
+use Rattle.nrca_term.specs.Laws.AsVariant.{as-Dim, as-Literal}
 use Rattle.nrca_arrayrules.proofs.Counts.{a6_right}
 use Rattle.nrca_arrayrules.proofs.dimensions.a6.Goals as goal
 

@@ -2,7 +2,7 @@ use Rattle.std.proofs.Common.{◌≡◌, arith, take, Some, ◌+◌, sym, subst,
 use Rattle.std.specs.Prelude.{IfSome}
 use Rattle.nrca_term.specs.Nodes.{number}
 use Rattle.nrca_term.specs.View.{term_of, terms_of}
-use Rattle.nrca_term.specs.Equations.{length-terms_of}
+use Rattle.nrca_term.specs.Laws.Equations.{length-terms_of}
 use Rattle.nrca_arrayrules.proofs.Counts.{item-is, no-number, count-none, count-step, count-whole}
 use Rattle.nrca_arrayrules.specs.Constants.{CountsCells}
 use Rattle.nrca_arrayrules.proofs.dimensions.cell_count.Goals as goal

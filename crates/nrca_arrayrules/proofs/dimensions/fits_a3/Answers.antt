@@ -1,7 +1,7 @@
 use Rattle.std.proofs.Common.{rules, sym, ◌∙◌}
 use Rattle.nrca_term.specs.View.{term_of, terms_of}
-use Rattle.nrca_term.specs.Equations.{length-terms_of}
-use Rattle.nrca_term.specs.AsVariant.{as-Dim, as-Tab}
+use Rattle.nrca_term.specs.Laws.Equations.{length-terms_of}
+use Rattle.nrca_term.specs.Laws.AsVariant.{as-Dim, as-Tab}
 use Rattle.nrca_arrayrules.proofs.Sides.{a3_tells}
 use Rattle.nrca_arrayrules.proofs.dimensions.fits_a3.Goals as goal
 

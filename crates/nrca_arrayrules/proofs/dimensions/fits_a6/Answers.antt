@@ -1,6 +1,6 @@
 use Rattle.std.proofs.Common.{rules}
 use Rattle.nrca_term.specs.View.{term_of, terms_of}
-use Rattle.nrca_term.specs.AsVariant.{as-Dim, as-Literal}
+use Rattle.nrca_term.specs.Laws.AsVariant.{as-Dim, as-Literal}
 use Rattle.nrca_arrayrules.proofs.Counts.{a6_tells}
 use Rattle.nrca_arrayrules.proofs.dimensions.fits_a6.Goals as goal
 

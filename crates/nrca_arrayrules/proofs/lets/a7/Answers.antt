@@ -2,9 +2,9 @@ use Rattle.std.proofs.Common.{rules, subst}
 use Rattle.nrca_term.specs.View.{term_of, terms_of}
 use Rattle.nrca_term.specs.declared.term.Core.TheVariants as core
 use Rattle.nrca_term.specs.Term.{WellFormed}
-use Rattle.nrca_term.specs.WellFormed.{well_formed-Core}
-use Rattle.nrca_term.specs.Equations.{term_of-Tuple, term_of-Let}
-use Rattle.nrca_term.specs.AsVariant.{as-Dim, as-Let, as-Sub}
+use Rattle.nrca_term.specs.Laws.WellFormed.{well_formed-Core}
+use Rattle.nrca_term.specs.Laws.Equations.{term_of-Tuple, term_of-Let}
+use Rattle.nrca_term.specs.Laws.AsVariant.{as-Dim, as-Let, as-Sub}
 use Rattle.nrca_arrayrules.proofs.Sides.{a7_dim, a7_sub, indices_room}
 use Rattle.nrca_arrayrules.proofs.lets.a7.Goals as goal
 

@@ -1,6 +1,6 @@
 use Rattle.std.proofs.Common.{rules}
 use Rattle.nrca_term.specs.View.{term_of, terms_of}
-use Rattle.nrca_term.specs.AsVariant.{as-Dim, as-Let, as-Sub}
+use Rattle.nrca_term.specs.Laws.AsVariant.{as-Dim, as-Let, as-Sub}
 use Rattle.nrca_arrayrules.proofs.Sides.{a7_fits_dim, a7_fits_sub}
 use Rattle.nrca_arrayrules.proofs.lets.fits_a7.Goals as goal
 

@@ -1,8 +1,8 @@
 use Rattle.std.proofs.Common.{ap, ◌∙◌}
 use Rattle.nrca_term.specs.View.{term_of, terms_of}
 use Rattle.nrca_term.specs.Subst.{shift_term}
-use Rattle.nrca_term.specs.Equations.{term_of-Tuple}
-use Rattle.nrca_term.specs.AsVariant.{as-Tuple}
+use Rattle.nrca_term.specs.Laws.Equations.{term_of-Tuple}
+use Rattle.nrca_term.specs.Laws.AsVariant.{as-Tuple}
 use Rattle.nrca_arrayrules.proofs.Sides.{tuple-shifted}
 use Rattle.nrca_arrayrules.proofs.lets.shift_all.Goals as goal
 

@@ -1,6 +1,6 @@
 use Rattle.nrca_term.specs.View.{term_of}
 use Rattle.nrca_ranges.specs.Context.{context_of}
-use Rattle.nrca_checks.specs.Decided.{decides, decides-apart}
+use Rattle.nrca_checks.specs.Laws.Decided.{decides, decides-apart}
 use Rattle.nrca_checks.proofs.deciding.decided.Goals as goal
 
 pub returns-clause-value : goal.returns-clause-value

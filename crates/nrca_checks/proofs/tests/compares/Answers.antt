@@ -1,6 +1,6 @@
 use Rattle.std.proofs.Common.{ap, ◌∙◌}
 use Rattle.nrca_term.specs.View.{term_of}
-use Rattle.nrca_term.specs.Equations.{term_of-Compare}
+use Rattle.nrca_term.specs.Laws.Equations.{term_of-Compare}
 use Rattle.nrca_checks.proofs.tests.compares.Goals as goal
 
 pub returns-in-Compare : goal.returns-in-Compare

@@ -1,6 +1,6 @@
 use Rattle.std.proofs.Common.{sym}
 use Rattle.nrca_forms.specs.Indexing.{pairs_of}
-use Rattle.nrca_forms.specs.IndexLaws.{run_ranked}
+use Rattle.nrca_forms.specs.Laws.Index.{run_ranked}
 use Rattle.nrca_eval.proofs.index.index_value.Goals as goal
 
 pub index_pairs-requires : goal.index_pairs-requires

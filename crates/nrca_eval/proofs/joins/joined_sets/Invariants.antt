@@ -1,6 +1,6 @@
 use Rattle.std.proofs.Common.{◌≡◌, ◌+◌, ◌≤◌, []}
 use Rattle.std.specs.Prelude.{Some, fold, sum_by}
-use Rattle.nrca_runs.specs.Runs.{sets_join}
+use Rattle.nrca_loops.specs.Runs.{sets_join}
 use Rattle.nrca_eval.proofs.joins.joined_sets.Given as goal
 
 abbrev pub invariant-loop-set : goal.invariant-loop-set

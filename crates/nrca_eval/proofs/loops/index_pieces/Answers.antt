@@ -1,7 +1,7 @@
 use Rattle.std.proofs.Common.{◌≡◌, ◌∙◌}
-use Rattle.nrca_forms.specs.IndexLaws.{pairs_split}
+use Rattle.nrca_forms.specs.Laws.Index.{pairs_split}
 use Rattle.nrca_forms.specs.Indexing.{pairs_of, pairs_run}
-use Rattle.nrca_runs.specs.Runs.{lists_join}
+use Rattle.nrca_loops.specs.Runs.{lists_join}
 use Rattle.nrca_eval.proofs.Pieces.{joined_pieces}
 use Rattle.nrca_eval.proofs.loops.index_pieces.Goals as goal
 

@@ -3,12 +3,12 @@ use Rattle.aql_value.specs.Datum.{Datum}
 use Rattle.nrca_term.specs.Meaning.{cden}
 use Rattle.nrca_term.specs.Turns.{settle}
 use Rattle.nrca_term.specs.View.{term_of}
-use Rattle.nrca_runs.specs.RunLaws.{each-range_split, sum_value-join}
-use Rattle.nrca_runs.specs.Runs.{member_list, sum_value, sums_join}
-use Rattle.nrca_runs.specs.Scope.{values}
-use Rattle.nrca_runs.specs.Within.{itself}
-use Rattle.nrca_runs.specs.WithinLaws.{err_within}
-use Rattle.nrca_serial.specs.Runs.{run_values}
+use Rattle.nrca_loops.specs.Laws.Run.{each-range_split, sum_value-join}
+use Rattle.nrca_loops.specs.Runs.{member_list, sum_value, sums_join}
+use Rattle.nrca_loops.specs.Scope.{values}
+use Rattle.nrca_loops.specs.Within.{itself}
+use Rattle.nrca_loops.specs.Laws.Within.{err_within}
+use Rattle.nrca_eval.specs.Runs.{run_values}
 use Rattle.nrca_eval.proofs.Pieces.{total_wider, whole_within}
 use Rattle.nrca_eval.proofs.loops.sum_pieces.Goals as goal
 

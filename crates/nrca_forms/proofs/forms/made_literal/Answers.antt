@@ -1,7 +1,7 @@
 use Rattle.std.proofs.Common.{sym, arith}
 use Rattle.std.proofs.lemmas.List.{length-map}
 use Rattle.nrca_array.specs.Held.{held_datum}
-use Rattle.nrca_runs.specs.Parts.{held_values}
+use Rattle.nrca_loops.specs.Parts.{held_values}
 use Rattle.nrca_forms.proofs.Arities.{literal_short}
 use Rattle.nrca_forms.proofs.forms.made_literal.Goals as goal
 

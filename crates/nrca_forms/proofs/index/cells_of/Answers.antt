@@ -3,7 +3,7 @@ use Rattle.aql_value.specs.Indices.{indices}
 use Rattle.aql_value.specs.Operations.{set_of, values_at}
 use Rattle.nrca_forms.specs.Indexing.{pair_of, values_of}
 use Rattle.std.proofs.lemmas.Simd.{map-map}
-use Rattle.nrca_runs.specs.WithinLaws.{IfOk_then}
+use Rattle.nrca_loops.specs.Laws.Within.{IfOk_then}
 use Rattle.nrca_forms.proofs.index.cells_of.Goals as goal
 
 pub returns : goal.returns

@@ -2,7 +2,7 @@ use Rattle.std.proofs.Common.{sym, ap, ◌∙◌, arith}
 use Rattle.std.specs.Prelude.{slice_get}
 use Rattle.aql_value.specs.Meaning.{datum}
 use Rattle.nrca_forms.specs.Indexing.{pairs_with}
-use Rattle.nrca_forms.specs.IndexLaws.{pairs_more}
+use Rattle.nrca_forms.specs.Laws.Index.{pairs_more}
 use Rattle.nrca_forms.proofs.index.index_run.Goals as goal
 
 pub loop-i-preserved : goal.loop-i-preserved

@@ -8,7 +8,7 @@ use Rattle.nrca_forms.proofs.index.numbers_of.Goals as goal
 
 pub returns-in_ok-numbers-in-Some : goal.returns-in_ok-numbers-in-Some
 returns-in_ok-numbers-in-Some c =
-    c.ranked.ensures ∙ ap (ranked_numbers c.args.rank) c.in_ok-numbers-in-Some.ensures
+    c.with_rank.ensures ∙ ap (ranked_numbers c.args.rank) c.in_ok-numbers-in-Some.ensures
     ∙ sym (index_numbers_tuple c.args.rank (datum c.args.index.now) c.if-rank-eq1.false ∙ ap (λ o. ranked_numbers c.args.rank (o >>= each as_natural)) (sym c.in-Some.ensures))
 
 pub returns-in-None : goal.returns-in-None

@@ -1,5 +1,5 @@
 use Rattle.std.proofs.Common.{◌≤◌, length, Some, sym, ◌∙◌, ap, arith}
-use Rattle.nrca_runs.specs.Parts.{table_in}
+use Rattle.nrca_loops.specs.Parts.{table_in}
 use Rattle.nrca_forms.proofs.Strictly.{literal_none, literal_made}
 use Rattle.nrca_forms.proofs.operations.literal.Goals as goal
 

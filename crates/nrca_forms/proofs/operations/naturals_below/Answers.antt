@@ -3,9 +3,9 @@ use Rattle.aql_value.specs.Datum.{natural}
 use Rattle.aql_value.specs.Lists.{below}
 use Rattle.aql_value.specs.Meaning.{datum}
 use Rattle.aql_value.specs.Canon.{canon}
-use Rattle.aql_value.specs.CanonLaws.{canon_ascending}
-use Rattle.aql_value.specs.SetLaws.{ascending_below}
-use Rattle.nrca_runs.specs.RunLaws.{map_pushed}
+use Rattle.aql_value.specs.Laws.Canon.{canon_ascending}
+use Rattle.aql_value.specs.Laws.Set.{ascending_below}
+use Rattle.nrca_loops.specs.Laws.Run.{map_pushed}
 use Rattle.nrca_forms.proofs.Strictly.{below_more}
 use Rattle.nrca_forms.proofs.operations.naturals_below.Goals as goal
 

@@ -1,4 +1,4 @@
-use Rattle.nrca_graph.specs.NoArrays.{array_free-has_none}
+use Rattle.nrca_graph.specs.Laws.NoArrays.{array_free-has_none}
 use Rattle.nrca_graph.proofs.laws.forms.Goals as goal
 
 pub returns : goal.returns

@@ -1,5 +1,5 @@
 use Rattle.nrca_term.specs.Typing.{instances}
-use Rattle.nrca_graph.specs.Means.{array_free-means}
+use Rattle.nrca_graph.specs.Laws.Means.{array_free-means}
 use Rattle.nrca_graph.proofs.laws.meaning.Goals as goal
 
 pub returns : goal.returns

@@ -1,4 +1,4 @@
-use Rattle.nrca_graph.specs.EncodingOrder.{encoding-order}
+use Rattle.nrca_graph.specs.Laws.EncodingOrder.{encoding-order}
 use Rattle.nrca_graph.proofs.laws.order.Goals as goal
 
 pub returns : goal.returns

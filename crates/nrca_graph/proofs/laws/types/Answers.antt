@@ -1,4 +1,4 @@
-use Rattle.nrca_graph.specs.EncodedTypes.{encoding-typed, encoding-is_type, encoding-apply}
+use Rattle.nrca_graph.specs.Laws.EncodedTypes.{encoding-typed, encoding-is_type, encoding-apply}
 use Rattle.nrca_graph.proofs.laws.types.Goals as goal
 
 pub returns-clause-values : goal.returns-clause-values

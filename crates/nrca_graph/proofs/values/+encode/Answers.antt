@@ -3,15 +3,15 @@ use Rattle.std.proofs.lemmas.List.{map-append}
 use Rattle.aql_value.specs.Datum.{data_of, tuple, set}
 use Rattle.aql_value.specs.Indices.{indices}
 use Rattle.aql_value.specs.Meaning.{datum}
-use Rattle.aql_value.specs.MeaningLaws.{length_meaning, get_or_meaning}
+use Rattle.aql_value.specs.Laws.Meaning.{length_meaning, get_or_meaning}
 use Rattle.aql_value.specs.Canon.{canon}
 use Rattle.aql_value.specs.Order.{datum_cmp}
 use Rattle.std.specs.List.Sorted.{IsSorted}
-use Rattle.aql_value.specs.SetLaws.{ascending_sorted}
-use Rattle.aql_value.specs.RowMajorLaws.{indices_lengths}
+use Rattle.aql_value.specs.Laws.Set.{ascending_sorted}
+use Rattle.aql_value.specs.Laws.RowMajor.{indices_lengths}
 use Rattle.nrca_graph.specs.Encoding.{encoding, IsPairAt}
-use Rattle.nrca_graph.specs.EncodingOrder.{encodings-list, graph-ascends}
-use Rattle.nrca_graph.specs.IndexOrder.{indices-ascend}
+use Rattle.nrca_graph.specs.Laws.EncodingOrder.{encodings-list, graph-ascends}
+use Rattle.nrca_graph.specs.Laws.IndexOrder.{indices-ascend}
 use Rattle.nrca_graph.proofs.ValueSteps.{graph-empty, encoded_next, array_made, pair_encoded, pairs_next, parts_made}
 use Rattle.nrca_graph.proofs.values.+encode.Goals as goal
 

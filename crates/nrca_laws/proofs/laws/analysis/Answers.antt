@@ -1,8 +1,8 @@
 use Rattle.nrca_term.specs.Typing.{instances}
 use Rattle.nrca_term.specs.Firm.{is_defined}
-use Rattle.nrca_laws.specs.Spans.{span-sound}
-use Rattle.nrca_laws.specs.Firms.{firm-defined}
-use Rattle.nrca_laws.specs.Ways.{outcomes-are, firm-side}
+use Rattle.nrca_laws.specs.Laws.Spans.{span-sound}
+use Rattle.nrca_laws.specs.Laws.Firms.{firm-defined}
+use Rattle.nrca_laws.specs.Laws.Ways.{outcomes-are, firm-side}
 use Rattle.nrca_laws.proofs.laws.analysis.Goals as goal
 
 pub returns-clause-spans : goal.returns-clause-spans

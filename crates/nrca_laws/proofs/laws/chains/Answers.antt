@@ -1,5 +1,5 @@
 use Rattle.nrca_term.specs.Typing.{instances}
-use Rattle.nrca_laws.specs.Steps.{replay-types, replay-keeps, replay-few}
+use Rattle.nrca_laws.specs.Laws.Steps.{replay-types, replay-keeps, replay-few}
 use Rattle.nrca_laws.proofs.laws.chains.Goals as goal
 
 pub returns-clause-meaning : goal.returns-clause-meaning

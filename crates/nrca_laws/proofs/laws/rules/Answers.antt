@@ -1,8 +1,8 @@
 use Rattle.nrca_term.specs.Typing.{instances}
-use Rattle.nrca_laws.specs.Fitting.{right-side}
-use Rattle.nrca_laws.specs.Constants.{rule-constants}
-use Rattle.nrca_laws.specs.Lowering.{lowers}
-use Rattle.nrca_laws.specs.Unique.{ways-fixed}
+use Rattle.nrca_laws.specs.Laws.Fitting.{right-side}
+use Rattle.nrca_laws.specs.Laws.Constants.{rule-constants}
+use Rattle.nrca_laws.specs.Laws.Lowering.{lowers}
+use Rattle.nrca_laws.specs.Laws.Unique.{ways-fixed}
 use Rattle.nrca_laws.proofs.laws.rules.Goals as goal
 
 pub returns-clause-meaning : goal.returns-clause-meaning

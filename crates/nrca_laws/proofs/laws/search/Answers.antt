@@ -1,7 +1,7 @@
 use Rattle.nrca_term.specs.Firm.{is_defined}
 use Rattle.nrca_term.specs.Normal.{IsNormalAt}
 use Rattle.nrca_laws.specs.Laws.{SearchKeeps}
-use Rattle.nrca_laws.specs.Search.{before-kept}
+use Rattle.nrca_laws.specs.Laws.Search.{before-kept}
 use Rattle.nrca_laws.proofs.laws.search.Goals as goal
 
 search-keeps : SearchKeeps

@@ -1,5 +1,5 @@
 use Rattle.nrca_term.specs.Typing.{instances}
-use Rattle.nrca_laws.specs.Steps.{step-keeps, step-types, step-constants, step-lowers}
+use Rattle.nrca_laws.specs.Laws.Steps.{step-keeps, step-types, step-constants, step-lowers}
 use Rattle.nrca_laws.proofs.laws.steps.Goals as goal
 
 pub returns-clause-meaning : goal.returns-clause-meaning

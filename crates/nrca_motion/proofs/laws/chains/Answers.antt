@@ -1,7 +1,7 @@
 use Rattle.nrca_term.specs.Typing.{instances}
-use Rattle.nrca_motion.specs.Bounds.{chain-bound}
-use Rattle.nrca_motion.specs.Steps.{chain-keeps, chain-typed}
-use Rattle.nrca_motion.specs.Weights.{chain-weight}
+use Rattle.nrca_motion.specs.Laws.Bounds.{chain-bound}
+use Rattle.nrca_motion.specs.Laws.Steps.{chain-keeps, chain-typed}
+use Rattle.nrca_motion.specs.Laws.Weights.{chain-weight}
 use Rattle.nrca_motion.proofs.laws.chains.Goals as goal
 
 pub returns-clause-meaning : goal.returns-clause-meaning

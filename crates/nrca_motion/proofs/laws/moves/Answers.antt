@@ -1,7 +1,7 @@
 use Rattle.nrca_term.specs.Typing.{instances}
-use Rattle.nrca_motion.specs.Bounds.{step-nodes}
-use Rattle.nrca_motion.specs.Steps.{step-keeps, step-typed}
-use Rattle.nrca_motion.specs.Weights.{step-weight}
+use Rattle.nrca_motion.specs.Laws.Bounds.{step-nodes}
+use Rattle.nrca_motion.specs.Laws.Steps.{step-keeps, step-typed}
+use Rattle.nrca_motion.specs.Laws.Weights.{step-weight}
 use Rattle.nrca_motion.proofs.laws.moves.Goals as goal
 
 pub returns-clause-meaning : goal.returns-clause-meaning

@@ -1,6 +1,6 @@
 use Rattle.nrca_term.specs.Typing.{instances}
-use Rattle.nrca_motion.specs.Steps.{moved-keeps, moved-typed}
-use Rattle.nrca_motion.specs.Weights.{redex-weight}
+use Rattle.nrca_motion.specs.Laws.Steps.{moved-keeps, moved-typed}
+use Rattle.nrca_motion.specs.Laws.Weights.{redex-weight}
 use Rattle.nrca_motion.proofs.laws.redexes.Goals as goal
 
 pub returns-clause-meaning : goal.returns-clause-meaning

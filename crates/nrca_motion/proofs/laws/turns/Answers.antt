@@ -1,5 +1,5 @@
-use Rattle.nrca_motion.specs.LetTurns.{let_below-turns, strict_let-turns}
-use Rattle.nrca_motion.specs.TestMoves.{test-turns}
+use Rattle.nrca_motion.specs.Laws.LetTurns.{let_below-turns, strict_let-turns}
+use Rattle.nrca_motion.specs.Laws.TestMoves.{test-turns}
 use Rattle.nrca_motion.proofs.laws.turns.Goals as goal
 
 pub returns-clause-tests : goal.returns-clause-tests

@@ -4,29 +4,29 @@ use Rattle.std.specs.Prelude.{Ok, Err, IfErr}
 use Rattle.std.specs.List.{Contains}
 use Rattle.std.proofs.Math.ListN.{get_or-map}
 use Rattle.std.proofs.lemmas.List.{length-map}
-use Rattle.nrca_par.specs.PiecesLaws.{joins_all, spent_on_run}
-use Rattle.nrca_par.specs.Pieces.{Answers, SpentSomewhere}
+use Rattle.nrca_par.specs.Laws.Pieces.{joins_all, spent_on_run}
+use Rattle.nrca_par.specs.Pieces.{IsPieceAnswer, SpentSomewhere}
 use Rattle.nrca_par.specs.declared.fault.EvalFault.TheVariants.{Spent}
 use Rattle.nrca_par.proofs.Answered.{IfOk_then, IfErr_then}
 use Rattle.nrca_par.proofs.pieces.map_pieces.Goals as goal
 
 pub returns-clause-each : goal.returns-clause-each
-returns-clause-each g c = IfOk_then _ (λ v. c.in_ok-answers.answers.items ≡ map Ok v.items) _ c.gathered.ensures.values (λ v e j d h.
+returns-clause-each g c = IfOk_then _ (λ v. c.in_ok-answers.answers.items ≡ map Ok v.items) _ c.gather.ensures.values (λ v e j d h.
     let k = c.in_ok-answers.ensures.each j (Ok d) (omega (arith, c.min.ensures)) in
     let same : get_or c.in_ok-answers.answers.items j (Ok d) ≡ Ok (get_or v.items j d) = ap (λ l. get_or l j (Ok d)) e ∙ get_or-map Ok v.items j d in
     rw same at k.1.met)
 
 pub returns-clause-joined : goal.returns-clause-joined
-returns-clause-joined g c = IfOk_then _ (λ v. c.in_ok-answers.answers.items ≡ map Ok v.items) _ c.gathered.ensures.values (λ v e.
-    joins_all (λ a b x. Answers g.F.Fn c.args.work a b (Ok x)) c.args.n c.args.workers c.requires.workers.0 v.items
+returns-clause-joined g c = IfOk_then _ (λ v. c.in_ok-answers.answers.items ≡ map Ok v.items) _ c.gather.ensures.values (λ v e.
+    joins_all (λ a b x. IsPieceAnswer g.F.Fn c.args.work a b (Ok x)) c.args.n c.args.workers c.requires.workers.0 v.items
     (sym (length-map v.items (λ x. Ok x)) ∙ sym (ap length e) ∙ sym c.in_ok-answers.answers.ok.0 ∙ c.in_ok-answers.ensures.len ∙ c.min.ensures)
     (λ j d h.
     let k = c.in_ok-answers.ensures.each j (Ok d) (omega (arith, c.min.ensures)) in
     let same : get_or c.in_ok-answers.answers.items j (Ok d) ≡ Ok (get_or v.items j d) = ap (λ l. get_or l j (Ok d)) e ∙ get_or-map Ok v.items j d in
     rw same at k.1.met))
 
-answered : (g : _) (c : goal.After-drop-work-2 g) → IfErr c.gathered.result (λ e. e ≡ Spent → SpentSomewhere g.F.Fn c.args.work c.args.n (min c.args.n c.args.workers))
-answered g c = IfErr_then _ (λ e. e ≡ Spent → Contains c.in_ok-answers.answers.items (Err Spent)) _ c.gathered.ensures.spent (λ v f e. let at = f e in
+answered : (g : _) (c : goal.After-drop-work-2 g) → IfErr c.gather.result (λ e. e ≡ Spent → SpentSomewhere g.F.Fn c.args.work c.args.n (min c.args.n c.args.workers))
+answered g c = IfErr_then _ (λ e. e ≡ Spent → Contains c.in_ok-answers.answers.items (Err Spent)) _ c.gather.ensures.spent (λ v f e. let at = f e in
     let k = c.in_ok-answers.ensures.each at.0 (Err Spent) (omega (arith, at.1, c.in_ok-answers.ensures.len, c.min.ensures)) in
     (at.0, omega (arith, at.1, c.in_ok-answers.ensures.len, c.min.ensures), rw at.2 at k.1.met))
 

@@ -1,6 +1,6 @@
 -- The bounds of a piece, by the laws of division.
 use Rattle.std.proofs.Common.{◌<◌, min, arith}
-use Rattle.nrca_par.specs.PiecesLaws.{start_last, start_least, start_most}
+use Rattle.nrca_par.specs.Laws.Pieces.{start_last, start_least, start_most}
 use Rattle.nrca_par.proofs.pieces.piece.Goals as goal
 
 pub returns-clause-last : goal.returns-clause-last

@@ -1,5 +1,5 @@
 use Rattle.std.proofs.Common.{◌∙◌}
-use Rattle.aql_value.specs.SortedLaws.{sorted_meaning, permutation_canon}
+use Rattle.aql_value.specs.Laws.Sorted.{sorted_meaning, permutation_canon}
 use Rattle.nrca_par.proofs.sets.canon_wide.Goals as goal
 
 pub from_sorted-requires : goal.from_sorted-requires

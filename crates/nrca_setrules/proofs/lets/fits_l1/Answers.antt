@@ -1,7 +1,7 @@
 use Rattle.std.proofs.Common.{rules, [], ◌∷◌, refl}
 use Rattle.nrca_term.specs.View.{term_of}
 use Rattle.nrca_term.specs.Nodes.{variable, position, number, truth_term, text_term, empty_term}
-use Rattle.nrca_term.specs.AsVariant.{as-Bool, as-Empty, as-Global, as-Let, as-Nat, as-Text, as-Var}
+use Rattle.nrca_term.specs.Laws.AsVariant.{as-Bool, as-Empty, as-Global, as-Let, as-Nat, as-Text, as-Var}
 use Rattle.nrca_setrules.proofs.LetSides.{l1_fits}
 use Rattle.nrca_setrules.proofs.lets.fits_l1.Goals as goal
 

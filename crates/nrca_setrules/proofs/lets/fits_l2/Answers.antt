@@ -1,7 +1,7 @@
 use Rattle.std.proofs.Common.{rules}
 use Rattle.nrca_term.specs.View.{term_of}
 use Rattle.nrca_setrules.proofs.Counts.{l2_tells}
-use Rattle.nrca_term.specs.AsVariant.{as-Let}
+use Rattle.nrca_term.specs.Laws.AsVariant.{as-Let}
 use Rattle.nrca_setrules.proofs.lets.fits_l2.Goals as goal
 
 pub returns-in-Let : goal.returns-in-Let

@@ -1,7 +1,7 @@
 use Rattle.std.proofs.Common.{rules, ap, ◌∙◌}
 use Rattle.nrca_term.specs.View.{term_of}
-use Rattle.nrca_term.specs.Equations.{term_of-Let}
-use Rattle.nrca_term.specs.WellFormed.{well_formed-Core}
+use Rattle.nrca_term.specs.Laws.Equations.{term_of-Let}
+use Rattle.nrca_term.specs.Laws.WellFormed.{well_formed-Core}
 use Rattle.nrca_setrules.proofs.LetSides.{fits_let}
 use Rattle.nrca_setrules.proofs.lets.fits_l3.Goals as goal
 

@@ -1,8 +1,8 @@
 use Rattle.std.proofs.Common.{rules, ◌≡◌, ◌<◌, ◌^◌, sym, ap, subst, ◌∙◌}
 use Rattle.nrca_term.specs.View.{term_of}
-use Rattle.nrca_term.specs.WellFormed.{well_formed-Core}
+use Rattle.nrca_term.specs.Laws.WellFormed.{well_formed-Core}
 use Rattle.nrca_term.specs.Subst.{subst_term, top_var}
-use Rattle.nrca_term.specs.AsVariant.{as-Let}
+use Rattle.nrca_term.specs.Laws.AsVariant.{as-Let}
 use Rattle.nrca_setrules.proofs.LetSides.{l1_right, let_room}
 use Rattle.nrca_setrules.proofs.lets.l1.Goals as goal
 

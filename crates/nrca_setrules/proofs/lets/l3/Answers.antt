@@ -2,8 +2,8 @@ use Rattle.std.proofs.Common.{rules, ◌≡◌, ◌<◌, ◌^◌, ap, subst, ◌
 use Rattle.nrca_term.specs.Nodes.{let_term}
 use Rattle.nrca_term.specs.Subst.{subst_term, top_var}
 use Rattle.nrca_term.specs.View.{term_of}
-use Rattle.nrca_term.specs.Equations.{term_of-Let, term_of-Bottom}
-use Rattle.nrca_term.specs.WellFormed.{well_formed-Core}
+use Rattle.nrca_term.specs.Laws.Equations.{term_of-Let, term_of-Bottom}
+use Rattle.nrca_term.specs.Laws.WellFormed.{well_formed-Core}
 use Rattle.nrca_term.specs.declared.trace.Rule.TheVariants.{L3}
 use Rattle.nrca_laws.specs.Fitting.{IsRight}
 use Rattle.nrca_setrules.proofs.LetSides.{body_room, unused-right, let_unused}

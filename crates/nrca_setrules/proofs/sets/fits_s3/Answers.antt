@@ -1,6 +1,6 @@
 use Rattle.std.proofs.Common.{rules}
 use Rattle.nrca_term.specs.View.{term_of}
-use Rattle.nrca_term.specs.AsVariant.{as-BigUnion}
+use Rattle.nrca_term.specs.Laws.AsVariant.{as-BigUnion}
 use Rattle.nrca_setrules.proofs.SetSides.{s3_fits}
 use Rattle.nrca_setrules.proofs.sets.fits_s3.Goals as goal
 

@@ -1,6 +1,6 @@
 use Rattle.std.proofs.Common.{rules}
 use Rattle.nrca_term.specs.View.{term_of}
-use Rattle.nrca_term.specs.AsVariant.{as-Empty, as-Sum}
+use Rattle.nrca_term.specs.Laws.AsVariant.{as-Empty, as-Sum}
 use Rattle.nrca_setrules.proofs.SetSides.{s4_fits}
 use Rattle.nrca_setrules.proofs.sets.fits_s4.Goals as goal
 

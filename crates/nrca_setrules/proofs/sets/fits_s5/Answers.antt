@@ -1,6 +1,6 @@
 use Rattle.std.proofs.Common.{rules}
 use Rattle.nrca_term.specs.View.{term_of}
-use Rattle.nrca_term.specs.AsVariant.{as-Single, as-Sum}
+use Rattle.nrca_term.specs.Laws.AsVariant.{as-Single, as-Sum}
 use Rattle.nrca_setrules.proofs.SetSides.{s5_fits}
 use Rattle.nrca_setrules.proofs.sets.fits_s5.Goals as goal
 

@@ -1,6 +1,6 @@
 use Rattle.std.proofs.Common.{rules}
 use Rattle.nrca_term.specs.View.{term_of}
-use Rattle.nrca_term.specs.AsVariant.{as-BigUnion, as-Single, as-Var}
+use Rattle.nrca_term.specs.Laws.AsVariant.{as-BigUnion, as-Single, as-Var}
 use Rattle.nrca_setrules.proofs.SetSides.{s6_fits}
 use Rattle.nrca_setrules.proofs.sets.fits_s6.Goals as goal
 

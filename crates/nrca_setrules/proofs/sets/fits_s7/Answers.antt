@@ -1,6 +1,6 @@
 use Rattle.std.proofs.Common.{rules, inl, inr}
 use Rattle.nrca_term.specs.View.{term_of}
-use Rattle.nrca_term.specs.AsVariant.{as-Empty, as-Union}
+use Rattle.nrca_term.specs.Laws.AsVariant.{as-Empty, as-Union}
 use Rattle.nrca_setrules.proofs.SetSides.{s7_fits}
 use Rattle.nrca_setrules.proofs.sets.fits_s7.Goals as goal
 

@@ -1,6 +1,6 @@
 use Rattle.std.proofs.Common.{rules}
 use Rattle.nrca_term.specs.View.{term_of}
-use Rattle.nrca_term.specs.AsVariant.{as-Get, as-Single}
+use Rattle.nrca_term.specs.Laws.AsVariant.{as-Get, as-Single}
 use Rattle.nrca_setrules.proofs.SetSides.{s8_fits}
 use Rattle.nrca_setrules.proofs.sets.fits_s8.Goals as goal
 

@@ -1,7 +1,7 @@
 use Rattle.std.proofs.Common.{rules}
 use Rattle.nrca_term.specs.View.{term_of}
-use Rattle.nrca_term.specs.Equations.{term_of-Let}
-use Rattle.nrca_term.specs.AsVariant.{as-BigUnion, as-Single}
+use Rattle.nrca_term.specs.Laws.Equations.{term_of-Let}
+use Rattle.nrca_term.specs.Laws.AsVariant.{as-BigUnion, as-Single}
 use Rattle.nrca_setrules.proofs.SetSides.{s2_right}
 use Rattle.nrca_setrules.proofs.sets.s2.Goals as goal
 

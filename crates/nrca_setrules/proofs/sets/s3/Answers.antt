@@ -1,9 +1,9 @@
 use Rattle.std.proofs.Common.{rules}
 use Rattle.nrca_term.specs.View.{term_of}
 use Rattle.nrca_term.specs.Term.{Form}
-use Rattle.nrca_term.specs.WellFormed.{well_formed-Core}
-use Rattle.nrca_term.specs.Equations.{term_of-BigUnion}
-use Rattle.nrca_term.specs.AsVariant.{as-BigUnion}
+use Rattle.nrca_term.specs.Laws.WellFormed.{well_formed-Core}
+use Rattle.nrca_term.specs.Laws.Equations.{term_of-BigUnion}
+use Rattle.nrca_term.specs.Laws.AsVariant.{as-BigUnion}
 use Rattle.nrca_setrules.proofs.SetSides.{loop_room, s3_right}
 use Rattle.nrca_setrules.proofs.sets.s3.Goals as goal
 

@@ -1,7 +1,7 @@
 use Rattle.std.proofs.Common.{rules}
 use Rattle.nrca_term.specs.View.{term_of}
-use Rattle.nrca_term.specs.Equations.{term_of-Let}
-use Rattle.nrca_term.specs.AsVariant.{as-Single, as-Sum}
+use Rattle.nrca_term.specs.Laws.Equations.{term_of-Let}
+use Rattle.nrca_term.specs.Laws.AsVariant.{as-Single, as-Sum}
 use Rattle.nrca_setrules.proofs.SetSides.{s5_right}
 use Rattle.nrca_setrules.proofs.sets.s5.Goals as goal
 

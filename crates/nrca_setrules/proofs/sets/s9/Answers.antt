@@ -2,9 +2,9 @@ use Rattle.std.proofs.Common.{rules, refl}
 use Rattle.nrca_term.specs.View.{term_of}
 use Rattle.nrca_term.specs.Term.{Form}
 use Rattle.nrca_term.specs.Nodes.{number, empty_term}
-use Rattle.nrca_term.specs.WellFormed.{well_formed-Core}
-use Rattle.nrca_term.specs.Equations.{term_of-Let}
-use Rattle.nrca_term.specs.AsVariant.{as-BigUnion, as-Let, as-Sum}
+use Rattle.nrca_term.specs.Laws.WellFormed.{well_formed-Core}
+use Rattle.nrca_term.specs.Laws.Equations.{term_of-Let}
+use Rattle.nrca_term.specs.Laws.AsVariant.{as-BigUnion, as-Let, as-Sum}
 use Rattle.nrca_setrules.proofs.SetSides.{loop_room, s9_right}
 use Rattle.nrca_setrules.proofs.sets.s9.Goals as goal
 

@@ -3,8 +3,8 @@ use Rattle.nrca_term.specs.Term.{parts_of, form_of}
 use Rattle.nrca_term.specs.View.{term_of}
 use Rattle.nrca_setrules.specs.Strictly.{CountsStrict}
 use Rattle.nrca_setrules.proofs.Counts.{first_strict-none, strict-counted, part-added, part-lazy, part-strict}
-use Rattle.nrca_term.specs.MeasureLaws.{weight_of-child}
-use Rattle.nrca_term.specs.Entering.{child-there}
+use Rattle.nrca_term.specs.Laws.Measure.{weight_of-child}
+use Rattle.nrca_term.specs.Laws.Entering.{child-there}
 use Rattle.nrca_setrules.proofs.strictness.+count_strict.Goals as goal
 
 pub strict_in_parts-loop-i-init : goal.strict_in_parts-loop-i-init

@@ -1,6 +1,6 @@
 use Rattle.std.proofs.Common.{rules, ap, ◌∙◌}
 use Rattle.nrca_term.specs.View.{term_of}
-use Rattle.nrca_term.specs.Equations.{term_of-If, term_of-Bool}
+use Rattle.nrca_term.specs.Laws.Equations.{term_of-If, term_of-Bool}
 use Rattle.nrca_setrules.proofs.TestSides.{fits_if}
 use Rattle.nrca_setrules.proofs.tests.fits_i1.Goals as goal
 

@@ -2,7 +2,7 @@ use Rattle.std.proofs.Common.{rules, refl}
 use Rattle.nrca_term.specs.View.{term_of}
 use Rattle.nrca_term.specs.Term.{Form}
 use Rattle.nrca_term.specs.Nodes.{number, empty_term}
-use Rattle.nrca_term.specs.AsVariant.{as-BigUnion, as-Empty, as-If, as-Sum}
+use Rattle.nrca_term.specs.Laws.AsVariant.{as-BigUnion, as-Empty, as-If, as-Sum}
 use Rattle.nrca_setrules.proofs.TestSides.{i2_fits}
 use Rattle.nrca_setrules.proofs.tests.fits_i2.Goals as goal
 

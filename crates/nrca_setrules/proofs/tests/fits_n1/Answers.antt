@@ -1,6 +1,6 @@
 use Rattle.std.proofs.Common.{rules}
 use Rattle.nrca_term.specs.View.{term_of}
-use Rattle.nrca_term.specs.AsVariant.{as-Bottom, as-Default}
+use Rattle.nrca_term.specs.Laws.AsVariant.{as-Bottom, as-Default}
 use Rattle.nrca_setrules.proofs.TestSides.{n1_fits}
 use Rattle.nrca_setrules.proofs.tests.fits_n1.Goals as goal
 

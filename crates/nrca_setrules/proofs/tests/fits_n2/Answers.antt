@@ -1,5 +1,5 @@
 use Rattle.nrca_term.specs.View.{term_of}
-use Rattle.nrca_term.specs.AsVariant.{as-Default}
+use Rattle.nrca_term.specs.Laws.AsVariant.{as-Default}
 use Rattle.nrca_setrules.proofs.TestSides.{n2_fits}
 use Rattle.nrca_setrules.proofs.tests.fits_n2.Goals as goal
 

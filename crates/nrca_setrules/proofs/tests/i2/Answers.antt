@@ -2,8 +2,8 @@ use Rattle.std.proofs.Common.{rules, refl}
 use Rattle.nrca_term.specs.View.{term_of}
 use Rattle.nrca_term.specs.Term.{Form}
 use Rattle.nrca_term.specs.Nodes.{number, empty_term}
-use Rattle.nrca_term.specs.Equations.{term_of-If}
-use Rattle.nrca_term.specs.AsVariant.{as-BigUnion, as-Empty, as-If, as-Nat, as-Sum}
+use Rattle.nrca_term.specs.Laws.Equations.{term_of-If}
+use Rattle.nrca_term.specs.Laws.AsVariant.{as-BigUnion, as-Empty, as-If, as-Nat, as-Sum}
 use Rattle.nrca_setrules.proofs.TestSides.{i2_right}
 use Rattle.nrca_setrules.proofs.tests.i2.Goals as goal
 

@@ -1,7 +1,7 @@
 use Rattle.std.proofs.Common.{rules, arith}
 use Rattle.nrca_term.specs.View.{term_of, terms_of}
-use Rattle.nrca_term.specs.Equations.{length-terms_of}
-use Rattle.nrca_term.specs.AsVariant.{as-Proj, as-Tuple}
+use Rattle.nrca_term.specs.Laws.Equations.{length-terms_of}
+use Rattle.nrca_term.specs.Laws.AsVariant.{as-Proj, as-Tuple}
 use Rattle.nrca_setrules.proofs.TupleSides.{p1_tells}
 use Rattle.nrca_setrules.proofs.tuples.fits_p1.Goals as goal
 

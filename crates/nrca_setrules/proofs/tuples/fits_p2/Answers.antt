@@ -1,6 +1,6 @@
 use Rattle.std.proofs.Common.{rules}
 use Rattle.nrca_term.specs.View.{term_of}
-use Rattle.nrca_term.specs.AsVariant.{as-Let, as-Proj}
+use Rattle.nrca_term.specs.Laws.AsVariant.{as-Let, as-Proj}
 use Rattle.nrca_setrules.proofs.TupleSides.{p2_fits}
 use Rattle.nrca_setrules.proofs.tuples.fits_p2.Goals as goal
 

@@ -1,7 +1,7 @@
 use Rattle.std.proofs.Common.{rules, arith, ◌-◌, ◌≡◌, refl, sym, ap, ◌∙◌}
 use Rattle.nrca_term.specs.View.{term_of}
 use Rattle.nrca_term.specs.Term.{count, child_of, parts_of}
-use Rattle.nrca_term.specs.AsVariant.{as-Proj}
+use Rattle.nrca_term.specs.Laws.AsVariant.{as-Proj}
 use Rattle.nrca_setrules.proofs.TupleSides.{p1_right, p1_within}
 use Rattle.nrca_setrules.proofs.tuples.p1.Goals as goal
 

@@ -1,7 +1,7 @@
 use Rattle.std.proofs.Common.{rules}
 use Rattle.nrca_term.specs.View.{term_of}
-use Rattle.nrca_term.specs.Equations.{term_of-Let}
-use Rattle.nrca_term.specs.AsVariant.{as-Let, as-Proj}
+use Rattle.nrca_term.specs.Laws.Equations.{term_of-Let}
+use Rattle.nrca_term.specs.Laws.AsVariant.{as-Let, as-Proj}
 use Rattle.nrca_setrules.proofs.TupleSides.{p2_right}
 use Rattle.nrca_setrules.proofs.tuples.p2.Goals as goal
 

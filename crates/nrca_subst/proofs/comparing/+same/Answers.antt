@@ -1,12 +1,12 @@
 use Rattle.std.proofs.Common.{◌+◌, ◌-◌, ◌^◌, min, false, arith, sym, subst, ◌∙◌}
 use Rattle.nrca_term.specs.Term.{parts_of}
 use Rattle.nrca_term.specs.View.{term_of}
-use Rattle.nrca_term.specs.WellFormed.{well_formed-Core}
+use Rattle.nrca_term.specs.Laws.WellFormed.{well_formed-Core}
 use Rattle.nrca_subst.specs.Depth.{TellsShifted}
 use Rattle.nrca_subst.proofs.Equal.{tells-all, tells-count, tells-part}
-use Rattle.nrca_term.specs.MeasureLaws.{weight_of-child}
+use Rattle.nrca_term.specs.Laws.Measure.{weight_of-child}
 use Rattle.nrca_subst.proofs.comparing.+same.Goals as goal
-use Rattle.nrca_term.specs.Entering.{child-there}
+use Rattle.nrca_term.specs.Laws.Entering.{child-there}
 
 pub same_parts-returns-then-count-parts : goal.same_parts-returns-then-count-parts
 same_parts-returns-then-count-parts t c =

@@ -1,5 +1,5 @@
 use Rattle.std.proofs.Common.{sym, ◌∙◌}
-use Rattle.nrca_term.specs.ShiftLaws.{shift_term-none}
+use Rattle.nrca_term.specs.Laws.Shift.{shift_term-none}
 use Rattle.nrca_term.specs.View.{term_of}
 use Rattle.nrca_subst.proofs.comparing.same.Goals as goal
 

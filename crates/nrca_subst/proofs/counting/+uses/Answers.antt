@@ -3,8 +3,8 @@ use Rattle.nrca_term.specs.Term.{parts_of}
 use Rattle.nrca_term.specs.View.{term_of}
 use Rattle.nrca_subst.specs.Depth.{CountsUses}
 use Rattle.nrca_subst.proofs.Counts.{first_uses-none, uses-counted, counts-part}
-use Rattle.nrca_term.specs.MeasureLaws.{weight_of-child}
-use Rattle.nrca_term.specs.Entering.{child-there}
+use Rattle.nrca_term.specs.Laws.Measure.{weight_of-child}
+use Rattle.nrca_term.specs.Laws.Entering.{child-there}
 use Rattle.nrca_subst.proofs.counting.+uses.Goals as goal
 use Rattle.nrca_subst.proofs.counting.+uses.Goals.{uses_in_parts-in-Some, uses_in_parts-in_default}
 

@@ -1,5 +1,5 @@
 use Rattle.std.proofs.Common.{◌+◌, arith, ap, ◌∙◌}
-use Rattle.nrca_term.specs.MeasureLaws.{weight_of-child}
+use Rattle.nrca_term.specs.Laws.Measure.{weight_of-child}
 use Rattle.nrca_term.specs.Term.{with_part, count, parts_of}
 use Rattle.nrca_term.specs.Subst.{shift_term, top_var}
 use Rattle.nrca_term.specs.View.{term_of}

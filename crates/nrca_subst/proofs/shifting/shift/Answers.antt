@@ -1,5 +1,5 @@
 use Rattle.nrca_term.specs.View.{term_of}
-use Rattle.nrca_term.specs.WellFormed.{well_formed-Core}
+use Rattle.nrca_term.specs.Laws.WellFormed.{well_formed-Core}
 use Rattle.nrca_subst.proofs.Keeping.{is_shifted, keeps_types_shifted}
 use Rattle.nrca_subst.proofs.shifting.shift.Goals as goal
 

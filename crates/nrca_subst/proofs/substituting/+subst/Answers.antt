@@ -1,9 +1,9 @@
 use Rattle.std.proofs.Common.{min, ◌≡◌, ◌+◌, ◌-◌, ◌^◌, arith, ap, sym, ◌∙◌, subst}
-use Rattle.nrca_term.specs.MeasureLaws.{weight_of-child}
+use Rattle.nrca_term.specs.Laws.Measure.{weight_of-child}
 use Rattle.nrca_term.specs.Term.{with_part, count, parts_of}
 use Rattle.nrca_term.specs.Subst.{shift_term}
 use Rattle.nrca_term.specs.View.{term_of}
-use Rattle.nrca_subst.specs.Depth.{Fits, Substitutes}
+use Rattle.nrca_subst.specs.Depth.{DepthFits, Substitutes}
 use Rattle.nrca_subst.proofs.Deeper.{substitutes-part, fits-part}
 use Rattle.nrca_subst.proofs.Walking.{walked-start, walked-step, count-walked, binders_of-walked, walked-part, count-with_part}
 use Rattle.nrca_subst.proofs.SubstWalk.{subst_part, walked-subst}
@@ -27,8 +27,8 @@ subst_parts_in-subst_in-requires t c =
     let found = walked-part _ c.loop-i.i (term_of c.args.term.now) (term_of c.loop-i.term) u same c.exchange.ensures.before in
     let k = c.binders.ensures.number ∙ binders_of-walked _ c.loop-i.i c.loop-i.i (term_of c.args.term.now) (term_of c.loop-i.term) same in
     let deep : c.saturating_add-deeper.result ≡ min (c.args.depth + c.binders.result) (2 ^ 128 - 1) = omega (arith, c.saturating_add-deeper.ensures) in
-    let fits : Fits c.args.at c.saturating_add-deeper.result (term_of c.args.with.now) u =
-    subst (λ m. Fits c.args.at m (term_of c.args.with.now) u) (sym deep)
+    let fits : DepthFits c.args.at c.saturating_add-deeper.result (term_of c.args.with.now) u =
+    subst (λ m. DepthFits c.args.at m (term_of c.args.with.now) u) (sym deep)
     (fits-part c.args.at c.args.depth c.binders.result (term_of c.args.with.now) (term_of c.args.term.now) c.loop-i.i u c.requires.other found k c.requires.fits) in
     (omega (arith, c.decreases, weight_of-child (term_of c.args.term.now) c.loop-i.i u found), fits)
 

@@ -1,6 +1,6 @@
 use Rattle.std.proofs.Common.{◌≡◌, ◌+◌, ℕ, ap, ◌∙◌, arith}
 use Rattle.nrca_term.specs.Subst.{shift_term, subst_term, top_var}
-use Rattle.nrca_term.specs.ShiftLaws.{shift_term-none}
+use Rattle.nrca_term.specs.Laws.Shift.{shift_term-none}
 use Rattle.nrca_term.specs.Term.{Term}
 use Rattle.nrca_term.specs.View.{term_of}
 use Rattle.nrca_subst.specs.Depth.{Substitutes}

@@ -1,10 +1,10 @@
 use Rattle.std.proofs.Common.{arith, sym, ◌∙◌}
 use Rattle.nrca_term.specs.Term.{parts_of}
-use Rattle.nrca_term.specs.MeasureLaws.{weight_of-child}
+use Rattle.nrca_term.specs.Laws.Measure.{weight_of-child}
 use Rattle.nrca_term.specs.View.{term_of}
 use Rattle.nrca_term.proofs.Filling.{filled-start, filled-step, filled-end, count-filled}
 use Rattle.nrca_term.proofs.copies.+copy.Goals as goal
-use Rattle.nrca_term.specs.Entering.{child-there}
+use Rattle.nrca_term.specs.Laws.Entering.{child-there}
 
 pub fill_parts-loop-i-init : goal.fill_parts-loop-i-init
 fill_parts-loop-i-init t c = filled-start (term_of c.args.from.now) (term_of c.args.to.now) c.requires

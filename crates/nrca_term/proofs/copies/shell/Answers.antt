@@ -5,7 +5,7 @@ use Rattle.nrca_term.specs.Term.{Term}
 use Rattle.nrca_term.specs.Hollow.{hollow}
 use Rattle.nrca_term.specs.View.{term_of}
 use Rattle.nrca_term.specs.Nodes.{bottom_term, let_term, if_term, default_term, proj_term, arith_term, compare_term, single_term, union_term, big_union_term, sum_term, gen_term, get_term, dim_term, index_term}
-use Rattle.nrca_term.specs.Equations.{term_of-Let, term_of-If, term_of-Default, term_of-Proj, term_of-Arith, term_of-Compare, term_of-Single, term_of-Union, term_of-BigUnion, term_of-Sum, term_of-Gen, term_of-Get, term_of-Dim, term_of-Index}
+use Rattle.nrca_term.specs.Laws.Equations.{term_of-Let, term_of-If, term_of-Default, term_of-Proj, term_of-Arith, term_of-Compare, term_of-Single, term_of-Union, term_of-BigUnion, term_of-Sum, term_of-Gen, term_of-Get, term_of-Dim, term_of-Index}
 use Rattle.nrca_term.proofs.Filling.{hollow-Tuple, hollow-Tab, hollow-Sub, hollow-Literal}
 use Rattle.nrca_term.proofs.copies.shell.Goals as goal
 

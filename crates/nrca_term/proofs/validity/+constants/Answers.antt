@@ -1,6 +1,6 @@
 use Rattle.std.proofs.Common.{sym, arith}
 use Rattle.nrca_term.specs.Term.{parts_of}
-use Rattle.nrca_term.specs.MeasureLaws.{weight_of-child}
+use Rattle.nrca_term.specs.Laws.Measure.{weight_of-child}
 use Rattle.nrca_term.specs.View.{term_of}
 use Rattle.nrca_term.proofs.ConstantParts.{below-part, below-absent, node-constants}
 use Rattle.nrca_term.proofs.validity.+constants.Goals as goal

@@ -1,6 +1,6 @@
 use Rattle.std.proofs.Common.{◌+◌, sym, ap, ◌∙◌, arith}
 use Rattle.nrca_term.specs.Term.{parts_of, form_of, form_weight, weight_of, parts_weight, node, Term}
-use Rattle.nrca_term.specs.MeasureLaws.{weight_of-child}
+use Rattle.nrca_term.specs.Laws.Measure.{weight_of-child}
 use Rattle.nrca_term.specs.View.{term_of}
 use Rattle.nrca_term.proofs.FirstParts.{first_weight-more, first_weight-past, first_weight-all, weight-parts}
 use Rattle.nrca_term.proofs.weights.+weight.Goals as goal

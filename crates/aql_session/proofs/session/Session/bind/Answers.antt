@@ -1,5 +1,5 @@
 use Rattle.std.proofs.Common.{◌∙◌, ◌++◌, ◌∷◌, [], ap}
-use Rattle.nrca_runs.specs.Scope.{held_value}
+use Rattle.nrca_loops.specs.Scope.{held_value}
 use Rattle.aql_session.proofs.Binding.{latest-push, lengths-push, view-push}
 use Rattle.aql_session.proofs.session.Session.bind.Goals as goal
 

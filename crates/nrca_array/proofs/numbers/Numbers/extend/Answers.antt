@@ -7,8 +7,8 @@ use Rattle.nrca_array.proofs.Writing.{others_fit, extended-reads, extended-is, e
 use Rattle.nrca_array.proofs.numbers.Numbers.extend.Goals as goal
 use Rattle.nrca_array.proofs.numbers.Numbers.extend.Goals.{In_ok-put_all}
 
-pub widened-requires-clause-fits : goal.widened-requires-clause-fits
-widened-requires-clause-fits c =
+pub widen-requires-clause-fits : goal.widen-requires-clause-fits
+widen-requires-clause-fits c =
     let ns = numbers_at (width_bytes c.self.inside.width) c.self.inside.count c.self.inside.bytes.items in
     subst (λ w. greatest ns < 256 ^ w) (sym c.self.invariant.least) (width_fits ns c.self.invariant.small)
 

@@ -6,8 +6,8 @@ use Rattle.nrca_array.specs.Kept.{width_bytes, numbers_at}
 use Rattle.nrca_array.proofs.Spelling.{length-numbers_at, length-spelled, count_within, spelled-push, spelled-reads, spelled-is, width_fits, width_for-push, greatest-push, bytes_for-fits, fits_wider}
 use Rattle.nrca_array.proofs.numbers.Numbers.push.Goals as goal
 
-pub widened-requires-clause-fits : goal.widened-requires-clause-fits
-widened-requires-clause-fits c =
+pub widen-requires-clause-fits : goal.widen-requires-clause-fits
+widen-requires-clause-fits c =
     let ns = numbers_at (width_bytes c.self.inside.width) c.self.inside.count c.self.inside.bytes.items in
     subst (λ w. greatest ns < 256 ^ w) (sym c.self.invariant.least) (width_fits ns c.self.invariant.small)
 

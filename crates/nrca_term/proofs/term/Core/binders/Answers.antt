@@ -1,7 +1,7 @@
 use Rattle.std.proofs.Common.{ap, sym, ◌∙◌}
 use Rattle.nrca_term.specs.Term.{form_binders}
 use Rattle.nrca_term.specs.View.{term_of}
-use Rattle.nrca_term.specs.WellFormed.{binders-there, well_formed-Core}
+use Rattle.nrca_term.specs.Laws.WellFormed.{binders-there, well_formed-Core}
 use Rattle.nrca_term.proofs.term.Core.binders.Goals as goal
 
 pub returns-clause-number : goal.returns-clause-number

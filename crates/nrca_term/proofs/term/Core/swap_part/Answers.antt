@@ -3,7 +3,7 @@ use Rattle.std.proofs.Common.{◌≡◌, ℕ, zero, suc, refl, sym, ap, ◌∙�
 use Rattle.aql_value.specs.Strict.{Strict}
 use Rattle.nrca_term.specs.Term.{Term, Parts, Form, node, none, part, parts_of, child_of, set_child, with_part}
 use Rattle.nrca_term.specs.View.{term_of}
-use Rattle.nrca_term.specs.Equations.{term_of-Let, term_of-Default, term_of-Proj, term_of-Arith, term_of-Compare, term_of-Single, term_of-Union, term_of-BigUnion, term_of-Sum, term_of-Gen, term_of-Get, term_of-Dim, term_of-Index}
+use Rattle.nrca_term.specs.Laws.Equations.{term_of-Let, term_of-Default, term_of-Proj, term_of-Arith, term_of-Compare, term_of-Single, term_of-Union, term_of-BigUnion, term_of-Sum, term_of-Gen, term_of-Get, term_of-Dim, term_of-Index}
 use Rattle.nrca_term.proofs.term.Core.swap_part.Goals as goal
 
 swapped : (f : Form) (ps qs : Parts) (t u : Term) (i : ℕ) → ps ≡ set_child qs i u → t ≡ node f qs → node f ps ≡ with_part t i u

@@ -1,0 +1,163 @@
+#!/usr/bin/env python3
+"""Lists where the text of the sources is against the rules of this house, and ends with 1 where it is.
+
+- a clause of a contract, an invariant or a measure whose line is longer than 100 columns;
+- a function that takes more than seven parameters, but those of WIDE and HANDED_ON;
+- a law, that is a definition that is neither an abbreviation nor a type and whose result is a statement, in specs/ outside of specs/Laws;
+- a public definition of specs/ outside of specs/Laws without a comment of its own.
+"""
+import os
+import re
+import sys
+
+from headline import ROOT
+
+LONGEST, MOST = 100, 7
+CLAUSE = re.compile(r"^\s*(requires|ensures|invariant|decreases|ghost_requires|ghost_ensures)\b")
+SIGNATURE = re.compile(r"^((?:(?:abbrev|unfoldable|pub) )*)(\S+) :(?: |$)(.*)$")
+# the results of definitions that are no statements
+DATA = re.compile(r"^(ℕ|Datum|Ty|Subst|Term|Parts|List |Type |Option |Bool|Trees?$|String)")
+# public calls whose parameters are fixed, and a test's call of one
+WIDE = {"step", "answer_all", "read_slab", "read"}
+# functions of the three great recursions (inference, translation, evaluation), each of which hands on what it was lent; docs/DECISIONS.md
+# says why they take no struct
+HANDED_ON = set(
+    "infer_choice infer_function infer_sum wrap_parts grid sum_run union_run members_run cells_run sum_pieces union_pieces union_piece "
+    "cells_pieces eval_wide wide_strict wide_parts wide_all wide_let wide_if wide_default wide_members wide_sum wide_union wide_tab".split()
+)
+# laws that a definition beside them is made of
+NEEDED = {"run-spell", "run-spell_all"}
+
+
+def files(crate, folder, ending):
+    top = os.path.join(ROOT, "crates", crate, folder)
+    for where, folders, names in os.walk(top):
+        folders.sort()
+        for name in sorted(names):
+            if name.endswith(ending):
+                path = os.path.join(where, name)
+                with open(path, encoding="utf-8") as file:
+                    yield os.path.relpath(path, ROOT), file.read().split("\n")
+
+
+def long_clauses(path, source):
+    """The lines of clauses that are longer than the limit. A clause goes on until its braces are closed."""
+    depth = 0
+    for number, text in enumerate(source, 1):
+        if depth > 0 or CLAUSE.match(text):
+            depth += text.count("{") - text.count("}")
+            if len(text) > LONGEST:
+                yield "%s:%d: a line of %d columns in a clause" % (path, number, len(text))
+
+
+def wide_functions(path, source):
+    """The functions with more parameters than the limit."""
+    whole = "\n".join(source)
+    for match in re.finditer(r"^[ \t]*(?:pub(?:\([a-z]+\))? )?(?:const )?fn ([a-z_0-9]+)", whole, re.M):
+        at = match.end()
+        if whole[at : at + 1] == "<":
+            level = 0
+            while True:
+                level += {"<": 1, ">": -1}.get(whole[at], 0) if whole[at - 1 : at + 1] != "->" else 0
+                at += 1
+                if level == 0:
+                    break
+        if whole[at : at + 1] != "(":
+            continue
+        level, count, last, some = 0, 0, "", False
+        for ch in whole[at:]:
+            if ch in "([{<":
+                level += 1
+            elif ch in ")]}" or ch == ">" and last != "-":
+                level -= 1
+                if level == 0:
+                    break
+            elif ch == "," and level == 1:
+                count, some = count + 1, False
+            elif level == 1 and not ch.isspace():
+                some = True
+            last = ch
+        count += some
+        if count > MOST and match.group(1) not in WIDE | HANDED_ON:
+            yield "%s:%d: %s takes %d parameters" % (path, whole.count("\n", 0, match.start()) + 1, match.group(1), count)
+
+
+def result(text):
+    """What a signature's arrows end in."""
+    level, last = 0, 0
+    for at, ch in enumerate(text):
+        if ch in "({[":
+            level += 1
+        elif ch in ")}]":
+            level -= 1
+        elif ch == "→" and level == 0:
+            last = at + 1
+    return text[last:].strip()
+
+
+def signature(source, at, indent):
+    whole = [source[at].split(" :", 1)[1]]
+    for text in source[at + 1 :]:
+        if not text.startswith(" " * (indent + 2)) or text.strip() == "where":
+            break
+        whole.append(text)
+    return " ".join(" ".join(whole).split())
+
+
+def laws(path, source):
+    """The laws that stand in a module of definitions."""
+    within = None
+    for number, text in enumerate(source):
+        if re.match(r"^(\w+ )?mutual\s*$|^module ", text):
+            within = text.split()[0]
+            continue
+        if text and not text.startswith(" ") and not text.startswith("--"):
+            within = None if not re.match(r"^(\w+ )?mutual|^module ", text) else within
+        indent = 2 if within else 0
+        line = text[2:] if within and text.startswith("  ") and not text.startswith("   ") else text
+        if within in ("abbrev", "unfoldable") or line.startswith(" ") or not line.strip():
+            continue
+        match = SIGNATURE.match(line)
+        if match and "abbrev" not in match.group(1) and "unfoldable" not in match.group(1) and match.group(2) not in ("data", "record"):
+            if re.match(r"^(pub )?(data|record|ruleset|infix\w*) ", line):
+                continue
+            if match.group(2) not in NEEDED and not DATA.match(result(signature(source, number, indent))):
+                yield "%s:%d: the law %s stands outside of specs/Laws" % (path, number + 1, match.group(2))
+
+
+def uncommented(path, source):
+    """The public definitions without a comment of their own."""
+    for number, text in enumerate(source):
+        match = re.match(r"^\s{0,2}(?:(?:abbrev|unfoldable) )?pub (?:record |data )?(\S+)", text)
+        if not match or re.match(r"^\s*pub (mod|use|ruleset) ", text) or text.startswith("  ") and not inner(source, number):
+            continue
+        above = source[number - 1].strip() if number else ""
+        if not above.startswith("--"):
+            yield "%s:%d: %s has no comment of its own" % (path, number + 1, match.group(1))
+
+
+def inner(source, number):
+    """Whether an indented line stands in definitions that call each other, and not in a record."""
+    for text in reversed(source[:number]):
+        if text and not text.startswith(" "):
+            return bool(re.match(r"^(\w+ )?mutual\s*$", text))
+    return False
+
+
+def main():
+    found = []
+    for crate in sorted(os.listdir(os.path.join(ROOT, "crates"))):
+        for path, source in files(crate, "src", ".rt"):
+            found += long_clauses(path, source)
+            found += wide_functions(path, source)
+        for path, source in files(crate, "specs", ".antt"):
+            if "/specs/Laws" not in path and not path.endswith("/Lib.antt"):
+                found += laws(path, source)
+                found += uncommented(path, source)
+    for text in found:
+        print(text)
+    return 1 if found else 0
+
+
+if __name__ == "__main__":
+    sys.exit(main())

@@ -1,3 +1,0 @@
-mod Answering
-mod Prelude
-mod Going

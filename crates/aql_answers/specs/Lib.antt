@@ -1,4 +1,0 @@
-pub mod Settings
-pub mod Answered
-pub mod Steps
-pub mod AnsweredLaws

@@ -1,0 +1,143 @@
+//! Small files of records, devices that fail or give few bytes, and what is read of them.
+use aql_csv::{Csv, CsvFault, read_csv};
+use aql_outside::{Failed, Files, MemFiles, SureFiles};
+use aql_syntax::ast::{CsvReader, Kind, Kinds};
+use aql_value::made::both;
+use aql_value::{Memory, Str};
+use std::alloc::Global;
+use std::collections::BTreeMap;
+
+/// Three records, of which two are equal, in 18 bytes.
+pub const PAIRS: &[u8] = b"1,ab\n2,\"c,d\"\n1,ab\n";
+
+pub fn name_of(alloc: Global, text: &[u8]) -> Result<Str, Memory> {
+    Ok(Str {
+        bytes: Vec::from_slice(alloc, text)?,
+    })
+}
+
+/// The reader of these letters: `N` for a number, `H` for a first record that names the fields, else a string.
+pub fn reader_of(alloc: Global, letters: &str) -> Result<CsvReader, Memory> {
+    let mut items = Vec::new(alloc);
+    let mut header = false;
+    for letter in letters.as_bytes() {
+        match *letter {
+            b'H' => header = true,
+            b'N' => items.push(Kind::Number)?,
+            _ => items.push(Kind::Bytes)?,
+        }
+    }
+    Ok(CsvReader {
+        header,
+        kinds: Kinds { items },
+    })
+}
+
+/// What is read of the file of a name.
+pub fn read_file<F: Files>(
+    alloc: Global,
+    files: &mut F,
+    name: &[u8],
+    letters: &str,
+    budget: u64,
+) -> Result<Csv, CsvFault> {
+    let name = name_of(alloc, name)?;
+    let reader = reader_of(alloc, letters)?;
+    if reader.kinds.items.is_empty() {
+        return Err(CsvFault::Memory);
+    }
+    read_csv(alloc, files, &name, &reader, budget)
+}
+
+/// What is read of a file of these bytes.
+pub fn read_bytes(
+    alloc: Global,
+    bytes: Result<Vec<u8>, Memory>,
+    letters: &str,
+    budget: u64,
+) -> Result<Csv, CsvFault> {
+    let mut files = sure(alloc, bytes)?;
+    read_file(alloc, &mut files, b"s", letters, budget)
+}
+
+fn string_of(alloc: Global, text: &str) -> Result<String, Memory> {
+    Ok(String::from_str(alloc, text)?)
+}
+
+// A folder with the one file `s`.
+fn folder(
+    alloc: Global,
+    bytes: Result<Vec<u8>, Memory>,
+) -> Result<BTreeMap<String, Vec<u8>>, Memory> {
+    let (name, bytes) = both(string_of(alloc, "s"), bytes)?;
+    let mut content = BTreeMap::new(alloc);
+    content.insert(name, bytes)?;
+    Ok(content)
+}
+
+pub fn bytes_of(alloc: Global, bytes: &[u8]) -> Result<Vec<u8>, Memory> {
+    Ok(Vec::from_slice(alloc, bytes)?)
+}
+
+/// The one file `s` with these bytes.
+pub fn sure(alloc: Global, bytes: Result<Vec<u8>, Memory>) -> Result<SureFiles, Memory> {
+    Ok(SureFiles::new(folder(alloc, bytes)?))
+}
+
+/// The same, where one call fails.
+pub fn failing(
+    alloc: Global,
+    bytes: Result<Vec<u8>, Memory>,
+    fails: u64,
+) -> Result<MemFiles, Memory> {
+    let fails = vec![in alloc; fails]?;
+    Ok(MemFiles::new(folder(alloc, bytes)?, fails))
+}
+
+/// The same, where a read gives at most so many bytes.
+pub fn few_bytes(
+    alloc: Global,
+    bytes: Result<Vec<u8>, Memory>,
+    most: usize,
+) -> Result<FewBytes, Memory> {
+    Ok(FewBytes {
+        files: sure(alloc, bytes)?,
+        most,
+        reads: 0,
+    })
+}
+
+/// Files whose reads give at most so many bytes, which tell none, and how many reads there were.
+#[derive(Drop)]
+pub struct FewBytes {
+    files: SureFiles,
+    most: usize,
+    reads: u64,
+}
+
+impl FewBytes {
+    pub fn reads(&self) -> u64 {
+        self.reads
+    }
+}
+
+impl Files for FewBytes {
+    ghost use Rattle.std.specs.Prelude.{None};
+    ghost use Rattle.std.proofs.Common.{arith};
+
+    ghost holds = { λ _. None };
+
+    ghost faults = { λ _. 0 };
+
+    ghost counted = { λ _. Prim.omega arith };
+
+    fn size(&mut self, name: &str) -> Result<Option<u64>, Failed> {
+        self.files.size(name)
+    }
+
+    fn read_at(&mut self, name: &str, at: u64, into: &mut [u8]) -> Result<usize, Failed> {
+        self.reads = self.reads.saturating_add(1);
+        let room = into.len().min(self.most);
+        self.files.read_at(name, at, &mut into[..room])
+    }
+}

@@ -1,0 +1,97 @@
+-- The code's names as a scope.
+use Rattle.std.proofs.Common.{◌≡◌, ◌<◌, ◌≤◌, ℕ, zero, suc, ◌+◌, ◌-◌, true, false, List, [], ◌∷◌, ◌++◌, length, take, drop, get_or, Option, Some, None, option_map, refl, sym, ap, ◌∙◌, arith, length-append}
+use Rattle.aql_syntax.specs.Tree.{Name, Pat, bind, any, equals, refers, tuple, pat}
+use Rattle.aql_syntax.specs.Size.{pat_nodes}
+use Rattle.aql_syntax.specs.View.{pat_of, pats_of}
+use Rattle.aql_syntax.specs.declared.ast.Pattern.{Pattern}
+use Rattle.aql_syntax.specs.Laws.View.{pat_of_row, pats_from, pats_past}
+use Rattle.aql_desugar_spec.specs.Start.{Binders, raised, index_of, hidden, bound, bounds}
+use Rattle.aql_desugar.specs.Names.{scope, has_name, further_by}
+use Rattle.aql_desugar.specs.Laws.Scopes.{scope_last, take_before, take_all}
+
+pub index_here : (x : Name) (v : Option Name) (s : Binders) → has_name x v ≡ true → index_of x (v ∷ s) ≡ Some 0
+index_here x None s e = cc
+index_here x (Some y) s e = rw e refl
+
+pub index_past : (x : Name) (v : Option Name) (s : Binders) → has_name x v ≡ false → index_of x (v ∷ s) ≡ raised (index_of x s)
+index_past x None s e = refl
+index_past x (Some y) s e = rw e refl
+
+pub further_none : (o : Option ℕ) → further_by 0 o ≡ o
+further_none None = refl
+further_none (Some i) = let z : 0 + i ≡ i = omega arith in ap Some z
+
+further_raised : (n m : ℕ) (o : Option ℕ) → m ≡ n + 1 → further_by n (raised o) ≡ further_by m o
+further_raised n m None e = refl
+further_raised n m (Some i) e = let z : n + suc i ≡ m + i = omega (arith, e) in ap Some z
+
+further_here : (n : ℕ) → further_by n (Some 0) ≡ Some n
+further_here n = let z : n + 0 ≡ n = omega arith in ap Some z
+
+-- the search goes from the last name to the first
+pub search_here : {A : Type 0} (f : A → Name) (x : Name) (xs : List (Option A)) (i : ℕ) (v : Option A) (base n : ℕ) → take (i + 1) xs ≡ take i xs ++ v ∷ [] → has_name x (option_map f v) ≡ true →
+    further_by n (index_of x (scope f (take (i + 1) xs) base)) ≡ Some n
+search_here f x xs i v base n e h =
+    ap (λ l. further_by n (index_of x (scope f l base))) e ∙ ap (λ s. further_by n (index_of x s)) (scope_last f (take i xs) v base)
+    ∙ ap (further_by n) (index_here x (option_map f v) (scope f (take i xs) base) h) ∙ further_here n
+
+pub search_past : {A : Type 0} (f : A → Name) (x : Name) (xs : List (Option A)) (i : ℕ) (v : Option A) (base n m : ℕ) → take (i + 1) xs ≡ take i xs ++ v ∷ [] → has_name x (option_map f v) ≡ false → m ≡ n + 1 →
+    further_by n (index_of x (scope f (take (i + 1) xs) base)) ≡ further_by m (index_of x (scope f (take i xs) base))
+search_past f x xs i v base n m e h k =
+    ap (λ l. further_by n (index_of x (scope f l base))) e ∙ ap (λ s. further_by n (index_of x s)) (scope_last f (take i xs) v base)
+    ∙ ap (further_by n) (index_past x (option_map f v) (scope f (take i xs) base) h) ∙ further_raised n m (index_of x (scope f (take i xs) base)) k
+
+-- the elements before the next one, and that
+pub take_at : {A : Type 0} (xs : List A) (k : ℕ) (v : A) → k < length xs → v ≡ get_or xs k v → take (k + 1) xs ≡ take k xs ++ v ∷ []
+take_at [] k v l e = absurd (omega arith)
+take_at (x ∷ xs) zero v l e = ap (λ w. w ∷ []) (sym e)
+take_at (x ∷ xs) (suc k) v l e = let z : suc k + 1 ≡ suc (k + 1) = omega arith in ap (λ n. take n (x ∷ xs)) z ∙ ap (λ ys. x ∷ ys) (take_at xs k v (omega arith) e)
+
+pub found_at : {A : Type 0} (f : A → Name) (x : Name) (xs : List (Option A)) (i j : ℕ) (v : Option A) → i ≡ j + 1 → i ≤ length xs → v ≡ get_or xs j v → has_name x (option_map f v) ≡ true →
+    ((base : ℕ) → index_of x (scope f xs base) ≡ further_by (length xs - i) (index_of x (scope f (take i xs) base))) → (base : ℕ) → Some (length xs - 1 - j) ≡ index_of x (scope f xs base)
+found_at f x xs i j v e l g h same base =
+    let z : length xs - i ≡ length xs - 1 - j = omega arith in
+    sym (same base ∙ ap (λ n. further_by (length xs - i) (index_of x (scope f (take n xs) base))) e
+    ∙ search_here f x xs j v base (length xs - i) (take_at xs j v (omega arith) g) h ∙ ap Some z)
+
+pub passed_at : {A : Type 0} (f : A → Name) (x : Name) (xs : List (Option A)) (i j : ℕ) (v : Option A) → i ≡ j + 1 → i ≤ length xs → v ≡ get_or xs j v → has_name x (option_map f v) ≡ false →
+    ((base : ℕ) → index_of x (scope f xs base) ≡ further_by (length xs - i) (index_of x (scope f (take i xs) base))) → (base : ℕ) →
+    index_of x (scope f xs base) ≡ further_by (length xs - j) (index_of x (scope f (take j xs) base))
+passed_at f x xs i j v e l g h same base =
+    same base ∙ ap (λ n. further_by (length xs - i) (index_of x (scope f (take n xs) base))) e
+    ∙ search_past f x xs j v base (length xs - i) (length xs - j) (take_at xs j v (omega arith) g) h (omega arith)
+
+index-hidden : (x : Name) (n : ℕ) → index_of x (hidden n) ≡ None
+index-hidden x zero = refl
+index-hidden x (suc n) = ap raised (index-hidden x n)
+
+pub none_left : {A : Type 0} (f : A → Name) (x : Name) (xs : List (Option A)) (i : ℕ) → i ≤ 0 →
+    ((base : ℕ) → index_of x (scope f xs base) ≡ further_by (length xs - i) (index_of x (scope f (take i xs) base))) → (base : ℕ) → None ≡ index_of x (scope f xs base)
+none_left f x xs i l same base =
+    let z : i ≡ 0 = omega arith in
+    sym (same base ∙ ap (λ n. further_by (length xs - i) (index_of x (scope f (take n xs) base))) z ∙ ap (further_by (length xs - i)) (index-hidden x base))
+
+-- one pattern more of a tuple's
+pub enter_inside : {A : Type 0} (f : A → Name) (ps : List Pattern) (i : ℕ) (p : Pattern) (start xs ys zs : List (Option A)) → i < length ps → p ≡ get_or ps i p → ys ≡ xs ++ None ∷ [] →
+    ((base : ℕ) → scope f zs base ≡ bound (pat_of p) (scope f ys base)) →
+    ((base : ℕ) → bounds (pats_of (drop i ps)) (scope f xs base) ≡ bounds (pats_of ps) (scope f start base)) → (base : ℕ) →
+    bounds (pats_of (drop (i + 1) ps)) (scope f zs base) ≡ bounds (pats_of ps) (scope f start base)
+enter_inside f ps i p start xs ys zs l g e h k base =
+    ap (bounds (pats_of (drop (i + 1) ps))) (h base ∙ ap (bound (pat_of p)) (ap (λ l. scope f l base) e ∙ scope_last f xs None base))
+    ∙ sym (ap (λ q. bounds q (scope f xs base)) (pats_from ps i p l ∙ ap (λ q. pat (pat_of q) (pats_of (drop (i + 1) ps))) (sym g)))
+    ∙ k base
+
+pub some-nodes : (p : Pat) → 1 ≤ pat_nodes p
+some-nodes (bind x) = omega arith
+some-nodes any = omega arith
+some-nodes (equals c) = omega arith
+some-nodes (refers x) = omega arith
+some-nodes (tuple ps) = omega arith
+
+-- the last element is taken off
+pub taken_off : {A : Type 0} (xs ys zs : List A) (v : A) → ys ≡ xs ++ v ∷ [] → zs ≡ take (length ys - 1) ys → zs ≡ xs
+taken_off xs ys zs v e h =
+    let z : length ys - 1 ≡ length xs = omega (arith, ap length e, length-append xs (v ∷ [])) in
+    h ∙ ap (λ n. take n ys) z ∙ ap (take (length xs)) e ∙ take_before (length xs) xs (v ∷ []) (omega arith) ∙ take_all xs
+
+pub ruleset entering = (scope_last, pat_of_row, pats_from, pats_past)

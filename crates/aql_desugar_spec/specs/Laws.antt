@@ -1,0 +1,85 @@
+-- What is claimed of the start term of a query.
+pub mod Arrays
+pub mod ClosedLaws
+pub mod Matching
+pub mod Meaning
+pub mod Nodes
+pub mod Positions
+pub mod Scopes
+pub mod Tabulations
+pub mod Turns
+pub mod TypedNodes
+pub mod TypedPositions
+pub mod Types
+pub mod Unions
+pub mod Weight
+pub mod WellFormedLaws
+use Rattle.std.specs.Prelude.{◌≡◌, ◌≤◌, ◌*◌, List, [], ◌∷◌, ◌++◌}
+use Rattle.aql_syntax.specs.Tree.{Tree, Declaration}
+use Rattle.aql_syntax.specs.Written.{IsWritten, DeclWritten}
+use Rattle.aql_syntax.specs.Denotation.{den}
+use Rattle.aql_syntax.specs.Work.{work}
+use Rattle.aql_syntax.specs.Script.{Earlier, globals_of}
+use Rattle.aql_syntax.specs.Sound.{declarations_of}
+use Rattle.aql_types.specs.Types.{Ty, natural, Sort, value, macro, IsType}
+use Rattle.aql_syntax.specs.Size.{size, extents_of}
+use Rattle.aql_syntax.specs.Typing.{Has, DeclHas, IsPrincipal, scope_of}
+use Rattle.nrca_term.specs.Term.{Closed, WellFormed, weight_of}
+use Rattle.nrca_term.specs.Meaning.{Outcomes, cden}
+use Rattle.nrca_term.specs.Turns.{settle}
+use Rattle.nrca_term.specs.Typing.{instances, ctyped}
+use Rattle.aql_desugar_spec.specs.Start.{start, knowns_of}
+
+-- the outcomes of declarations of which the latest is first, in order
+abbrev pub outcomes_of : Earlier → Outcomes
+outcomes_of [] = []
+outcomes_of ((d, o) ∷ earlier) = outcomes_of earlier ++ o ∷ []
+
+-- the start term is worth what the query denotes and undefined where that is, whatever outcomes later positions have
+abbrev pub StartMeans : Type 0
+StartMeans = (earlier : Earlier) (later : Outcomes) (e : Tree) →
+    cden (outcomes_of earlier ++ later) [] (start e (knowns_of (declarations_of earlier)) []) ≡ den e (globals_of earlier) []
+
+-- it takes the turns of the query as written
+abbrev pub StartTurns : Type 0
+StartTurns = (earlier : Earlier) (later : Outcomes) (e : Tree) →
+    settle (outcomes_of earlier ++ later) [] (start e (knowns_of (declarations_of earlier)) []) ≡ work e (globals_of earlier) []
+
+-- it has no free variable
+abbrev pub StartCloses : Type 0
+StartCloses = (earlier : List Declaration) (e : Tree) → Closed 0 (start e (knowns_of earlier) [])
+
+-- each part of its nodes has the variables that the node's form binds there
+abbrev pub StartIsWellFormed : Type 0
+StartIsWellFormed = (earlier : List Declaration) (e : Tree) → WellFormed (start e (knowns_of earlier) [])
+
+-- each declaration has some sort over those before it, the latest first
+abbrev pub EachHas : List Declaration → Type 0
+EachHas [] = Unit {0}
+EachHas (d ∷ earlier) = ((s : Sort) × DeclHas d (scope_of earlier) s) × EachHas earlier
+
+-- it weighs at most 64 times the expanded size, where the query has a type and the declarations before it have sorts
+abbrev pub StartWeighs : Type 0
+StartWeighs = (earlier : List Declaration) (e : Tree) (T : Ty) → EachHas earlier → Has e (scope_of earlier) [] T →
+    weight_of (start e (knowns_of earlier) []) ≤ 64 * size e (extents_of earlier)
+
+-- each declaration is written in the surface language and has its principal sort over those before it, the latest first
+abbrev pub EachPrincipal : List Declaration → List Sort → Type 0
+EachPrincipal [] sorts = sorts ≡ []
+EachPrincipal (d ∷ earlier) sorts =
+    (s : Sort) × (rest : List Sort) × (sorts ≡ s ∷ rest) × DeclWritten d × IsPrincipal d (scope_of earlier) s × EachPrincipal earlier rest
+
+-- the type of a value; a macro has none, and stands for a number
+abbrev pub value_type : Sort → Ty
+value_type (value t) = t
+value_type (macro s t) = natural
+
+-- the types of positions of which the latest is first, in order
+abbrev pub types_of : List Sort → List Ty
+types_of [] = []
+types_of (s ∷ earlier) = types_of earlier ++ value_type s ∷ []
+
+-- each type of the query that is one of the language is a type of its start term, over the principal types of the positions
+abbrev pub StartTyped : Type 0
+StartTyped = (earlier : List Declaration) (sorts : List Sort) (later : List Ty) (e : Tree) (T : Ty) → EachPrincipal earlier sorts → IsWritten e → IsType T →
+    Has e (scope_of earlier) [] T → ctyped (instances (types_of sorts ++ later)) [] (start e (knowns_of earlier) []) T

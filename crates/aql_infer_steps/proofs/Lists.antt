@@ -1,0 +1,128 @@
+-- The code's lists of types, one by one.
+use Rattle.std.proofs.Common.{ℕ, zero, suc, ◌≡◌, ◌+◌, ◌<◌, ◌≤◌, List, [], ◌∷◌, ◌++◌, Option, Some, None, refl, sym, ap, ◌∙◌, arith, length, drop, get_or, add-one}
+use Rattle.std.proofs.lemmas.List.{at_drop_all}
+use Rattle.std.proofs.Math.Seq.{drop-cons}
+use Rattle.aql_types.specs.Types as types
+use Rattle.aql_types.specs.Types.{Ty, Tys, Subst, no_type, type, natural, append, apply, apply_all, tys_of, index_type}
+use Rattle.aql_types.specs.View.{type_of, types_of}
+use Rattle.aql_types.specs.Laws.View.{types_last, types_from, append_assoc_types, append_none}
+use Rattle.aql_types.specs.declared.ty.Ty as code
+use Rattle.aql_syntax.specs.Typing.{field_type, field_types, record_type}
+use Rattle.aql_syntax.specs.declared.ast.Kind.{Kind}
+use Rattle.aql_infer_steps.specs.Constraints.{State, Made, after, equate, equate_each, literal_parts}
+use Rattle.aql_infer_steps.specs.View.{types_in}
+use Rattle.aql_infer_steps.specs.Rows.{numbers}
+
+pub length_types_in : (ts : List code.Ty) → length (types_in ts) ≡ length ts
+length_types_in [] = refl
+length_types_in (t ∷ ts) = ap suc (length_types_in ts)
+
+pub tys_of_types_in : (ts : List code.Ty) → tys_of (types_in ts) ≡ types_of ts
+tys_of_types_in [] = refl
+tys_of_types_in (t ∷ ts) = ap (type (type_of t)) (tys_of_types_in ts)
+
+pub types_in_from : (ts : List code.Ty) (i : ℕ) (d : code.Ty) → i < length ts →
+    types_in (drop i ts) ≡ type_of (get_or ts i d) ∷ types_in (drop (i + 1) ts)
+types_in_from ts i d h = rw (add-one, drop-cons ts i d h) refl
+
+pub types_in_past : (ts : List code.Ty) (i : ℕ) → length ts ≤ i → types_in (drop i ts) ≡ []
+types_in_past ts i h = at_drop_all types_in ts i h
+
+pub types_in_append : (a b : List code.Ty) → types_in (a ++ b) ≡ types_in a ++ types_in b
+types_in_append [] b = refl
+types_in_append (t ∷ a) b = ap (λ l. type_of t ∷ l) (types_in_append a b)
+
+pub ruleset types_in_steps = (types_in_from, types_in_past)
+
+pub ruleset tuple_steps = (length_types_in, tys_of_types_in)
+
+-- the dimensions of a literal array and then its cells
+pub literal_parts-append : (ds : List code.Ty) (cs : List Ty) (s : Ty) (n : State) →
+    literal_parts (length ds) s (types_in ds ++ cs) n ≡ after (equate_each (types_in ds) natural n) (λ _. equate_each cs s)
+unfolding after
+literal_parts-append [] cs s n = refl
+literal_parts-append (d ∷ ds) cs s n = go (equate (type_of d) natural n) (λ n. literal_parts-append ds cs s n)
+  where
+    go : (o : Option (Made (Unit {0}))) →
+        ((n : State) → literal_parts (length ds) s (types_in ds ++ cs) n ≡ after (equate_each (types_in ds) natural n) (λ _. equate_each cs s)) →
+        after o (λ _. literal_parts (length ds) s (types_in ds ++ cs)) ≡ after (after o (λ _. equate_each (types_in ds) natural)) (λ _. equate_each cs s)
+    go None h = refl
+    go (Some m) h = h m.state
+
+pub ruleset literal_parts_steps = (literal_parts-append)
+
+-- an index from rank 2 on
+pub index_row : (k : ℕ) → (k ≡ 1 → ⊥) → index_type k ≡ types.product (numbers k)
+index_row zero h = refl
+index_row (suc zero) h = absurd (h refl)
+index_row (suc (suc k)) h = refl
+
+pub ruleset index_steps = (index_row)
+
+pub numbers_more : (k : ℕ) → append (numbers k) (type natural no_type) ≡ numbers (k + 1)
+numbers_more zero = refl
+numbers_more (suc k) = ap (type natural) (numbers_more k) ∙ (let e : suc (k + 1) ≡ suc k + 1 = omega arith in ap numbers e)
+
+pub types_of_more : (ts : List code.Ty) → types_of (ts ++ code.Nat ∷ []) ≡ append (types_of ts) (type natural no_type)
+types_of_more [] = refl
+types_of_more (t ∷ ts) = ap (type (type_of t)) (types_of_more ts)
+
+pub ruleset naturals_steps = (numbers_more, types_of_more)
+
+-- The fields of a record.
+
+pub fields_from : (ks : List Kind) (i : ℕ) (d : Kind) → i < length ks →
+    field_types (drop i ks) ≡ type (field_type (get_or ks i d)) (field_types (drop (i + 1) ks))
+fields_from ks i d h = rw (add-one, drop-cons ks i d h) refl
+
+pub fields_past : (ks : List Kind) (i : ℕ) → length ks ≤ i → field_types (drop i ks) ≡ no_type
+fields_past ks i h = at_drop_all field_types ks i h
+
+pub ruleset fields_steps = (fields_from, fields_past, types_last, append_assoc_types, append_none)
+
+-- a record of another number of fields than one is a tuple
+pub record_row : (ks : List Kind) → (length ks ≡ 1 → ⊥) → record_type ks ≡ types.product (field_types ks)
+record_row [] h = refl
+record_row (k ∷ []) h = absurd (h refl)
+record_row (k ∷ l ∷ ks) h = refl
+
+pub record_one : (ks : List Kind) (d : Kind) → length ks ≡ 1 → record_type ks ≡ field_type (get_or ks 0 d)
+record_one [] d e = let bad : ⊥ = omega (arith, e) in absurd bad
+record_one (k ∷ []) d e = refl
+record_one (k ∷ l ∷ ks) d e = let bad : ⊥ = omega (arith, e) in absurd bad
+
+pub ruleset record_steps = (record_row, record_one)
+
+-- one type more under a substitution
+pub apply_more : (w : Subst) (made new : List code.Ty) (one d : code.Ty) (ts : List code.Ty) (i : ℕ) (all : Tys) → i < length ts → d ≡ get_or ts i d →
+    type_of one ≡ apply w (type_of d) → new ≡ made ++ one ∷ [] → append (types_of made) (apply_all w (types_of (drop i ts))) ≡ all →
+    append (types_of new) (apply_all w (types_of (drop (i + 1) ts))) ≡ all
+apply_more w made new one d ts i all h e f g total =
+    let rest : Tys = apply_all w (types_of (drop (i + 1) ts)) in
+    ap (λ (l : List code.Ty). append (types_of l) rest) g ∙ ap (λ (x : Tys). append x rest) (types_last made one)
+    ∙ append_assoc_types (types_of made) (type (type_of one) no_type) rest
+    ∙ ap (λ (y : Ty). append (types_of made) (type y rest)) (f ∙ ap (λ (d : code.Ty). apply w (type_of d)) e)
+    ∙ sym (ap (λ (l : Tys). append (types_of made) (apply_all w l)) (types_from ts i d h)) ∙ total
+
+-- one of some types more that is to become that one
+pub equate_more : (ts : List code.Ty) (i : ℕ) (d : code.Ty) (t : Ty) (n m : State) (all : Option (Made (Unit {0}))) → i < length ts → d ≡ get_or ts i d →
+    equate (type_of d) t n ≡ Some (record { result = tt; state = m }) → equate_each (types_in (drop i ts)) t n ≡ all →
+    equate_each (types_in (drop (i + 1) ts)) t m ≡ all
+unfolding after
+equate_more ts i d t n m all h e k total =
+    let rest : List Ty = types_in (drop (i + 1) ts) in
+    sym (ap (λ (o : Option (Made (Unit {0}))). after o (λ _. equate_each rest t)) k)
+    ∙ sym (ap (λ (l : List Ty). equate_each l t n) (types_in_from ts i d h ∙ ap (λ (d : code.Ty). type_of d ∷ rest) (sym e))) ∙ total
+
+pub naturals_more : (made new : List code.Ty) (k : ℕ) → types_of made ≡ numbers k → new ≡ made ++ code.Nat ∷ [] → types_of new ≡ numbers (k + 1)
+naturals_more made new k e f = ap types_of f ∙ types_of_more made ∙ ap (λ (l : Tys). append l (type natural no_type)) e ∙ numbers_more k
+
+-- one field more
+pub fields_more : (made new : List code.Ty) (one : code.Ty) (ks : List Kind) (i : ℕ) (d : Kind) (all : Tys) → i < length ks →
+    type_of one ≡ field_type (get_or ks i d) → new ≡ made ++ one ∷ [] → append (types_of made) (field_types (drop i ks)) ≡ all →
+    append (types_of new) (field_types (drop (i + 1) ks)) ≡ all
+fields_more made new one ks i d all h e f total =
+    let rest : Tys = field_types (drop (i + 1) ks) in
+    ap (λ (l : List code.Ty). append (types_of l) rest) f ∙ ap (λ (x : Tys). append x rest) (types_last made one)
+    ∙ append_assoc_types (types_of made) (type (type_of one) no_type) rest ∙ ap (λ (y : Ty). append (types_of made) (type y rest)) e
+    ∙ sym (ap (λ (l : Tys). append (types_of made) l) (fields_from ks i d h)) ∙ total

@@ -1,0 +1,10 @@
+use Rattle.std.proofs.Common.{◌≡◌, length}
+use Rattle.aql_syntax.specs.Names.{find}
+use Rattle.aql_infer_steps.specs.View.{schemes_of}
+use Rattle.aql_infer_steps.proofs.names.find_position.Given as goal
+
+abbrev pub invariant-loop-last : goal.invariant-loop-last
+invariant-loop-last l = find l.x (schemes_of l.rest) ≡ find l.x (schemes_of l.positions)
+
+abbrev pub decreases-loop-last : goal.decreases-loop-last
+decreases-loop-last l = length l.rest

@@ -1,0 +1,8 @@
+-- The laws of this crate: what follows from its definitions.
+pub mod Complete
+pub mod Describes
+pub mod Numbering
+pub mod Operations
+pub mod Principal
+pub mod Sound
+pub mod Steps

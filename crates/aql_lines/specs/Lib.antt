@@ -1,4 +1,0 @@
-pub mod Sample
-pub mod Entry
-pub mod Lines
-pub mod Writing

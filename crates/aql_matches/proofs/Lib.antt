@@ -1,6 +1,0 @@
-pub mod Making
-pub mod Scoping
-pub mod Finding
-pub mod Wrapping
-pub mod Uniting
-pub mod Looping

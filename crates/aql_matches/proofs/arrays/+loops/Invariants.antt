@@ -1,5 +1,0 @@
-use Rattle.std.proofs.Common.{◌-◌}
-use Rattle.aql_matches.proofs.arrays.+loops.Given as goal
-
-abbrev pub decreases-loops : goal.decreases-loops
-decreases-loops l = l.rank - l.j

@@ -1,4 +1,0 @@
-pub mod Knowns
-pub mod Names
-pub mod Parts
-pub mod Scopes

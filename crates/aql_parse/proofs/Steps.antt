@@ -1,0 +1,82 @@
+-- The functions on lists, a turn at a time, and how many stand in a list.
+use Rattle.std.proofs.Common.{ℕ, zero, suc, ◌≡◌, ◌≢◌, length, ◌<◌, ◌≤◌, ◌+◌, ◌-◌, List, [], ◌∷◌, Some, None, refl, ap, arith, sub-one}
+use Rattle.aql_value.specs.Strict.{Strict}
+use Rattle.aql_syntax.specs.Lexis.{Lexeme}
+use Rattle.aql_syntax.specs.declared.ast.Expr.{Expr}
+use Rattle.aql_syntax.specs.declared.ast.Pattern.{Pattern}
+use Rattle.aql_syntax.specs.Tree.{Tree, Pat, Pats, no_pat, tuple, op, count_trees}
+use Rattle.aql_syntax.specs.Nodes.{joined_of}
+use Rattle.aql_syntax.specs.declared.nodes.Operator.{Operator}
+use Rattle.aql_syntax.specs.declared.nodes.Operator.TheVariants as operators
+use Rattle.aql_syntax.specs.View.{pats_of, tree_of, trees_of}
+use Rattle.aql_value.specs.Partial.{◌>>=◌}
+use Rattle.aql_parse_spec.specs.Parsing.{Out, pat_at, pat_in, pats_at, pats_rest, enclosed_pats, enclosed, joined_by}
+use Rattle.aql_parse.specs.Forms.{joiner_of}
+use Rattle.aql_parse.specs.Parts.{few_of, one_of}
+use Rattle.aql_parse.specs.Laws.Short.{short_ok, short_long}
+use Rattle.aql_parse.specs.Words.{with_pats}
+
+-- an operator makes what the grammar has it make
+pub joined_is : (o : Operator) (a b : Tree) → joined_of o a b ≡ joined_by (joiner_of o) a b
+joined_is (operators.Arith o) a b = refl
+joined_is operators.Union a b = refl
+joined_is (operators.Compare o) a b = refl
+joined_is operators.And a b = refl
+joined_is operators.Or a b = refl
+
+pub pat_at_above : (n : ℕ) (s : List Lexeme) → 0 < n → pat_at n s ≡ pat_in (pat_at (n - 1)) (n - 1) s
+unfolding pat_at
+pat_at_above zero s l = absurd (omega arith)
+pat_at_above (suc n) s l = rw sub-one refl
+
+pub pat_at_none : (n : ℕ) (s : List Lexeme) → n ≡ 0 → pat_at n s ≡ None
+unfolding pat_at
+pat_at_none zero s e = refl
+pat_at_none (suc n) s e = cc
+
+pub pats_at_turn : (q : List Lexeme → Out Pat) (d i : ℕ) (s : List Lexeme) → i < d →
+    pats_at q (d - i) s ≡ (q s >>= λ x. pats_rest (pats_at q (d - (i + 1))) x.0 x.1)
+unfolding pats_at
+pats_at_turn q d i s l = let e : d - i ≡ suc (d - (i + 1)) = omega arith in rw e refl
+
+pub pats_at_end : (q : List Lexeme → Out Pat) (d i : ℕ) (s : List Lexeme) → d ≤ i → pats_at q (d - i) s ≡ None
+unfolding pats_at
+pats_at_end q d i s l = let e : d - i ≡ zero = omega arith in rw e refl
+
+pub with_no_pats : (o : Out Pats) → with_pats no_pat o ≡ o
+with_no_pats None = refl
+with_no_pats (Some x) = refl
+
+-- other than one in parentheses make a tuple
+pub enclosed_pats_many : (xs : List Pattern) → length xs ≢ 1 → enclosed_pats (pats_of xs) ≡ tuple (pats_of xs)
+enclosed_pats_many [] h = refl
+enclosed_pats_many (x ∷ []) h = absurd (h refl)
+enclosed_pats_many (x ∷ y ∷ xs) h = refl
+
+pub enclosed_many : (xs : List Expr) → length xs ≢ 1 → enclosed (trees_of xs) ≡ op Strict.tuple (trees_of xs)
+enclosed_many [] h = refl
+enclosed_many (x ∷ []) h = absurd (h refl)
+enclosed_many (x ∷ y ∷ xs) h = refl
+
+-- a list of expressions has as many as its trees
+pub count_trees_of : (xs : List Expr) → count_trees (trees_of xs) ≡ length xs
+count_trees_of [] = refl
+count_trees_of (x ∷ xs) = ap suc (count_trees_of xs)
+
+pub few_ok : (xs : List Expr) → length xs ≤ 8 → few_of (trees_of xs) ≡ Some (trees_of xs)
+unfolding few_of
+few_ok xs l = short_ok (count_trees (trees_of xs)) (trees_of xs) (rw (count_trees_of xs) l)
+
+pub few_long : (xs : List Expr) → 8 < length xs → few_of (trees_of xs) ≡ None
+unfolding few_of
+few_long xs l = short_long (count_trees (trees_of xs)) (trees_of xs) (rw (count_trees_of xs) l)
+
+pub not_one : (xs : List Expr) → length xs ≢ 1 → one_of (trees_of xs) ≡ None
+unfolding one_of
+not_one [] h = refl
+not_one (x ∷ []) h = absurd (h refl)
+not_one (x ∷ y ∷ xs) h = refl
+
+pub the_one : (x : Expr) → one_of (trees_of (x ∷ [])) ≡ Some (tree_of x)
+unfolding one_of
+the_one x = refl

@@ -1,0 +1,5 @@
+pub mod SignNumbers
+pub mod Parsing
+pub mod Stops
+pub mod Scripts
+pub mod Laws

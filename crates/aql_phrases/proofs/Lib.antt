@@ -1,4 +1,0 @@
-mod Strings
-pub mod Steps
-pub mod Loops
-mod Fields

@@ -1,5 +1,0 @@
-pub mod Words
-pub mod Forms
-pub mod Parts
-pub mod Short
-pub mod Fields

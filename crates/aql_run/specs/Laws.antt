@@ -1,0 +1,4 @@
+-- The laws of this crate: what follows from its definitions.
+pub mod Answered
+pub mod Codes
+pub mod Examples

@@ -1,0 +1,136 @@
+//! The lines of a declaration.
+ghost use Rattle.std.specs.Prelude.{◌≡◌, ◌++◌, codes, IfOk, OnOk};
+ghost use Rattle.aql_run.specs.Entry.{entry, lent, line, type_line, value_line, plan_line, plan_lines, rules_line, turns_line, outcome_text};
+
+use aql_print::{print_core, print_held, print_scheme, print_trace};
+use aql_session::{Answer, Ran};
+use aql_value::Memory;
+use itoa::Buffer;
+use nrca_array::Held;
+use std::alloc::Global;
+
+/// The lines of a declaration: its type, its value or that it is a macro, and with `plan` its plan,
+/// the rules that made it and its turns.
+pub fn entry_text(
+    alloc: Global,
+    plan: bool,
+    answer: &Answer,
+    outcome: Option<&Held>,
+) -> Result<Vec<u8>, Memory>
+    ensures { IfOk result (λ text. text.items ≡ entry plan answer.now (lent outcome.entry)) }
+{
+    let mut text = Vec::new(alloc);
+    push_type(alloc, answer, &mut text)?;
+    push_value(alloc, answer, outcome, &mut text)?;
+    if plan {
+        push_plan(alloc, answer, &mut text)?;
+    }
+    Ok(text)
+}
+
+fn push_type(alloc: Global, answer: &Answer, text: &mut Vec<u8>) -> Result<(), Memory>
+    ensures { OnOk result (text.new.items ≡ text.old.items ++ type_line answer.now) }
+{
+    text.extend_from_slice(b"typ ")?;
+    text.extend_from_slice(&answer.name.bytes)?;
+    text.extend_from_slice(b" : ")?;
+    print_scheme(alloc, &answer.ty, text)?;
+    text.extend_from_slice(b"\n")?;
+    Ok(())
+}
+
+fn push_value(
+    alloc: Global,
+    answer: &Answer,
+    outcome: Option<&Held>,
+    text: &mut Vec<u8>,
+) -> Result<(), Memory>
+    ensures { OnOk result (text.new.items ≡ text.old.items
+        ++ value_line answer.now.by answer.now.name (lent outcome.entry)) }
+{
+    match answer.by {
+        Ran::Declared => {
+            text.extend_from_slice(b"mac ")?;
+            text.extend_from_slice(&answer.name.bytes)?;
+            text.extend_from_slice(b"\n")?;
+        }
+        Ran::Plan => push_outcome(alloc, &answer.name.bytes, outcome, text)?,
+        Ran::Start => push_outcome(alloc, &answer.name.bytes, outcome, text)?,
+        Ran::Read => push_outcome(alloc, &answer.name.bytes, outcome, text)?,
+    }
+    Ok(())
+}
+
+fn push_outcome(
+    alloc: Global,
+    name: &[u8],
+    outcome: Option<&Held>,
+    text: &mut Vec<u8>,
+) -> Result<(), Memory>
+    ensures { OnOk result (text.new.items ≡ text.old.items
+        ++ line (codes "val ") name.now (codes " = ") (outcome_text (lent outcome.entry))) }
+{
+    text.extend_from_slice(b"val ")?;
+    text.extend_from_slice(name)?;
+    text.extend_from_slice(b" = ")?;
+    match outcome {
+        Some(value) => print_held(alloc, value, text)?,
+        None => text.extend_from_slice(b"undefined")?,
+    }
+    text.extend_from_slice(b"\n")?;
+    Ok(())
+}
+
+fn push_plan(alloc: Global, answer: &Answer, text: &mut Vec<u8>) -> Result<(), Memory>
+    ensures { OnOk result (text.new.items ≡ text.old.items
+        ++ plan_lines answer.now.by answer.now) }
+{
+    match answer.by {
+        Ran::Declared => Ok(()),
+        Ran::Plan => push_plan_lines(alloc, answer, text),
+        Ran::Start => push_plan_lines(alloc, answer, text),
+        Ran::Read => push_plan_lines(alloc, answer, text),
+    }
+}
+
+fn push_plan_lines(alloc: Global, answer: &Answer, text: &mut Vec<u8>) -> Result<(), Memory>
+    ensures { OnOk result (text.new.items ≡ text.old.items ++ plan_lines Ran.Plan answer.now) }
+{
+    push_term(alloc, answer, text)?;
+    push_rules(alloc, answer, text)?;
+    push_turns(answer, text)
+}
+
+fn push_term(alloc: Global, answer: &Answer, text: &mut Vec<u8>) -> Result<(), Memory>
+    ensures { OnOk result (text.new.items ≡ text.old.items ++ plan_line answer.now) }
+{
+    text.extend_from_slice(b"plan ")?;
+    text.extend_from_slice(&answer.name.bytes)?;
+    text.extend_from_slice(b" = ")?;
+    print_core(alloc, &answer.plan, text)?;
+    text.extend_from_slice(b"\n")?;
+    Ok(())
+}
+
+fn push_rules(alloc: Global, answer: &Answer, text: &mut Vec<u8>) -> Result<(), Memory>
+    ensures { OnOk result (text.new.items ≡ text.old.items ++ rules_line answer.now) }
+{
+    text.extend_from_slice(b"rules ")?;
+    text.extend_from_slice(&answer.name.bytes)?;
+    text.extend_from_slice(b" = ")?;
+    print_trace(alloc, &answer.trace, text)?;
+    text.extend_from_slice(b"\n")?;
+    Ok(())
+}
+
+fn push_turns(answer: &Answer, text: &mut Vec<u8>) -> Result<(), Memory>
+    ensures { OnOk result (text.new.items ≡ text.old.items ++ turns_line answer.now) }
+{
+    text.extend_from_slice(b"turns ")?;
+    text.extend_from_slice(&answer.name.bytes)?;
+    text.extend_from_slice(b" = ")?;
+    let mut buffer = Buffer::new();
+    text.extend_from_slice(buffer.format(answer.turns).as_bytes())?;
+    text.extend_from_slice(b"\n")?;
+    Ok(())
+}

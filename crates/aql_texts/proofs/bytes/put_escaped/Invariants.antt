@@ -1,8 +1,0 @@
-use Rattle.std.proofs.Common.{◌≡◌, ◌++◌, take}
-use Rattle.std.specs.List.{flat_map}
-use Rattle.aql_texts.specs.ValueText.{byte_text}
-use Rattle.aql_texts.proofs.bytes.put_escaped.Given as goal
-
--- the bytes so far are written
-abbrev pub invariant-loop-b : goal.invariant-loop-b
-invariant-loop-b l = l.out.items ≡ l.initial.out.items ++ flat_map byte_text (take l.b-index l.bytes)

@@ -1,7 +1,0 @@
-use Rattle.std.proofs.Common.{◌≡◌, ◌++◌, map, take, codes, decimal}
-use Rattle.aql_texts.specs.Joined.{separated}
-use Rattle.aql_texts.proofs.value.put_dims.Given as goal
-
--- the dimensions so far are written
-abbrev pub invariant-loop-i : goal.invariant-loop-i
-invariant-loop-i l = l.out.items ≡ l.initial.out.items ++ separated (codes ",") (take l.i (map decimal l.dims))

@@ -1,5 +1,0 @@
-pub mod Joined
-pub mod ValueText
-pub mod Names
-pub mod Appends
-pub mod PrefixLaws

@@ -1,0 +1,183 @@
+//! Small files byte by byte, and devices that fail or give few bytes.
+
+ghost use Rattle.std.specs.Prelude.{◌≡◌, IfOk};
+
+use aql_outside::{Failed, Files, MemFiles, SureFiles};
+use aql_value::made::both;
+use aql_value::{Index, Memory, Str};
+use cdf_header::{CdfFault, Header, read_header};
+use std::alloc::Global;
+use std::collections::BTreeMap;
+
+/// One variable `v` of shorts over the record dimension `x` and `y` of length 3, with two records.
+pub const ONE_RECORD_VARIABLE: [u32; 27] = [
+    0x43444601, 2, 0xa, 2, 1, 0x78000000, 0, 1, 0x79000000, 3, 0, 0, 0xb, 1, 1, 0x76000000, 2, 0,
+    1, 0, 0, 3, 8, 0x60, 0x00010002, 0x00030004, 0x00050006,
+];
+
+/// A record variable `v` of shorts, with three in a record, and one `w` of single bytes.
+pub const TWO_RECORD_VARIABLES: [u32; 39] = [
+    0x43444601, 2, 0xa, 2, 1, 0x78000000, 0, 1, 0x79000000, 3, 0, 0, 0xb, 2, 1, 0x76000000, 2, 0,
+    1, 0, 0, 3, 8, 0x84, 1, 0x77000000, 1, 0, 0, 0, 1, 4, 0x8c, 0x00010002, 0x00030000, 0xff000000,
+    0x00040005, 0x00060000, 0x02000000,
+];
+
+/// Times, latitudes and longitudes, and temperatures over all three with an attribute.
+pub const TEMPERATURES: [u32; 87] = [
+    0x43444601, 4, 0xa, 3, 4, 0x74696d65, 0, 3, 0x6c617400, 2, 3, 0x6c6f6e00, 3, 0, 0, 0xb, 4, 4,
+    0x74696d65, 1, 0, 0, 0, 6, 8, 0x10c, 3, 0x6c617400, 1, 1, 0, 0, 5, 8, 0xf8, 3, 0x6c6f6e00, 1,
+    2, 0, 0, 5, 0xc, 0x100, 4, 0x74656d70, 3, 0, 1, 2, 0xc, 1, 0xc, 0x7363616c, 0x655f6661,
+    0x63746f72, 5, 1, 0x3f000000, 3, 0xc, 0x114, 0x41200000, 0x41a00000, 0, 0x3f800000, 0x40000000,
+    0, 0, 0x50006, 0x70008, 0x9000a, 0x3ff00000, 0, 0x10002, 0x30004, 0x50006, 0x40000000, 0,
+    0x3fffe, 1, 0x10001, 0x40080000, 0, 0x40004, 0x40004, 0x40004,
+];
+
+/// A variable `u` of three unsigned numbers of 64 bits, in version 5.
+pub const VERSION_5: [u32; 38] = [
+    0x43444605, 0, 0, 0xa, 0, 1, 0, 1, 0x78000000, 0, 3, 0, 0, 0, 0xb, 0, 1, 0, 1, 0x75000000, 0,
+    1, 0, 0, 0, 0, 0, 0xb, 0, 0x18, 0, 0x80, 0, 1, 0xffffffff, 0xffffffff, 0, 7,
+];
+
+/// The words, each with its greatest byte first.
+pub fn bytes_of(alloc: Global, words: &[u32]) -> Result<Vec<u8>, Memory> {
+    let mut bytes = Vec::new(alloc);
+    for word in words {
+        bytes.extend_from_slice(&word.to_be_bytes())?;
+    }
+    Ok(bytes)
+}
+
+fn changed_words(
+    alloc: Global,
+    words: &[u32],
+    changes: &[(usize, u32)],
+) -> Result<Vec<u32>, Memory> {
+    let mut all = Vec::from_slice(alloc, words)?;
+    for (at, word) in changes {
+        if *at < all.len() {
+            all[*at] = *word;
+        }
+    }
+    Ok(all)
+}
+
+/// The first bytes, as many as the size says, of the words, of which some are changed.
+pub fn changed(
+    alloc: Global,
+    words: &[u32],
+    changes: &[(usize, u32)],
+    size: usize,
+) -> Result<Vec<u8>, Memory> {
+    let words = changed_words(alloc, words, changes)?;
+    let mut bytes = bytes_of(alloc, &words)?;
+    bytes.truncate(size);
+    Ok(bytes)
+}
+
+pub fn name_of(alloc: Global, text: &[u8]) -> Result<Str, Memory> {
+    Ok(Str {
+        bytes: Vec::from_slice(alloc, text)?,
+    })
+}
+
+pub fn index_of(alloc: Global, at: &[u128]) -> Result<Index, Memory>
+    ensures { IfOk result (λ i. i.items ≡ at.now) }
+{
+    Ok(Index::from_slice(alloc, at)?)
+}
+
+fn string_of(alloc: Global, text: &str) -> Result<String, Memory> {
+    Ok(String::from_str(alloc, text)?)
+}
+
+// A folder with the one file `s`.
+fn folder(
+    alloc: Global,
+    bytes: Result<Vec<u8>, Memory>,
+) -> Result<BTreeMap<String, Vec<u8>>, Memory> {
+    let (name, bytes) = both(string_of(alloc, "s"), bytes)?;
+    let mut content = BTreeMap::new(alloc);
+    content.insert(name, bytes)?;
+    Ok(content)
+}
+
+/// The one file `s` with these bytes.
+pub fn sure(alloc: Global, bytes: Result<Vec<u8>, Memory>) -> Result<SureFiles, Memory> {
+    Ok(SureFiles::new(folder(alloc, bytes)?))
+}
+
+/// The same, where one call fails.
+pub fn failing(
+    alloc: Global,
+    bytes: Result<Vec<u8>, Memory>,
+    fails: u64,
+) -> Result<MemFiles, Memory> {
+    let fails = vec![in alloc; fails]?;
+    Ok(MemFiles::new(folder(alloc, bytes)?, fails))
+}
+
+/// The same, where a read gives at most so many bytes.
+pub fn few_bytes(
+    alloc: Global,
+    bytes: Result<Vec<u8>, Memory>,
+    most: usize,
+) -> Result<FewBytes, Memory> {
+    Ok(FewBytes {
+        files: sure(alloc, bytes)?,
+        most,
+        furthest: 0,
+    })
+}
+
+/// A file whose reads give at most so many bytes, which tells none, and the furthest byte that was
+/// asked for.
+#[derive(Drop)]
+pub struct FewBytes {
+    files: SureFiles,
+    most: usize,
+    furthest: u64,
+}
+
+impl FewBytes {
+    pub fn furthest(&self) -> u64 {
+        self.furthest
+    }
+}
+
+impl Files for FewBytes {
+    ghost use Rattle.std.specs.Prelude.{None};
+    ghost use Rattle.std.proofs.Common.{arith};
+
+    ghost holds = { λ _. None };
+
+    ghost faults = { λ _. 0 };
+
+    ghost counted = { λ _. Prim.omega arith };
+
+    fn size(&mut self, name: &str) -> Result<Option<u64>, Failed> {
+        self.files.size(name)
+    }
+
+    fn read_at(&mut self, name: &str, at: u64, into: &mut [u8]) -> Result<usize, Failed> {
+        let to = at.saturating_add(into.len() as u64);
+        self.furthest = self.furthest.max(to);
+        let room = into.len().min(self.most);
+        self.files.read_at(name, at, &mut into[..room])
+    }
+}
+
+/// The header of a file, read over these files.
+pub fn header_over<F: Files>(
+    alloc: Global,
+    files: &mut F,
+    name: &[u8],
+) -> Result<Header, CdfFault> {
+    let name = name_of(alloc, name)?;
+    read_header(alloc, files, &name)
+}
+
+/// The header of the file with these bytes.
+pub fn header_of(alloc: Global, bytes: Result<Vec<u8>, Memory>) -> Result<Header, CdfFault> {
+    let mut files = sure(alloc, bytes)?;
+    header_over(alloc, &mut files, b"s")
+}

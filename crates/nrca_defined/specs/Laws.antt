@@ -1,0 +1,3 @@
+-- The laws of this crate: what follows from its definitions.
+pub mod Defined
+pub mod Walk

@@ -1,0 +1,395 @@
+-- The arms of the cycle.
+use Rattle.std.proofs.Common.{◌≡◌, ◌<◌, ◌∷◌, ◌++◌, [], length, Some, ℕ, List, drop, sym, ap, ◌∙◌, arith}
+use Rattle.std.specs.Option.{option_map}
+use Rattle.std.specs.Prelude.{slice_get}
+use Rattle.std.proofs.lemmas.Option.{slice_get_within}
+use Rattle.aql_value.specs.Datum.{Datum, natural, set, data_of}
+use Rattle.aql_value.specs.Indices.{product, indices}
+use Rattle.aql_value.specs.Operations.{walked}
+use Rattle.aql_value.specs.Partial.{each, total}
+use Rattle.aql_value.specs.Strict.{strict_turns}
+use Rattle.nrca_array.specs.Held.{held_datum}
+use Rattle.nrca_term.specs.Laws.Equations.{term_of-BigUnion, term_of-Sum, term_of-Sub, term_of-Tab}
+use Rattle.nrca_term.specs.Meaning.{cden}
+use Rattle.nrca_term.specs.Laws.Measure.{weight_of-child}
+use Rattle.nrca_term.specs.Nodes.{big_union_term, sum_term}
+use Rattle.nrca_term.specs.Term.{form_of, parts_of, weight_of}
+use Rattle.nrca_term.specs.Turns.{settle}
+use Rattle.nrca_term.specs.Laws.Variants.{settle-tab}
+use Rattle.nrca_term.specs.View.{term_of, terms_of}
+use Rattle.nrca_term.specs.Laws.WellFormed.{well_formed-Core}
+use Rattle.nrca_loops.specs.Parts.{numbers_in, parts_value, strict_of, strict_in, table_in}
+use Rattle.nrca_loops.specs.Laws.Run.{range_whole, each-range_more, total-range_more, sum_value-with, all_members-with}
+use Rattle.nrca_loops.specs.Runs.{member_list, members_value, members_with, list_with, all_members, sum_value, sum_with, union_value}
+use Rattle.nrca_loops.specs.Scope.{values, boxed_value}
+use Rattle.nrca_loops.specs.Within.{itself}
+use Rattle.nrca_loops.specs.Laws.Within.{err_within, same_within}
+use Rattle.nrca_eval.specs.Laws.Form.{count-children, child_of-children, strict_whole, strict_taken, sum_whole, sum_taken, union_whole, union_taken, tab_none, tab_whole, tab_idle, tab_taken}
+use Rattle.nrca_eval.specs.Parts.{children}
+use Rattle.nrca_eval.specs.Runs.{run_values, run_turns, cell_values, cell_turns}
+use Rattle.nrca_eval.proofs.Evaluated.{at_answer, at_fault, term_at, member_weight, tab_weight, strict_form, spent_within, spent_whole, written}
+use Rattle.nrca_eval.proofs.Lent.{sub_weight, sub_lent, sub_free}
+use Rattle.nrca_eval.proofs.serial.+serial.Goals as goal
+use Rattle.nrca_term.specs.Laws.Entering.{child-there}
+
+pub node-eval_tab-requires : goal.node-eval_tab-requires
+node-eval_tab-requires t c =
+    let w = ap (λ x. weight_of (term_of x)) c.in-Tab.is ∙ ap weight_of (term_of-Tab c.in-Tab.bounds c.in-Tab.body) in
+    (omega (arith, c.decreases, w, tab_weight (terms_of c.in-Tab.bounds) (term_of c.in-Tab.body.value), ap (λ x. weight_of (term_of x)) c.deref-in-Tab.ensures), tt)
+
+pub node-returns-in-BigUnion : goal.node-returns-in-BigUnion
+node-returns-in-BigUnion t c =
+    let whole = ap term_of c.in-BigUnion.is ∙ term_of-BigUnion c.in-BigUnion.over c.in-BigUnion.body ∙ (λ k. big_union_term (term_of (sym c.deref-in-BigUnion.ensures k)) (term_of (sym c.deref-in-BigUnion-2.ensures k))) in
+    same_within boxed_value c.eval_union.result c.args.budget _ _ _ _ (ap (cden c.args.globals.now (values c.args.env.now)) (sym whole)) (ap (settle c.args.globals.now (values c.args.env.now)) (sym whole)) c.eval_union.ensures
+
+pub node-returns-in-Sum : goal.node-returns-in-Sum
+node-returns-in-Sum t c =
+    let whole = ap term_of c.in-Sum.is ∙ term_of-Sum c.in-Sum.over c.in-Sum.body ∙ (λ k. sum_term (term_of (sym c.deref-in-Sum.ensures k)) (term_of (sym c.deref-in-Sum-2.ensures k))) in
+    same_within boxed_value c.eval_sum.result c.args.budget _ _ _ _ (ap (cden c.args.globals.now (values c.args.env.now)) (sym whole)) (ap (settle c.args.globals.now (values c.args.env.now)) (sym whole)) c.eval_sum.ensures
+
+pub node-eval_cell-requires : goal.node-eval_cell-requires
+node-eval_cell-requires t c =
+    let w = ap (λ x. weight_of (term_of x)) c.in-Sub.is ∙ ap weight_of (term_of-Sub c.in-Sub.array c.in-Sub.at) in
+    (omega (arith, c.decreases, w, sub_weight (term_of c.in-Sub.array.value) (terms_of c.in-Sub.at)), tt)
+
+pub node-returns-in-Some : goal.node-returns-in-Some
+node-returns-in-Some t c =
+    let V = c.args.globals.now in
+    let vals = values c.args.env.now in
+    let a = term_of c.in-Sub.array.value in
+    let ts = terms_of c.in-Sub.at in
+    let v = held_datum c.in-Some.array.now in
+    let whole = ap term_of c.in-Sub.is ∙ term_of-Sub c.in-Sub.array c.in-Sub.at in
+    let same = ap term_of c.deref-in-Sub.ensures in
+    let holds : cden V vals a ≡ Some v = ap (cden V vals) (sym same) ∙ c.in-Some.ensures.value in
+    let free : settle V vals a ≡ 0 = ap (settle V vals) (sym same) ∙ c.in-Some.ensures.turns in
+    same_within boxed_value c.eval_cell.result c.args.budget _ _ _ _
+    (sym (ap (cden V vals) whole ∙ sub_lent V vals a v holds free ts)) (sym (ap (settle V vals) whole ∙ sub_free V vals a v holds free ts)) c.eval_cell.ensures
+
+pub eval_all-node-requires : goal.eval_all-node-requires
+eval_all-node-requires t c =
+    (omega (arith, c.decreases, member_weight c.deref-term-items.result.now c.args.terms.now.0.items c.loop-term.term-index c.term-item.result c.deref-term-items.ensures.value (omega arith) c.term-item.is), tt)
+
+pub eval_all-returns-in_err-done : goal.eval_all-returns-in_err-done
+eval_all-returns-in_err-done t c =
+    let V = c.args.globals.now in
+    let vals = values c.args.env.now in
+    let inv = c.loop-term.invariant in
+    let at = term_at c.deref-term-items.result.now c.args.terms.now.0.items c.loop-term.term-index c.term-item.result c.deref-term-items.ensures.value (omega arith) c.term-item.is in
+    let high : c.loop-term.term-index < length (terms_of c.args.terms.now) = slice_get_within (terms_of c.args.terms.now) c.loop-term.term-index (term_of c.term-item.result) at in
+    err_within parts_value _ _ _ _ c.in_err-done.field-0.0 c.from_residual.ensures.0 c.from_residual.ensures.1
+    (λ s. spent_whole (settle V vals) (terms_of c.args.terms.now) c.loop-term.term-index (term_of c.term-item.result) c.args.budget c.loop-term.turns high at inv.1 inv.2 (c.in_err-done.ensures s))
+
+pub eval_all-loop-term-preserved : goal.eval_all-loop-term-preserved
+eval_all-loop-term-preserved t c =
+    let f = cden c.args.globals.now (values c.args.env.now) in
+    let g = settle c.args.globals.now (values c.args.env.now) in
+    let inv = c.loop-term.invariant in
+    let done = c.in_ok-done.ensures in
+    let at = term_at c.deref-term-items.result.now c.args.terms.now.0.items c.loop-term.term-index c.term-item.result c.deref-term-items.ensures.value (omega arith) c.term-item.is in (
+      c.in_ok-parts.ensures ∙ (λ k. list_with (inv.0 k) (done.0 k)) ∙ sym (each-range_more f g (terms_of c.args.terms.now) 0 c.loop-term.term-index (term_of c.term-item.result) (omega arith) at),
+      omega (arith, total-range_more f g (terms_of c.args.terms.now) 0 c.loop-term.term-index (term_of c.term-item.result) (omega arith) at, inv.1, done.1),
+      omega (arith, inv.2, done.1, done.2),
+    )
+
+pub eval_parts-node-requires : goal.eval_parts-node-requires
+eval_parts-node-requires t c =
+    (omega (arith, c.decreases, weight_of-child (term_of c.args.term.now) c.loop-i.i (term_of c.in-Some.part.now) (sym c.in-Some.ensures)), tt)
+
+pub eval_parts-unreachable-requires : goal.eval_parts-unreachable-requires
+eval_parts-unreachable-requires t c =
+    child-there (parts_of (term_of c.args.term.now)) c.loop-i.i (omega (arith, c.parts-i-end.ensures)) c.in-None.ensures
+
+pub eval_parts-returns-in_err-done-in-Some : goal.eval_parts-returns-in_err-done-in-Some
+eval_parts-returns-in_err-done-in-Some t c =
+    let V = c.args.globals.now in
+    let vals = values c.args.env.now in
+    let inv = c.loop-i.invariant in
+    let ts = children (parts_of (term_of c.args.term.now)) in
+    let at : slice_get ts c.loop-i.i ≡ Some (term_of c.in-Some.part.now) = sym (child_of-children (parts_of (term_of c.args.term.now)) c.loop-i.i) ∙ sym c.in-Some.ensures in
+    err_within parts_value _ _ _ _ c.in_err-done-in-Some.field-0.0 c.from_residual.ensures.0 c.from_residual.ensures.1
+    (λ s. spent_whole (settle V vals) ts c.loop-i.i (term_of c.in-Some.part.now) c.args.budget c.loop-i.turns (slice_get_within ts c.loop-i.i (term_of c.in-Some.part.now) at) at inv.1 inv.2 (c.in_err-done-in-Some.ensures s))
+
+pub eval_parts-loop-i-preserved : goal.eval_parts-loop-i-preserved
+eval_parts-loop-i-preserved t c =
+    let f = cden c.args.globals.now (values c.args.env.now) in
+    let g = settle c.args.globals.now (values c.args.env.now) in
+    let inv = c.loop-i.invariant in
+    let done = c.in_ok-done-in-Some.ensures in
+    let ts = children (parts_of (term_of c.args.term.now)) in
+    let at : slice_get ts c.loop-i.i ≡ Some (term_of c.in-Some.part.now) = sym (child_of-children (parts_of (term_of c.args.term.now)) c.loop-i.i) ∙ sym c.in-Some.ensures in (
+      c.in_ok-keep_part-in-Some.ensures ∙ (λ k. list_with (inv.0 k) (done.0 k)) ∙ sym (each-range_more f g ts 0 c.loop-i.i (term_of c.in-Some.part.now) (omega arith) at),
+      omega (arith, total-range_more f g ts 0 c.loop-i.i (term_of c.in-Some.part.now) (omega arith) at, inv.1, done.1),
+      omega (arith, inv.2, done.1, done.2),
+    )
+
+pub eval_parts-returns : goal.eval_parts-returns
+eval_parts-returns t c =
+    let V = c.args.globals.now in
+    let vals = values c.args.env.now in
+    let inv = c.loop-i.invariant in
+    let ts = children (parts_of (term_of c.args.term.now)) in
+    let whole = range_whole ts c.loop-i.i (omega (arith, c.parts-i-end.ensures, count-children (parts_of (term_of c.args.term.now)))) in
+    (inv.0 ∙ ap (each (cden V vals)) whole, inv.1 ∙ ap (total (settle V vals)) whole, omega (arith, inv.1, inv.2, ap (total (settle V vals)) whole))
+
+pub eval_strict-returns-in_err-parts : goal.eval_strict-returns-in_err-parts
+eval_strict-returns-in_err-parts t c =
+    let V = c.args.globals.now in
+    let vals = values c.args.env.now in
+    let s = strict_of (form_of (term_of c.args.term.now)) in
+    let form = strict_form (form_of (term_of c.args.term.now)) c.requires in
+    let taken = strict_taken V vals (term_of c.args.term.now) s (well_formed-Core c.args.term.now) form in
+    err_within boxed_value _ _ _ _ c.in_err-parts.field-0.0 c.from_residual.ensures.0 c.from_residual.ensures.1 (λ e. let h = c.in_err-parts.ensures e in omega (arith, h, taken))
+
+pub eval_strict-returns : goal.eval_strict-returns
+eval_strict-returns t c =
+    let V = c.args.globals.now in
+    let vals = values c.args.env.now in
+    let s = strict_of (form_of (term_of c.args.term.now)) in
+    let form = strict_form (form_of (term_of c.args.term.now)) c.requires in
+    let taken = strict_taken V vals (term_of c.args.term.now) s (well_formed-Core c.args.term.now) form in
+    let parts = c.in_ok-parts.ensures in
+    let whole = c.in_ok-whole.ensures in (
+      whole.0 ∙ ap (strict_in s) parts.0 ∙ sym (strict_whole V vals (term_of c.args.term.now) s (well_formed-Core c.args.term.now) form),
+      omega (arith, whole.1, ap (strict_turns s) parts.0, parts.1, taken),
+      omega (arith, whole.1, whole.2, ap (strict_turns s) parts.0, parts.1, parts.2, taken),
+    )
+
+pub eval_sum-returns-in_err-run : goal.eval_sum-returns-in_err-run
+eval_sum-returns-in_err-run t c =
+    let V = c.args.globals.now in
+    let vals = values c.args.env.now in
+    let e = term_of c.args.over.now in
+    let b = term_of c.args.body.now in
+    let ms = member_list c.in-Some.members in
+    let found = c.in_ok-answer.ensures in
+    let some : c.in_ok-answer.field-0.answer ≡ Some c.in-Some.members = cc in
+    let is = sym found.0 ∙ ap members_value some in
+    let taken = sum_taken V vals e b ms is in
+    let inner = ap (λ n. run_turns V vals b ms 0 n) c.len-count.ensures in
+    err_within boxed_value _ _ _ _ c.in_err-run.field-0.0 c.from_residual-in_err-run.ensures.0 c.from_residual-in_err-run.ensures.1
+    (λ s. let h = c.in_err-run.ensures s in omega (arith, h, taken, inner, found.1, found.2, c.len-count.ensures, c.in_ok-answer.turns-is, c.if-count-from.false, c.from.ensures))
+
+pub eval_sum-returns : goal.eval_sum-returns
+eval_sum-returns t c =
+    let V = c.args.globals.now in
+    let vals = values c.args.env.now in
+    let e = term_of c.args.over.now in
+    let b = term_of c.args.body.now in
+    let ms = member_list c.in-Some.members in
+    let found = c.in_ok-answer.ensures in
+    let some : c.in_ok-answer.field-0.answer ≡ Some c.in-Some.members = cc in
+    let is = sym found.0 ∙ ap members_value some in
+    let taken = sum_taken V vals e b ms is in
+    let inner = ap (λ n. run_turns V vals b ms 0 n) c.len-count.ensures in
+    let run = c.in_ok-run.ensures in (
+      c.in_ok-to_box.ensures ∙ c.sum_of.ensures ∙ ap (option_map natural) (run.0 ∙ ap (λ n. sum_value (run_values V vals b ms 0 n)) c.len-count.ensures) ∙ sym (sum_whole V vals e b ms is),
+      omega (arith, run.1, taken, inner, found.1, c.len-count.ensures),
+      omega (arith, run.1, run.2, taken, inner, found.1, found.2, c.len-count.ensures, c.in_ok-answer.turns-is, c.if-count-from.false, c.from.ensures),
+    )
+
+pub eval_union-returns-in_err-run : goal.eval_union-returns-in_err-run
+eval_union-returns-in_err-run t c =
+    let V = c.args.globals.now in
+    let vals = values c.args.env.now in
+    let e = term_of c.args.over.now in
+    let b = term_of c.args.body.now in
+    let ms = member_list c.in-Some.members in
+    let found = c.in_ok-answer.ensures in
+    let some : c.in_ok-answer.field-0.answer ≡ Some c.in-Some.members = cc in
+    let is = sym found.0 ∙ ap members_value some in
+    let taken = union_taken V vals e b ms is in
+    let inner = ap (λ n. run_turns V vals b ms 0 n) c.len-count.ensures in
+    err_within boxed_value _ _ _ _ c.in_err-run.field-0.0 c.from_residual-in_err-run.ensures.0 c.from_residual-in_err-run.ensures.1
+    (λ s. let h = c.in_err-run.ensures s in omega (arith, h, taken, inner, found.1, found.2, c.len-count.ensures, c.in_ok-answer.turns-is, c.if-count-from.false, c.from.ensures))
+
+pub eval_union-returns : goal.eval_union-returns
+eval_union-returns t c =
+    let V = c.args.globals.now in
+    let vals = values c.args.env.now in
+    let e = term_of c.args.over.now in
+    let b = term_of c.args.body.now in
+    let ms = member_list c.in-Some.members in
+    let found = c.in_ok-answer.ensures in
+    let some : c.in_ok-answer.field-0.answer ≡ Some c.in-Some.members = cc in
+    let is = sym found.0 ∙ ap members_value some in
+    let taken = union_taken V vals e b ms is in
+    let inner = ap (λ n. run_turns V vals b ms 0 n) c.len-count.ensures in
+    let run = c.in_ok-run.ensures in (
+      c.in_ok-to_box.ensures ∙ c.union_of.ensures ∙ ap (option_map (λ xs. set (data_of xs))) (run.0 ∙ ap (λ n. union_value (run_values V vals b ms 0 n)) c.len-count.ensures) ∙ sym (union_whole V vals e b ms is),
+      omega (arith, run.1, taken, inner, found.1, c.len-count.ensures),
+      omega (arith, run.1, run.2, taken, inner, found.1, found.2, c.len-count.ensures, c.in_ok-answer.turns-is, c.if-count-from.false, c.from.ensures),
+    )
+
+pub eval_tab-returns-in_err-answer : goal.eval_tab-returns-in_err-answer
+eval_tab-returns-in_err-answer t c =
+    let V = c.args.globals.now in
+    let vals = values c.args.env.now in
+    let ds = terms_of c.args.bounds.now in
+    let b = term_of c.args.body.now in
+    err_within boxed_value _ _ _ _ c.in_err-answer.field-0.0 c.from_residual.ensures.0 c.from_residual.ensures.1
+    (λ s. let h = c.in_err-answer.ensures s in omega (arith, h, settle-tab V vals ds b))
+
+pub eval_tab-returns-in_default : goal.eval_tab-returns-in_default
+eval_tab-returns-in_default t c =
+    let V = c.args.globals.now in
+    let vals = values c.args.env.now in
+    let ds = terms_of c.args.bounds.now in
+    let b = term_of c.args.body.now in
+    let found = c.in_ok-answer.ensures in
+    let read = ap numbers_in (sym found.0) ∙ sym c.in_ok-dims.ensures in
+    let is = read ∙ c.in_default.is in
+    let idle = tab_idle V vals ds b is in
+    (sym (tab_none V vals ds b is), omega (arith, idle, found.1), omega (arith, idle, found.2))
+
+pub eval_tab-returns-then-count-from : goal.eval_tab-returns-then-count-from
+eval_tab-returns-then-count-from t c =
+    let V = c.args.globals.now in
+    let vals = values c.args.env.now in
+    let ds = terms_of c.args.bounds.now in
+    let b = term_of c.args.body.now in
+    let found = c.in_ok-answer.ensures in
+    let read = ap numbers_in (sym found.0) ∙ sym c.in_ok-dims.ensures in
+    let ms = c.in-Some.dims in
+    let is = read ∙ c.in-Some.is in
+    let taken = tab_taken V vals ds b ms is in
+    let all = ap product (c.as_slice.ensures.value ∙ c.dims.view_is) in
+    λ s. omega (arith, taken, all, found.1, found.2, c.saturating_product-count.ensures, c.in_ok-answer.turns-is, c.if-count-from.true, c.from.ensures)
+
+pub eval_tab-returns-in_err-run : goal.eval_tab-returns-in_err-run
+eval_tab-returns-in_err-run t c =
+    let V = c.args.globals.now in
+    let vals = values c.args.env.now in
+    let ds = terms_of c.args.bounds.now in
+    let b = term_of c.args.body.now in
+    let found = c.in_ok-answer.ensures in
+    let read = ap numbers_in (sym found.0) ∙ sym c.in_ok-dims.ensures in
+    let ms = c.in-Some.dims in
+    let is = read ∙ c.in-Some.is in
+    let taken = tab_taken V vals ds b ms is in
+    let all = ap product (c.as_slice.ensures.value ∙ c.dims.view_is) in
+    let count : c.saturating_product-count.result ≡ product ms = omega (arith, all, c.saturating_product-count.ensures, c.if-count-from.false, c.from.ensures) in
+    let inner = ap (λ n. cell_turns V vals b ms 0 n) count in
+    err_within boxed_value _ _ _ _ c.in_err-run.field-0.0 c.from_residual-in_err-run.ensures.0 c.from_residual-in_err-run.ensures.1
+    (λ s. let h = c.in_err-run.ensures s in omega (arith, h, taken, inner, count, found.1, found.2, c.in_ok-answer.turns-is, c.if-count-from.false, c.from.ensures))
+
+pub eval_tab-returns : goal.eval_tab-returns
+eval_tab-returns t c =
+    let V = c.args.globals.now in
+    let vals = values c.args.env.now in
+    let ds = terms_of c.args.bounds.now in
+    let b = term_of c.args.body.now in
+    let found = c.in_ok-answer.ensures in
+    let read = ap numbers_in (sym found.0) ∙ sym c.in_ok-dims.ensures in
+    let ms = c.in-Some.dims in
+    let is = read ∙ c.in-Some.is in
+    let taken = tab_taken V vals ds b ms is in
+    let all = ap product (c.as_slice.ensures.value ∙ c.dims.view_is) in
+    let count : c.saturating_product-count.result ≡ product ms = omega (arith, all, c.saturating_product-count.ensures, c.if-count-from.false, c.from.ensures) in
+    let inner = ap (λ n. cell_turns V vals b ms 0 n) count in
+    let run = c.in_ok-run.ensures in (
+      c.in_ok-to_box.ensures ∙ c.in_ok-table_of.ensures ∙ ap (table_in ms) (run.0 ∙ ap (λ n. cell_values V vals b ms 0 n) count) ∙ sym (tab_whole V vals ds b ms is),
+      omega (arith, run.1, taken, inner, count, found.1),
+      omega (arith, run.1, run.2, taken, inner, count, found.1, found.2, c.in_ok-answer.turns-is, c.if-count-from.false, c.from.ensures),
+    )
+
+pub sum_run-returns-in_err-done : goal.sum_run-returns-in_err-done
+sum_run-returns-in_err-done t c =
+    let V = c.args.globals.now in
+    let vals = values c.args.env.now in
+    let b = term_of c.args.body.now in
+    let ms = member_list c.args.members.now in
+    let f = λ (m : Datum). cden V (m ∷ vals) b in
+    let g = λ (m : Datum). settle V (m ∷ vals) b in
+    let m = held_datum c.in_ok-member.field-0.member in
+    let inv = c.loop-i.invariant in
+    let at = c.in_ok-member.ensures.0 in
+    err_within itself _ _ _ _ c.in_err-done.field-0.0 c.from_residual-in_err-done.ensures.0 c.from_residual-in_err-done.ensures.1
+    (λ s. spent_within g ms c.args.from c.loop-i.i c.args.to m c.args.budget c.loop-i.turns (omega arith) (omega arith) at inv.1 inv.2 (c.in_err-done.ensures s))
+
+pub sum_run-loop-i-preserved : goal.sum_run-loop-i-preserved
+sum_run-loop-i-preserved t c =
+    let V = c.args.globals.now in
+    let vals = values c.args.env.now in
+    let b = term_of c.args.body.now in
+    let ms = member_list c.args.members.now in
+    let f = λ (m : Datum). cden V (m ∷ vals) b in
+    let g = λ (m : Datum). settle V (m ∷ vals) b in
+    let m = held_datum c.in_ok-member.field-0.member in
+    let inv = c.loop-i.invariant in
+    let at = c.in_ok-member.ensures.0 in
+    let done = c.in_ok-done.ensures in (
+      c.sum_and-sum.ensures ∙ (λ k. sum_with (inv.0 k) ((c.from_box.ensures ∙ done.0) k)) ∙ sym (sum_value-with (run_values V vals b ms c.args.from c.loop-i.i) (f m)) ∙ ap sum_value (sym (each-range_more f g ms c.args.from c.loop-i.i m (omega arith) at)),
+      omega (arith, total-range_more f g ms c.args.from c.loop-i.i m (omega arith) at, inv.1, done.1),
+      omega (arith, inv.2, done.1, done.2),
+      c.in_ok-member.ensures.1,
+    )
+
+pub members_run-returns-in_err-done : goal.members_run-returns-in_err-done
+members_run-returns-in_err-done t c =
+    let V = c.args.globals.now in
+    let vals = values c.args.env.now in
+    let b = term_of c.args.body.now in
+    let ms = member_list c.args.members.now in
+    let f = λ (m : Datum). cden V (m ∷ vals) b in
+    let g = λ (m : Datum). settle V (m ∷ vals) b in
+    let m = held_datum c.in_ok-member.field-0.member in
+    let inv = c.loop-i.invariant in
+    let at = c.in_ok-member.ensures.0 in
+    err_within itself _ _ _ _ c.in_err-done.field-0.0 c.from_residual-in_err-done.ensures.0 c.from_residual-in_err-done.ensures.1
+    (λ s. spent_within g ms c.args.from c.loop-i.i c.args.to m c.args.budget c.loop-i.turns (omega arith) (omega arith) at inv.1 inv.2 (c.in_err-done.ensures s))
+
+pub members_run-loop-i-preserved : goal.members_run-loop-i-preserved
+members_run-loop-i-preserved t c =
+    let V = c.args.globals.now in
+    let vals = values c.args.env.now in
+    let b = term_of c.args.body.now in
+    let ms = member_list c.args.members.now in
+    let f = λ (m : Datum). cden V (m ∷ vals) b in
+    let g = λ (m : Datum). settle V (m ∷ vals) b in
+    let m = held_datum c.in_ok-member.field-0.member in
+    let inv = c.loop-i.invariant in
+    let at = c.in_ok-member.ensures.0 in
+    let done = c.in_ok-done.ensures in (
+      c.in_ok-all.ensures ∙ (λ k. members_with (inv.0 k) ((c.from_box.ensures ∙ done.0) k)) ∙ sym (all_members-with (run_values V vals b ms c.args.from c.loop-i.i) (f m)) ∙ ap all_members (sym (each-range_more f g ms c.args.from c.loop-i.i m (omega arith) at)),
+      omega (arith, total-range_more f g ms c.args.from c.loop-i.i m (omega arith) at, inv.1, done.1),
+      omega (arith, inv.2, done.1, done.2),
+      c.in_ok-member.ensures.1,
+    )
+
+pub cells_run-returns-in_err-kept : goal.cells_run-returns-in_err-kept
+cells_run-returns-in_err-kept t c =
+    let V = c.args.globals.now in
+    let vals = values c.args.env.now in
+    let b = term_of c.args.body.now in
+    let f = λ (at : List ℕ). cden V (walked at [] ++ vals) b in
+    let g = λ (at : List ℕ). settle V (walked at [] ++ vals) b in
+    let here = c.set_index.new.at in
+    let inv = c.loop-place.invariant in
+    let whole = written c.loop-place.at.len here (drop (length here) c.loop-place.at.items) (omega (arith, c.set_index.auto.at, c.as_mut_slice.ensures.value, c.as_mut_slice.ensures.len, c.loop-place.at.ok.0)) in
+    let seen = c.as_slice-in-loop-place.ensures.value ∙ whole in
+    let at : slice_get (indices c.args.dims.now) c.loop-place.place ≡ Some here =
+    (λ k. slice_get (indices ((sym c.dims.view_is ∙ sym c.as_slice.ensures.value) k)) (sym c.from.ensures k)) ∙ c.set_index.ensures in
+    err_within itself _ _ _ _ c.in_err-kept.field-0.0 c.from_residual-in_err-kept.ensures.0 c.from_residual-in_err-kept.ensures.1
+    (λ s. let h = at_fault boxed_value c.node-done.result _ _ _ _ c.node-done.ensures c.in_err-kept.ensures s in
+    spent_within g (indices c.args.dims.now) c.args.from c.loop-place.place c.args.to here c.args.budget c.loop-place.turns (omega arith) (omega arith) at inv.1 inv.2 (omega (arith, h, ap g seen)))
+
+pub cells_run-loop-place-preserved : goal.cells_run-loop-place-preserved
+cells_run-loop-place-preserved t c =
+    let V = c.args.globals.now in
+    let vals = values c.args.env.now in
+    let b = term_of c.args.body.now in
+    let f = λ (at : List ℕ). cden V (walked at [] ++ vals) b in
+    let g = λ (at : List ℕ). settle V (walked at [] ++ vals) b in
+    let here = c.set_index.new.at in
+    let inv = c.loop-place.invariant in
+    let whole = written c.loop-place.at.len here (drop (length here) c.loop-place.at.items) (omega (arith, c.set_index.auto.at, c.as_mut_slice.ensures.value, c.as_mut_slice.ensures.len, c.loop-place.at.ok.0)) in
+    let seen = c.as_slice-in-loop-place.ensures.value ∙ whole in
+    let at : slice_get (indices c.args.dims.now) c.loop-place.place ≡ Some here =
+    (λ k. slice_get (indices ((sym c.dims.view_is ∙ sym c.as_slice.ensures.value) k)) (sym c.from.ensures k)) ∙ c.set_index.ensures in
+    let done = at_answer boxed_value c.node-done.result _ _ _ _ c.node-done.ensures c.in_ok-kept.ensures.1 in (
+      c.in_ok-cells.ensures ∙ (λ k. list_with ((c.in_ok-kept.ensures.0 ∙ inv.0) k) ((c.from_box.ensures ∙ done.0 ∙ ap f seen) k)) ∙ sym (each-range_more f g (indices c.args.dims.now) c.args.from c.loop-place.place here (omega arith) at),
+      omega (arith, total-range_more f g (indices c.args.dims.now) c.args.from c.loop-place.place here (omega arith) at, inv.1, done.1, ap g seen),
+      omega (arith, inv.2, done.1, done.2),
+      ap length whole ∙ omega (arith, c.set_index.auto.at, c.as_mut_slice.ensures.value, inv.3),
+    )

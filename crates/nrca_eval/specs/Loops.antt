@@ -1,0 +1,47 @@
+-- What runs of the members of a loop and of the cells of a tabulation answer.
+use Rattle.std.specs.Prelude.{ℕ, List, Option, Result}
+use Rattle.std.proofs.Common.{Box, Global}
+use Rattle.aql_value.specs.Datum.{Datum}
+use Rattle.aql_value.specs.Partial.{each, total}
+use Rattle.nrca_array.specs.declared.held.Held.{Held}
+use Rattle.nrca_array.specs.Held.{held_datum}
+use Rattle.nrca_par.specs.declared.fault.EvalFault.{EvalFault}
+use Rattle.nrca_term.specs.declared.term.Core.{Core}
+use Rattle.nrca_term.specs.declared.term.Terms.{Terms}
+use Rattle.nrca_term.specs.Meaning.{Outcomes, cden}
+use Rattle.nrca_term.specs.Turns.{settle}
+use Rattle.nrca_term.specs.View.{term_of, terms_of}
+use Rattle.nrca_loops.specs.declared.done.Counted.{Counted}
+use Rattle.nrca_loops.specs.declared.env.Env.{Env}
+use Rattle.nrca_loops.specs.declared.members.Members.{Members}
+use Rattle.nrca_loops.specs.Runs.{member_list, sum_value, union_value, all_members}
+use Rattle.nrca_loops.specs.Parts.{cell_in, numbers_in}
+use Rattle.nrca_loops.specs.Scope.{values, boxed_value}
+use Rattle.nrca_loops.specs.Within.{Within, itself}
+use Rattle.nrca_eval.specs.Runs.{run_values, run_turns, cell_values, cell_turns}
+
+-- what f makes of the body's values at the members a up to b of a loop, and what the body takes there
+abbrev pub Runs : {A : Type 0} → (Option (List Datum) → A) → ℕ → Outcomes → Env → Core → Members → ℕ → ℕ → Result (Counted A) EvalFault → Type 0
+Runs f budget V env body ms a b r =
+    Within itself budget (f (run_values V (values env) (term_of body) (member_list ms) a b)) (run_turns V (values env) (term_of body) (member_list ms) a b) r
+
+-- their sum; the set of the members that they have; and these members, one set after the other
+abbrev pub Sums : ℕ → Outcomes → Env → Core → Members → ℕ → ℕ → Result (Counted (Option ℕ)) EvalFault → Type 0
+Sums = Runs sum_value
+
+-- the sets of the body over the members a up to b, joined, and what it takes there
+abbrev pub Unites : ℕ → Outcomes → Env → Core → Members → ℕ → ℕ → Result (Counted (Option (List Datum))) EvalFault → Type 0
+Unites = Runs union_value
+
+-- the members of the body's sets over the members a up to b, and what it takes there
+abbrev pub Lists : ℕ → Outcomes → Env → Core → Members → ℕ → ℕ → Result (Counted (Option (List Datum))) EvalFault → Type 0
+Lists = Runs all_members
+
+-- the body's values at the indices a up to b below the dimensions, and what it takes there
+abbrev pub Fills : ℕ → Outcomes → Env → Core → List ℕ → ℕ → ℕ → Result (Counted (Option (List Datum))) EvalFault → Type 0
+Fills budget V env body ds a b r = Within itself budget (cell_values V (values env) (term_of body) ds a b) (cell_turns V (values env) (term_of body) ds a b) r
+
+-- the cell of the array at the index that the terms are worth, and their turns
+abbrev pub EvaluatesCell : ℕ → Outcomes → Env → Held → Terms → Result (Counted (Option (Box Held Global))) EvalFault → Type 0
+EvaluatesCell budget V env a at r =
+    Within boxed_value budget (cell_in (held_datum a) (numbers_in (each (cden V (values env)) (terms_of at)))) (total (settle V (values env)) (terms_of at)) r

@@ -1,0 +1,149 @@
+ghost use Rattle.std.specs.Prelude.{◌≡◌, ◌≤◌, length, IfOk};
+
+use aql_print::{print_scheme, print_value};
+use aql_types::ty::{Scheme, Ty};
+use aql_value::made::{both, make_box, make_pair_list};
+use aql_value::{Cells, Dims, Items, Memory, Value, canon};
+use nrca_graph::{encode, encode_type};
+use std::alloc::Global;
+use std::mem::drop;
+use std::process::Abort;
+
+// 2 to the power of 127.
+const HALF: u128 = 170141183460469231731687303715884105728;
+
+fn dims(alloc: Global, all: &[u128]) -> Result<Dims, Memory>
+    ensures { IfOk result (λ d. d ≡ all.now) }
+{
+    let mut dims = Vec::new(alloc);
+    dims.extend_from_slice(all)?;
+    Ok(Dims { dims })
+}
+
+fn numbers(alloc: Global, all: &[u128]) -> Result<Items, Memory> {
+    let mut items = Vec::new(alloc);
+    for n in all {
+        items.push(Value::Nat(*n))?;
+    }
+    Ok(Items { items })
+}
+
+fn grid(alloc: Global, lengths: &[u128], cells: Result<Items, Memory>) -> Result<Value, Memory>
+    requires some { 1 ≤ length lengths.now }
+    requires few { length lengths.now ≤ 8 }
+{
+    let (dims, cells) = both(dims(alloc, lengths), cells)?;
+    Ok(Value::Grid(Cells::new(dims, cells).ok_or(Memory)?))
+}
+
+fn array(alloc: Global, lengths: &[u128], cells: &[u128]) -> Result<Value, Memory>
+    requires some { 1 ≤ length lengths.now }
+    requires few { length lengths.now ≤ 8 }
+{
+    grid(alloc, lengths, numbers(alloc, cells))
+}
+
+fn set(alloc: Global, all: &[u128]) -> Result<Value, Memory> {
+    Ok(Value::Members(canon(alloc, numbers(alloc, all)?)?))
+}
+
+fn items(
+    alloc: Global,
+    a: Result<Value, Memory>,
+    b: Result<Value, Memory>,
+) -> Result<Items, Memory> {
+    Ok(Items {
+        items: make_pair_list(alloc, a, b)?,
+    })
+}
+
+fn set_of_both(
+    alloc: Global,
+    a: Result<Value, Memory>,
+    b: Result<Value, Memory>,
+) -> Result<Value, Memory> {
+    Ok(Value::Members(canon(alloc, items(alloc, a, b)?)?))
+}
+
+// The text of the encoded value.
+fn encoding(alloc: Global, v: Result<Value, Memory>) -> Result<Vec<u8>, Memory> {
+    let v = v?;
+    let encoded = encode(alloc, &v);
+    drop(v);
+    let encoded = encoded?;
+    let mut out = Vec::new(alloc);
+    print_value(alloc, &encoded, &mut out)?;
+    Ok(out)
+}
+
+fn assert_text(
+    rt: &impl Abort,
+    printed: Result<Vec<u8>, Memory>,
+    want: &[u8],
+) -> Result<(), Memory> {
+    assert_eq!(rt; printed?.as_slice(), want);
+    Ok(())
+}
+
+#[test]
+fn arrays(rt: HostRuntime) -> Result<(), Memory> {
+    let alloc = rt.alloc();
+    assert_text(
+        &rt,
+        encoding(alloc, array(alloc, &[2, 2], &[0, 1, 10, 11])),
+        b"((2, 2), {((0, 0), 0), ((0, 1), 1), ((1, 0), 10), ((1, 1), 11)})",
+    )?;
+    assert_text(
+        &rt,
+        encoding(alloc, array(alloc, &[1, 1, 1, 1, 1, 1, 1, 1], &[7])),
+        b"((1, 1, 1, 1, 1, 1, 1, 1), {((0, 0, 0, 0, 0, 0, 0, 0), 7)})",
+    )?;
+    assert_text(
+        &rt,
+        encoding(alloc, array(alloc, &[HALF, 4, 0], &[])),
+        b"((170141183460469231731687303715884105728, 4, 0), {})",
+    )
+}
+
+#[test]
+fn arrays_in_sets_and_sets_in_arrays(rt: HostRuntime) -> Result<(), Memory> {
+    let alloc = rt.alloc();
+    let both = items(alloc, set(alloc, &[5]), set(alloc, &[]));
+    assert_text(
+        &rt,
+        encoding(alloc, grid(alloc, &[2], both)),
+        b"(2, {(0, {5}), (1, {})})",
+    )?;
+    let long = array(alloc, &[2], &[0, 0]);
+    let short = array(alloc, &[1], &[9]);
+    assert_text(
+        &rt,
+        encoding(alloc, set_of_both(alloc, long, short)),
+        b"{(1, {(0, 9)}), (2, {(0, 0), (1, 0)})}",
+    )
+}
+
+// The text of the encoded type of an array of that rank and of numbers.
+fn encoding_of_type(alloc: Global, rank: u64) -> Result<Vec<u8>, Memory> {
+    let t = Ty::ArrayOf {
+        rank,
+        cell: make_box(alloc, Ok(Ty::Nat))?,
+    };
+    let encoded = encode_type(alloc, &t);
+    drop(t);
+    let scheme = Scheme::Value(encoded?);
+    let mut out = Vec::new(alloc);
+    print_scheme(alloc, &scheme, &mut out)?;
+    Ok(out)
+}
+
+#[test]
+fn types(rt: HostRuntime) -> Result<(), Memory> {
+    let alloc = rt.alloc();
+    assert_text(&rt, encoding_of_type(alloc, 1), b"nat * {nat * nat}")?;
+    assert_text(
+        &rt,
+        encoding_of_type(alloc, 2),
+        b"(nat * nat) * {(nat * nat) * nat}",
+    )
+}

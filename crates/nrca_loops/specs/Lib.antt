@@ -1,0 +1,7 @@
+pub mod Scope
+pub mod Within
+pub mod Runs
+pub mod Walks
+pub mod Parts
+pub mod Evaluates
+pub mod Laws

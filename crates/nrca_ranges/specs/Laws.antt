@@ -1,0 +1,3 @@
+-- The laws of this crate: what follows from its definitions.
+pub mod Entered
+pub mod Shapes

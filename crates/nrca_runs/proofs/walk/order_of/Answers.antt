@@ -1,9 +1,0 @@
-use Rattle.std.proofs.Common.{arith}
-use Rattle.nrca_runs.proofs.Merged.{order_left, order_right}
-use Rattle.nrca_runs.proofs.walk.order_of.Goals as goal
-
-pub returns-else-j-count_of : goal.returns-else-j-count_of
-returns-else-j-count_of c = order_left c.args.left.now c.args.right.now c.args.i c.args.j (omega arith) (omega arith)
-
-pub returns-then-j-count_of-2 : goal.returns-then-j-count_of-2
-returns-then-j-count_of-2 c = order_right c.args.left.now c.args.right.now c.args.i c.args.j (omega arith) (omega arith)

@@ -1,0 +1,24 @@
+-- The laws of this crate: what follows from its definitions.
+pub mod Agreeing
+pub mod AsVariant
+pub mod Contexts
+pub mod Entering
+pub mod Equations
+pub mod Facts
+pub mod Lets
+pub mod Measure
+pub mod Placing
+pub mod Shift
+pub mod Shifting
+pub mod Sound
+pub mod SubstTops
+pub mod Substituting
+pub mod TurnsShift
+pub mod TypedForm
+pub mod TypedPlaces
+pub mod TypingShift
+pub mod TypingSubst
+pub mod Undefined
+pub mod Valid
+pub mod Variants
+pub mod WellFormed

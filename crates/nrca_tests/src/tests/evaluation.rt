@@ -1,0 +1,383 @@
+//! Terms with their values and turns, worked out by hand, for each number of workers, and that two
+//! pieces of each kind of loop run beside each other.
+
+ghost use Rattle.std.specs.Prelude.{◌≤◌};
+
+use crate::tests::words::{Outcome, Row, outcome, pushed, term, value, wanted};
+use aql_outside::{FreeGate, Gate};
+use aql_value::made::both;
+use aql_value::{Memory, Value};
+use nrca_array::Held;
+use nrca_eval::{Globals, evaluate};
+use nrca_par::EvalFault;
+use nrca_term::Core;
+use std::alloc::Global;
+use std::process::Abort;
+use std::sync::atomic::{AtomicBool, AtomicU64, Ordering};
+use std::test::Fail;
+use std::thread::Threads;
+
+// Position 1 is [[3; 10, 20, 30]], position 2 is undefined, position 3 is {1, 2}, and there is no other.
+fn positions(alloc: Global) -> Result<Globals, Memory> {
+    let mut list = Vec::new(alloc);
+    for words in ["3 10 20 30 arr1.3", "undefined", "1 2 set2"] {
+        pushed(&mut list, position(alloc, words))?;
+    }
+    Ok(Globals { list })
+}
+
+fn position(alloc: Global, words: &str) -> Result<Option<Held>, Memory> {
+    Ok(match value(alloc, words)? {
+        Some(value) => Some(Held::Value(value)),
+        None => None,
+    })
+}
+
+fn workers(number: u64) -> u64
+    ensures { (1 ≤ result) × (result ≤ 64) }
+{
+    match number {
+        0 => 1,
+        1 => 2,
+        2 => 3,
+        3 => 8,
+        _ => 64,
+    }
+}
+
+// A term, its value, and the positions that it is evaluated among.
+#[derive(Drop)]
+struct Case {
+    term: Core,
+    value: Option<Value>,
+    globals: Globals,
+}
+
+fn case_of(alloc: Global, words: &str, wanted: &str) -> Result<Case, Memory> {
+    let parts = both(term(alloc, words), value(alloc, wanted));
+    let ((term, value), globals) = both(parts, positions(alloc))?;
+    Ok(Case {
+        term,
+        value,
+        globals,
+    })
+}
+
+fn evaluated<R: Threads + Sync, G: Gate>(
+    rt: &R,
+    alloc: Global,
+    case: &Case,
+    budget: u64,
+    workers: u64,
+    gate: &G,
+) -> Outcome
+    requires budget { budget ≤ 50000000 }
+    requires workers { (1 ≤ workers) × (workers ≤ 64) }
+{
+    let done = evaluate(rt, alloc, &case.term, &case.globals, budget, workers, gate)?;
+    let found = outcome(alloc, &done.value, &case.value, done.turns);
+    drop(done);
+    found
+}
+
+fn found<R: Threads + Sync, G: Gate>(
+    rt: &R,
+    alloc: Global,
+    row: &Row,
+    budget: u64,
+    workers: u64,
+    gate: &G,
+) -> Outcome
+    requires budget { budget ≤ 50000000 }
+    requires workers { (1 ≤ workers) × (workers ≤ 64) }
+{
+    let case = case_of(alloc, row.0, row.1)?;
+    let found = evaluated(rt, alloc, &case, budget, workers, gate);
+    drop(case);
+    found
+}
+
+fn meets<R: Threads + Sync + Abort>(rt: &R, alloc: Global, rows: &[Row]) -> Result<(), Fail> {
+    for row in rows {
+        for number in 0..5 {
+            row_meets(rt, alloc, row, number)?;
+        }
+    }
+    Ok(())
+}
+
+// The value and the turns within these turns and within more, and Spent within fewer.
+fn row_meets<R: Threads + Sync + Abort>(
+    rt: &R,
+    alloc: Global,
+    row: &Row,
+    number: u64,
+) -> Result<(), Fail> {
+    let turns = u64::from(row.2);
+    let workers = workers(number);
+    for budget in turns.saturating_sub(2)..turns + 2 {
+        let found = found(rt, alloc, row, budget, workers, &FreeGate);
+        let wanted = wanted(row, budget);
+        assert_eq!(rt; found, wanted, "{} by {workers} in {budget}", row.0);
+    }
+    Ok(())
+}
+
+const CONSTANTS_AND_OPERATIONS: [Row; 14] = [
+    ("5 T tup2 p2/2", "T", 0),
+    ("5 T tup2 p1/3", "undefined", 0),
+    ("'ab", "'ab", 0),
+    ("3 5 -", "0", 0),
+    ("7 2 / 7 2 % tup2", "3 1 tup2", 0),
+    ("7 0 %", "undefined", 0),
+    ("max 1 +", "undefined", 0),
+    ("max 2 *", "undefined", 0),
+    ("1 'ab +", "undefined", 0),
+    ("{} 0 one < 'a 'ab >= tup2", "T F tup2", 0),
+    ("2 one 1 one u 2 one u", "1 2 set2", 0),
+    ("7 one get {} get tup2", "undefined", 0),
+    ("4 gen get", "undefined", 4),
+    ("bot 3 gen tup2", "undefined", 3),
+];
+
+#[test]
+fn constants_and_operations(rt: HostRuntime) -> Result<(), Fail> {
+    meets(&rt, rt.alloc(), &CONSTANTS_AND_OPERATIONS)
+}
+
+const VARIABLES_POSITIONS_AND_CHOICES: [Row; 13] = [
+    ("3 v0 v0 + let", "6", 0),
+    ("bot 2 gen let", "undefined", 0),
+    ("v0", "undefined", 0),
+    ("g2", "undefined", 0),
+    ("g4", "undefined", 0),
+    ("g3 v0 S", "3", 2),
+    ("T 1 bot if", "1", 0),
+    ("3 1 2 if", "undefined", 0),
+    ("3 gen v0 S 3 = 4 gen v0 S 9 gen v0 S if", "6", 14),
+    ("3 gen v0 S 4 = 4 gen v0 S 9 gen v0 S if", "36", 24),
+    ("1 0 / 2 gen v0 S or", "1", 4),
+    ("6 9 gen v0 S or", "6", 0),
+    ("3 gen bot S 2 gen v0 S or", "1", 10),
+];
+
+#[test]
+fn variables_positions_and_choices(rt: HostRuntime) -> Result<(), Fail> {
+    meets(&rt, rt.alloc(), &VARIABLES_POSITIONS_AND_CHOICES)
+}
+
+const SUMS_AND_SETS: [Row; 14] = [
+    ("1000 gen v0 S", "499500", 2000),
+    ("0 gen bot S", "0", 0),
+    ("5 v0 S", "undefined", 0),
+    ("2 gen max S", "undefined", 4),
+    ("2 gen T S", "undefined", 4),
+    ("1 one 2 one u 2 one u v0 S", "3", 2),
+    ("3 gen 5 gen u 1 S", "5", 13),
+    ("3 gen 5 gen u v0 one U", "0 1 2 3 4 set5", 13),
+    ("1 0 / one 3 gen u 4 gen S", "undefined", 3),
+    ("4 gen v0 2 % one U", "0 1 set2", 8),
+    ("3 gen 6 v0 / one U", "undefined", 6),
+    ("3 gen 2 gen v1 v0 + one U U", "0 1 2 3 set4", 18),
+    ("5 gen 4 gen v1 v0 * S S", "60", 50),
+    ("10 gen v0 2 % one U 1 S", "2", 22),
+];
+
+#[test]
+fn sums_and_sets(rt: HostRuntime) -> Result<(), Fail> {
+    meets(&rt, rt.alloc(), &SUMS_AND_SETS)
+}
+
+const ARRAYS: [Row; 18] = [
+    ("2 3 v1 10 * v0 + tab2", "2 3 0 1 2 10 11 12 arr2.6", 6),
+    ("1000000000000 0 v0 tab2", "1000000000000 0 arr2.0", 0),
+    ("bot 3 gen tab1", "undefined", 0),
+    ("3 10 v0 / tab1 dim1", "undefined", 3),
+    ("3 2 gen v0 S v0 + tab1", "3 1 2 3 arr1.3", 15),
+    ("2 3 0 tab2 dim2", "2 3 tup2", 6),
+    ("2 3 0 tab2 dim1", "undefined", 6),
+    ("g1 1 sub1", "20", 0),
+    ("g1 3 sub1", "undefined", 0),
+    ("g1 1 1 sub2", "undefined", 0),
+    ("g1 dim1 gen g1 v0 sub1 S", "60", 6),
+    ("3 v0 v0 * tab1 v0 dim1 gen v1 v0 sub1 S let", "5", 9),
+    ("2 7 8 lit1.2", "2 7 8 arr1.2", 0),
+    ("3 7 8 lit1.2", "undefined", 0),
+    ("0 1000 lit2.0", "0 1000 arr2.0", 0),
+    ("3 gen v0 S v0 v0 v1 + tab1 let", "3 3 4 5 arr1.3", 9),
+    ("g1 g1 dim1 sub1 7 or", "7", 0),
+    ("2 gen g2 dim1 S", "undefined", 4),
+];
+
+#[test]
+fn arrays(rt: HostRuntime) -> Result<(), Fail> {
+    meets(&rt, rt.alloc(), &ARRAYS)
+}
+
+const INDICES: [Row; 5] = [
+    (
+        "0 5 tup2 one 2 7 tup2 one u 0 6 tup2 one u idx1",
+        "3 5 6 set2 set0 7 set1 arr1.3",
+        6,
+    ),
+    ("0 1 tup2 9 tup2 one idx2", "1 2 set0 9 set1 arr2.2", 3),
+    ("{} idx1", "0 arr1.0", 0),
+    ("max 1 tup2 one idx1", "undefined", 1),
+    ("5 one idx1", "undefined", 1),
+];
+
+#[test]
+fn indices(rt: HostRuntime) -> Result<(), Fail> {
+    meets(&rt, rt.alloc(), &INDICES)
+}
+
+fn is_spent<R: Threads + Sync>(rt: &R, alloc: Global, words: &'static str, budget: u64) -> bool
+    requires { budget ≤ 50000000 }
+{
+    let row = (words, "undefined", 0);
+    found(rt, alloc, &row, budget, 2, &FreeGate) == Err(EvalFault::Spent)
+}
+
+#[test]
+fn the_greatest_gen_is_spent(rt: HostRuntime) -> Result<(), Fail> {
+    for words in ["max gen", "max gen v0 S", "max v0 tab1", "bot max gen tup2"] {
+        for budget in [0, 1, 50_000_000] {
+            let spent = is_spent(&rt, rt.alloc(), words, budget);
+            assert!(rt; spent, "{words} in {budget}");
+        }
+    }
+    Ok(())
+}
+
+/// Holds the pieces 0 and 1 until each has seen that the other came, or has looked often enough.
+#[derive(Drop)]
+struct Meeting {
+    first: AtomicBool,
+    second: AtomicBool,
+    first_saw: AtomicBool,
+    second_saw: AtomicBool,
+}
+
+const LOADS: u64 = 100_000_000;
+
+fn meet(mine: &AtomicBool, other: &AtomicBool, saw: &AtomicBool) {
+    mine.store(true, Ordering::SeqCst);
+    for _ in 0..LOADS {
+        if other.load(Ordering::SeqCst) {
+            saw.store(true, Ordering::SeqCst);
+            return;
+        }
+    }
+}
+
+impl Gate for Meeting {
+    fn pass(&self, piece: u64) {
+        if piece == 0 {
+            meet(&self.first, &self.second, &self.first_saw);
+        } else if piece == 1 {
+            meet(&self.second, &self.first, &self.second_saw);
+        }
+    }
+}
+
+const LOOPS: [Row; 4] = [
+    ("2 v0 tab1", "2 0 1 arr1.2", 2),
+    ("2 gen v0 S", "1", 4),
+    ("2 gen v0 1 + one U", "1 2 set2", 4),
+    (
+        "0 5 tup2 one 1 7 tup2 one u idx1",
+        "2 5 set1 7 set1 arr1.2",
+        4,
+    ),
+];
+
+// The outcome of a loop of two pieces, and whether the first piece saw the second, and the second the first.
+fn pieces<R: Threads + Sync>(rt: &R, alloc: Global, row: &Row) -> (Outcome, bool, bool) {
+    let gate = Meeting {
+        first: AtomicBool::new(false),
+        second: AtomicBool::new(false),
+        first_saw: AtomicBool::new(false),
+        second_saw: AtomicBool::new(false),
+    };
+    let outcome = found(rt, alloc, row, 100, 2, &gate);
+    let first = gate.first_saw.load(Ordering::SeqCst);
+    (outcome, first, gate.second_saw.load(Ordering::SeqCst))
+}
+
+#[test]
+fn two_pieces_run_beside_each_other(rt: HostRuntime) -> Result<(), Fail> {
+    for row in &LOOPS {
+        let found = pieces(&rt, rt.alloc(), row);
+        assert_eq!(rt; found, (wanted(row, 100), true, true), "{}", row.0);
+    }
+    Ok(())
+}
+
+/// Counts how often each of the pieces 0 to 2 passes, and how often any other does.
+#[derive(Drop)]
+struct Counting {
+    first: AtomicU64,
+    second: AtomicU64,
+    third: AtomicU64,
+    others: AtomicU64,
+}
+
+impl Gate for Counting {
+    fn pass(&self, piece: u64) {
+        let count = match piece {
+            0 => &self.first,
+            1 => &self.second,
+            2 => &self.third,
+            _ => &self.others,
+        };
+        count.fetch_add(1, Ordering::SeqCst);
+    }
+}
+
+// The outcome of a loop by three workers, and how often the pieces 0, 1, 2 and any other passed the gate.
+fn passes<R: Threads + Sync>(rt: &R, alloc: Global, row: &Row) -> (Outcome, [u64; 4]) {
+    let gate = Counting {
+        first: AtomicU64::new(0),
+        second: AtomicU64::new(0),
+        third: AtomicU64::new(0),
+        others: AtomicU64::new(0),
+    };
+    let outcome = found(rt, alloc, row, 100, 3, &gate);
+    let counts = [
+        gate.first.load(Ordering::SeqCst),
+        gate.second.load(Ordering::SeqCst),
+        gate.third.load(Ordering::SeqCst),
+        gate.others.load(Ordering::SeqCst),
+    ];
+    (outcome, counts)
+}
+
+// A loop of each kind, of three members or more, and then ones with another loop in their body.
+const LOOPS_OF_THREE_PIECES: [Row; 7] = [
+    ("3 v0 tab1", "3 0 1 2 arr1.3", 3),
+    ("5 gen v0 S", "10", 10),
+    ("5 gen v0 one U", "0 1 2 3 4 set5", 10),
+    (
+        "0 5 tup2 one 1 7 tup2 one u 2 9 tup2 one u idx1",
+        "3 5 set1 7 set1 9 set1 arr1.3",
+        6,
+    ),
+    ("3 2 gen v0 S v0 + tab1", "3 1 2 3 arr1.3", 15),
+    ("5 gen 4 gen v1 v0 * S S", "60", 50),
+    ("3 gen 2 gen v1 v0 + one U U", "0 1 2 3 set4", 18),
+];
+
+// Each piece of a loop passes the gate once, and a loop in the body of another not at all. Refused here: pieces that pass twice, as
+// by `gate.pass(number); gate.pass(number);` in `map_pieces` of nrca_par.
+#[test]
+fn each_piece_passes_the_gate_once(rt: HostRuntime) -> Result<(), Fail> {
+    for row in &LOOPS_OF_THREE_PIECES {
+        let found = passes(&rt, rt.alloc(), row);
+        assert_eq!(rt; found, (wanted(row, 100), [1, 1, 1, 0]), "{}", row.0);
+    }
+    for row in &LOOPS {
+        let found = passes(&rt, rt.alloc(), row);
+        assert_eq!(rt; found, (wanted(row, 100), [1, 1, 0, 0]), "{}", row.0);
+    }
+    Ok(())
+}
