@@ -88,7 +88,7 @@ def page():
     say("")
     say("The crates, the lowest first: what each does, what it stands on, and the definitions of its own that public contracts name, here or in "
         "the crates above, each with the comment above it, or with its type where it has none of its own. What the contracts claim by these "
-        "words is in `README.md`; all that the contract of the top call rests on is in `docs/HEADLINE.md`.")
+        "words is in `docs/PROVED.md`; all that the contract of the top call rests on is in `docs/HEADLINE.md`.")
     say("")
     say("| Crate | What it does |")
     say("|---|---|")

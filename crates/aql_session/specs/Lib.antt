@@ -6,5 +6,4 @@ pub mod Reading
 pub mod Step
 pub mod Numbered
 pub mod Runs
-mod Examples
 pub mod Laws

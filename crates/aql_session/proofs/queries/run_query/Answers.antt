@@ -13,7 +13,7 @@ returns-in-Ok-clause-evaluated g c = λ d e.
     (c.in_ok-start.ensures d e) (declaration_of c.args.at.now) e c.requires.query (budget_of c.args.at.now)
     (record { start = c.in_ok-start.start; value = c.in-Ok.field-0.value; turns = c.in-Ok.field-0.turns }) refl c.in-Ok.ensures
 
-pub returns-in-Err-Spent-clause-spent : goal.returns-in-Err-Spent-clause-passes_budget
+pub returns-in-Err-Spent-clause-spent : goal.returns-in-Err-Spent-clause-spent
 returns-in-Err-Spent-clause-spent g c = λ d e.
     spent-is (declarations_of c.args.at.now) c.args.globals.now c.args.at.now.n c.requires.stands.many c.requires.stands.last d (term_of c.in_ok-start.start)
     (c.in_ok-start.ensures d e) (budget_of c.args.at.now) (c.in-Err-Spent.ensures c.in-Err-Spent.field-0-is) c.passes_budget.result c.passes_budget.ensures
