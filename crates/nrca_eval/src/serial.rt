@@ -9,7 +9,7 @@ ghost use Rattle.nrca_eval.specs.Parts.{is_strict_form, part_terms};
 ghost use Rattle.nrca_loops.specs.Evaluates.{Evaluates, EvaluatesAll, EvaluatesHeld, EvaluatesSet, default_of, if_of, let_of, sum_loop, tab_of, union_loop};
 ghost use Rattle.nrca_eval.specs.Loops.{EvaluatesCell, Fills, Lists, Sums, Unites};
 
-use aql_value::{Ascending, Dims, Items, saturating_product};
+use aql_value::{Ascending, Dims, Items, Value, saturating_product};
 use nrca_array::{Builder, Held};
 use nrca_forms::{cell_boxed, dim_boxed, numbers, strict_boxed, sum_of, table_of, union_of};
 use nrca_loops::{
@@ -18,6 +18,7 @@ use nrca_loops::{
     sum_and, to_box, truth_kept, variable, zeros,
 };
 use nrca_par::EvalFault;
+use nrca_quick::quick;
 use nrca_term::{Core, Terms};
 use std::alloc::Global;
 
@@ -404,6 +405,34 @@ fn eval_tab(
     })
 }
 
+// The value of the body of a sum or a tabulation, which is tried as a number first: such a body
+// makes no values on the heap.
+#[cycle(serial)]
+#[inline(never)]
+fn body_value(
+    alloc: Global,
+    body: &Core,
+    globals: &Globals,
+    env: &Env,
+    budget: u64,
+) -> Result<Counted<Option<Held>>, EvalFault>
+    ensures { EvaluatesHeld budget globals.now env.now (term_of body.now) result }
+{
+    match quick(alloc, body, &*globals, &*env) {
+        Some(number) => Ok(Counted {
+            answer: Some(Held::Value(Value::Nat(u128::from(number)))),
+            turns: 0,
+        }),
+        None => {
+            let done = node(alloc, body, globals, env, budget)?;
+            Ok(Counted {
+                answer: from_box(done.answer),
+                turns: done.turns,
+            })
+        }
+    }
+}
+
 /// The sum of a body over the members from one number up to another, and what the body takes
 /// there. The members themselves are not counted.
 #[cycle(serial)]
@@ -431,10 +460,10 @@ pub fn sum_run(
         } = members.get(alloc, i, sides)?;
         sides = after;
         let inner = Env::Bound(&member, &*env);
-        let done = node(alloc, body, globals, &inner, budget - turns);
+        let done = body_value(alloc, body, globals, &inner, budget - turns);
         drop(member);
         let done = done?;
-        sum = sum_and(sum, from_box(done.answer));
+        sum = sum_and(sum, done.answer);
         turns += done.turns;
     }
     Ok(Counted { answer: sum, turns })
@@ -525,9 +554,9 @@ pub fn cells_run(
     for place in from..to {
         set_index(dims.dims.as_slice(), u128::from(place), at.as_mut_slice());
         let inner = Env::Indices(at.as_slice(), &*env);
-        let done = node(alloc, body, globals, &inner, budget - turns);
+        let done = body_value(alloc, body, globals, &inner, budget - turns);
         let (kept, done) = join_done(cells, done)?;
-        cells = cells_and(alloc, kept, from_box(done.answer))?;
+        cells = cells_and(alloc, kept, done.answer)?;
         turns += done.turns;
     }
     Ok(Counted {

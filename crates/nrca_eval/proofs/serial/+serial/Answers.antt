@@ -21,14 +21,14 @@ use Rattle.nrca_term.specs.Laws.WellFormed.{well_formed-Core}
 use Rattle.nrca_loops.specs.Parts.{numbers_in, parts_value, strict_of, strict_in, table_in}
 use Rattle.nrca_loops.specs.Laws.Run.{range_whole, each-range_more, total-range_more, sum_value-with, all_members-with}
 use Rattle.nrca_loops.specs.Runs.{member_list, members_value, members_with, list_with, all_members, sum_value, sum_with, union_value}
-use Rattle.nrca_loops.specs.Scope.{values, boxed_value}
+use Rattle.nrca_loops.specs.Scope.{values, boxed_value, held_value}
 use Rattle.nrca_loops.specs.Within.{itself}
 use Rattle.nrca_loops.specs.Laws.Within.{err_within, same_within}
 use Rattle.nrca_eval.specs.Laws.Form.{count-children, child_of-children, strict_whole, strict_taken, sum_whole, sum_taken, union_whole, union_taken, tab_none, tab_whole, tab_idle, tab_taken}
 use Rattle.nrca_eval.specs.Parts.{children}
 use Rattle.nrca_eval.specs.Runs.{run_values, run_turns, cell_values, cell_turns}
-use Rattle.nrca_eval.proofs.Evaluated.{at_answer, at_fault, term_at, member_weight, tab_weight, strict_form, spent_within, spent_whole, written}
-use Rattle.nrca_eval.proofs.Lent.{sub_weight, sub_lent, sub_free}
+use Rattle.nrca_eval.proofs.Evaluated.{at_answer, at_fault, member_weight, sub_weight, tab_weight, strict_form, spent_within, spent_whole, written}
+use Rattle.nrca_quick.specs.Laws.Lent.{term_at, sub_lent, sub_free}
 use Rattle.nrca_eval.proofs.serial.+serial.Goals as goal
 use Rattle.nrca_term.specs.Laws.Entering.{child-there}
 
@@ -319,7 +319,7 @@ sum_run-loop-i-preserved t c =
     let inv = c.loop-i.invariant in
     let at = c.in_ok-member.ensures.0 in
     let done = c.in_ok-done.ensures in (
-      c.sum_and-sum.ensures ∙ (λ k. sum_with (inv.0 k) ((c.from_box.ensures ∙ done.0) k)) ∙ sym (sum_value-with (run_values V vals b ms c.args.from c.loop-i.i) (f m)) ∙ ap sum_value (sym (each-range_more f g ms c.args.from c.loop-i.i m (omega arith) at)),
+      c.sum_and-sum.ensures ∙ (λ k. sum_with (inv.0 k) (done.0 k)) ∙ sym (sum_value-with (run_values V vals b ms c.args.from c.loop-i.i) (f m)) ∙ ap sum_value (sym (each-range_more f g ms c.args.from c.loop-i.i m (omega arith) at)),
       omega (arith, total-range_more f g ms c.args.from c.loop-i.i m (omega arith) at, inv.1, done.1),
       omega (arith, inv.2, done.1, done.2),
       c.in_ok-member.ensures.1,
@@ -371,7 +371,7 @@ cells_run-returns-in_err-kept t c =
     let at : slice_get (indices c.args.dims.now) c.loop-place.place ≡ Some here =
     (λ k. slice_get (indices ((sym c.dims.view_is ∙ sym c.as_slice.ensures.value) k)) (sym c.from.ensures k)) ∙ c.set_index.ensures in
     err_within itself _ _ _ _ c.in_err-kept.field-0.0 c.from_residual-in_err-kept.ensures.0 c.from_residual-in_err-kept.ensures.1
-    (λ s. let h = at_fault boxed_value c.node-done.result _ _ _ _ c.node-done.ensures c.in_err-kept.ensures s in
+    (λ s. let h = at_fault held_value c.body_value-done.result _ _ _ _ c.body_value-done.ensures c.in_err-kept.ensures s in
     spent_within g (indices c.args.dims.now) c.args.from c.loop-place.place c.args.to here c.args.budget c.loop-place.turns (omega arith) (omega arith) at inv.1 inv.2 (omega (arith, h, ap g seen)))
 
 pub cells_run-loop-place-preserved : goal.cells_run-loop-place-preserved
@@ -387,8 +387,8 @@ cells_run-loop-place-preserved t c =
     let seen = c.as_slice-in-loop-place.ensures.value ∙ whole in
     let at : slice_get (indices c.args.dims.now) c.loop-place.place ≡ Some here =
     (λ k. slice_get (indices ((sym c.dims.view_is ∙ sym c.as_slice.ensures.value) k)) (sym c.from.ensures k)) ∙ c.set_index.ensures in
-    let done = at_answer boxed_value c.node-done.result _ _ _ _ c.node-done.ensures c.in_ok-kept.ensures.1 in (
-      c.in_ok-cells.ensures ∙ (λ k. list_with ((c.in_ok-kept.ensures.0 ∙ inv.0) k) ((c.from_box.ensures ∙ done.0 ∙ ap f seen) k)) ∙ sym (each-range_more f g (indices c.args.dims.now) c.args.from c.loop-place.place here (omega arith) at),
+    let done = at_answer held_value c.body_value-done.result _ _ _ _ c.body_value-done.ensures c.in_ok-kept.ensures.1 in (
+      c.in_ok-cells.ensures ∙ (λ k. list_with ((c.in_ok-kept.ensures.0 ∙ inv.0) k) ((done.0 ∙ ap f seen) k)) ∙ sym (each-range_more f g (indices c.args.dims.now) c.args.from c.loop-place.place here (omega arith) at),
       omega (arith, total-range_more f g (indices c.args.dims.now) c.args.from c.loop-place.place here (omega arith) at, inv.1, done.1, ap g seen),
       omega (arith, inv.2, done.1, done.2),
       ap length whole ∙ omega (arith, c.set_index.auto.at, c.as_mut_slice.ensures.value, inv.3),

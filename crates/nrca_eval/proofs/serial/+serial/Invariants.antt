@@ -41,16 +41,19 @@ abbrev pub decreases-eval_members : goal.decreases-eval_members
 decreases-eval_members l = 4 * weight_of (term_of l.over.now) + 3
 
 abbrev pub decreases-eval_sum : goal.decreases-eval_sum
-decreases-eval_sum l = 4 * (weight_of (term_of l.over.now) + weight_of (term_of l.body.now)) + 4
+decreases-eval_sum l = 4 * (weight_of (term_of l.over.now) + weight_of (term_of l.body.now)) + 5
 
 abbrev pub decreases-eval_union : goal.decreases-eval_union
 decreases-eval_union l = 4 * (weight_of (term_of l.over.now) + weight_of (term_of l.body.now)) + 5
 
 abbrev pub decreases-eval_tab : goal.decreases-eval_tab
-decreases-eval_tab l = 4 * (list_weight (terms_of l.bounds.now) + weight_of (term_of l.body.now)) + 4
+decreases-eval_tab l = 4 * (list_weight (terms_of l.bounds.now) + weight_of (term_of l.body.now)) + 5
+
+abbrev pub decreases-body_value : goal.decreases-body_value
+decreases-body_value l = 4 * weight_of (term_of l.body.now) + 3
 
 abbrev pub decreases-sum_run : goal.decreases-sum_run
-decreases-sum_run l = 4 * weight_of (term_of l.body.now) + 3
+decreases-sum_run l = 4 * weight_of (term_of l.body.now) + 4
 
 abbrev pub decreases-union_run : goal.decreases-union_run
 decreases-union_run l = 4 * weight_of (term_of l.body.now) + 4
@@ -59,7 +62,7 @@ abbrev pub decreases-members_run : goal.decreases-members_run
 decreases-members_run l = 4 * weight_of (term_of l.body.now) + 3
 
 abbrev pub decreases-cells_run : goal.decreases-cells_run
-decreases-cells_run l = 4 * weight_of (term_of l.body.now) + 3
+decreases-cells_run l = 4 * weight_of (term_of l.body.now) + 4
 
 abbrev pub invariant-eval_parts-loop-i : goal.invariant-eval_parts-loop-i
 invariant-eval_parts-loop-i l =

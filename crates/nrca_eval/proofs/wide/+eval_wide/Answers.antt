@@ -24,7 +24,8 @@ use Rattle.nrca_loops.specs.Laws.Within.{err_within, same_within}
 use Rattle.nrca_eval.specs.Laws.Form.{count-children, child_of-children, strict_whole, strict_taken, sum_whole, sum_taken, union_whole, union_taken, tab_none, tab_whole, tab_idle, tab_taken}
 use Rattle.nrca_eval.specs.Parts.{children}
 use Rattle.nrca_eval.specs.Runs.{run_values, run_turns, cell_values, cell_turns}
-use Rattle.nrca_eval.proofs.Evaluated.{term_at, member_weight, tab_weight, strict_form, spent_whole}
+use Rattle.nrca_quick.specs.Laws.Lent.{term_at}
+use Rattle.nrca_eval.proofs.Evaluated.{member_weight, tab_weight, strict_form, spent_whole}
 use Rattle.nrca_term.specs.Laws.Entering.{child-there}
 use Rattle.nrca_eval.proofs.wide.+eval_wide.Goals as goal
 

@@ -1,0 +1,12 @@
+//! The number that a term is, found in 64 bits without memory of its own, turns or faults: for the
+//! bodies of sums and tabulations, which are mostly arithmetic. `quick` answers nothing where the
+//! term is of another form, where a number passes 2^64-1, and where it is undefined; so whoever
+//! calls it evaluates the term then as any other.
+//!
+//! Read `numbers.rt` beside `specs/Quick.antt`, then `small.rt`.
+#![tactic(auto)]
+
+mod numbers;
+mod small;
+
+pub use numbers::quick;
