@@ -1,2 +1,9 @@
-pub mod Sides
+pub mod Asking
+pub mod BetaSides
 pub mod Counts
+pub mod ReplaceWalk
+pub mod Sides
+pub mod SizeSides
+pub mod SubscriptSides
+pub mod TabulationSides
+pub mod Unshift

@@ -10,17 +10,11 @@ use Rattle.nrca_term.specs.Laws.TypedForm.{top_var-closed}
 use Rattle.nrca_term.specs.Rules.{in_first, sizes_term}
 use Rattle.nrca_laws.specs.Fitting.{RuleFits, IsSmallPart, IsRight}
 use Rattle.nrca_laws.specs.Laws.Fitting.{right-side}
+use Rattle.nrca_setrules.specs.Laws.Lists.{plain-same}
 
 -- a truth value is not its negation
 pub false-true : false ≡ true → ⊥
 false-true e = cc
-
--- equal lists of parts have equal terms
-pub plain-same : (ts us : List Term) → plain ts none ≡ plain us none → ts ≡ us
-plain-same [] [] e = refl
-plain-same [] (u ∷ us) e = cc
-plain-same (t ∷ ts) [] e = cc
-plain-same (t ∷ ts) (u ∷ us) e = let x : t ≡ u = cc in let y : ts ≡ us = plain-same ts us cc in ap (λ z. z ∷ ts) x ∙ ap (λ zs. u ∷ zs) y
 
 -- the terms of a shifted tuple are the shifted terms
 pub tuple-shifted : (t : Term) (ts us : List Term) → t ≡ tuple_term us → t ≡ shift_term 0 1 (tuple_term ts) → us ≡ map (shift_term 0 1) ts

@@ -5,8 +5,9 @@ ghost use Rattle.nrca_term.specs.View.{term_of, terms_of};
 ghost use Rattle.nrca_term.specs.Rules.{sizes_term};
 ghost use Rattle.nrca_term.specs.declared.trace.Rule.TheVariants.{A3, A6};
 ghost use Rattle.nrca_laws.specs.Fitting.{RuleFits, IsRight};
-ghost use Rattle.nrca_arrayrules.specs.Constants.{CountsCells, IsConstantArray};
+ghost use Rattle.nrca_arrayrules.specs.Constants.{IsConstantArray};
 
+use nrca_setrules::cell_count;
 use nrca_term::{Core, Terms};
 use std::mem;
 
@@ -75,7 +76,7 @@ pub fn a6(term: Core) -> Core
 }
 
 // Sizes as dimensions are given: one number, or a tuple.
-fn sizes(bounds: Terms) -> Core
+pub(crate) fn sizes(bounds: Terms) -> Core
     ensures { term_of result ≡ sizes_term (terms_of bounds) }
 {
     let mut bounds = bounds;
@@ -88,7 +89,7 @@ fn sizes(bounds: Terms) -> Core
 }
 
 // Whether the dimensions are numbers, as many as the rank, and the cells as many as their product.
-fn is_constant(rank: u64, dims: &Terms, cells: &Terms) -> bool
+pub(crate) fn is_constant(rank: u64, dims: &Terms, cells: &Terms) -> bool
     ensures { IsTrue result ↔ IsConstantArray rank (terms_of dims.now) (terms_of cells.now) }
 {
     match cell_count(dims) {
@@ -105,18 +106,4 @@ fn agree(rank: u64, count: u64, product: u128, cells: u64) -> bool
     ensures { IsTrue result ↔ ((rank ≡ count) × (product ≡ cells)) }
 {
     rank == count && product == cells as u128
-}
-
-// The product of the dimensions, or 2^128-1 where it is larger. None where one of them is no number.
-fn cell_count(dims: &Terms) -> Option<u128>
-    ensures { CountsCells (terms_of dims.now) result }
-{
-    let mut all: u128 = 1;
-    for i in 0..dims.0.len() {
-        match dims.0[i].number() {
-            Some(n) => all = all.saturating_mul(n),
-            None => return None,
-        }
-    }
-    Some(all)
 }

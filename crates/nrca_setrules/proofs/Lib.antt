@@ -1,4 +1,6 @@
 pub mod BottomSides
+pub mod CellCounts
+pub mod ConstantSides
 pub mod Counts
 pub mod LetSides
 pub mod SetSides

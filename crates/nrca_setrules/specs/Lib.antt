@@ -1,1 +1,3 @@
 pub mod Strictly
+pub mod Constants
+pub mod Laws

@@ -1,0 +1,40 @@
+-- The number of cells that dimensions say, counted one by one, and literals that are misshapen.
+use Rattle.std.proofs.Common.{◌≡◌, ℕ, ◌+◌, ◌-◌, ◌*◌, ◌<◌, ◌≤◌, ◌^◌, min, List, [], ◌∷◌, ◌++◌, length, take, get_or, Some, None, sym, ap, subst, ◌∙◌, arith}
+use Rattle.std.proofs.lemmas.List.{length-map}
+use Rattle.aql_value.specs.Indices.{product}
+use Rattle.aql_value.specs.Laws.Saturation.{saturating_step}
+use Rattle.nrca_term.specs.Term.{Term}
+use Rattle.nrca_term.specs.Nodes.{number}
+use Rattle.nrca_setrules.specs.Constants.{CountsCells, IsMisshapen}
+use Rattle.nrca_setrules.specs.Laws.Lists.{numbers-same, product-more, numbers-more, number-at, whole-list}
+
+-- a product that stopped at the greatest number stays there
+times : (a n m : ℕ) → min (min a m * n) m ≡ min (a * n) m
+times a n m = omega (arith, saturating_step a n 0 m)
+
+-- the count with one dimension more
+pub count-step : (ts : List Term) (i all n : ℕ) (u : Term) → i < length ts → u ≡ get_or ts i u → u ≡ number n → CountsCells (take i ts) (Some all) → CountsCells (take (i + 1) ts) (Some (min (all * n) (2 ^ 128 - 1)))
+count-step ts i all n u l e h t = (
+  t.0 ++ n ∷ [],
+  numbers-more ts i n t.0 u l e h t.1,
+  ap (λ a. min (a * n) (2 ^ 128 - 1)) t.2 ∙ times (product t.0) n (2 ^ 128 - 1) ∙ ap (λ a. min a (2 ^ 128 - 1)) (sym (product-more t.0 n)),
+)
+
+-- no count where one dimension is no number
+pub count-none : (ts : List Term) (i : ℕ) (u : Term) → i < length ts → u ≡ get_or ts i u → ((n : ℕ) → u ≡ number n → ⊥) → CountsCells ts None
+count-none ts i u l e h ns k =
+    h (get_or ns i 0) (e ∙ ap (λ xs. get_or xs i u) k ∙ number-at ns i u (omega (arith, l, ap length k, length-map ns number)))
+
+-- the count after all dimensions
+pub count-whole : (ts : List Term) (i all : ℕ) → length ts ≤ i → CountsCells (take i ts) (Some all) → CountsCells ts (Some all)
+count-whole ts i all h t = subst (λ xs. CountsCells xs (Some all)) (whole-list ts i h) t
+
+-- cells that are not as many as the count make the literal misshapen
+pub misshapen-yes : (p n : ℕ) (ds cs : List Term) → n ≡ length cs → n < 2 ^ 64 → CountsCells ds (Some p) → (p ≡ n → ⊥) → IsMisshapen ds cs
+misshapen-yes p n ds cs e l t h = (t.0, t.1, λ q. h (omega (arith, t.2, q, e, l)))
+
+-- the cells of a misshapen literal are not as many as the count
+pub misshapen-back : (p n : ℕ) (ds cs : List Term) → n ≡ length cs → n < 2 ^ 64 → CountsCells ds (Some p) → IsMisshapen ds cs → p ≡ n → ⊥
+misshapen-back p n ds cs e l t h q =
+    let z = numbers-same t.0 h.0 (sym t.1 ∙ h.1) in
+    h.2 (omega (arith, t.2, ap product z, q, e, l))
