@@ -10,7 +10,7 @@ ghost use Rattle.nrca_ranges.specs.Spans.{span_of, IsOrdered};
 ghost use Rattle.nrca_defined.specs.Walk.{IsOther, firm_at, span_at, parts_firm_at, arith_of};
 
 use aql_value::{ArithOp, Memory};
-use nrca_ranges::{Ctx, Interval, Shape, arith_span, span};
+use nrca_ranges::{Ctx, GlobalShapes, Interval, arith_span, span};
 use nrca_term::Core;
 use std::alloc::Global;
 
@@ -31,24 +31,12 @@ fn wants_all(term: &Core) -> bool
     }
 }
 
-// Whether position n, counted from 1, has a shape.
-#[tactic(auto, using(nrca_ranges::specs::Laws::Entered::positions))]
-fn has_value(globals: &[Option<Shape>], n: u64) -> bool
-    ensures { result ≡ is_shaped globals.now n }
-{
-    if n >= 1 && n <= globals.len() as u64 {
-        globals[(n - 1) as usize].is_some()
-    } else {
-        false
-    }
-}
-
 // Whether a node of the form has a value where its parts have.
-fn form_sure(term: &Core, globals: &[Option<Shape>]) -> bool
+fn form_sure(term: &Core, globals: &GlobalShapes) -> bool
     ensures { result ≡ pure.form_sure (is_shaped globals.now) (form_of (term_of term.now)) }
 {
     match term {
-        Core::Global(n) => has_value(globals, *n),
+        Core::Global(n) => globals.has(*n),
         Core::Arith(ArithOp::Monus, _, _) => true,
         Core::Arith(_, _, _) => false,
         Core::Bottom => false,

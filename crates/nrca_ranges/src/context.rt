@@ -4,9 +4,10 @@ ghost use Rattle.std.specs.Prelude.{◌≡◌, ◌<◌, IfOk, OnOk};
 ghost use Rattle.nrca_term.specs.Term.{parts_of, count};
 ghost use Rattle.nrca_term.specs.View.{term_of};
 ghost use Rattle.nrca_term.specs.Facts.{no_facts};
+ghost use Rattle.nrca_ranges.specs.Context.{fact_of, facts_in, known_facts, around};
 ghost use Rattle.nrca_ranges.specs.Context.{context_of, at_mark, IsSmallTerm, HasRoom, AddsTo, IsEntered, LeaveRoom, bound_fact, bounds_facts, loop_facts, part_facts, test_facts};
 
-use crate::shape::Shape;
+use crate::positions::GlobalShapes;
 use aql_value::{CompareOp, Memory};
 use nrca_subst::shift;
 use nrca_term::{Core, Terms};
@@ -35,7 +36,7 @@ pub struct Fact {
 pub struct Ctx {
     pub facts: Vec<Fact>,
     pub depth: u64,
-    pub globals: Vec<Option<Shape>>,
+    pub globals: GlobalShapes,
 }
 
 /// How many facts and variables a context had before a part was entered.
@@ -47,7 +48,7 @@ pub struct Mark {
 
 impl Ctx {
     /// The context of the root of a closed term. It takes no memory.
-    pub fn new(alloc: Global, globals: Vec<Option<Shape>>) -> Ctx
+    pub fn new(alloc: Global, globals: GlobalShapes) -> Ctx
         ensures context { context_of result ≡ no_facts }
         ensures globals { result.globals ≡ globals }
     {
@@ -56,6 +57,53 @@ impl Ctx {
             depth: 0,
             globals,
         }
+    }
+
+    /// The facts of the place, those of the outermost node first. It takes no memory.
+    pub fn facts(&self) -> &[Fact]
+        ensures { facts_in result.now ≡ known_facts self.now }
+    {
+        self.facts.as_slice()
+    }
+
+    /// The number of variables of the place. It takes no memory.
+    pub fn depth(&self) -> u64
+        ensures { result ≡ around self.now }
+    {
+        self.depth
+    }
+
+    /// The shapes of the positions' values. It takes no memory.
+    pub fn globals(&self) -> &GlobalShapes
+        ensures { result.now ≡ self.now.globals }
+    {
+        &self.globals
+    }
+
+    /// A context with the same facts, variables and shapes.
+    pub fn copy(&self, alloc: Global) -> Result<Ctx, Memory>
+        ensures context { IfOk result (λ c. context_of c ≡ context_of self.now) }
+        ensures globals { IfOk result (λ c. c.globals ≡ self.now.globals) }
+    {
+        let facts = copy_facts(alloc, self.facts.as_slice())?;
+        let globals = self.globals.copy(alloc)?;
+        Ok(Ctx {
+            facts,
+            depth: self.depth,
+            globals,
+        })
+    }
+
+    /// The context of a part, counted from 0, of the node that stands at the place: a copy, entered.
+    pub fn enter(&self, alloc: Global, parent: &Core, part: u64) -> Result<Ctx, Memory>
+        requires has { part < count (parts_of (term_of parent.now)) }
+        requires inside { IsSmallTerm self.now.depth (term_of parent.now) }
+        ensures entered { IfOk result (λ c. IsEntered self.now parent.now part c) }
+        ensures globals { IfOk result (λ c. c.globals ≡ self.now.globals) }
+    {
+        let mut inner = self.copy(alloc)?;
+        let _mark = inner.push(alloc, parent, part)?;
+        Ok(inner)
     }
 
     /// Enters a part of the node that stands at the place, counted from 0. Of the facts that it adds
@@ -84,6 +132,30 @@ impl Ctx {
         self.facts.truncate(mark.facts);
         self.depth = mark.depth;
     }
+}
+
+// Equal facts.
+fn copy_facts(alloc: Global, facts: &[Fact]) -> Result<Vec<Fact>, Memory>
+    ensures { IfOk result (λ v. facts_in v.items ≡ facts_in facts.now) }
+{
+    let mut copied = Vec::new(alloc);
+    for fact in facts {
+        let next = copy_fact(alloc, fact)?;
+        copied.push(next)?;
+    }
+    Ok(copied)
+}
+
+// An equal fact.
+fn copy_fact(alloc: Global, fact: &Fact) -> Result<Fact, Memory>
+    ensures { IfOk result (λ f. fact_of f ≡ fact_of fact.now) }
+{
+    let comparison = fact.comparison.copy(alloc)?;
+    Ok(Fact {
+        comparison,
+        known: fact.known,
+        depth: fact.depth,
+    })
 }
 
 // The facts that a part of a node has beside those around the node.

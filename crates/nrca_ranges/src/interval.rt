@@ -1,20 +1,48 @@
 //! Spans: the least and the greatest number that a term may be, as the facts and its form tell them.
 
-ghost use Rattle.std.specs.Prelude.{◌≡◌};
+ghost use Rattle.std.specs.Prelude.{◌≡◌, IfOk};
 ghost use Rattle.nrca_term.specs.View.{term_of};
 ghost use Rattle.nrca_term.specs.Firm as firm;
-ghost use Rattle.nrca_ranges.specs.Context.{fact_of, context_of};
+ghost use Rattle.nrca_ranges.specs.Context.{fact_of, context_of, at_depth, facts_among};
 ghost use Rattle.nrca_ranges.specs.Spans.{span_of, IsOrdered, span_of_variable};
 
 use crate::context::{Ctx, Fact, Known};
-use aql_value::{ArithOp, CompareOp};
+use aql_value::{ArithOp, CompareOp, Memory};
 use nrca_term::Core;
+use std::alloc::Global;
+use std::marker::Model;
 
 /// The numbers from `low` to `high`, both among them.
 #[derive(Clone, Copy)]
 pub struct Interval {
     pub low: u128,
     pub high: u128,
+}
+
+/// The intervals of the dimensions of an array, the outermost first.
+#[derive(Drop)]
+pub struct Intervals {
+    pub items: Vec<Interval>,
+}
+
+impl Model for Intervals {
+    ghost use Rattle.std.specs.Prelude.{List};
+    ghost use Rattle.nrca_ranges.specs.declared.interval.Interval.{Interval};
+
+    ghost Value = { List Interval };
+
+    ghost view = { λ s. s.items.items };
+}
+
+impl Intervals {
+    /// Equal intervals.
+    pub fn copy(&self, alloc: Global) -> Result<Intervals, Memory>
+        ensures { IfOk result (λ s. s ≡ self.now) }
+    {
+        let mut items = Vec::new(alloc);
+        items.extend_from_slice(self.items.as_slice())?;
+        Ok(Intervals { items })
+    }
 }
 
 // The number of the variable that a term is.
@@ -162,8 +190,16 @@ pub fn variable_span(ctx: &Ctx, i: u64) -> Option<Interval>
     ensures exact { span_of result ≡ span_of_variable ctx.now i }
     ensures ordered { IsOrdered result }
 {
+    variable_span_at(ctx, ctx.depth, i)
+}
+
+// The same among `depth` variables.
+fn variable_span_at(ctx: &Ctx, depth: u64, i: u64) -> Option<Interval>
+    ensures exact { span_of result ≡ span_of_variable (at_depth ctx.now depth) i }
+    ensures ordered { IsOrdered result }
+{
     for fact in &ctx.facts {
-        let found = fact_span(ctx.depth, i, fact);
+        let found = fact_span(depth, i, fact);
         if found.is_some() {
             return found;
         }
@@ -176,12 +212,20 @@ pub fn span(term: &Core, ctx: &Ctx) -> Option<Interval>
     ensures exact { span_of result ≡ firm.span (context_of ctx.now) (term_of term.now) }
     ensures ordered { IsOrdered result }
 {
+    span_at(term, ctx, ctx.depth)
+}
+
+/// The same among `depth` variables; of those beyond the context's own nothing is known.
+pub fn span_at(term: &Core, ctx: &Ctx, depth: u64) -> Option<Interval>
+    ensures exact { span_of result ≡ firm.span (facts_among ctx.now depth) (term_of term.now) }
+    ensures ordered { IsOrdered result }
+{
     match term {
-        Core::Var(i) => variable_span(ctx, *i),
+        Core::Var(i) => variable_span_at(ctx, depth, *i),
         Core::Nat(n) => Some(Interval { low: *n, high: *n }),
         Core::Arith(op, a, b) => {
-            let left = span(a, ctx);
-            let right = span(b, ctx);
+            let left = span_at(a, ctx, depth);
+            let right = span_at(b, ctx, depth);
             arith_span(*op, left, right, b.number())
         }
         _ => None,

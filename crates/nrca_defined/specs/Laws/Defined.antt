@@ -1,17 +1,19 @@
 -- What follows from the definitions of `Defined`.
-use Rattle.std.proofs.Common.{◌≡◌, ℕ, zero, suc, ◌+◌, ◌*◌, ◌-◌, ◌<◌, ◌≤◌, ◌/◌, ◌%◌, ◌^◌, Bool, true, false, nat_eq, List, [], ◌∷◌, Option, Some, refl, sym, ap, subst, ◌∙◌, arith, inl, inr}
+use Rattle.std.proofs.Common.{◌≡◌, ℕ, zero, suc, ◌+◌, ◌*◌, ◌-◌, ◌<◌, ◌≤◌, ◌/◌, ◌%◌, ◌^◌, Bool, true, false, nat_eq, List, [], ◌∷◌, length, Option, Some, refl, sym, ap, subst, ◌∙◌, arith, inl, inr}
 use Rattle.std.proofs.lemmas.Bool.{lt-ltb, eqb-true, cases_Bool}
 use Rattle.std.proofs.lemmas.Nat.{mul-le}
 use Rattle.aql_value.specs.declared.ops.ArithOp.{ArithOp}
 use Rattle.aql_value.specs.declared.ops.ArithOp.TheVariants.{Add, Monus, Mul, Quotient, Remainder}
 use Rattle.aql_value.specs.Datum as datum
 use Rattle.aql_value.specs.Datum.{Datum}
+use Rattle.aql_value.specs.Laws.Datum.{list_of-data_of}
+use Rattle.aql_value.specs.Laws.Set.{length_canon}
 use Rattle.aql_value.specs.Ops.{arith_by}
 use Rattle.aql_value.specs.Partial.{◌>>=◌}
 use Rattle.aql_value.specs.Strict.{Strict, strict_value}
-use Rattle.aql_types.specs.Types.{natural}
+use Rattle.aql_types.specs.Types.{natural, set_of}
 use Rattle.nrca_term.specs.Term.{Term}
-use Rattle.nrca_term.specs.Nodes.{arith_term}
+use Rattle.nrca_term.specs.Nodes.{arith_term, get_term}
 use Rattle.nrca_term.specs.Meaning.{cden}
 use Rattle.nrca_term.specs.Facts.{Facts, Stands}
 use Rattle.nrca_term.specs.Firm.{firm}
@@ -26,8 +28,8 @@ use Rattle.nrca_ranges.specs.declared.interval.Interval.{Interval}
 use Rattle.nrca_ranges.specs.declared.context.Ctx.{Ctx}
 use Rattle.nrca_ranges.specs.Context.{context_of}
 use Rattle.nrca_ranges.specs.Entered.{is_shaped}
-use Rattle.nrca_ranges.specs.Shapes.{Tells, IsNumberIn}
-use Rattle.nrca_defined.specs.Defined.{IsDefinedAt, AlwaysFits}
+use Rattle.nrca_ranges.specs.Shapes.{Tells, IsCount, IsNumberIn, IsCountIn}
+use Rattle.nrca_defined.specs.Defined.{IsDefinedAt, AlwaysFits, IsOneMember}
 
 -- a firm term
 pub firm-is : (gs : List (Option Shape)) (c : Facts) (t : Term) (b : Bool) → b ≡ firm (is_shaped gs) c t → b ≡ true → IsDefinedAt gs c t
@@ -42,7 +44,7 @@ made op o p m n k e f g = rw (e, f) (rw g refl)
 
 -- arithmetic that fits at all numbers of its sides' intervals, where both sides have values
 pub arith-is : (c : Ctx) (gs : List (Option Shape)) (d : Facts) (op : ArithOp) (a b : Term) (x y : Interval) → IsNumberIn c a x → IsNumberIn c b y → AlwaysFits op x y →
-    IsDefinedAt c.globals.items (context_of c) a → IsDefinedAt gs d b → gs ≡ c.globals.items → d ≡ context_of c → IsDefinedAt c.globals.items (context_of c) (arith_term op a b)
+    IsDefinedAt c.globals (context_of c) a → IsDefinedAt gs d b → gs ≡ c.globals → d ≡ context_of c → IsDefinedAt c.globals (context_of c) (arith_term op a b)
 unfolding IsDefinedAt
 arith-is c gs d op a b x y ha hb f da db eg ed given V env vals T g h tl st ty =
     let r = strict-typed (instances given) env (Strict.arith op) (a ∷ b ∷ []) T ty in
@@ -88,3 +90,26 @@ fits-quotient a b l m n x y = (m / n, rw (not-zero n (omega (arith, l, y.0))) re
 -- so does such a remainder
 pub fits-remainder : (a b : Interval) → 0 < b.low → AlwaysFits Remainder a b
 fits-remainder a b l m n x y = (m % n, rw (not-zero n (omega (arith, l, y.0))) refl)
+
+-- a list of one member
+one-member : (vs : List Datum) → length vs ≡ 1 → (v : Datum) × (vs ≡ v ∷ [])
+one-member [] e = absurd (omega (arith, e))
+one-member (v ∷ []) e = (v, refl)
+one-member (v ∷ w ∷ vs) e = absurd (omega (arith, e))
+
+-- the member of a set of one
+taken : (o : Option Datum) (vs : List Datum) (v : Datum) → o ≡ Some (datum.set (datum.data_of vs)) → vs ≡ v ∷ [] → ((o >>= λ y. Some (y ∷ [])) >>= strict_value Strict.get) ≡ Some v
+taken o vs v e z = ap (λ p. (p >>= λ y. Some (y ∷ [])) >>= strict_value Strict.get) (e ∙ ap (λ l. Some (datum.set (datum.data_of l))) z)
+
+-- the member of a set that has a value and always one member
+pub get-is : (c : Ctx) (a : Term) (i : Interval) → IsCountIn c a i → IsOneMember i → IsDefinedAt c.globals (context_of c) a → IsDefinedAt c.globals (context_of c) (get_term a)
+unfolding IsDefinedAt
+get-is c a i n o d given V env vals T g h tl st ty =
+    let r = strict-typed (instances given) env Strict.get (a ∷ []) T ty in
+    let t = subst (TermsTyped (instances given) env (a ∷ [])) r.1 r.2 in
+    let v = d given V env vals (set_of T) g h tl st t.0 in
+    let m = sound (instances given) V g a env vals (set_of T) v.0 h t.0 v.1 in
+    let p : cden V vals a ≡ Some (datum.set (datum.data_of m.0)) = v.1 ∙ ap Some m.1 in
+    let k : IsCount i m.0 = subst (IsCount i) (list_of-data_of m.0) (n V vals (datum.data_of m.0) (tl, st) p) in
+    let w = one-member m.0 (omega (arith, o.0, o.1, k.0, k.1 (omega (arith, o.1)), length_canon m.0)) in
+    (w.0, cden-strict V vals Strict.get (a ∷ []) ∙ taken (cden V vals a) m.0 w.0 p w.1)
