@@ -7,7 +7,7 @@ use Rattle.aql_types.specs.declared.ty.Scheme as code_scheme
 use Rattle.aql_syntax.specs.Tree.{Declaration, declared}
 use Rattle.aql_infer_steps.specs.Constraints.{Schemes}
 use Rattle.aql_types.specs.Variables.{sort_variables}
-use Rattle.aql_infer_steps.specs.Numbering.{numbered}
+use Rattle.aql_infer_steps.specs.Numbering.{renumbering}
 use Rattle.aql_infer_steps.specs.Principal.{IsInferred, IsNotInferred}
 use Rattle.aql_infer_steps.specs.View.{scheme_of}
 use Rattle.aql_infer_steps.specs.declared.names.Position.{Position}
@@ -23,5 +23,5 @@ Inferred (Err faults.Memory) d ss = Unit {0}
 -- its name, with that scheme's variables numbered; or memory ran out
 abbrev pub Placed : Result Position NoTyping → Result code_scheme.Scheme Memory → Declaration → Type 0
 Placed (Ok p) scheme d = IsOkAnd scheme (λ m.
-    (sort_of p.scheme ≡ apply_sort (numbered (sort_variables (sort_of m))) (sort_of m)) × (p.variables ≡ length (sort_variables (sort_of m))) × (p.name ≡ declared d))
+    (sort_of p.scheme ≡ apply_sort (renumbering (sort_variables (sort_of m))) (sort_of m)) × (p.variables ≡ length (sort_variables (sort_of m))) × (p.name ≡ declared d))
 Placed (Err e) scheme d = e ≡ faults.Memory

@@ -32,5 +32,5 @@ Follows (Ok x) r P = P x
 Follows (Err e) r P = r ≡ Err e
 
 -- a walk over what the code keeps: its positions, its local names and its store
-abbrev pub walked : {Y : Type 0} → (Schemes → Locals → Making Y) → List Position → List Local → Store → Option (Made Y)
-walked walk ps env s = walk (schemes_of ps) (locals_of env) (state_of s)
+abbrev pub made_at : {Y : Type 0} → (Schemes → Locals → Making Y) → List Position → List Local → Store → Option (Made Y)
+made_at walk ps env s = walk (schemes_of ps) (locals_of env) (state_of s)

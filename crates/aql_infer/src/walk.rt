@@ -7,7 +7,7 @@ ghost use Rattle.aql_syntax.specs.Tree.{no_qual};
 ghost use Rattle.aql_syntax.specs.Typing.{with_indices};
 ghost use Rattle.aql_syntax.specs.View.{pat_of, tree_of, trees_of, quals_of, qual_of, axes_in, defs_in};
 ghost use Rattle.aql_infer_steps.specs.Constraints.{make, make_all, make_each, make_bounds, make_rows, make_binds};
-ghost use Rattle.aql_infer.specs.Pairs.{make_two, choice_of, subscript_of, literal_of, walked};
+ghost use Rattle.aql_infer.specs.Pairs.{make_two, choice_of, subscript_of, literal_of, made_at};
 ghost use Rattle.aql_infer_steps.specs.View.{state_of, locals_of, schemes_of, types_in, Makes, Extends, MakesType, MakesState, MakesLocals};
 
 use crate::steps::{
@@ -39,7 +39,7 @@ pub fn infer(
     env: &mut Vec<Local>,
     s: Store,
 ) -> Result<(Ty, Store), NoTyping>
-    ensures made { MakesType result (walked (make (tree_of e.now)) positions.now env.old.items s) }
+    ensures made { MakesType result (made_at (make (tree_of e.now)) positions.now env.old.items s) }
     ensures kept { OnOk result (env.new.items ≡ env.old.items) }
 {
     match fuel.checked_sub(1) {
@@ -59,7 +59,7 @@ fn infer_form(
     env: &mut Vec<Local>,
     s: Store,
 ) -> Result<(Ty, Store), NoTyping>
-    ensures made { MakesType result (walked (make (tree_of e.now)) positions.now env.old.items s) }
+    ensures made { MakesType result (made_at (make (tree_of e.now)) positions.now env.old.items s) }
     ensures kept { OnOk result (env.new.items ≡ env.old.items) }
 {
     match e {
@@ -137,7 +137,7 @@ fn infer_two(
     s: Store,
 ) -> Result<(Ty, Ty, Store), NoTyping>
     ensures made { Makes (λ r. record { result = (type_of r.0, type_of r.1); state = state_of r.2 })
-        result (walked (make_two (tree_of a.now) (tree_of b.now)) positions.now env.old.items s) }
+        result (made_at (make_two (tree_of a.now) (tree_of b.now)) positions.now env.old.items s) }
     ensures kept { OnOk result (env.new.items ≡ env.old.items) }
 {
     let (y, s) = infer(alloc, a, fuel, positions, env, s)?;
@@ -159,7 +159,7 @@ fn infer_choice(
     s: Store,
 ) -> Result<(Ty, Store), NoTyping>
     ensures made { MakesType result
-        (walked (choice_of (tree_of c.now) (tree_of a.now) (tree_of b.now)) positions.now
+        (made_at (choice_of (tree_of c.now) (tree_of a.now) (tree_of b.now)) positions.now
         env.old.items s) }
     ensures kept { OnOk result (env.new.items ≡ env.old.items) }
 {
@@ -178,7 +178,7 @@ fn infer_members(
     env: &mut Vec<Local>,
     s: Store,
 ) -> Result<(Ty, Store), NoTyping>
-    ensures made { MakesType result (walked (make (tree.members (trees_of es.now))) positions.now
+    ensures made { MakesType result (made_at (make (tree.members (trees_of es.now))) positions.now
         env.old.items s) }
     ensures kept { OnOk result (env.new.items ≡ env.old.items) }
 {
@@ -200,7 +200,7 @@ fn infer_literal(
     s: Store,
 ) -> Result<(Ty, Store), NoTyping>
     ensures made { MakesType result
-        (walked (literal_of (length dims.now) (trees_of dims.now) (trees_of cells.now))
+        (made_at (literal_of (length dims.now) (trees_of dims.now) (trees_of cells.now))
         positions.now env.old.items s) }
     ensures kept { OnOk result (env.new.items ≡ env.old.items) }
 {
@@ -221,7 +221,7 @@ fn infer_subscript(
     env: &mut Vec<Local>,
     s: Store,
 ) -> Result<(Ty, Store), NoTyping>
-    ensures made { MakesType result (walked (subscript_of (tree_of array.now) (trees_of at.now))
+    ensures made { MakesType result (made_at (subscript_of (tree_of array.now) (trees_of at.now))
         positions.now env.old.items s) }
     ensures kept { OnOk result (env.new.items ≡ env.old.items) }
 {
@@ -243,7 +243,7 @@ fn infer_comprehension(
     s: Store,
 ) -> Result<(Ty, Store), NoTyping>
     ensures made { MakesType result
-        (walked (make (tree.comp (tree_of head.now) (quals_of quals.now))) positions.now
+        (made_at (make (tree.comp (tree_of head.now) (quals_of quals.now))) positions.now
         env.old.items s) }
     ensures kept { OnOk result (env.new.items ≡ env.old.items) }
 {
@@ -266,7 +266,8 @@ fn infer_tabulation(
     env: &mut Vec<Local>,
     s: Store,
 ) -> Result<(Ty, Store), NoTyping>
-    ensures made { MakesType result (walked (make (tree.tab (axes_in binds.now) (tree_of body.now)))
+    ensures made { MakesType result
+        (made_at (make (tree.tab (axes_in binds.now) (tree_of body.now)))
         positions.now env.old.items s) }
     ensures kept { OnOk result (env.new.items ≡ env.old.items) }
 {
@@ -293,7 +294,7 @@ fn infer_let(
     s: Store,
 ) -> Result<(Ty, Store), NoTyping>
     ensures made { MakesType result
-        (walked (make (tree.bindings (defs_in binds.now) (tree_of body.now))) positions.now
+        (made_at (make (tree.bindings (defs_in binds.now) (tree_of body.now))) positions.now
         env.old.items s) }
     ensures kept { OnOk result (env.new.items ≡ env.old.items) }
 {
@@ -318,7 +319,7 @@ fn infer_function(
     s: Store,
 ) -> Result<(Ty, Store), NoTyping>
     ensures made { MakesType result
-        (walked (make (tree.function (pat_of pattern.now) (tree_of body.now)
+        (made_at (make (tree.function (pat_of pattern.now) (tree_of body.now)
         (tree_of argument.now))) positions.now env.old.items s) }
     ensures kept { OnOk result (env.new.items ≡ env.old.items) }
 {
@@ -344,7 +345,7 @@ fn infer_sum(
     s: Store,
 ) -> Result<(Ty, Store), NoTyping>
     ensures made { MakesType result
-        (walked (make (tree.summap (pat_of pattern.now) (tree_of body.now) (tree_of over.now)))
+        (made_at (make (tree.summap (pat_of pattern.now) (tree_of body.now) (tree_of over.now)))
         positions.now env.old.items s) }
     ensures kept { OnOk result (env.new.items ≡ env.old.items) }
 {
@@ -369,7 +370,7 @@ fn infer_all(
     s: Store,
 ) -> Result<(Vec<Ty>, Store), NoTyping>
     ensures made { Makes (λ r. record { result = types_in r.0.items; state = state_of r.1 }) result
-        (walked (make_all (trees_of es.now)) positions.now env.old.items s) }
+        (made_at (make_all (trees_of es.now)) positions.now env.old.items s) }
     ensures kept { OnOk result (env.new.items ≡ env.old.items) }
     ensures count { IfOk result (λ r. length r.0.items ≡ length es.now) }
 {
@@ -418,7 +419,7 @@ fn infer_bounds(
     env: &mut Vec<Local>,
     s: Store,
 ) -> Result<Store, NoTyping>
-    ensures made { MakesState result (walked (make_bounds (axes_in binds.now)) positions.now
+    ensures made { MakesState result (made_at (make_bounds (axes_in binds.now)) positions.now
         env.old.items s) }
     ensures kept { OnOk result (env.new.items ≡ env.old.items) }
 {
@@ -441,7 +442,7 @@ fn infer_rows(
     env: &mut Vec<Local>,
     s: Store,
 ) -> Result<Store, NoTyping>
-    ensures made { MakesLocals env.new.items result (walked (make_rows (quals_of quals.now))
+    ensures made { MakesLocals env.new.items result (made_at (make_rows (quals_of quals.now))
         positions.now env.old.items s) }
     ensures extends { OnOk result (Extends env.old.items env.new.items) }
 {
@@ -465,7 +466,7 @@ fn infer_row(
     env: &mut Vec<Local>,
     s: Store,
 ) -> Result<Store, NoTyping>
-    ensures made { MakesLocals env.new.items result (walked (make_rows (qual_of q.now no_qual))
+    ensures made { MakesLocals env.new.items result (made_at (make_rows (qual_of q.now no_qual))
         positions.now env.old.items s) }
     ensures extends { OnOk result (Extends env.old.items env.new.items) }
 {
@@ -502,7 +503,7 @@ fn infer_binds(
     env: &mut Vec<Local>,
     s: Store,
 ) -> Result<Store, NoTyping>
-    ensures made { MakesLocals env.new.items result (walked (make_binds (defs_in binds.now))
+    ensures made { MakesLocals env.new.items result (made_at (make_binds (defs_in binds.now))
         positions.now env.old.items s) }
     ensures extends { OnOk result (Extends env.old.items env.new.items) }
 {

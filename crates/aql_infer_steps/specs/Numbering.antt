@@ -10,12 +10,12 @@ at_place zero (y ∷ ys) = y
 at_place (suc i) (y ∷ ys) = at_place i ys
 
 -- each variable by its place
-abbrev pub numbered : List ℕ → Subst
-numbered vs x = var (place x vs)
+abbrev pub renumbering : List ℕ → Subst
+renumbering vs x = var (place x vs)
 
 -- with its variables numbered by first appearance
 abbrev pub number : Sort → Sort
-number s = apply_sort (numbered (sort_variables s)) s
+number s = apply_sort (renumbering (sort_variables s)) s
 
 -- The numbering can be undone.
 abbrev pub named : List ℕ → Subst

@@ -3,7 +3,7 @@
 ghost use Rattle.std.specs.Prelude.{◌≡◌, IfOk};
 ghost use Rattle.aql_types.specs.Types.{apply, apply_all, apply_sort};
 ghost use Rattle.aql_types.specs.View.{type_of, types_of, sort_of, subst_of};
-ghost use Rattle.aql_infer_steps.specs.Numbering.{numbered};
+ghost use Rattle.aql_infer_steps.specs.Numbering.{renumbering};
 
 use aql_types::subst::Subst;
 use aql_types::ty::{Scheme, Ty, row};
@@ -35,7 +35,8 @@ pub fn instance_of(alloc: Global, solution: &Subst, s: &Scheme) -> Result<Scheme
 
 /// The scheme with each variable by its place among these.
 pub fn with_places(alloc: Global, s: &Scheme, names: &[u64]) -> Result<Scheme, Memory>
-    ensures { IfOk result (λ made. sort_of made ≡ apply_sort (numbered names.now) (sort_of s.now)) }
+    ensures { IfOk result
+        (λ made. sort_of made ≡ apply_sort (renumbering names.now) (sort_of s.now)) }
 {
     match s {
         Scheme::Value(t) => {
@@ -57,7 +58,7 @@ pub fn with_places(alloc: Global, s: &Scheme, names: &[u64]) -> Result<Scheme, M
 #[cycle(renumber)]
 #[tactic(auto, using(aql_types::specs::Laws::View::type_of_row))]
 fn renumber(alloc: Global, t: &Ty, names: &[u64]) -> Result<Ty, Memory>
-    ensures { IfOk result (λ made. type_of made ≡ apply (numbered names.now) (type_of t.now)) }
+    ensures { IfOk result (λ made. type_of made ≡ apply (renumbering names.now) (type_of t.now)) }
 {
     match t {
         Ty::Nat => Ok(Ty::Nat),
@@ -79,7 +80,7 @@ fn renumber(alloc: Global, t: &Ty, names: &[u64]) -> Result<Ty, Memory>
 #[cycle(renumber)]
 #[tactic(auto, using(aql_types::specs::Laws::View::list_steps))]
 fn placed_all(alloc: Global, ts: &[Ty], names: &[u64]) -> Result<Vec<Ty>, Memory>
-    ensures { IfOk result (λ made. types_of made.items ≡ apply_all (numbered names.now)
+    ensures { IfOk result (λ made. types_of made.items ≡ apply_all (renumbering names.now)
         (types_of ts.now)) }
 {
     let mut made = Vec::new(alloc);

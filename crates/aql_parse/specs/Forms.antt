@@ -2,7 +2,7 @@
 use Rattle.std.specs.Prelude.{ℕ, List}
 use Rattle.aql_value.specs.Strict.{Strict}
 use Rattle.aql_syntax.specs.Lexis.{Lexeme}
-use Rattle.aql_syntax.specs.Nodes.{strict_of}
+use Rattle.aql_syntax.specs.Nodes.{operation_form}
 use Rattle.aql_syntax.specs.View.{pat_of}
 use Rattle.aql_syntax.specs.Grammar.{both, either}
 use Rattle.aql_lex.specs.Texts.{text_of}
@@ -26,7 +26,7 @@ joiner_of operators.Or = joins either
 -- a head, before what follows it
 abbrev pub opening_of : List ℕ → Head → List Lexeme → Opening
 opening_of source (heads.Macro t) r = applies (text_of source t) r
-opening_of source (heads.Operation o) r = operates (strict_of o) r
+opening_of source (heads.Operation o) r = operates (operation_form o) r
 opening_of source (heads.Function functionals.Plain) r = functions r
 opening_of source (heads.Function functionals.Sum) r = summaps r
 

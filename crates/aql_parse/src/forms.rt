@@ -3,7 +3,7 @@
 ghost use Rattle.std.specs.Prelude.{◌≡◌, ◌<◌, ◌-◌, MatchOption, Some, None};
 ghost use Rattle.aql_syntax.specs.Lexis.{mark};
 ghost use Rattle.aql_syntax.specs.Tree as tree;
-ghost use Rattle.aql_syntax.specs.Nodes.{strict_of};
+ghost use Rattle.aql_syntax.specs.Nodes.{operation_form};
 ghost use Rattle.aql_syntax.specs.View.{tree_of, trees_of, qual_of};
 ghost use Rattle.aql_syntax.specs.Grammar.{head_operator};
 ghost use Rattle.aql_parse_spec.specs.Parsing as grammar;
@@ -104,7 +104,7 @@ pub fn binary(operator: Operator, left: Box<Expr>, right: Box<Expr>) -> Expr
 
 fn operation_of(sign: Sign) -> Option<Operation>
     ensures { MatchOption result (head_operator (mark sign) ≡ None) (λ o. head_operator (mark sign)
-        ≡ Some (strict_of o)) }
+        ≡ Some (operation_form o)) }
 {
     match sign {
         Sign::Gen => Some(Operation::Gen),

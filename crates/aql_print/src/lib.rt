@@ -5,7 +5,7 @@
 //! that of a core term, `print_trace` the names of the rules that led to it; `put` and its like those of bytes and names.
 //!
 //! Read `specs/Joined`, `ValueText`, `Names` and `Appends` first, then `bytes`, `value` and `names`; after these `TypeText`,
-//! `CoreText` and `TraceText` with `held`, `scheme`, `term` and `trace`. `PrefixLaws` has the laws of prefixes.
+//! `CoreText` and `TraceText` with `held`, `scheme`, `term` and `trace`. `Laws/Prefix` has the laws of prefixes.
 #![tactic(auto)]
 
 mod bytes;

@@ -36,7 +36,7 @@ use Rattle.aql_run.specs.Entry.{entry}
 use Rattle.aql_run.specs.Writing.{WritesFront}
 use Rattle.aql_run.specs.declared.steps.Halt.{Halt}
 use Rattle.aql_run.specs.declared.steps.Halt.TheVariants as halts
-use Rattle.aql_run.specs.Steps.{own, sorts, IsPrepared, Progress, AnswersOne, NextReadsNoFile, CutsEntry, Halts, IsNoFault}
+use Rattle.aql_run.specs.Steps.{own, sorts_in, IsPrepared, Progress, AnswersOne, NextReadsNoFile, CutsEntry, Halts, IsNoFault}
 
 some_is : {A : Type 0} (x y : A) → ◌≡◌ {A = Option A} (Some x) (Some y) → x ≡ y
 some_is x y e = cc
@@ -121,7 +121,7 @@ next_there p n d k h is e =
 
 pub stepped : (p : Prepared) (o : Settings) (holds : Option Content) (answers : List Answer) (s s' : Bound) (a : Answer) (n : ℕ) (d : Declaration) → IsPrepared p →
     n ≡ prelude_count + 1 + length answers → Progress p o.budget holds answers s → slice_get (decls_of p.decls.items.items) (n - 1) ≡ Some d →
-    IsAnswer d (earlier_of (decls_of p.decls.items.items) (outcomes s)) (slice_get (sorts p) (n - 1)) a →
+    IsAnswer d (earlier_of (decls_of p.decls.items.items) (outcomes s)) (slice_get (sorts_in p) (n - 1)) a →
     IsAnswerable d (earlier_of (decls_of p.decls.items.items) (outcomes s)) o.budget holds →
     BindsPosition d (earlier_of (decls_of p.decls.items.items) (outcomes s)) holds s s' → HasStepped p o holds answers s s' a
 stepped p o holds answers s s' a n d h is so_far e answer answerable binds =
@@ -138,10 +138,10 @@ stepped p o holds answers s s' a n d h is so_far e answer answerable binds =
       progress = record {
         bound = named there;
         types = subst (λ (V : Outcomes). OutcomesTyped (earlier_of (positions (own p)) V)) (sym more) has;
-        answered = subst (λ (V : Outcomes). AreAnswered (own p) (sorts p) o.budget holds (answers ++ a ∷ []) V) (sym more)
-            (answered_more (own p) (sorts p) o.budget holds answers (outcomes s) d a binds.outcome so_far.answered there (record {
-              answer = subst (λ (k : ℕ). IsAnswer d (earlier_of (positions (own p)) (outcomes s)) (slice_get (sorts p) k) a) at
-                  (subst (λ (ds : List Declaration). IsAnswer d (earlier_of ds (outcomes s)) (slice_get (sorts p) (n - 1)) a) h.all answer);
+        answered = subst (λ (V : Outcomes). AreAnswered (own p) (sorts_in p) o.budget holds (answers ++ a ∷ []) V) (sym more)
+            (answered_more (own p) (sorts_in p) o.budget holds answers (outcomes s) d a binds.outcome so_far.answered there (record {
+              answer = subst (λ (k : ℕ). IsAnswer d (earlier_of (positions (own p)) (outcomes s)) (slice_get (sorts_in p) k) a) at
+                  (subst (λ (ds : List Declaration). IsAnswer d (earlier_of ds (outcomes s)) (slice_get (sorts_in p) (n - 1)) a) h.all answer);
               answerable = subst (λ (ds : List Declaration). IsAnswerable d (earlier_of ds (outcomes s)) o.budget holds) h.all answerable;
               outcome = subst (λ (ds : List Declaration). IsOutcome d (earlier_of ds (outcomes s)) holds binds.outcome) h.all binds.is;
               told = subst (λ (ds : List Declaration). ForSome holds (λ files. outcome_after (reading files) d (globals_of (earlier_of ds (outcomes s))) ≡ Some binds.outcome)) h.all binds.told;
@@ -223,7 +223,7 @@ outcome_last V o n k many is =
 
 pub has_stepped : (p : Prepared) (o : Settings) (holds : Option Content) (answers : List Answer) (s s' : Bound) (a : Answer) (n : ℕ) → IsPrepared p →
     n ≡ prelude_count + 1 + length answers → n ≤ length p.decls.items.items → Progress p o.budget holds answers s →
-    ((d : Declaration) → slice_get (decls_of p.decls.items.items) (n - 1) ≡ Some d → IsAnswer d (earlier_of (decls_of p.decls.items.items) (outcomes s)) (slice_get (sorts p) (n - 1)) a) →
+    ((d : Declaration) → slice_get (decls_of p.decls.items.items) (n - 1) ≡ Some d → IsAnswer d (earlier_of (decls_of p.decls.items.items) (outcomes s)) (slice_get (sorts_in p) (n - 1)) a) →
     ((d : Declaration) → slice_get (decls_of p.decls.items.items) (n - 1) ≡ Some d → IsAnswerable d (earlier_of (decls_of p.decls.items.items) (outcomes s)) o.budget holds) →
     ((d : Declaration) → slice_get (decls_of p.decls.items.items) (n - 1) ≡ Some d → BindsPosition d (earlier_of (decls_of p.decls.items.items) (outcomes s)) holds s s') →
     HasStepped p o holds answers s s' a
@@ -251,8 +251,8 @@ module _ (p : Prepared) (o : Settings) (holds : Option Content) (answers answers
     answer = a;
     outcome = h.outcome;
     longer = longer;
-    answered = subst (λ (l : List Answer). AreAnswered (own p) (sorts p) o.budget holds l (outcomes s ++ h.outcome ∷ [])) (sym longer)
-        (subst (λ (V : Outcomes). AreAnswered (own p) (sorts p) o.budget holds (answers ++ a ∷ []) V) h.outcomes h.progress.answered);
+    answered = subst (λ (l : List Answer). AreAnswered (own p) (sorts_in p) o.budget holds l (outcomes s ++ h.outcome ∷ [])) (sym longer)
+        (subst (λ (V : Outcomes). AreAnswered (own p) (sorts_in p) o.budget holds (answers ++ a ∷ []) V) h.outcomes h.progress.answered);
     front = front;
     rest = rest;
     split = subst (λ (z : Option Datum). entry o.plan a z ≡ front ++ rest) is split;

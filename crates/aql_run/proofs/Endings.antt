@@ -28,7 +28,7 @@ use Rattle.aql_run.specs.Laws.Answered.{are_values}
 use Rattle.aql_run.specs.Entry.{entry, entries}
 use Rattle.aql_run.specs.Lines.{at_byte, in_declaration}
 use Rattle.aql_run.specs.Sample.{sample_text}
-use Rattle.aql_run.specs.Steps.{own, sorts, IsPrepared, AnswersAll, CutsLines, EndsAt}
+use Rattle.aql_run.specs.Steps.{own, sorts_in, IsPrepared, AnswersAll, CutsLines, EndsAt}
 use Rattle.aql_run.specs.declared.steps.Halt.{Halt}
 use Rattle.aql_run.specs.declared.steps.Halt.TheVariants as halts
 use Rattle.aql_run.specs.Codes.{code_of}
@@ -55,7 +55,7 @@ prepared_is script p (ds, reads, all, typed, limits, built) =
     let same : own p ≡ ds = ap (drop prelude_count) all ∙ drop_prelude ds in (
       record {
         all = all ∙ ap positions (sym same);
-        typed = subst (λ (l : List Declaration). AreTyped l (sorts p)) (sym same) typed;
+        typed = subst (λ (l : List Declaration). AreTyped l (sorts_in p)) (sym same) typed;
         limits = subst (λ (l : List Declaration). AreWithinLimits (positions l) (prelude_count + length l)) (sym same) limits;
         built = subst NoneReadsRecords (sym same) built;
       },
@@ -92,12 +92,12 @@ entries_front plan (a ∷ answers) (o ∷ os) (suc k) =
 
 -- a run with these answers
 has_run : (p : Prepared) (o : Settings) (told : Told) (same : Type 0) (begun : ℕ) (taken script : List ℕ) (answers : List Answer) (V : Outcomes) → IsPrepared p →
-    ReadsAlone script (own p) → IsScript o.sample told.left taken script → AreAnswered (own p) (sorts p) o.budget told.holds answers V →
+    ReadsAlone script (own p) → IsScript o.sample told.left taken script → AreAnswered (own p) (sorts_in p) o.budget told.holds answers V →
     (ReadNoFile (own p) o.budget V begun → same) → HasRun o told same begun taken answers (entries o.plan answers (drop prelude_count V))
 has_run p o told same begun taken script answers V h reads is answered untouched = record {
   script = script;
   ds = own p;
-  sorts = sorts p;
+  sorts = sorts_in p;
   outcomes = V;
   is = is;
   reads = reads;
@@ -105,14 +105,14 @@ has_run p o told same begun taken script answers V h reads is answered untouched
   limits = h.limits;
   built = h.built;
   answered = answered;
-  script_values = are_values (own p) (sorts p) o.budget told.holds answers V answered;
+  script_values = are_values (own p) (sorts_in p) o.budget told.holds answers V answered;
   printed = refl;
   untouched = untouched;
 }
 
 -- all the lines, and then a text of which nothing is a line
 cuts_behind : (p : Prepared) (o : Settings) (told : Told) (same : Type 0) (begun : ℕ) (taken script : List ℕ) (answers : List Answer) (V : Outcomes) (more : List ℕ) → IsPrepared p →
-    ReadsAlone script (own p) → IsScript o.sample told.left taken script → AreAnswered (own p) (sorts p) o.budget told.holds answers V →
+    ReadsAlone script (own p) → IsScript o.sample told.left taken script → AreAnswered (own p) (sorts_in p) o.budget told.holds answers V →
     (ReadNoFile (own p) o.budget V begun → same) → IsPrefix more [] → CutsLast o told same begun taken answers (entries o.plan answers (drop prelude_count V) ++ more)
 unfolding has_run
 cuts_behind p o told same begun taken script answers V more h reads is answered untouched (none, e) =
@@ -193,7 +193,7 @@ FaultWrites f o told same taken answers lines line =
     ⊎ ((stop_status f ≡ status.Memory) × (stop_of f ≡ stops.Other) × CutsLast o told same (length answers + 1) taken answers (lines ++ line))
 
 fault_writes : (p : Prepared) (o : Settings) (told : Told) (same : Type 0) (taken script : List ℕ) (answers : List Answer) (V : Outcomes) (f : StepFault) → IsPrepared p →
-    ReadsAlone script (own p) → IsScript o.sample told.left taken script → AreAnswered (own p) (sorts p) o.budget told.holds answers V →
+    ReadsAlone script (own p) → IsScript o.sample told.left taken script → AreAnswered (own p) (sorts_in p) o.budget told.holds answers V →
     IsStopped (own p) o.budget told.holds told.files_before told.files_now (length answers) V f → (ReadNoFile (own p) o.budget V (reached f (length answers)) → same) →
     FaultWrites f o told same taken answers (entries o.plan answers (drop prelude_count V)) (stop_line (length answers + 1) f)
 unfolding has_run
@@ -237,7 +237,7 @@ none_cut (x ∷ front) (rest, some, e) = cc
 
 -- the sink failed behind a front of what is written for it
 fault_cut : (f : StepFault) (p : Prepared) (o : Settings) (told : Told) (same : Type 0) (taken script : List ℕ) (answers : List Answer) (V : Outcomes) (front : List ℕ) → IsPrepared p →
-    ReadsAlone script (own p) → IsScript o.sample told.left taken script → AreAnswered (own p) (sorts p) o.budget told.holds answers V →
+    ReadsAlone script (own p) → IsScript o.sample told.left taken script → AreAnswered (own p) (sorts_in p) o.budget told.holds answers V →
     IsStopped (own p) o.budget told.holds told.files_before told.files_now (length answers) V f → (ReadNoFile (own p) o.budget V (reached f (length answers)) → same) →
     IsCut front (stop_line (length answers + 1) f) → Serves status.Output o told same taken answers stops.Other (entries o.plan answers (drop prelude_count V) ++ front)
 fault_cut f p o told same taken script answers V front h reads is answered stopped untouched split =

@@ -25,7 +25,7 @@ use Rattle.aql_prelude.specs.Prelude.{prelude_count}
 use Rattle.aql_run.specs.Settings.{Settings}
 use Rattle.aql_run.specs.Answered.{AreAnswered, IsStopped, ReadNoFile, reached}
 use Rattle.aql_run.specs.Entry.{entry, entries}
-use Rattle.aql_run.specs.Steps.{own, sorts, IsPrepared, Declared, AnswersOne, NextReadsNoFile, CutsEntry, Halts, IsOver, Going, AllAnswered, CutsLines, EndsEarly}
+use Rattle.aql_run.specs.Steps.{own, sorts_in, IsPrepared, Declared, AnswersOne, NextReadsNoFile, CutsEntry, Halts, IsOver, Going, AllAnswered, CutsLines, EndsEarly}
 use Rattle.aql_run.specs.declared.steps.Halt.{Halt}
 use Rattle.aql_run.specs.declared.steps.Halt.TheVariants as halts
 use Rattle.aql_run.proofs.Answering.{decls_length}
@@ -152,7 +152,7 @@ cause_wider d earlier budget holds before now before' now' faults.Memory a b h =
 
 -- the lines so far are those of the answers, all of them
 none_cut : (p : Prepared) (o : Settings) (holds : Option Content) (same : Type 0) (begun : ℕ) (answers : List Answer) (V : Outcomes) →
-    AreAnswered (own p) (sorts p) o.budget holds answers V → (ReadNoFile (own p) o.budget V begun → same) →
+    AreAnswered (own p) (sorts_in p) o.budget holds answers V → (ReadNoFile (own p) o.budget V begun → same) →
     CutsLines p o holds same begun answers (entries o.plan answers (drop prelude_count V))
 none_cut p o holds same begun answers V h untouched =
     let x = entries_last o.plan answers (drop prelude_count V) in
@@ -160,7 +160,7 @@ none_cut p o holds same begun answers V h untouched =
 
 -- a front of the last answer's lines
 one_cut : (p : Prepared) (o : Settings) (holds : Option Content) (same : Type 0) (begun : ℕ) (answers answers' : List Answer) (V : Outcomes) (mid new : Option (List ℕ)) →
-    AreAnswered (own p) (sorts p) o.budget holds answers V → (c : CutsEntry p o holds answers answers' V mid new) → (ReadNoFile (own p) o.budget (V ++ c.outcome ∷ []) begun → same) →
+    AreAnswered (own p) (sorts_in p) o.budget holds answers V → (c : CutsEntry p o holds answers answers' V mid new) → (ReadNoFile (own p) o.budget (V ++ c.outcome ∷ []) begun → same) →
     (d : CutsLines p o holds same begun answers' (entries o.plan answers (drop prelude_count V) ++ c.front)) × (d.back ≡ c.rest)
 one_cut p o holds same begun answers answers' V mid new h c untouched =
     let count = h.many in
@@ -232,7 +232,7 @@ module _ (p : Prepared) (o : Settings) (holds : Option Content) (same same' : Ty
       Halts p o holds before now answers answers' V mid new halt → EndsEarly p o holds same' before' now' answers' old new halt
   ends_early before now before' now' (halts.Fault f) a b over (stays, (d, there, cause)) = (
     V,
-    subst (λ (l : List Answer). AreAnswered (own p) (sorts p) o.budget holds l V) (sym stays.same) g.progress.answered,
+    subst (λ (l : List Answer). AreAnswered (own p) (sorts_in p) o.budget holds l V) (sym stays.same) g.progress.answered,
     subst (λ (l : List Answer). IsStopped (own p) o.budget holds before' now' (length l) V f) (sym stays.same)
         (d, there, cause_wider d _ o.budget holds before now before' now' f a b cause),
     subst (λ (l : List Answer). Appends old new (entries o.plan l (drop prelude_count V))) (sym stays.same) (lines stays.written),

@@ -17,7 +17,7 @@ use Rattle.aql_session.specs.Step.{IsOutcome, BindsPosition, ReadsNoFile, ReadsN
 use Rattle.aql_prelude.specs.Prelude.{prelude_count}
 use Rattle.aql_run.specs.Answered.{AreAnswered}
 use Rattle.aql_run.specs.Laws.Answered.{is_macro, macro_at}
-use Rattle.aql_run.specs.Steps.{own, sorts, IsPrepared, Declared, Progress}
+use Rattle.aql_run.specs.Steps.{own, sorts_in, IsPrepared, Declared, Progress}
 use Rattle.aql_run.proofs.Answering.{map_take_next, onto_next, onto_none, next_is, decls_length}
 
 -- each position of the prelude is a macro
@@ -83,7 +83,7 @@ pub at_first : (p : Prepared) (budget : ℕ) (holds : Option Content) (s : Bound
 at_first p budget holds s h = record {
   bound = h.bound;
   types = h.types;
-  answered = subst (λ (V : List (Option Datum)). AreAnswered (own p) (sorts p) budget holds [] V) (sym h.none) (record {
+  answered = subst (λ (V : List (Option Datum)). AreAnswered (own p) (sorts_in p) budget holds [] V) (sym h.none) (record {
     few = omega arith;
     many = refl;
     prelude = refl;

@@ -30,13 +30,13 @@ abbrev pub own : Prepared → List Declaration
 own p = drop prelude_count (decls_of p.decls.items.items)
 
 -- the principal sorts of the positions
-abbrev pub sorts : Prepared → List Sort
-sorts p = sorts_of p.typed.items.items
+abbrev pub sorts_in : Prepared → List Sort
+sorts_in p = sorts_of p.typed.items.items
 
 -- the positions of a script with their principal sorts, within the limits, and no readval of records
 pub record IsPrepared (p : Prepared) : Type 0 where
   pub all : decls_of p.decls.items.items ≡ positions (own p)
-  pub typed : AreTyped (own p) (sorts p)
+  pub typed : AreTyped (own p) (sorts_in p)
   pub limits : AreWithinLimits (positions (own p)) (prelude_count + length (own p))
   pub built : NoneReadsRecords (own p)
 
@@ -44,7 +44,7 @@ pub record IsPrepared (p : Prepared) : Type 0 where
 pub record Progress (p : Prepared) (budget : ℕ) (holds : Option Content) (answers : List Answer) (s : Bound) : Type 0 where
   pub bound : AreBound (positions (own p)) (prelude_count + 1 + length answers) s
   pub types : OutcomesTyped (earlier_of (positions (own p)) (outcomes s))
-  pub answered : AreAnswered (own p) (sorts p) budget holds answers (outcomes s)
+  pub answered : AreAnswered (own p) (sorts_in p) budget holds answers (outcomes s)
 
 -- one answer more, and its lines
 pub record AnswersOne (p : Prepared) (settings : Settings) (holds : Option Content) (answers answers' : List Answer) (s s' : Bound) (old new : Option (List ℕ)) : Type 0 where
@@ -60,7 +60,7 @@ pub record CutsEntry (p : Prepared) (settings : Settings) (holds : Option Conten
   pub answer : Answer
   pub outcome : Option Datum
   pub longer : answers' ≡ answers ++ answer ∷ []
-  pub answered : AreAnswered (own p) (sorts p) settings.budget holds answers' (V ++ outcome ∷ [])
+  pub answered : AreAnswered (own p) (sorts_in p) settings.budget holds answers' (V ++ outcome ∷ [])
   pub front : List ℕ
   pub rest : List ℕ
   pub split : entry settings.plan answer outcome ≡ front ++ rest
@@ -112,7 +112,7 @@ pub record Going (p : Prepared) (o : Settings) (holds : Option Content) (same : 
 -- says.
 pub record AllAnswered (p : Prepared) (o : Settings) (holds : Option Content) (same : Type 0) (answers : List Answer) (old new : Option (List ℕ)) : Type 0 where
   pub outcomes : Outcomes
-  pub answered : AreAnswered (own p) (sorts p) o.budget holds answers outcomes
+  pub answered : AreAnswered (own p) (sorts_in p) o.budget holds answers outcomes
   pub all : length answers ≡ length (own p)
   pub untouched : ReadNoFile (own p) o.budget outcomes (length answers) → same
   pub written : Appends old new (entries o.plan answers (drop prelude_count outcomes))
@@ -121,7 +121,7 @@ pub record AllAnswered (p : Prepared) (o : Settings) (holds : Option Content) (s
 -- as before.
 pub record CutsLines (p : Prepared) (o : Settings) (holds : Option Content) (same : Type 0) (begun : ℕ) (answers : List Answer) (written : List ℕ) : Type 0 where
   pub outcomes : Outcomes
-  pub answered : AreAnswered (own p) (sorts p) o.budget holds answers outcomes
+  pub answered : AreAnswered (own p) (sorts_in p) o.budget holds answers outcomes
   pub back : List ℕ
   pub front : entries o.plan answers (drop prelude_count outcomes) ≡ written ++ back
   pub last : List ℕ
@@ -131,7 +131,7 @@ pub record CutsLines (p : Prepared) (o : Settings) (holds : Option Content) (sam
 -- not all were answered, or not all lines written
 abbrev pub EndsEarly : Prepared → Settings → Option Content → (same : Type 0) → (before now : ℕ) → List Answer → (old new : Option (List ℕ)) → Halt → Type 0
 EndsEarly p o holds same before now answers old new (halts.Fault f) =
-    (V : Outcomes) × AreAnswered (own p) (sorts p) o.budget holds answers V × IsStopped (own p) o.budget holds before now (length answers) V f
+    (V : Outcomes) × AreAnswered (own p) (sorts_in p) o.budget holds answers V × IsStopped (own p) o.budget holds before now (length answers) V f
     × Appends old new (entries o.plan answers (drop prelude_count V)) × (ReadNoFile (own p) o.budget V (reached f (length answers)) → same)
 EndsEarly p o holds same before now answers old new halts.Memory = (written : List ℕ) × Appends old new written
     × (((answers ≡ []) × (written ≡ []) × same) ⊎ CutsLines p o holds same (length answers + 1) answers written)

@@ -7,7 +7,7 @@
 //! Read `specs/Headline` beside `run`, which has all that is promised; then `specs/Outcome` and `specs/Complete`, the
 //! cause and the output of each status; then `serving`, `closed`, `reading`, `report`, `status`, `laws`. The declarations
 //! are answered one after another by `steps` (`specs/Answered`, `Steps`; what follows for a script's values stands in
-//! `AnsweredLaws`), and the text of every line is that of `entries`, `lines` and `sample`, which `writing` writes.
+//! `Laws/Answered`), and the text of every line is that of `entries`, `lines` and `sample`, which `writing` writes.
 #![tactic(auto)]
 
 ghost use Rattle.std.specs.Prelude.{◌≡◌, ◌≤◌, ◌<◌, ◌⊎◌, ℕ, map};

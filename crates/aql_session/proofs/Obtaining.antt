@@ -16,7 +16,7 @@ use Rattle.cdf_slab.specs.Numbers.{IsCell}
 use Rattle.cdf_slab.specs.Slab.{IsShaped, first_zero}
 use Rattle.nrca_array.specs.Held.{table_datum}
 use Rattle.nrca_loops.specs.Scope.{held_value}
-use Rattle.aql_words.specs.Words.{most_budget}
+use Rattle.aql_value.specs.Limits.{most_budget}
 use Rattle.aql_session.specs.Asked.{Asked, asked_of, cells}
 use Rattle.aql_session.specs.Reading.{read_fault}
 use Rattle.aql_session.specs.Runs.{HasRank, IsReadBy, IsReadCause, IsReadOf, IsRequestOf, IsArgumentCause, cell_type, request_asked}

@@ -27,7 +27,7 @@ use Rattle.nrca_term.specs.Laws.Equations.{term_of-Bottom}
 use Rattle.nrca_term.specs.Meaning.{Outcomes}
 use Rattle.nrca_term.specs.declared.term.Core.TheVariants as core
 use Rattle.cdf_slab.specs.Slab.{first_zero}
-use Rattle.aql_words.specs.Words.{most_budget}
+use Rattle.aql_value.specs.Limits.{most_budget}
 use Rattle.aql_session.specs.Asked.{Asked, cells}
 use Rattle.aql_session.specs.Bound.{Bound, AreBound, earlier_of, outcomes}
 use Rattle.aql_session.specs.Reading.{read_fault, read_value, reading}

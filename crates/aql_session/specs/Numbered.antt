@@ -27,8 +27,8 @@ abbrev pub sorts : Typed → List Sort
 sorts typed = sorts_of typed.items.items
 
 -- declaration n
-abbrev pub numbered : Decls → (n : ℕ) → Option Declaration
-numbered decls n = slice_get (declarations decls) (n - 1)
+abbrev pub declaration_numbered : Decls → (n : ℕ) → Option Declaration
+declaration_numbered decls n = slice_get (declarations decls) (n - 1)
 
 -- its sort
 abbrev pub sort_numbered : Typed → (n : ℕ) → Option Sort
@@ -40,19 +40,19 @@ so_far decls V = earlier_of (declarations decls) V
 
 -- this is the answer of declaration n over the outcomes of those before it
 abbrev pub IsAnswerTo : Decls → Typed → (n : ℕ) → Outcomes → Answer → Type 0
-IsAnswerTo decls typed n V a = ForSome (numbered decls n) (λ d. IsAnswer d (so_far decls V) (sort_numbered typed n) a)
+IsAnswerTo decls typed n V a = ForSome (declaration_numbered decls n) (λ d. IsAnswer d (so_far decls V) (sort_numbered typed n) a)
 
 -- declaration n is answerable within the budget over files that hold this
 abbrev pub MayBeAnswered : Decls → (n : ℕ) → Outcomes → Options → Option Content → Type 0
-MayBeAnswered decls n V options holds = ForSome (numbered decls n) (λ d. IsAnswerable d (so_far decls V) options.budget holds)
+MayBeAnswered decls n V options holds = ForSome (declaration_numbered decls n) (λ d. IsAnswerable d (so_far decls V) options.budget holds)
 
 -- declaration n is bound behind the positions before it, to its outcome over files that hold this
 abbrev pub BindsNext : Decls → (n : ℕ) → Option Content → (old new : Bound) → Type 0
-BindsNext decls n holds old new = ForSome (numbered decls n) (λ d. BindsPosition d (so_far decls (outcomes old)) holds old new)
+BindsNext decls n holds old new = ForSome (declaration_numbered decls n) (λ d. BindsPosition d (so_far decls (outcomes old)) holds old new)
 
 -- why declaration n has no answer; the counts of faults are those of the files before and after
 abbrev pub IsCauseOf : Decls → (n : ℕ) → Outcomes → Options → Option Content → (before now : ℕ) → StepFault → Type 0
-IsCauseOf decls n V options holds before now f = ForSome (numbered decls n) (λ d. IsCause d (so_far decls V) options.budget holds before now f)
+IsCauseOf decls n V options holds before now f = ForSome (declaration_numbered decls n) (λ d. IsCause d (so_far decls V) options.budget holds before now f)
 
 -- why it has none over files as they were and are
 abbrev pub StepFails : {F : Type 0} → Decls → (n : ℕ) → Outcomes → Options → files.Ghosts F → (old new : F) → StepFault → Type 0
@@ -60,4 +60,4 @@ StepFails decls n V options f old new fault = IsCauseOf decls n V options (f.hol
 
 -- this holds where declaration n reads no file
 abbrev pub UnlessRead : Decls → (n : ℕ) → Outcomes → Options → Type 0 → Type 0
-UnlessRead decls n V options P = ForSome (numbered decls n) (λ d. ReadsNoFile d (so_far decls V) options.budget → P)
+UnlessRead decls n V options P = ForSome (declaration_numbered decls n) (λ d. ReadsNoFile d (so_far decls V) options.budget → P)

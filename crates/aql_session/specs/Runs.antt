@@ -35,10 +35,10 @@ use Rattle.cdf_header.specs.Places.{variable_at}
 use Rattle.cdf_header.specs.declared.fault.CdfFault.{CdfFault}
 use Rattle.cdf_header.specs.declared.fault.CdfFault.TheVariants as file_faults
 use Rattle.cdf_slab.specs.Slab.{IsShaped, first_zero}
-use Rattle.aql_words.specs.Words.{most_workers}
+use Rattle.aql_value.specs.Limits.{most_workers}
 use Rattle.aql_session.specs.Asked.{Asked, asked, asked_of, cells}
 use Rattle.aql_session.specs.Bound.{Bound, earlier_of}
-use Rattle.aql_session.specs.Numbered.{declarations, sorts, numbered, sort_numbered, so_far, IsCauseOf, UnlessRead}
+use Rattle.aql_session.specs.Numbered.{declarations, sorts, declaration_numbered, sort_numbered, so_far, IsCauseOf, UnlessRead}
 use Rattle.aql_session.specs.Reading.{opened, read_fault, read_value}
 use Rattle.aql_session.specs.Step.{IsAnswerable, IsOutcome, IsReadOutcome, IsRequestFault, query_turns, ran_of, start_of, start_term, turns_of}
 use Rattle.aql_session.specs.declared.answer.Answer.{Answer}
@@ -253,8 +253,8 @@ FileFails request f old new fault = IsFileCause (request_asked request) (f.holds
 -- Of a position: declaration n of a script that was checked, and how it is run.
 
 -- the declarations of its script
-abbrev pub declarations_of : Position → List Declaration
-declarations_of p = declarations p.decls.now
+abbrev pub declarations_at : Position → List Declaration
+declarations_at p = declarations p.decls.now
 
 -- the sorts of these
 abbrev pub sorts_at : Position → List Sort
@@ -262,7 +262,7 @@ sorts_at p = sorts p.typed.now
 
 -- its declaration
 abbrev pub declaration_of : Position → Option Declaration
-declaration_of p = numbered p.decls.now p.n
+declaration_of p = declaration_numbered p.decls.now p.n
 
 -- the budget that it is run with
 abbrev pub budget_of : Position → ℕ
@@ -274,7 +274,7 @@ HasWorkers p = (1 ≤ p.options.now.workers) × (p.options.now.workers ≤ most_
 
 -- it stands over these outcomes
 abbrev pub StandsAt : Position → Outcomes → Type 0
-StandsAt p V = IsReadyAt (declarations_of p) (sorts_at p) p.n V
+StandsAt p V = IsReadyAt (declarations_at p) (sorts_at p) p.n V
 
 -- its declaration was run
 abbrev pub RunsPosition : Position → Outcomes → Option Content → Run → Type 0
@@ -294,7 +294,7 @@ UnlessReadAt p V P = UnlessRead p.decls.now p.n V p.options.now P
 
 -- the start term of its query
 abbrev pub IsStartAt : Position → Term → Type 0
-IsStartAt p t = ForSome (declaration_of p) (λ d. t ≡ start_term (query d) (before (declarations_of p) p.n))
+IsStartAt p t = ForSome (declaration_of p) (λ d. t ≡ start_term (query d) (before (declarations_at p) p.n))
 
 -- its query was evaluated within the budget
 abbrev pub IsEvaluatedAt : Position → Outcomes → Evaluated → Type 0

@@ -2,9 +2,9 @@
 ghost use Rattle.std.specs.Prelude.{◌≡◌, ◌≤◌, [], length, IfOk, IfErr};
 ghost use Rattle.aql_infer_steps.specs.Typed.{ArePrincipal};
 ghost use Rattle.aql_syntax.specs.Size.{AreWithinLimits};
-ghost use Rattle.aql_words.specs.Words.{most_budget};
+ghost use Rattle.aql_value.specs.Limits.{most_budget};
 ghost use Rattle.nrca_term.specs.View.{term_of};
-ghost use Rattle.aql_session.specs.Runs.{StandsAt, HasWorkers, budget_of, declaration_of, declarations_of, sorts_at, IsQuery, TellsStart, IsStartAt, IsEvaluatedAt, IsSpentAt};
+ghost use Rattle.aql_session.specs.Runs.{StandsAt, HasWorkers, budget_of, declaration_of, declarations_at, sorts_at, IsQuery, TellsStart, IsStartAt, IsEvaluatedAt, IsSpentAt};
 
 use crate::answer::StepFault;
 use crate::runs::Position;
@@ -71,8 +71,8 @@ fn start_of_query(alloc: Global, at: &Position) -> Result<Core, Memory>
     requires first { 1 ≤ at.now.n }
     requires last { at.now.n ≤ length at.now.decls.now.items.items }
     requires query { IsQuery (declaration_of at.now) }
-    requires checked { ArePrincipal [] (declarations_of at.now) (sorts_at at.now) }
-    requires limits { AreWithinLimits (declarations_of at.now) at.now.n }
+    requires checked { ArePrincipal [] (declarations_at at.now) (sorts_at at.now) }
+    requires limits { AreWithinLimits (declarations_at at.now) at.now.n }
     ensures { IfOk result (λ c. IsStartAt at.now (term_of c)) }
 {
     match translate(alloc, at.decls, at.typed, at.n) {

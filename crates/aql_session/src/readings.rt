@@ -8,7 +8,7 @@ ghost use Rattle.aql_types.specs.ValueTypes.{HasType};
 ghost use Rattle.aql_value.specs.Meaning.{datum};
 ghost use Rattle.aql_value.specs.Operations.{as_natural, as_text, as_tuple, index_numbers};
 ghost use Rattle.aql_value.specs.Partial.{each};
-ghost use Rattle.aql_words.specs.Words.{most_budget};
+ghost use Rattle.aql_value.specs.Limits.{most_budget};
 ghost use Rattle.nrca_array.specs.Held.{held_datum};
 ghost use Rattle.nrca_loops.specs.Parts.{numbers_with};
 ghost use Rattle.aql_session.specs.Asked.{asked_of, unstrided, with_strides, cells};

@@ -4,9 +4,9 @@ ghost use Rattle.std.specs.List.{slice_get};
 ghost use Rattle.std.specs.Option.{ForSome};
 ghost use Rattle.aql_outside.specs.Contents.{Content};
 ghost use Rattle.aql_syntax.specs.View.{decl_of, decls_of, reader_of};
-ghost use Rattle.aql_words.specs.Words.{most_budget};
+ghost use Rattle.aql_value.specs.Limits.{most_budget};
 ghost use Rattle.aql_session.specs.Device.{BlamesFiles};
-ghost use Rattle.aql_session.specs.Numbered.{declarations, numbered};
+ghost use Rattle.aql_session.specs.Numbered.{declarations, declaration_numbered};
 ghost use Rattle.aql_session.specs.Step.{ReadsNoRecords, IsOverTurns};
 ghost use Rattle.aql_session.specs.Runs.{StandsAt, HasWorkers, budget_of, declaration_of, IsQuery, IsValueDeclaration, IsReadval, RunsPosition, IsPositionCause, PositionFails, UnlessReadAt};
 
@@ -87,7 +87,7 @@ pub(crate) fn run_declaration<R: Threads + Sync, F: Files, G: Gate>(
 pub(crate) fn declaration(decls: &Decls, n: u64) -> &Decl
     requires first { 1 ≤ n }
     requires last { n ≤ length (declarations decls.now) }
-    ensures { numbered decls.now n ≡ Some (decl_of result.now) }
+    ensures { declaration_numbered decls.now n ≡ Some (decl_of result.now) }
 {
     declaration_at(&decls.items, n)
 }

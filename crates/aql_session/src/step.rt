@@ -6,13 +6,13 @@ ghost use Rattle.aql_infer_steps.specs.Typed.{ArePrincipal, sorts_of};
 ghost use Rattle.aql_syntax.specs.Size.{AreWithinLimits};
 ghost use Rattle.aql_syntax.specs.Sound.{OutcomesTyped};
 ghost use Rattle.aql_types.specs.View.{sort_of};
-ghost use Rattle.aql_words.specs.Words.{most_budget, most_workers};
+ghost use Rattle.aql_value.specs.Limits.{most_budget, most_workers};
 ghost use Rattle.nrca_loops.specs.Scope.{held_value};
 ghost use Rattle.nrca_term.specs.View.{term_of};
 ghost use Rattle.aql_session.specs.Bound.{AreBound, outcomes};
 ghost use Rattle.aql_session.specs.Device.{BlamesFiles};
-ghost use Rattle.aql_session.specs.Numbered.{declarations, sorts, numbered, sort_numbered, so_far, IsAnswerTo, MayBeAnswered, BindsNext, StepFails, UnlessRead};
-ghost use Rattle.aql_session.specs.Runs.{StandsAt, HasWorkers, budget_of, declaration_of, declarations_of, sorts_at, RunsPosition, PositionFails, UnlessReadAt, AnswersRun, IsNameAt, BindsRun};
+ghost use Rattle.aql_session.specs.Numbered.{declarations, sorts, declaration_numbered, sort_numbered, so_far, IsAnswerTo, MayBeAnswered, BindsNext, StepFails, UnlessRead};
+ghost use Rattle.aql_session.specs.Runs.{StandsAt, HasWorkers, budget_of, declaration_of, declarations_at, sorts_at, RunsPosition, PositionFails, UnlessReadAt, AnswersRun, IsNameAt, BindsRun};
 ghost use Rattle.aql_session.specs.Step.{ReadsNoRecords, IsOverTurns};
 
 use crate::answer::{Answer, StepFault};
@@ -55,7 +55,7 @@ impl Session {
         requires checked { ArePrincipal [] (declarations decls.now) (sorts typed.now) }
         requires types { OutcomesTyped (so_far decls.now (outcomes self.old)) }
         requires limits { AreWithinLimits (declarations decls.now) n }
-        requires arrays { ForSome (numbered decls.now n) ReadsNoRecords }
+        requires arrays { ForSome (declaration_numbered decls.now n) ReadsNoRecords }
         requires workers { (1 ≤ options.now.workers) × (options.now.workers ≤ most_workers) }
         requires budget { options.now.budget ≤ most_budget }
 
@@ -118,8 +118,8 @@ impl Session {
     // The answer of a run, with the position bound.
     fn keep(&mut self, alloc: Global, at: &Position, run: Run) -> Result<Answer, Memory>
         requires first { 1 ≤ at.now.n }
-        requires last { at.now.n ≤ length (declarations_of at.now) }
-        requires typed { length (sorts_at at.now) ≡ length (declarations_of at.now) }
+        requires last { at.now.n ≤ length (declarations_at at.now) }
+        requires typed { length (sorts_at at.now) ≡ length (declarations_at at.now) }
         ensures answer { IfOk result (AnswersRun at.now run) }
         ensures bound { OnOk result (BindsRun at.now run self.old self.new) }
         ensures as_before { OnErr result (self.new ≡ self.old) }
@@ -134,8 +134,8 @@ impl Session {
 // The answer of a run, and its value.
 fn answer_of(alloc: Global, at: &Position, run: Run) -> Result<(Answer, Option<Held>), Memory>
     requires first { 1 ≤ at.now.n }
-    requires last { at.now.n ≤ length (declarations_of at.now) }
-    requires typed { length (sorts_at at.now) ≡ length (declarations_of at.now) }
+    requires last { at.now.n ≤ length (declarations_at at.now) }
+    requires typed { length (sorts_at at.now) ≡ length (declarations_at at.now) }
     ensures answer { IfOk result (λ x. AnswersRun at.now run x.0) }
     ensures name { IfOk result (λ x. IsNameAt at.now x.0.name) }
     ensures value { IfOk result (λ x. held_value x.1 ≡ held_value run.value) }

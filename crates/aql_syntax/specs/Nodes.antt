@@ -10,11 +10,11 @@ use Rattle.aql_syntax.specs.declared.nodes.Functional.{Functional}
 use Rattle.aql_syntax.specs.declared.nodes.Functional.TheVariants as functionals
 
 -- an operation on one part
-abbrev pub strict_of : Operation → Strict
-strict_of operations.Gen = Strict.gen
-strict_of operations.Get = Strict.get
-strict_of (operations.Dim k) = Strict.dim k
-strict_of (operations.Index k) = Strict.index k
+abbrev pub operation_form : Operation → Strict
+operation_form operations.Gen = Strict.gen
+operation_form operations.Get = Strict.get
+operation_form (operations.Dim k) = Strict.dim k
+operation_form (operations.Index k) = Strict.index k
 
 -- an operator between two parts
 abbrev pub joined_of : Operator → Tree → Tree → Tree

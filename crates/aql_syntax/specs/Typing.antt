@@ -1,5 +1,5 @@
 -- Which types an expression, a pattern and a declaration have.
--- Each type that a typing uses is within the limits (`UsesLaws`: `expression-uses`, `declaration-uses`), though few are asked to be:
+-- Each type that a typing uses is within the limits (`Laws/Uses`: `expression-uses`, `declaration-uses`), though few are asked to be:
 -- those that are no part of a type that is within already.
 use Rattle.std.specs.Prelude.{◌≡◌, List, [], ◌∷◌, Bool, true, false, Option, Some, None}
 use Rattle.aql_value.specs.Strict.{Strict}

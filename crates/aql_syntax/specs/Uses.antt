@@ -1,6 +1,6 @@
 -- The typing that asks at every expression and every pattern that its type is within the limits. So each type that it uses is:
 -- a name that comes in has the type of its pattern, an index that of its bound, and a macro takes the type of its argument and
--- gives that of its application. `Typing` asks it in few places and means the same (`UsesLaws`).
+-- gives that of its application. `Typing` asks it in few places and means the same (`Laws/Uses`).
 use Rattle.std.specs.Prelude.{◌≡◌, List, [], ◌∷◌}
 use Rattle.aql_types.specs.Types as types
 use Rattle.aql_types.specs.Types.{Ty, natural, Tys, no_type, type, IsRank, IsWithin, Sort, value, macro}

@@ -1,6 +1,6 @@
 //! Expressions of parts, and of parts as they were made, where memory may have been wanting for one.
 //!
-//! `joined`, `operated` and `function_in_place` make an expression of its parts. The others take their parts as they were made, so
+//! `apply_operator`, `apply_operation` and `function_in_place` make an expression of its parts. The others take their parts as they were made, so
 //! that no early end of the caller stands between two of them.
 
 ghost use Rattle.std.specs.Prelude.{◌≡◌, IfOk, IsOkAnd};
@@ -8,7 +8,7 @@ ghost use Rattle.aql_value.specs.Strict.{Strict};
 ghost use Rattle.aql_syntax.specs.Tree as tree;
 ghost use Rattle.aql_syntax.specs.Tree.{count_trees, append};
 ghost use Rattle.aql_syntax.specs.View.{tree_of, trees_of, quals_of, axes_in, defs_in, pat_of, of_one};
-ghost use Rattle.aql_syntax.specs.Nodes.{strict_of, joined_of, functional_of};
+ghost use Rattle.aql_syntax.specs.Nodes.{operation_form, joined_of, functional_of};
 
 use crate::ast::{Bind, Expr, LetBind, Pattern, Qual};
 use crate::build::{comprehension, let_in, literal, members, row, subscript, tabulation};
@@ -56,7 +56,7 @@ pub fn apply_operator(operator: Operator, left: Box<Expr>, right: Box<Expr>) -> 
 
 /// An operation applied.
 pub fn apply_operation(operation: Operation, part: Box<Expr>) -> Expr
-    ensures { tree_of result ≡ of_one (strict_of operation) (tree_of part.value) }
+    ensures { tree_of result ≡ of_one (operation_form operation) (tree_of part.value) }
 {
     match operation {
         Operation::Gen => Expr::Gen(part),
@@ -92,7 +92,7 @@ pub fn function_in_place(
 
 /// An operation on one part.
 pub fn on_one(op: Operation, a: Result<Box<Expr>, Memory>) -> Result<Expr, Memory>
-    ensures { IfOk result (λ made. IsOkAnd a (λ x. tree_of made ≡ of_one (strict_of op)
+    ensures { IfOk result (λ made. IsOkAnd a (λ x. tree_of made ≡ of_one (operation_form op)
         (tree_of x.value))) }
 {
     Ok(apply_operation(op, a?))

@@ -9,6 +9,7 @@ pub mod Indices
 pub mod IndicesLaws
 pub mod Valid
 pub mod Ops
+pub mod Limits
 pub mod Lists
 pub mod Partial
 pub mod Operations

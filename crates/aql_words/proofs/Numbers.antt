@@ -9,7 +9,8 @@ use Rattle.clap.specs.ValueTests.{accepts}
 use Rattle.clap.specs.Words.{Row, Text, one_of}
 use Rattle.clap.specs.declared.builder.value_parser.ValueParser.TheVariants as parsers
 use Rattle.clap.proofs.ValueTestLemmas.{accepts-Accepts, Accepts-accepts}
-use Rattle.aql_words.specs.Words.{AreInRange, number_at, number_of, options_in, up_to, most_workers, most_budget, most_sample}
+use Rattle.aql_value.specs.Limits.{most_budget, most_workers}
+use Rattle.aql_words.specs.Words.{AreInRange, number_at, number_of, options_in, up_to, most_sample}
 
 module _ {E : Type 0} (G : List ℕ → Result ℕ E → Type 0) (only : (t : List ℕ) (x : Result ℕ E) → G t x → ParsesUnsigned 64 10 t x) where
   -- a text that is read as a number of 64 bits

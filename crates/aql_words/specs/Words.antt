@@ -6,6 +6,7 @@ use Rattle.clap.specs.Words.{App, Row, Rule, Text, fault_of, matches_of, new_app
 use Rattle.clap.specs.declared.builder.action.ArgAction.TheVariants.{Set, SetTrue}
 use Rattle.clap.specs.declared.builder.value_parser.ValueParser.TheVariants as parsers
 use Rattle.clap.specs.ValueTests.{accepts}
+use Rattle.aql_value.specs.Limits.{most_budget, most_workers}
 use Rattle.aql_words.specs.declared.words.Options.{Options}
 
 -- `--NAME N`: an option that takes one number from 1 to the most
@@ -15,14 +16,6 @@ number_rule name most = record (new_rule name) { long = Some name; action = Some
 -- `--NAME`: an option that is given or not
 abbrev pub flag_rule : Text → Rule
 flag_rule name = record (new_rule name) { long = Some name; action = Some SetTrue }
-
--- the most threads that a run may have
-abbrev pub most_workers : ℕ
-most_workers = 64
-
--- the most turns that a declaration may take
-abbrev pub most_budget : ℕ
-most_budget = 50000000
 
 -- the greatest size of a sample script
 abbrev pub most_sample : ℕ

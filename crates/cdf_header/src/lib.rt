@@ -2,7 +2,7 @@
 //!
 //! The contract that the layers above use: where the file is told, `read_header` answers the header
 //! `header_of` its bytes, or the first fault in order with its offset: what good fields spell, as
-//! the laws of `specs/HeaderLaws` say. Of quiet files it leaves no fault of a device unsaid. A
+//! the laws of `specs/Laws/Header` say. Of quiet files it leaves no fault of a device unsaid. A
 //! contract sees a `Header` as a `Head`, and `Header::place` is the offset of a cell as `place`
 //! says.
 //!

@@ -7,7 +7,7 @@ use Rattle.nrca_term.specs.Rules.{replace_dims, replace_dims_parts}
 use Rattle.nrca_term.specs.Subst.{shift_term, top_var}
 use Rattle.nrca_term.specs.Laws.Measure.{parts_weight-child}
 use Rattle.nrca_term.specs.Laws.Shift.{shift_term-twice, top_var-shift_le}
-use Rattle.nrca_subst.proofs.Walking.{first_parts, walked}
+use Rattle.nrca_subst.proofs.Walking.{first_parts, with_first_parts}
 use Rattle.nrca_arrayrules.proofs.Asking.{is_dim_of-no}
 use Rattle.nrca_arrayrules.specs.Replacing.{IsNoDim, IsDimOfVariable, HasRoom}
 
@@ -23,18 +23,18 @@ replaced-parts depth s (part k t ps) =
     ap (λ x. part k (replace_dims (depth + k) x t) (first_parts (replace_part depth s) (count ps) ps)) (sym (shift_term-twice 0 depth k s)) ∙ ap (part k (replace_dims (depth + k) (shift_term 0 k (shift_term 0 depth s)) t)) (replaced-parts depth s ps)
 
 -- after all parts the node is replaced, where it is no dimensions of a variable
-pub walked-replaced : (depth : ℕ) (s : Term) (n : ℕ) (t r : Term) → r ≡ walked (replace_part depth s) n t → n ≡ count (parts_of t) → IsNoDim t → r ≡ replace_dims depth (shift_term 0 depth s) t
-unfolding walked
-walked-replaced depth s n (node f ps) r e c h =
+pub with_first_parts-replaced : (depth : ℕ) (s : Term) (n : ℕ) (t r : Term) → r ≡ with_first_parts (replace_part depth s) n t → n ≡ count (parts_of t) → IsNoDim t → r ≡ replace_dims depth (shift_term 0 depth s) t
+unfolding with_first_parts
+with_first_parts-replaced depth s n (node f ps) r e c h =
     e
     ∙ ap (λ m. node f (first_parts (replace_part depth s) m ps)) c
     ∙ ap (node f) (replaced-parts depth s ps)
     ∙ ap (λ b. if b then shift_term 0 depth s else node f (replace_dims_parts depth (shift_term 0 depth s) ps)) (sym (is_dim_of-no depth f ps h))
 
 -- a walk keeps the form
-pub form_of-walked : (g : ℕ → Term → Term) (n : ℕ) (t s : Term) → s ≡ walked g n t → form_of s ≡ form_of t
-unfolding walked
-form_of-walked g n t s e = ap form_of e
+pub form_of-with_first_parts : (g : ℕ → Term → Term) (n : ℕ) (t s : Term) → s ≡ with_first_parts g n t → form_of s ≡ form_of t
+unfolding with_first_parts
+form_of-with_first_parts g n t s e = ap form_of e
 
 -- there is room in a part
 pub room-part : (depth b i : ℕ) (s t u : Term) → child_of (parts_of t) i ≡ Some u → b ≤ form_weight (form_of t) → HasRoom depth s t → HasRoom (depth + b) s u

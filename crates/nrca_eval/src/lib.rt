@@ -19,6 +19,7 @@ mod serial;
 mod wide;
 
 ghost use Rattle.std.specs.Prelude.{◌≤◌};
+ghost use Rattle.aql_value.specs.Limits.{most_budget, most_workers};
 ghost use Rattle.nrca_term.specs.View.{term_of};
 ghost use Rattle.nrca_loops.specs.Evaluates.{EvaluatesClosed};
 
@@ -43,8 +44,8 @@ pub fn evaluate<R: Threads + Sync, G: Gate>(
     workers: u64,
     gate: &G,
 ) -> Result<Done, EvalFault>
-    requires budget { budget ≤ 50000000 }
-    requires workers { (1 ≤ workers) × (workers ≤ 64) }
+    requires budget { budget ≤ most_budget }
+    requires workers { (1 ≤ workers) × (workers ≤ most_workers) }
     ensures { EvaluatesClosed budget globals.now (term_of term.now) result }
 {
     let found = eval_wide(rt, alloc, term, globals, &Env::Empty, budget, workers, gate)?;

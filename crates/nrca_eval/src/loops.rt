@@ -5,6 +5,7 @@ ghost use Rattle.std.specs.Prelude.{◌≡◌, ◌^◌, ◌≤◌, length, IfOk}
 ghost use Rattle.std.specs.Option.{option_map};
 ghost use Rattle.aql_value.specs.Canon.{canon};
 ghost use Rattle.aql_value.specs.Indices.{product};
+ghost use Rattle.aql_value.specs.Limits.{most_workers};
 ghost use Rattle.nrca_loops.specs.Runs.{member_list};
 ghost use Rattle.nrca_eval.specs.Gathered.{ReadsPairs};
 ghost use Rattle.nrca_eval.specs.Loops.{Fills, Sums, Unites};
@@ -36,7 +37,7 @@ pub(crate) fn sum_pieces<R: Threads + Sync, G: Gate>(
 ) -> Result<Counted<Option<u128>>, EvalFault>
     requires length { count ≤ 2 ^ 32 }
     requires within { count ≤ length (member_list members.now) }
-    requires workers { (1 ≤ workers) × (workers ≤ 64) }
+    requires workers { (1 ≤ workers) × (workers ≤ most_workers) }
     ensures { Sums budget globals.now env.now body.now members.now 0 count result }
 {
     let run = move |from: u64, to: u64| -> Result<Counted<Option<u128>>, EvalFault>
@@ -64,7 +65,7 @@ pub(crate) fn union_pieces<R: Threads + Sync, G: Gate>(
 ) -> Result<Counted<Option<Ascending>>, EvalFault>
     requires length { count ≤ 2 ^ 32 }
     requires within { count ≤ length (member_list members.now) }
-    requires workers { (1 ≤ workers) × (workers ≤ 64) }
+    requires workers { (1 ≤ workers) × (workers ≤ most_workers) }
     ensures { Unites budget globals.now env.now body.now members.now 0 count result }
 {
     let run = move |from: u64, to: u64| -> Result<Counted<Option<Ascending>>, EvalFault>
@@ -129,7 +130,7 @@ pub(crate) fn cells_pieces<R: Threads + Sync, G: Gate>(
 ) -> Result<Counted<Option<Builder>>, EvalFault>
     requires length { count ≤ 2 ^ 32 }
     requires within { count ≤ product dims.now }
-    requires workers { (1 ≤ workers) × (workers ≤ 64) }
+    requires workers { (1 ≤ workers) × (workers ≤ most_workers) }
     ensures { Fills budget globals.now env.now body.now dims.now 0 count result }
 {
     let run = move |from: u64, to: u64| -> Result<Counted<Option<Builder>>, EvalFault>
@@ -154,7 +155,7 @@ pub(crate) fn index_pieces<R: Threads + Sync, G: Gate>(
 ) -> Result<Option<Vec<Indexed>>, EvalFault>
     requires length { count ≤ 2 ^ 32 }
     requires within { count ≤ length set.now }
-    requires workers { (1 ≤ workers) × (workers ≤ 64) }
+    requires workers { (1 ≤ workers) × (workers ≤ most_workers) }
     ensures { ReadsPairs rank set.now 0 count result }
 {
     let run = move |from: u64, to: u64| -> Result<Option<Vec<Indexed>>, EvalFault>

@@ -17,7 +17,8 @@ use Rattle.aql_value.specs.Partial.{◌>>=◌, each}
 use Rattle.aql_value.specs.Laws.Partial.{each-none}
 use Rattle.aql_value.specs.declared.value.Value.{Value}
 use Rattle.nrca_forms.specs.Indexing.{extent, ranked_numbers}
-use Rattle.nrca_loops.specs.Laws.Run.{map_pushed, each-more}
+use Rattle.nrca_loops.specs.Laws.Run.{each-more}
+use Rattle.aql_value.specs.Laws.Lists.{map_pushed}
 
 pub length-greater_each : (xs ys : List ℕ) → length (greater_each xs ys) ≡ min (length xs) (length ys)
 length-greater_each [] ys = omega arith
@@ -57,9 +58,9 @@ past_range (n ∷ ns) (suc i) h = go (nat_lt n (2 ^ 128)) (past_range ns i h)
     go true e = e
     go false e = refl
 
-pub range_more : (ns : List ℕ) (n : ℕ) → all_in_range ns ≡ true → n < 2 ^ 128 → all_in_range (ns ++ n ∷ []) ≡ true
-range_more [] n h l = ap (λ b. b && true) (lt-ltb n (2 ^ 128) l)
-range_more (m ∷ ns) n h l = go (nat_lt m (2 ^ 128)) h (λ e. range_more ns n e l)
+pub in_range_more : (ns : List ℕ) (n : ℕ) → all_in_range ns ≡ true → n < 2 ^ 128 → all_in_range (ns ++ n ∷ []) ≡ true
+in_range_more [] n h l = ap (λ b. b && true) (lt-ltb n (2 ^ 128) l)
+in_range_more (m ∷ ns) n h l = go (nat_lt m (2 ^ 128)) h (λ e. in_range_more ns n e l)
   where
     go : (b : Bool) → (b && all_in_range ns) ≡ true → (all_in_range ns ≡ true → all_in_range (ns ++ n ∷ []) ≡ true) → (b && all_in_range (ns ++ n ∷ [])) ≡ true
     go true e f = f e

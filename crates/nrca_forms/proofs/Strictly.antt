@@ -1,13 +1,14 @@
 -- What the strict forms make of values, step by step.
-use Rattle.std.proofs.Common.{◌≡◌, ℕ, zero, suc, ◌+◌, ◌-◌, ◌<◌, ◌≤◌, List, [], ◌∷◌, ◌++◌, length, map, take, drop, get_or, Option, Some, None, refl, sym, ◌∙◌, ap, arith, eq-eqb}
+use Rattle.std.proofs.Common.{◌≡◌, ℕ, zero, suc, ◌+◌, ◌-◌, ◌<◌, ◌≤◌, List, [], ◌∷◌, ◌++◌, length, map, take, drop, Option, Some, None, refl, sym, ◌∙◌, ap, arith, eq-eqb}
 use Rattle.std.specs.Prelude.{slice_get, nat_eq, if◌then◌else◌}
 use Rattle.std.specs.Option.{option_map}
 use Rattle.std.proofs.lemmas.List.{length-map, map-append, length-take, take-map, drop-map}
 use Rattle.std.proofs.lemmas.Option.{slice_get_past}
-use Rattle.aql_value.specs.Datum.{Datum, natural, tuple, data_of}
+use Rattle.aql_value.specs.Datum.{Datum, natural, tuple}
 use Rattle.aql_value.specs.Lists.{below}
 use Rattle.aql_value.specs.Laws.Lists.{below-last}
-use Rattle.aql_value.specs.Operations.{as_natural, only, nth, index_value, array_of, literal_of}
+use Rattle.aql_value.specs.Laws.Operations.{index_one, index_more, length_indexed}
+use Rattle.aql_value.specs.Operations.{as_natural, only, nth, array_of, literal_of}
 use Rattle.aql_value.specs.Laws.Operations.{tuple_of-if}
 use Rattle.aql_value.specs.Partial.{◌>>=◌, each}
 use Rattle.aql_value.specs.Laws.Partial.{each-append, each-length}
@@ -42,19 +43,6 @@ nth_past zero vs h = refl
 nth_past (suc n) vs h = slice_get_past vs n (omega (arith, h))
 
 pub ruleset parts = (only_one, only_else, nth_there, nth_past)
-
-pub index_one : (ds : List ℕ) (n : ℕ) → length ds ≡ 1 → n ≡ get_or ds 0 n → index_value ds ≡ natural n
-index_one [] n h e = absurd (omega (arith, h))
-index_one (d ∷ []) n h e = ap natural (sym e)
-index_one (d ∷ c ∷ ds) n h e = absurd (omega (arith, h))
-
-pub index_more : (ds : List ℕ) → 2 ≤ length ds → index_value ds ≡ tuple (data_of (map natural ds))
-index_more [] h = absurd (omega (arith, h))
-index_more (d ∷ []) h = absurd (omega (arith, h))
-index_more (d ∷ c ∷ ds) h = refl
-
-pub length_indexed : (ds : List ℕ) → length (map natural ds) ≡ length ds
-length_indexed ds = length-map ds natural
 
 pub ruleset indices = (index_one, index_more, length_indexed)
 

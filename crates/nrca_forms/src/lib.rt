@@ -4,7 +4,7 @@
 //! `strict` answers the value and the turns of such a form exactly, and Spent exactly where the
 //! turns pass the budget (`Applies` of `nrca_loops`). Of `index` the pairs that members are can be
 //! read a run at a time: `index_run` reads a run, `join_pairs` joins runs that follow each other,
-//! by the laws in `specs/IndexLaws.antt`, and `index_pairs` makes the array of them. No term within
+//! by the laws in `specs/Laws/Index.antt`, and `index_pairs` makes the array of them. No term within
 //! a term is evaluated here.
 //!
 //! Read `specs/Made.antt` and `Indexing`; then `forms.rt`, `operations.rt`, `index.rt` and `boxes.rt`.

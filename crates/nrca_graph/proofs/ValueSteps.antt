@@ -2,11 +2,12 @@
 use Rattle.std.proofs.Common.{◌≡◌, ℕ, ◌+◌, ◌<◌, ◌≤◌, take, List, [], ◌∷◌, ◌++◌, length, map, get_or, Bool, true, false, nat_lt, if◌then◌else◌, None, Some, Result, Ok, Err, IfOk, IsOkAnd, refl, ap, sym, ◌∙◌, arith}
 use Rattle.std.specs.List.{slice_get}
 use Rattle.std.proofs.lemmas.List.{length-map, length-take-le, map-append, take_more}
-use Rattle.aql_value.specs.Datum.{Datum, natural, tuple, array, data_of}
+use Rattle.aql_value.specs.Datum.{Datum, tuple, array, data_of}
 use Rattle.aql_value.specs.Indices.{indices}
 use Rattle.aql_value.specs.Meaning.{datum}
 use Rattle.aql_value.specs.declared.memory.Memory.{Memory}
 use Rattle.aql_value.specs.declared.value.Value.{Value}
+use Rattle.aql_value.specs.Laws.Operations.{index_one, index_more, length_indexed}
 use Rattle.aql_value.specs.Operations.{index_value, set_of}
 use Rattle.nrca_graph.specs.Encoding.{pair, graph, encoding, IsPairAt}
 use Rattle.nrca_graph.specs.EncodingOrder.{IsOrderedAs}
@@ -23,19 +24,6 @@ pub graph-last : (ats : List (List ℕ)) (cs : List Datum) (c : Datum) (at : Lis
 graph-last [] cs c at e = cc
 graph-last (b ∷ ats) [] c at e = let z : b ≡ at = cc in ap (λ x. pair (index_value x) c ∷ graph ats []) z ∙ ap (λ l. pair (index_value at) c ∷ l) (graph-empty ats)
 graph-last (b ∷ ats) (d ∷ cs) c at e = ap (λ l. pair (index_value b) d ∷ l) (graph-last ats cs c at e)
-
-pub index_one : (ds : List ℕ) (n : ℕ) → length ds ≡ 1 → n ≡ get_or ds 0 n → index_value ds ≡ natural n
-index_one [] n h e = absurd (omega (arith, h))
-index_one (d ∷ []) n h e = ap natural (sym e)
-index_one (d ∷ c ∷ ds) n h e = absurd (omega (arith, h))
-
-pub index_more : (ds : List ℕ) → 2 ≤ length ds → index_value ds ≡ tuple (data_of (map natural ds))
-index_more [] h = absurd (omega (arith, h))
-index_more (d ∷ []) h = absurd (omega (arith, h))
-index_more (d ∷ c ∷ ds) h = refl
-
-pub length_indexed : (ds : List ℕ) → length (map natural ds) ≡ length ds
-length_indexed ds = length-map ds natural
 
 pub ruleset index_steps = (index_one, index_more, length_indexed)
 

@@ -2,7 +2,7 @@
 //! members or cells of a loop. `lookup` and `lent` answer what a variable holds; `members_below` and
 //! its kin the members of a loop, and `Members` each of them by its number. `sum_and` and its kin add
 //! one member or cell to what a run came to; `join_sums` and its kin join runs that follow each
-//! other, by the laws in `specs/RunLaws.antt`. Answers that take turns stand within a budget
+//! other, by the laws in `specs/Laws/Run.antt`. Answers that take turns stand within a budget
 //! (`Within` in `specs/Within.antt`), and those of an evaluation are `Evaluates`, in
 //! `specs/Evaluates.antt`. No term within a term is evaluated here.
 //!

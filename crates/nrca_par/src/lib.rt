@@ -2,7 +2,7 @@
 //! in several threads.
 //!
 //! `map_pieces` gives an answer for each piece: the answers `Joins` from the first member to the
-//! last, and `joins_fold` in `specs/PiecesLaws.antt` makes one answer of them, whatever the cut.
+//! last, and `joins_fold` in `specs/Laws/Pieces.antt` makes one answer of them, whatever the cut.
 //! `canon_wide` is `canon` of `aql_value`. `EvalFault` is why an evaluation has no answer.
 //!
 //! Read `pieces.rt` beside `specs/Pieces.antt`, and then `sets.rt` and `fault.rt`.

@@ -1,5 +1,6 @@
 ghost use Rattle.std.specs.Prelude.{◌≡◌, ℕ, ◌+◌, ◌/◌, ◌^◌, ◌<◌, ◌≤◌, min, map, IfOk, IfErr, vec_len};
 ghost use Rattle.std.specs.List.{Contains};
+ghost use Rattle.aql_value.specs.Limits.{most_workers};
 ghost use Rattle.nrca_par.specs.declared.fault.EvalFault.TheVariants.{Spent};
 ghost use Rattle.nrca_par.specs.Pieces.{piece_start, IsPieceAnswer, Joins, GivesPieces, SpentSomewhere, SpentOnRun};
 
@@ -13,7 +14,7 @@ use std::thread::Threads;
 /// many pieces as workers, or as members where these are fewer; their sizes differ by at most one.
 /// It takes no memory.
 pub fn piece(n: u64, workers: u64, j: u64) -> (u64, u64)
-    requires workers { (1 ≤ workers) × (workers ≤ 64) }
+    requires workers { (1 ≤ workers) × (workers ≤ most_workers) }
     requires length { n ≤ 2 ^ 32 }
     requires number { j < min n workers }
     ensures from { result.0 ≡ piece_start n (min n workers) j }
@@ -37,7 +38,7 @@ pub fn map_pieces<
     T: Send + Drop,
     F: Fn(u64, u64) -> Result<T, EvalFault> + Sync,
 >(rt: &R, alloc: Global, n: u64, workers: u64, gate: &G, work: F) -> Result<Vec<T>, EvalFault>
-    requires workers { (1 ≤ workers) × (workers ≤ 64) }
+    requires workers { (1 ≤ workers) × (workers ≤ most_workers) }
     requires length { n ≤ 2 ^ 32 }
     requires accepts { (a b : ℕ) → a < b → b ≤ n → F.pre work a b }
     ensures count { IfOk result (λ v. vec_len v ≡ min n workers) }
@@ -49,7 +50,7 @@ pub fn map_pieces<
 {
     let work = &work;
     let run = move |j: usize| -> Result<T, EvalFault>
-        requires { (1 ≤ workers) × (workers ≤ 64) × (n ≤ 2 ^ 32) × (j < min n workers)
+        requires { (1 ≤ workers) × (workers ≤ most_workers) × (n ≤ 2 ^ 32) × (j < min n workers)
             × ((a b : ℕ) → a < b → b ≤ n → F.pre work.now a b) }
         ensures { F.post work.entry.now (piece_start n (min n workers) j)
             (piece_start n (min n workers) (j + 1)) result }

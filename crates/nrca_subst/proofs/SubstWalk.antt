@@ -3,7 +3,7 @@ use Rattle.std.proofs.Common.{◌≡◌, ℕ, zero, suc, ◌+◌, ◌≤◌, Som
 use Rattle.nrca_term.specs.Term.{Term, Parts, Form, node, none, part, form_of, parts_of, count, child_of, binders_of, variable_of}
 use Rattle.nrca_term.specs.Subst.{shift_term, subst_node, subst_term, subst_parts, top_var, parts_top}
 use Rattle.nrca_term.specs.Laws.Shift.{shift_term-twice}
-use Rattle.nrca_subst.proofs.Walking.{first_parts, walked}
+use Rattle.nrca_subst.proofs.Walking.{first_parts, with_first_parts}
 
 abbrev pub subst_part : ℕ → Term → ℕ → Term → Term
 subst_part at w k t = subst_term (at + k) (shift_term 0 k w) t
@@ -25,9 +25,9 @@ subst_node-other at w Form.sum ps e = refl
 subst_node-other at w (Form.tab rank) ps e = refl
 subst_node-other at w (Form.strict s) ps e = refl
 
-pub walked-subst : (at : ℕ) (w : Term) (n : ℕ) (t s : Term) → s ≡ walked (subst_part at w) n t → n ≡ count (parts_of t) → variable_of (form_of t) ≡ None → s ≡ subst_term at w t
-unfolding walked
-walked-subst at w n (node f ps) s e c o =
+pub with_first_parts-subst : (at : ℕ) (w : Term) (n : ℕ) (t s : Term) → s ≡ with_first_parts (subst_part at w) n t → n ≡ count (parts_of t) → variable_of (form_of t) ≡ None → s ≡ subst_term at w t
+unfolding with_first_parts
+with_first_parts-subst at w n (node f ps) s e c o =
     e
     ∙ ap (λ m. node f (first_parts (subst_part at w) m ps)) c
     ∙ ap (node f) (subst_parts-first at w ps)

@@ -50,30 +50,30 @@ set_child-same (part k t ps) zero u e = let same : u ≡ t = cc in ap (λ s. par
 set_child-same (part k t ps) (suc i) u e = ap (part k t) (set_child-same ps i u e)
 
 -- the state of a walk: the first n parts are done
-unfoldable pub walked : (ℕ → Term → Term) → ℕ → Term → Term
-walked g n t = node (form_of t) (first_parts g n (parts_of t))
+unfoldable pub with_first_parts : (ℕ → Term → Term) → ℕ → Term → Term
+with_first_parts g n t = node (form_of t) (first_parts g n (parts_of t))
 
-pub walked-start : (g : ℕ → Term → Term) (t : Term) → t ≡ walked g 0 t
-unfolding walked first_parts
-walked-start g (node f ps) = refl
+pub with_first_parts-start : (g : ℕ → Term → Term) (t : Term) → t ≡ with_first_parts g 0 t
+unfolding with_first_parts first_parts
+with_first_parts-start g (node f ps) = refl
 
-pub child_of-walked : (g : ℕ → Term → Term) (n : ℕ) (t s : Term) → s ≡ walked g n t → child_of (parts_of s) n ≡ child_of (parts_of t) n
-unfolding walked
-child_of-walked g n t s e = ap (λ x. child_of (parts_of x) n) e ∙ child_of-first_parts g n (parts_of t)
+pub child_of-with_first_parts : (g : ℕ → Term → Term) (n : ℕ) (t s : Term) → s ≡ with_first_parts g n t → child_of (parts_of s) n ≡ child_of (parts_of t) n
+unfolding with_first_parts
+child_of-with_first_parts g n t s e = ap (λ x. child_of (parts_of x) n) e ∙ child_of-first_parts g n (parts_of t)
 
-pub binders_of-walked : (g : ℕ → Term → Term) (n i : ℕ) (t s : Term) → s ≡ walked g n t → binders_of (parts_of s) i ≡ binders_of (parts_of t) i
-unfolding walked
-binders_of-walked g n i t s e = ap (λ x. binders_of (parts_of x) i) e ∙ binders_of-first_parts g n i (parts_of t)
+pub binders_of-with_first_parts : (g : ℕ → Term → Term) (n i : ℕ) (t s : Term) → s ≡ with_first_parts g n t → binders_of (parts_of s) i ≡ binders_of (parts_of t) i
+unfolding with_first_parts
+binders_of-with_first_parts g n i t s e = ap (λ x. binders_of (parts_of x) i) e ∙ binders_of-first_parts g n i (parts_of t)
 
-pub count-walked : (g : ℕ → Term → Term) (n : ℕ) (t s : Term) → s ≡ walked g n t → count (parts_of s) ≡ count (parts_of t)
-unfolding walked
-count-walked g n t s e = ap (λ x. count (parts_of x)) e ∙ count-first_parts g n (parts_of t)
+pub count-with_first_parts : (g : ℕ → Term → Term) (n : ℕ) (t s : Term) → s ≡ with_first_parts g n t → count (parts_of s) ≡ count (parts_of t)
+unfolding with_first_parts
+count-with_first_parts g n t s e = ap (λ x. count (parts_of x)) e ∙ count-first_parts g n (parts_of t)
 
 -- one part more
-pub walked-step : (g : ℕ → Term → Term) (n : ℕ) (t s u v : Term) → s ≡ walked g n t → child_of (parts_of t) n ≡ Some u → v ≡ g (binders_of (parts_of t) n) u → (b : Term) →
-    with_part (with_part s n b) n v ≡ walked g (n + 1) t
-unfolding walked
-walked-step g n t s u v e c d b =
+pub with_first_parts-step : (g : ℕ → Term → Term) (n : ℕ) (t s u v : Term) → s ≡ with_first_parts g n t → child_of (parts_of t) n ≡ Some u → v ≡ g (binders_of (parts_of t) n) u → (b : Term) →
+    with_part (with_part s n b) n v ≡ with_first_parts g (n + 1) t
+unfolding with_first_parts
+with_first_parts-step g n t s u v e c d b =
     ap (λ x. with_part (with_part x n b) n v) e
     ∙ ap (node (form_of t)) (set_child-again (first_parts g n (parts_of t)) n b v)
     ∙ ap (λ x. node (form_of t) (set_child (first_parts g n (parts_of t)) n x)) d
@@ -81,9 +81,9 @@ walked-step g n t s u v e c d b =
     ∙ ap (λ m. node (form_of t) (first_parts g m (parts_of t))) (sym (add-one n))
 
 -- a part that stays as it is
-pub walked-skip : (g : ℕ → Term → Term) (n : ℕ) (t s u : Term) → s ≡ walked g n t → child_of (parts_of t) n ≡ Some u → u ≡ g (binders_of (parts_of t) n) u → s ≡ walked g (n + 1) t
-unfolding walked
-walked-skip g n t s u e c d =
+pub with_first_parts-skip : (g : ℕ → Term → Term) (n : ℕ) (t s u : Term) → s ≡ with_first_parts g n t → child_of (parts_of t) n ≡ Some u → u ≡ g (binders_of (parts_of t) n) u → s ≡ with_first_parts g (n + 1) t
+unfolding with_first_parts
+with_first_parts-skip g n t s u e c d =
     e
     ∙ ap (node (form_of t)) (sym (set_child-same (first_parts g n (parts_of t)) n u (child_of-first_parts g n (parts_of t) ∙ c)))
     ∙ ap (λ x. node (form_of t) (set_child (first_parts g n (parts_of t)) n x)) d
@@ -110,9 +110,9 @@ shift_form-other from by Form.sum e = refl
 shift_form-other from by (Form.tab rank) e = refl
 shift_form-other from by (Form.strict s) e = refl
 
-pub walked-shift : (from by n : ℕ) (t s : Term) → s ≡ walked (shift_part from by) n t → n ≡ count (parts_of t) → variable_of (form_of t) ≡ None → s ≡ shift_term from by t
-unfolding walked
-walked-shift from by n (node f ps) s e c o =
+pub with_first_parts-shift : (from by n : ℕ) (t s : Term) → s ≡ with_first_parts (shift_part from by) n t → n ≡ count (parts_of t) → variable_of (form_of t) ≡ None → s ≡ shift_term from by t
+unfolding with_first_parts
+with_first_parts-shift from by n (node f ps) s e c o =
     e
     ∙ ap (λ m. node f (first_parts (shift_part from by) m ps)) c
     ∙ ap (node f) (shift_parts-first from by ps)
@@ -127,8 +127,8 @@ pub top_var-child : (from by : ℕ) (t : Term) (i : ℕ) (u : Term) → child_of
 top_var-child from by (node f ps) i u e = omega (arith, parts_top-child from by ps i u e)
 
 -- the part that a walk takes out is the node's own
-pub walked-part : (g : ℕ → Term → Term) (n : ℕ) (t s u : Term) → s ≡ walked g n t → Some u ≡ child_of (parts_of s) n → child_of (parts_of t) n ≡ Some u
-walked-part g n t s u e c = sym (child_of-walked g n t s e) ∙ sym c
+pub with_first_parts-part : (g : ℕ → Term → Term) (n : ℕ) (t s u : Term) → s ≡ with_first_parts g n t → Some u ≡ child_of (parts_of s) n → child_of (parts_of t) n ≡ Some u
+with_first_parts-part g n t s u e c = sym (child_of-with_first_parts g n t s e) ∙ sym c
 
 count-set_child : (ps : Parts) (i : ℕ) (u : Term) → count (set_child ps i u) ≡ count ps
 count-set_child none i u = refl

@@ -5,7 +5,7 @@ use Rattle.aql_types.specs.Types as types
 use Rattle.aql_types.specs.Types.{Ty, natural, truth, var, product, set_of, array_of, Tys, no_type, type, Subst, apply, apply_all, nodes, nodes_all, levels, levels_all, IsType, AreTypes, IsWithin, Sort, value, macro, apply_sort}
 use Rattle.aql_types.specs.Laws.Types.{row_is, apply-apply, apply_var, count_apply}
 use Rattle.aql_types.specs.Variables.{is_one_of, place, variables, variables_all, sort_variables}
-use Rattle.aql_infer_steps.specs.Numbering.{at_place, numbered, number, named, names_back, IsNumbered}
+use Rattle.aql_infer_steps.specs.Numbering.{at_place, renumbering, number, named, names_back, IsNumbered}
 
 at_place-place : (x : ℕ) (ys : List ℕ) → is_one_of x ys ≡ true → at_place (place x ys) ys ≡ x
 unfolding at_place
@@ -58,19 +58,19 @@ mutual
   all_agree_on vs u v h (type t ts) k = row_is (agree_on vs u v h t k.0) (all_agree_on vs u v h ts k.1)
 
 -- the names come back
-named_numbered : (vs : List ℕ) (t : Ty) → Among vs t → apply (named vs) (apply (numbered vs) t) ≡ t
+named_numbered : (vs : List ℕ) (t : Ty) → Among vs t → apply (named vs) (apply (renumbering vs) t) ≡ t
 named_numbered vs t k =
-    apply-apply (named vs) (numbered vs) t
+    apply-apply (named vs) (renumbering vs) t
     ∙ agree_on vs (λ x. var (at_place (place x vs) vs)) var (λ x h. ap var (at_place-place x vs h)) t k
     ∙ apply_var t
 
 -- only numbers below the list's length occur
 numbered_closed : (vs : List ℕ) (u v : Subst) → ((i : ℕ) → i < length vs → u i ≡ v i) → (t : Ty) → Among vs t →
-    apply u (apply (numbered vs) t) ≡ apply v (apply (numbered vs) t)
+    apply u (apply (renumbering vs) t) ≡ apply v (apply (renumbering vs) t)
 numbered_closed vs u v h t k =
-    apply-apply u (numbered vs) t
+    apply-apply u (renumbering vs) t
     ∙ agree_on vs (λ x. u (place x vs)) (λ x. v (place x vs)) (λ x m. h (place x vs) (place_below x vs m)) t k
-    ∙ sym (apply-apply v (numbered vs) t)
+    ∙ sym (apply-apply v (renumbering vs) t)
 
 -- The list of a type's variables has them all.
 one_of_append : (x : ℕ) (a b : List ℕ) → is_one_of x a ≡ true → is_one_of x (a ++ b) ≡ true
@@ -279,7 +279,7 @@ mutual
   unfolding Among AllAmong
 
   variables_places : (vs : List ℕ) (t : Ty) (seen : List ℕ) → Among vs t → EachOf vs seen →
-      variables (apply (numbered vs) t) (places vs seen) ≡ places vs (variables t seen)
+      variables (apply (renumbering vs) t) (places vs seen) ≡ places vs (variables t seen)
   variables_places vs natural seen h k = refl
   variables_places vs truth seen h k = refl
   variables_places vs types.text seen h k = refl
@@ -293,10 +293,10 @@ mutual
   variables_places vs (array_of r t) seen h k = variables_places vs t seen h k
 
   all_variables_places : (vs : List ℕ) (ts : Tys) (seen : List ℕ) → AllAmong vs ts → EachOf vs seen →
-      variables_all (apply_all (numbered vs) ts) (places vs seen) ≡ places vs (variables_all ts seen)
+      variables_all (apply_all (renumbering vs) ts) (places vs seen) ≡ places vs (variables_all ts seen)
   all_variables_places vs no_type seen h k = refl
   all_variables_places vs (type t ts) seen h k =
-      ap (variables_all (apply_all (numbered vs) ts)) (variables_places vs t seen h.0 k)
+      ap (variables_all (apply_all (renumbering vs) ts)) (variables_places vs t seen h.0 k)
       ∙ all_variables_places vs ts (variables t seen) h.1 (each_variables vs t seen h.0 k)
 
 none_each : (vs : List ℕ) → EachOf vs []
@@ -308,7 +308,7 @@ unfolding places
 number_variables (value t) = variables_places (variables t []) t [] (variables_among t []) (none_each (variables t []))
 number_variables (macro a b) =
     let vs = variables b (variables a []) in
-    ap (variables (apply (numbered vs) b)) (variables_places vs a [] (argument_among a b) (none_each vs))
+    ap (variables (apply (renumbering vs) b)) (variables_places vs a [] (argument_among a b) (none_each vs))
     ∙ variables_places vs b (variables a []) (variables_among b (variables a [])) (each_variables vs a [] (argument_among a b) (none_each vs))
 
 each_within : (vs ys : List ℕ) → ((x : ℕ) → is_one_of x ys ≡ true → is_one_of x vs ≡ true) → EachOf vs ys

@@ -1,4 +1,4 @@
-// The scripts of the folder of examples, with their files and what they print.
+// Scripts of the folder of examples, with their files and what they print; `checks/run` runs all of them over the built program.
 use crate::tests::netcdf::{bytes_of, with_file};
 use crate::tests::running::{Folder, SURE, assert_ran, run_over};
 use aql_outside::FreeGate;

@@ -1,8 +1,10 @@
 -- What follows from the definitions of `Lists`.
-use Rattle.std.specs.Prelude.{◌≡◌, ℕ, zero, suc, ◌+◌, ◌-◌, ◌<◌, ◌≤◌, List, [], ◌∷◌, ◌++◌, length, map, take, drop, Some, refl}
-use Rattle.std.specs.List.{range_with_len, slice_get, flat_map}
+use Rattle.std.specs.Prelude.{◌≡◌, ℕ, zero, suc, ◌+◌, ◌-◌, ◌<◌, ◌≤◌, List, [], ◌∷◌, ◌++◌, length, map, take, drop, get_or, Some, refl}
+use Rattle.std.specs.List.{range_with_len, slice_get, slice_range, flat_map}
 use Rattle.std.proofs.Common.{ap, sym, ◌∙◌, subst, arith, append_assoc}
 use Rattle.std.proofs.lemmas.List.FromFn.{length-range_with_len}
+use Rattle.std.proofs.lemmas.List.{take_more, map-append, length-drop, get_or-drop}
+use Rattle.std.proofs.lemmas.Option.{get_or_from_slice_get, slice_get_within}
 use Rattle.aql_value.specs.Partial.{concat}
 use Rattle.aql_value.specs.Lists.{below, Every}
 
@@ -120,3 +122,15 @@ concat-append (xs ∷ xss) yss = ap (λ l. xs ++ l) (concat-append xss yss) ∙ 
 pub flat_map-concat : {A B : Type 0} (f : A → List B) (xs : List A) → flat_map f xs ≡ concat (map f xs)
 flat_map-concat f [] = refl
 flat_map-concat f (x ∷ xs) = ap (λ l. f x ++ l) (flat_map-concat f xs)
+
+-- the images of a list with one element more
+pub map_pushed : {X Y : Type 0} (f : X → Y) (xs ys : List X) (x : X) (y : Y) (zs : List Y) → ys ≡ xs ++ x ∷ [] → map f xs ≡ zs → f x ≡ y → map f ys ≡ zs ++ y ∷ []
+map_pushed f xs ys x y zs e h k = ap (map f) e ∙ map-append f xs (x ∷ []) ∙ (λ i. h i ++ k i ∷ [])
+
+-- a range with one element more
+pub range_more : {X : Type 0} (xs : List X) (a i : ℕ) (x : X) → a ≤ i → slice_get xs i ≡ Some x → slice_range xs a (i + 1) ≡ slice_range xs a i ++ x ∷ []
+range_more xs a i x h e =
+    let w : i < length xs = slice_get_within xs i x e in
+    ap (λ n. take n (drop a xs)) (let k : i + 1 - a ≡ (i - a) + 1 = omega arith in k)
+    ∙ take_more (drop a xs) (i - a) x (omega (arith, length-drop a xs))
+    ∙ ap (λ y. take (i - a) (drop a xs) ++ y ∷ []) (get_or-drop a xs (i - a) x ∙ ap (λ k. get_or xs k x) (let k : a + (i - a) ≡ i = omega arith in k) ∙ get_or_from_slice_get xs i x x e)

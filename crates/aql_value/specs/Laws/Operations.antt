@@ -1,5 +1,5 @@
 -- Laws of the operations on values.
-use Rattle.std.specs.Prelude.{◌≡◌, ◌⊎◌, ◌<◌, ℕ, suc, ◌+◌, ◌≤◌, Bool, true, false, ◌&&◌, nat_lt, nat_eq, List, [], ◌∷◌, ◌++◌, length, map, Option, Some, None, if◌then◌else◌, refl}
+use Rattle.std.specs.Prelude.{◌≡◌, ◌⊎◌, ◌<◌, ℕ, suc, ◌+◌, ◌≤◌, Bool, true, false, ◌&&◌, nat_lt, nat_eq, List, [], ◌∷◌, ◌++◌, length, map, get_or, Option, Some, None, if◌then◌else◌, refl}
 use Rattle.std.proofs.Common.{sym, ap, ◌∙◌, arith, inl, inr}
 use Rattle.std.specs.List.{slice_get}
 use Rattle.std.proofs.lemmas.Bool.{le-ltb, lt-ltb, eq-eqb, eqb-true, eqb-false, ltb-true, cases_lt, cases_Bool}
@@ -121,3 +121,18 @@ equal-naturals m n =
 -- values that compare as equal are one
 pub equal-is : (v w : Datum) → compare_by op.Equal (datum_cmp v w) ≡ true → v ≡ w
 equal-is v w = (equal_decides v w).0
+
+-- the value of the indices of an array of rank 1 is its only number
+pub index_one : (ds : List ℕ) (n : ℕ) → length ds ≡ 1 → n ≡ get_or ds 0 n → index_value ds ≡ natural n
+index_one [] n h e = absurd (omega (arith, h))
+index_one (d ∷ []) n h e = ap natural (sym e)
+index_one (d ∷ c ∷ ds) n h e = absurd (omega (arith, h))
+
+-- and of a higher rank the tuple of them
+pub index_more : (ds : List ℕ) → 2 ≤ length ds → index_value ds ≡ tuple (data_of (map natural ds))
+index_more [] h = absurd (omega (arith, h))
+index_more (d ∷ []) h = absurd (omega (arith, h))
+index_more (d ∷ c ∷ ds) h = refl
+
+pub length_indexed : (ds : List ℕ) → length (map natural ds) ≡ length ds
+length_indexed ds = length-map ds natural

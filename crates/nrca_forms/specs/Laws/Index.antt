@@ -9,7 +9,8 @@ use Rattle.aql_value.specs.Partial.{◌>>=◌, each}
 use Rattle.aql_value.specs.Laws.Partial.{each-values, then-is}
 use Rattle.nrca_forms.specs.Indexing.{pairs_run, pairs_with, AreRanked}
 use Rattle.nrca_loops.specs.Runs.{lists_join}
-use Rattle.nrca_loops.specs.Laws.Run.{range_more, each-range_split, each-more}
+use Rattle.nrca_loops.specs.Laws.Run.{each-range_split, each-more}
+use Rattle.aql_value.specs.Laws.Lists.{range_more}
 
 checked : (rank : ℕ) (b : Bool) (ns at : List ℕ) → nat_eq (length ns) rank ≡ b → (if b then Some ns else None) ≡ Some at → length at ≡ rank
 checked rank true ns at t e = let z : ns ≡ at = cc in ap length (sym z) ∙ eqb-true (length ns) rank t

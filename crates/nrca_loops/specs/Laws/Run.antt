@@ -1,12 +1,11 @@
 -- Steps of runs, and runs that follow each other.
-use Rattle.std.proofs.Common.{◌≡◌, ℕ, zero, suc, ◌+◌, ◌-◌, ◌<◌, ◌≤◌, List, [], ◌∷◌, ◌++◌, length, map, take, drop, get_or, Option, Some, None, refl, sym, ◌∙◌, ap, arith}
+use Rattle.std.proofs.Common.{◌≡◌, ℕ, zero, suc, ◌+◌, ◌-◌, ◌<◌, ◌≤◌, List, [], ◌∷◌, ◌++◌, length, take, drop, Option, Some, None, refl, sym, ◌∙◌, ap, arith}
 use Rattle.std.specs.Prelude.{slice_get, sum}
 use Rattle.std.specs.List.{slice_range}
 use Rattle.std.specs.Option.{option_map}
-use Rattle.std.proofs.lemmas.List.{take_more, map-append, length-drop, get_or-drop, append-nil, drop-drop}
+use Rattle.std.proofs.lemmas.List.{append-nil, drop-drop}
 use Rattle.std.proofs.lemmas.List.Sums.{sum_by-append}
 use Rattle.std.proofs.lemmas.Bool.Decides.{nat_tests}
-use Rattle.std.proofs.lemmas.Option.{get_or_from_slice_get, slice_get_within}
 use Rattle.aql_value.specs.Canon.{canon}
 use Rattle.aql_value.specs.Laws.Set.{canon_append}
 use Rattle.aql_value.specs.Datum.{Datum}
@@ -14,21 +13,9 @@ use Rattle.aql_value.specs.Arith.{if_fits, natural_sum}
 use Rattle.aql_value.specs.Operations.{as_natural, as_set}
 use Rattle.aql_value.specs.Partial.{◌>>=◌, each, concat, total}
 use Rattle.aql_value.specs.Laws.Partial.{each-append, total-append, then-none}
-use Rattle.aql_value.specs.Laws.Lists.{concat-append}
+use Rattle.aql_value.specs.Laws.Lists.{concat-append, range_more}
 use Rattle.std.proofs.Math.Seq.{take-add}
 use Rattle.nrca_loops.specs.Runs.{sum_value, sum_with, all_members, members_with, list_with, sums_join, sets_join, lists_join, union_value}
-
--- the images of a list with one element more
-pub map_pushed : {X Y : Type 0} (f : X → Y) (xs ys : List X) (x : X) (y : Y) (zs : List Y) → ys ≡ xs ++ x ∷ [] → map f xs ≡ zs → f x ≡ y → map f ys ≡ zs ++ y ∷ []
-map_pushed f xs ys x y zs e h k = ap (map f) e ∙ map-append f xs (x ∷ []) ∙ (λ i. h i ++ k i ∷ [])
-
--- a range with one element more
-pub range_more : {X : Type 0} (xs : List X) (a i : ℕ) (x : X) → a ≤ i → slice_get xs i ≡ Some x → slice_range xs a (i + 1) ≡ slice_range xs a i ++ x ∷ []
-range_more xs a i x h e =
-    let w : i < length xs = slice_get_within xs i x e in
-    ap (λ n. take n (drop a xs)) (let k : i + 1 - a ≡ (i - a) + 1 = omega arith in k)
-    ∙ take_more (drop a xs) (i - a) x (omega (arith, length-drop a xs))
-    ∙ ap (λ y. take (i - a) (drop a xs) ++ y ∷ []) (get_or-drop a xs (i - a) x ∙ ap (λ k. get_or xs k x) (let k : a + (i - a) ≡ i = omega arith in k) ∙ get_or_from_slice_get xs i x x e)
 
 -- f of one element more
 pub each-push : {X : Type 0} (f : X → Option Datum) (xs : List X) (x : X) → each f (xs ++ x ∷ []) ≡ list_with (each f xs) (f x)

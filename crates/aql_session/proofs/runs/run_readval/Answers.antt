@@ -3,7 +3,7 @@ use Rattle.aql_syntax.specs.Tree.{read}
 use Rattle.aql_syntax.specs.View.{reader_of}
 use Rattle.nrca_loops.specs.Scope.{held_value}
 use Rattle.aql_session.specs.Numbered.{so_far}
-use Rattle.aql_session.specs.Runs.{IsRun, budget_of, declaration_of, declarations_of, sorts_at}
+use Rattle.aql_session.specs.Runs.{IsRun, budget_of, declaration_of, declarations_at, sorts_at}
 use Rattle.aql_session.specs.Step.{IsCause, ReadsNoFile}
 use Rattle.aql_session.specs.declared.answer.Ran.TheVariants as ran
 use Rattle.aql_session.proofs.Running.{same-position, reader-within, argument-typed, readval-run, readval-fits, readval-cause, readval-unread}
@@ -18,14 +18,14 @@ pub read_argument-requires-clause-within : goal.read_argument-requires-clause-wi
 read_argument-requires-clause-within g c =
     let k = c.requires.reads in
     let p = c.args.at.now in
-    reader-within (declarations_of p) (sorts_at p) p.n c.args.globals.now c.requires.stands k.0 (reader_of c.args.reader.now) k.1 k.2
+    reader-within (declarations_at p) (sorts_at p) p.n c.args.globals.now c.requires.stands k.0 (reader_of c.args.reader.now) k.1 k.2
 
 pub read_argument-requires-clause-typed : goal.read_argument-requires-clause-typed
 read_argument-requires-clause-typed g c =
     let k = c.requires.reads in
     let p = c.args.at.now in
     let h = c.in-Ok.ensures.evaluated (read k.0 (reader_of c.args.reader.now) k.1) k.2 in
-    argument-typed (declarations_of p) (sorts_at p) p.n c.args.globals.now c.requires.stands k.0 (reader_of c.args.reader.now) k.1 k.2
+    argument-typed (declarations_at p) (sorts_at p) p.n c.args.globals.now c.requires.stands k.0 (reader_of c.args.reader.now) k.1 k.2
     (held_value c.in-Ok.field-0.value) h.value
 
 pub overflow_add-result : goal.overflow_add-result

@@ -4,7 +4,8 @@ use Rattle.aql_value.specs.Meaning.{datum}
 use Rattle.nrca_array.specs.Packing.{pair_datum}
 use Rattle.nrca_array.specs.Kept.{paired_up}
 use Rattle.nrca_array.proofs.PairsKept.{paired_up-get, length-paired_up}
-use Rattle.nrca_array.proofs.Steps.{map_take_more, map_pushed, number_got}
+use Rattle.nrca_array.proofs.Steps.{map_take_more, number_got}
+use Rattle.aql_value.specs.Laws.Lists.{map_pushed}
 use Rattle.nrca_array.proofs.builder.pair_values.Goals as goal
 
 pub loop-i-preserved : goal.loop-i-preserved

@@ -1,7 +1,8 @@
 use Rattle.std.proofs.Common.{refl, sym, ◌∙◌}
 use Rattle.aql_value.specs.Datum.{truth}
 use Rattle.aql_value.specs.Meaning.{datum}
-use Rattle.nrca_array.proofs.Steps.{map_take_more, map_pushed}
+use Rattle.nrca_array.proofs.Steps.{map_take_more}
+use Rattle.aql_value.specs.Laws.Lists.{map_pushed}
 use Rattle.nrca_array.proofs.builder.truth_values.Goals as goal
 
 pub loop-i-preserved : goal.loop-i-preserved

@@ -5,7 +5,7 @@ use Rattle.aql_value.specs.Meaning.{datum}
 use Rattle.aql_value.specs.Canon.{canon}
 use Rattle.aql_value.specs.Laws.Canon.{canon_ascending}
 use Rattle.aql_value.specs.Laws.Set.{ascending_below}
-use Rattle.nrca_loops.specs.Laws.Run.{map_pushed}
+use Rattle.aql_value.specs.Laws.Lists.{map_pushed}
 use Rattle.nrca_forms.proofs.Strictly.{below_more}
 use Rattle.nrca_forms.proofs.operations.naturals_below.Goals as goal
 

@@ -3,12 +3,12 @@ use Rattle.nrca_term.specs.Term.{weight_of}
 use Rattle.nrca_term.specs.Subst.{shift_term}
 use Rattle.nrca_term.specs.View.{term_of}
 use Rattle.nrca_subst.specs.Depth.{IsDepth}
-use Rattle.nrca_subst.proofs.Walking.{walked}
+use Rattle.nrca_subst.proofs.Walking.{with_first_parts}
 use Rattle.nrca_subst.proofs.SubstWalk.{subst_part}
 use Rattle.nrca_subst.proofs.substituting.+subst.Given as goal
 
 abbrev pub invariant-subst_parts_in-loop-i : goal.invariant-subst_parts_in-loop-i
-invariant-subst_parts_in-loop-i l = (n : ℕ) → IsDepth l.depth n → term_of l.term ≡ walked (subst_part (l.at + n) (shift_term 0 n (term_of l.with))) l.i (term_of l.initial.term)
+invariant-subst_parts_in-loop-i l = (n : ℕ) → IsDepth l.depth n → term_of l.term ≡ with_first_parts (subst_part (l.at + n) (shift_term 0 n (term_of l.with))) l.i (term_of l.initial.term)
 
 abbrev pub decreases-subst_in : goal.decreases-subst_in
 decreases-subst_in l = 2 * weight_of (term_of l.term.now) + 1

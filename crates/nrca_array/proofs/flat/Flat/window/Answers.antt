@@ -1,7 +1,7 @@
 use Rattle.std.proofs.Common.{refl, sym, ◌∙◌, arith}
 use Rattle.aql_value.specs.Meaning.{datum}
 use Rattle.nrca_array.specs.Stored.{kept_cells}
-use Rattle.nrca_array.proofs.Steps.{map_pushed, range_more}
+use Rattle.aql_value.specs.Laws.Lists.{map_pushed, range_more}
 use Rattle.nrca_array.proofs.flat.Flat.window.Goals as goal
 
 pub loop-i-preserved : goal.loop-i-preserved
