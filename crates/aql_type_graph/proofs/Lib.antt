@@ -1,0 +1,14 @@
+pub mod Bare
+pub mod Chains
+pub mod Copying
+pub mod Exact
+pub mod Extents
+pub mod First
+pub mod Growing
+pub mod Joined
+pub mod Joining
+pub mod Keeping
+pub mod Memo
+pub mod ReadOut
+pub mod Reading
+pub mod Stepping

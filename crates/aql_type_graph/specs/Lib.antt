@@ -1,0 +1,12 @@
+pub mod Closed
+pub mod Extents
+pub mod Forms
+pub mod Graphs
+pub mod Ranges
+pub mod Schemes
+pub mod Shapes
+pub mod Solved
+pub mod Steps
+pub mod Trees
+pub mod Valuations
+pub mod Laws
