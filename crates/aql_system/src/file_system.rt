@@ -3,17 +3,20 @@ ghost use Rattle.std.specs.Prelude.{◌≡◌, ◌-◌, ◌^◌, ◌≤◌, IfOk
 ghost use Rattle.std.specs.Io.KnownBytes.{Consumes};
 ghost use Rattle.aql_system.specs.Filling.{GivesNext};
 
+use crate::opened::OpenedFile;
 use aql_outside::{Failed, Files};
-use std::io::{self, ErrorKind, Read, Seek, SeekFrom};
+use std::io::{self, ErrorKind, Read};
 use std::{fs, rt};
 
 /// The file system as files by name: relative names stand in the folder that the program runs in.
 /// What is no regular file, as a folder, a pipe or a device, has no size: it fails before it is
-/// opened.
+/// opened. The file that was read last stays open until another is read, a size is asked for or a
+/// call fails.
 #[derive(Drop)]
-pub struct FileSystem<'a, R> {
+pub struct FileSystem<'a, R: rt::Files> {
     rt: &'a R,
     faults: u64,
+    open: Option<OpenedFile<R::File>>,
     ghost counted: { faults ≤ 2 ^ 64 - 1 },
 }
 
@@ -22,16 +25,32 @@ impl<'a, R: rt::Files> FileSystem<'a, R> {
     pub fn new(rt: &'a R) -> Self
         ensures { result.faults ≡ 0 }
     {
-        FileSystem { rt, faults: 0 }
+        FileSystem {
+            rt,
+            faults: 0,
+            open: None,
+        }
     }
-}
 
-impl<R> FileSystem<'_, R> {
     /// How many calls have failed, in a counter that stays at its end.
     pub fn faults(&self) -> u64
         ensures { result ≡ self.now.faults }
     {
         self.faults
+    }
+
+    // Reads a file from an offset on. Where it was read last, it is open.
+    fn read_open(&mut self, name: &str, at: u64, into: &mut [u8]) -> io::Result<usize>
+        ensures bound { IfOk result (λ count. count ≤ length into.new) }
+        ensures faults { self.new.faults ≡ self.old.faults }
+    {
+        let mut file = match self.open.take() {
+            Some(file) => file.renamed(self.rt, name)?,
+            None => OpenedFile::open(self.rt, name)?,
+        };
+        let count = file.read_from(at, into)?;
+        self.open = Some(file);
+        Ok(count)
     }
 }
 
@@ -45,6 +64,7 @@ impl<R: rt::Files> Files for FileSystem<'_, R> {
     ghost counted = { λ s. s.counted };
 
     fn size(&mut self, name: &str) -> Result<Option<u64>, Failed> {
+        self.open = None;
         match fs::metadata(self.rt, name) {
             Ok(found) if found.is_file() => Ok(Some(found.len())),
             Err(error) if error.kind() == ErrorKind::NotFound => Ok(None),
@@ -56,7 +76,7 @@ impl<R: rt::Files> Files for FileSystem<'_, R> {
     }
 
     fn read_at(&mut self, name: &str, at: u64, into: &mut [u8]) -> Result<usize, Failed> {
-        match read_from(self.rt, name, at, into) {
+        match self.read_open(name, at, into) {
             Ok(count) => Ok(count),
             Err(_) => {
                 self.faults = self.faults.saturating_add(1);
@@ -64,15 +84,6 @@ impl<R: rt::Files> Files for FileSystem<'_, R> {
             }
         }
     }
-}
-
-// Reads a file from an offset on, until the piece is full or a read gives nothing.
-fn read_from<R: rt::Files>(rt: &R, name: &str, at: u64, into: &mut [u8]) -> io::Result<usize>
-    ensures { IfOk result (λ count. count ≤ length into.new) }
-{
-    let mut file = fs::open(rt, name)?;
-    file.seek(SeekFrom::Start(at))?;
-    read_full(&mut file, into)
 }
 
 /// Reads until the piece is full or a read gives nothing, and answers how many bytes were read. An

@@ -5,10 +5,11 @@
 //! more than its place holds, and a write that takes nothing of a piece that isn't empty has
 //! failed. Of what the system's streams and files hold nothing is promised.
 //!
-//! Read `streams`, then `file_system`.
+//! Read `streams`, then `file_system` and `opened`.
 #![tactic(auto)]
 
 mod file_system;
+mod opened;
 mod streams;
 
 pub use file_system::{FileSystem, read_full};

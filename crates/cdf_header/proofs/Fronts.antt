@@ -1,5 +1,5 @@
 -- The front of a file grows until its header is read.
-use Rattle.std.proofs.Common.{◌≡◌, ℕ, ◌+◌, ◌-◌, ◌≤◌, min, List, ◌++◌, length, take, drop, Result, Err, sym, ap, subst, ◌∙◌, arith, length-take, length-append}
+use Rattle.std.proofs.Common.{◌≡◌, ℕ, ◌+◌, ◌-◌, ◌≤◌, min, List, ◌++◌, length, take, drop, Result, Err, sym, ap, subst, ◌∙◌, arith, length-take}
 use Rattle.std.proofs.Math.Seq.{take-add, take-append-add}
 use Rattle.std.proofs.lemmas.List.{take-append-drop, take_min}
 use Rattle.cdf_header.specs.File.{most_header_bytes, IsFront, IsOutside, IsAnswered}
@@ -13,12 +13,22 @@ use Rattle.cdf_header.specs.Header.{Head}
 use Rattle.cdf_header.specs.Format.{Format, PartFormat, run}
 use Rattle.cdf_header.proofs.Formats.{IsShort, run_more}
 
-pub front_grows : (bytes front piece new : List ℕ) (count room : ℕ) → IsFront bytes front → new ≡ front ++ take count piece → length piece ≡ room → length front + room ≤ length bytes
-    → count ≡ min (length piece) (length bytes - length front) → take count piece ≡ take count (drop (length front) bytes) → (count ≡ room) × IsFront bytes new
-front_grows bytes front piece new count room is grown len within many same =
+-- the front with what was read behind it is a front
+pub front_read : (bytes front memory new : List ℕ) (start count room : ℕ) → IsFront bytes front → start ≡ length front → new ≡ take (start + count) memory
+    → length memory ≡ start + room → take start memory ≡ front → start + room ≤ length bytes
+    → count ≡ min (length memory - start) (length bytes - start) → take count (drop start memory) ≡ take count (drop start bytes) → (count ≡ room) × IsFront bytes new
+front_read bytes front memory new start count room is start-is new-is long kept within many same =
     let n : count ≡ room = omega arith in
-    let l : length new ≡ length front + count = ap length grown ∙ length-append front (take count piece) ∙ ap (λ k. length front + k) (let t : length (take count piece) ≡ count = omega (arith, length-take count piece) in t) in
-    (n, grown ∙ ap (λ x. front ++ x) same ∙ ap (λ x. x ++ take count (drop (length front) bytes)) is ∙ sym (take-add (length front) count bytes) ∙ ap (λ k. take k bytes) (sym l))
+    let l : length new ≡ start + count = ap length new-is ∙ (let t : length (take (start + count) memory) ≡ start + count = omega (arith, length-take (start + count) memory) in t) in
+    let f : take start memory ≡ take start bytes = kept ∙ is ∙ ap (λ k. take k bytes) (sym start-is) in (
+      n,
+      new-is
+          ∙ take-add start count memory
+          ∙ ap (λ x. x ++ take count (drop start memory)) f
+          ∙ ap (λ x. take start bytes ++ x) same
+          ∙ sym (take-add start count bytes)
+          ∙ ap (λ k. take k bytes) (sym l),
+    )
 
 IsFront-rest : (bytes front : List ℕ) → IsFront bytes front → bytes ≡ front ++ drop (length front) bytes
 IsFront-rest bytes front is = sym (take-append-drop (length front) bytes) ∙ ap (λ x. x ++ drop (length front) bytes) (sym is)

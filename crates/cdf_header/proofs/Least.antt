@@ -6,7 +6,7 @@ use Rattle.std.specs.Prelude.{nat_eq}
 use Rattle.std.specs.Cmp.Lexicographic.{pointwise}
 use Rattle.std.proofs.lemmas.List.{drop_all}
 use Rattle.std.proofs.Math.Nat.{div-eq_of_lt}
-use Rattle.cdf_header.specs.Header.{Dim, Var, Head, var}
+use Rattle.cdf_header.specs.Header.{Var, Head, var}
 use Rattle.std.specs.List.{position_from}
 use Rattle.cdf_header.specs.Places.{find_from, find_in, nearer, with_begin, least, is_record, streamed, var_in, recsize, all_bits, records}
 
@@ -30,7 +30,7 @@ var_from vs k v lt is =
     let e : drop k vs ≡ get_or vs k v ∷ drop (k + 1) vs = rw (add-one, drop-cons vs k v lt) refl in
     ap (map var) e ∙ ap (λ w. var w ∷ map var (drop (k + 1) vs)) (sym is)
 
-pub least_goes : (ds : List Dim) (vs : List Variable) (k : ℕ) (v : Variable) (found next total : Option ℕ) → k < length vs → v ≡ get_or vs k v → next ≡ with_begin ds (var v) found
+pub least_goes : (ds : List ℕ) (vs : List Variable) (k : ℕ) (v : Variable) (found next total : Option ℕ) → k < length vs → v ≡ get_or vs k v → next ≡ with_begin ds (var v) found
     → merged found (least ds (map var (drop k vs))) ≡ total → merged next (least ds (map var (drop (k + 1) vs))) ≡ total
 least_goes ds vs k v found next total lt is next-is so_far =
     ap (λ n. merged n (least ds (map var (drop (k + 1) vs)))) next-is
@@ -42,7 +42,7 @@ pub merged_none : (found : Option ℕ) → merged found None ≡ found
 merged_none None = refl
 merged_none (Some b) = refl
 
-pub least_done : (ds : List Dim) (rest : List Var) (found total : Option ℕ) → rest ≡ [] → merged found (least ds rest) ≡ total → found ≡ total
+pub least_done : (ds : List ℕ) (rest : List Var) (found total : Option ℕ) → rest ≡ [] → merged found (least ds rest) ≡ total → found ≡ total
 least_done ds rest found total none so_far = sym (merged_none found) ∙ subst (λ xs. merged found (least ds xs) ≡ total) none so_far
 
 pub var_known : (vs : List Variable) (i : ℕ) (v : Variable) → i < length vs → v ≡ get_or vs i v → var v ≡ var_in (map var vs) i

@@ -2,11 +2,10 @@
 use Rattle.std.proofs.Common.{◌≡◌, ℕ, zero, suc, ◌+◌, ◌*◌, ◌<◌, ◌≤◌, ◌-◌, ◌^◌, min, List, [], ◌∷◌, length, refl, sym, ap, subst, ◌∙◌, arith, eq-eqb, cond, eqb, true, false, inl, inr}
 use Rattle.std.proofs.lemmas.Bool.{cases_lt, ne_eqb}
 use Rattle.std.proofs.Math.Nat.{mul_comm, add-mul}
-use Rattle.std.proofs.Common.{take, length-drop, drop, map, get_or, add-one, drop-cons}
+use Rattle.std.proofs.Common.{take, length-drop, drop, get_or, add-one, drop-cons}
 use Rattle.std.proofs.Math.Nat.{mul_assoc}
 use Rattle.std.proofs.lemmas.List.{drop_all, length-map, take_all}
-use Rattle.cdf_header.specs.declared.header.Dimension.{Dimension}
-use Rattle.cdf_header.specs.Header.{Dim, dim, Var}
+use Rattle.cdf_header.specs.Header.{Var}
 use Rattle.aql_value.specs.Indices.{product}
 use Rattle.aql_value.specs.IndicesLaws.{offset}
 use Rattle.cdf_header.specs.Places.{len_at, lens, record_count, plain_sum, padded_sum, recsize, inner, is_record, place_of}
@@ -52,20 +51,15 @@ sat_mul a d m = let e = sat a d 0 m in omega (arith, e)
 
 -- ---- the lengths of a shape
 
-pub len_known : (ds : List Dimension) (i : ℕ) (d : Dimension) → i < length ds → d ≡ get_or ds i d → d.len ≡ len_at (map dim ds) i
-len_known [] i d lt e = absurd (omega (arith, lt))
-len_known (x ∷ ds) zero d lt e = ap (λ (y : Dimension). y.len) e
-len_known (x ∷ ds) (suc i) d lt e = len_known ds i d (omega (arith, lt)) e
-
-pub len_past : (ds : List Dimension) (i : ℕ) → length ds ≤ i → 0 ≡ len_at (map dim ds) i
+pub len_past : (ds : List ℕ) (i : ℕ) → length ds ≤ i → 0 ≡ len_at ds i
 len_past [] i le = refl
 len_past (x ∷ ds) zero le = absurd (omega (arith, le))
 len_past (x ∷ ds) (suc i) le = len_past ds i (omega (arith, le))
 
-lens_from : (ds : List Dim) (ids : List ℕ) (k : ℕ) → k < length ids → lens ds (drop k ids) ≡ len_at ds (get_or ids k 0) ∷ lens ds (drop (k + 1) ids)
+lens_from : (ds : List ℕ) (ids : List ℕ) (k : ℕ) → k < length ids → lens ds (drop k ids) ≡ len_at ds (get_or ids k 0) ∷ lens ds (drop (k + 1) ids)
 lens_from ds ids k lt = let e : drop k ids ≡ get_or ids k 0 ∷ drop (k + 1) ids = rw (add-one, drop-cons ids k 0 lt) refl in ap (lens ds) e
 
-pub product_goes : (ds : List Dim) (ids : List ℕ) (k all len next m total : ℕ) → k < length ids → len ≡ len_at ds (get_or ids k 0) → next ≡ min (all * len) m
+pub product_goes : (ds : List ℕ) (ids : List ℕ) (k all len next m total : ℕ) → k < length ids → len ≡ len_at ds (get_or ids k 0) → next ≡ min (all * len) m
     → min (all * product (lens ds (drop k ids))) m ≡ total → min (next * product (lens ds (drop (k + 1) ids))) m ≡ total
 product_goes ds ids k all len next m total lt is next-is so_far =
     let rest : ℕ = product (lens ds (drop (k + 1) ids)) in
@@ -73,12 +67,12 @@ product_goes ds ids k all len next m total lt is next-is so_far =
     ∙ ap (λ x. min x m) (mul_assoc all len rest ∙ ap (λ x. all * (x * rest)) is ∙ ap (λ x. all * product x) (sym (lens_from ds ids k lt)))
     ∙ so_far
 
-pub product_done : (ds : List Dim) (ids : List ℕ) (k all m total : ℕ) → length ids ≤ k → all ≤ m → min (all * product (lens ds (drop k ids))) m ≡ total → all ≡ total
+pub product_done : (ds : List ℕ) (ids : List ℕ) (k all m total : ℕ) → length ids ≤ k → all ≤ m → min (all * product (lens ds (drop k ids))) m ≡ total → all ≡ total
 product_done ds ids k all m total le small so_far =
     let e : drop k ids ≡ [] = drop_all k ids le in
     let f : min (all * product (lens ds [])) m ≡ total = subst (λ x. min (all * product (lens ds x)) m ≡ total) e so_far in omega (arith, f, small)
 
-pub offset_goes : (ds : List Dim) (ids at : List ℕ) (k all len next mid m total : ℕ) → k < length ids → k < length at → len ≡ len_at ds (get_or ids k 0) → mid ≡ min (all * len) m → next ≡ min (mid + get_or at k 0) m
+pub offset_goes : (ds : List ℕ) (ids at : List ℕ) (k all len next mid m total : ℕ) → k < length ids → k < length at → len ≡ len_at ds (get_or ids k 0) → mid ≡ min (all * len) m → next ≡ min (mid + get_or at k 0) m
     → min (horner all (lens ds (drop k ids)) (drop k at)) m ≡ total → min (horner next (lens ds (drop (k + 1) ids)) (drop (k + 1) at)) m ≡ total
 offset_goes ds ids at k all len next mid m total lt lt' is mid-is next-is so_far =
     let rest : List ℕ = lens ds (drop (k + 1) ids) in
@@ -90,17 +84,17 @@ offset_goes ds ids at k all len next mid m total lt lt' is mid-is next-is so_far
     ∙ sym (ap (λ x. min (horner all x (drop k at)) m) (lens_from ds ids k lt) ∙ ap (λ x. min (horner all (len_at ds (get_or ids k 0) ∷ rest) x) m) heads)
     ∙ so_far
 
-pub offset_done : (ds : List Dim) (ids at : List ℕ) (k all m total : ℕ) → length ids ≤ k → all ≤ m → min (horner all (lens ds (drop k ids)) (drop k at)) m ≡ total → all ≡ total
+pub offset_done : (ds : List ℕ) (ids at : List ℕ) (k all m total : ℕ) → length ids ≤ k → all ≤ m → min (horner all (lens ds (drop k ids)) (drop k at)) m ≡ total → all ≡ total
 offset_done ds ids at k all m total le small so_far =
     let e : drop k ids ≡ [] = drop_all k ids le in
     let f : min (horner all (lens ds []) (drop k at)) m ≡ total = subst (λ x. min (horner all (lens ds x) (drop k at)) m ≡ total) e so_far in omega (arith, f, small)
 
-pub offset_starts : (ds : List Dim) (ids at : List ℕ) (m : ℕ) → length ids ≡ length at → min (horner 0 (lens ds ids) at) m ≡ min (offset (lens ds ids) at) m
+pub offset_starts : (ds : List ℕ) (ids at : List ℕ) (m : ℕ) → length ids ≡ length at → min (horner 0 (lens ds ids) at) m ≡ min (offset (lens ds ids) at) m
 offset_starts ds ids at m e = ap (λ x. min x m) (horner-is 0 (lens ds ids) at (length-map ids (len_at ds) ∙ e) ∙ omega arith)
 
 -- ---- the bytes of a record
 
-pub one_record : (ds : List Dim) (vs rest : List Var) (count plain m : ℕ) → rest ≡ [] → count ≡ 1 → plain ≤ m
+pub one_record : (ds : List ℕ) (vs rest : List Var) (count plain m : ℕ) → rest ≡ [] → count ≡ 1 → plain ≤ m
     → min (count + record_count ds rest) (2 ^ 64 - 1) ≡ min (record_count ds vs) (2 ^ 64 - 1) → min (plain + plain_sum ds rest) m ≡ min (plain_sum ds vs) m → plain ≡ min (recsize ds vs) m
 one_record ds vs rest count plain m none is small counted summed =
     let c : min (count + 0) (2 ^ 64 - 1) ≡ min (record_count ds vs) (2 ^ 64 - 1) = subst (λ x. min (count + record_count ds x) (2 ^ 64 - 1) ≡ min (record_count ds vs) (2 ^ 64 - 1)) none counted in
@@ -109,7 +103,7 @@ one_record ds vs rest count plain m none is small counted summed =
     let r : recsize ds vs ≡ plain_sum ds vs = ap (λ b. cond b (plain_sum ds vs) (padded_sum ds vs)) one in
     omega (arith, s, small, r)
 
-pub more_records : (ds : List Dim) (vs rest : List Var) (count all m : ℕ) → rest ≡ [] → (count ≡ 1 → ⊥) → all ≤ m
+pub more_records : (ds : List ℕ) (vs rest : List Var) (count all m : ℕ) → rest ≡ [] → (count ≡ 1 → ⊥) → all ≤ m
     → min (count + record_count ds rest) (2 ^ 64 - 1) ≡ min (record_count ds vs) (2 ^ 64 - 1) → min (all + padded_sum ds rest) m ≡ min (padded_sum ds vs) m → all ≡ min (recsize ds vs) m
 more_records ds vs rest count all m none isnt small counted summed =
     let c : min (count + 0) (2 ^ 64 - 1) ≡ min (record_count ds vs) (2 ^ 64 - 1) = subst (λ x. min (count + record_count ds x) (2 ^ 64 - 1) ≡ min (record_count ds vs) (2 ^ 64 - 1)) none counted in
@@ -129,7 +123,7 @@ inner_is : (is : List ℕ) → inner is ≡ drop 1 is
 inner_is [] = refl
 inner_is (i ∷ is) = refl
 
-pub place_record : (ds : List Dim) (vs : List Var) (v : Var) (at : List ℕ) → 1 ≤ length at → is_record ds v ≡ true
+pub place_record : (ds : List ℕ) (vs : List Var) (v : Var) (at : List ℕ) → 1 ≤ length at → is_record ds v ≡ true
     → place_of ds vs v at ≡ get_or at 0 0 * recsize ds vs + v.begin + offset (lens ds (drop 1 v.ids)) (drop 1 at) * type_size v.kind
 place_record ds vs v [] le e = absurd (omega (arith, le))
 place_record ds vs v (r ∷ at) le e =

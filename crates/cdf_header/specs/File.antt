@@ -1,5 +1,5 @@
 -- What the reader of a file answers.
-use Rattle.std.specs.Prelude.{◌≡◌, ◌≤◌, ℕ, Bool, true, ◌&&◌, ◌||◌, nat_le, nat_eq, List, length, take, get_or, Some, Result, Ok, Err, IfOk, IsErrOf, ◌⊎◌, if◌then◌else◌}
+use Rattle.std.specs.Prelude.{◌≡◌, ◌-◌, ◌≤◌, min, drop, ℕ, Bool, true, ◌&&◌, ◌||◌, nat_le, nat_eq, List, length, take, get_or, Some, Result, Ok, Err, IfOk, IsErrOf, ◌⊎◌, if◌then◌else◌}
 use Rattle.cdf_header.specs.Format.{header, done, run, Field, Kind, Spells, Fails, fault_at}
 use Rattle.cdf_header.specs.declared.fault.Fault.{Fault}
 use Rattle.cdf_header.specs.declared.fault.Fault.TheVariants.{Short, Malformed, TooMany}
@@ -19,6 +19,11 @@ IsFront bytes front = front ≡ take (length front) bytes
 abbrev pub StaysFront : (bytes : List ℕ) → (target : ℕ) → (before now : List ℕ) → Result Bool CdfFault → Type 0
 StaysFront bytes target before now result =
     target ≤ length bytes → IsFront bytes before → IfOk result (λ whole. (whole ≡ true) × IsFront bytes now)
+
+-- the bytes from an offset on come over the memory behind it, as many as the smaller of the room and the rest
+abbrev pub IsReadBehind : (bytes : List ℕ) → (start : ℕ) → (memory : List ℕ) → Result ℕ CdfFault → Type 0
+IsReadBehind bytes start memory result = IfOk result (λ n.
+    (n ≡ min (length memory - start) (length bytes - start)) × (take n (drop start memory) ≡ take n (drop start bytes)))
 
 -- a fault of the device, or want of memory
 abbrev pub IsOutside : CdfFault → Type 0

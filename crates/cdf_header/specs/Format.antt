@@ -5,7 +5,7 @@ use Rattle.cdf_header.specs.declared.fault.Fault.{Fault}
 use Rattle.cdf_header.specs.declared.fault.Fault.TheVariants.{Short, Malformed, TooMany}
 use Rattle.cdf_header.specs.declared.test.Test.{Test}
 use Rattle.cdf_header.specs.declared.test.Test.TheVariants.{Any, Tag, Count, Extent, Id, NcType}
-use Rattle.cdf_header.specs.Header.{Dim, Var, Head}
+use Rattle.cdf_header.specs.Header.{Var, Head}
 
 -- a number of so many bytes, or so many bytes and padding to a multiple of four
 pub data Kind : Type 0 where
@@ -125,6 +125,10 @@ num w test next = ask (number w test) (λ bytes. next (big_number w bytes))
 unfoldable pub str : ℕ → PartFormat (List ℕ)
 str n next = ask (text n) next
 
+-- so many bytes whose content is of no matter, padded to a multiple of four
+unfoldable pub skip : ℕ → PartFormat (Unit {0})
+skip n next = ask (text n) (λ bytes. next tt)
+
 -- the bytes of a number that counts
 abbrev pub wide : ℕ → ℕ
 wide version = cond (nat_eq version 5) 8 4
@@ -146,12 +150,12 @@ list v own which most = do
   num (wide v) (Count t which most)
 
 -- the number of the first dimension of length 0, counted from i
-abbrev pub record_from : ℕ → List Dim → Option ℕ
+abbrev pub record_from : ℕ → List ℕ → Option ℕ
 record_from i [] = None
-record_from i (d ∷ ds) = cond (nat_eq d.len 0) (Some i) (record_from (i + 1) ds)
+record_from i (d ∷ ds) = cond (nat_eq d 0) (Some i) (record_from (i + 1) ds)
 
 -- the number of the record dimension, where there is one
-abbrev pub record_of : List Dim → Option ℕ
+abbrev pub record_of : (lengths : List ℕ) → Option ℕ
 record_of ds = record_from 0 ds
 
 -- whether there is one
@@ -174,14 +178,14 @@ times item (suc n) = do
   times item n
 
 -- a dimension behind others: its name, and its length, which is 0 for one of them at most
-unfoldable pub dimension : ℕ → List Dim → PartFormat Dim
-dimension v ds = do
-  s ← name v
-  len ← num (wide v) (Extent (is_some (record_of ds)))
-  give (record { name = s; len = len })
+unfoldable pub dimension : ℕ → (before : List ℕ) → PartFormat ℕ
+dimension v before = do
+  n ← num (wide v) Any
+  s ← skip n
+  num (wide v) (Extent (is_some (record_of before)))
 
 -- the list of the dimensions
-unfoldable pub dims : ℕ → PartFormat (List Dim)
+unfoldable pub dims : ℕ → PartFormat (List ℕ)
 dims v = do
   n ← list v 10 1 1024
   many (dimension v) n []
@@ -191,10 +195,6 @@ abbrev pub type_size : ℕ → ℕ
 type_size kind =
     cond (nat_lt kind 3) 1 (cond (nat_eq kind 3) 2 (cond (nat_lt kind 6) 4 (cond (nat_eq kind 6) 8
     (cond (nat_eq kind 7) 1 (cond (nat_eq kind 8) 2 (cond (nat_eq kind 9) 4 8))))))
-
--- so many bytes whose content is of no matter, padded to a multiple of four
-unfoldable pub skip : ℕ → PartFormat (Unit {0})
-skip n next = ask (text n) (λ bytes. next tt)
 
 -- an attribute: its name, the number of its type, how many values, and they
 unfoldable pub attribute : ℕ → PartFormat (Unit {0})
@@ -212,18 +212,18 @@ attributes v = do
   times (attribute v) n
 
 -- the number of a dimension of a variable, behind those of others; the record dimension stands first
-unfoldable pub id : ℕ → List Dim → List ℕ → PartFormat ℕ
+unfoldable pub id : ℕ → (dims before : List ℕ) → PartFormat ℕ
 id v ds is = num (wide v) (Id (length ds) (record_of ds) (nat_eq (length is) 0))
 
 -- the numbers of the dimensions of a variable
-unfoldable pub ids : ℕ → List Dim → PartFormat (List ℕ)
+unfoldable pub ids : ℕ → (dims : List ℕ) → PartFormat (List ℕ)
 ids v ds = do
   rank ← num (wide v) (Count 1 4 1024)
   many (id v ds) rank []
 
 -- a variable: its name, its dimensions, its attributes, its type, a size that is of no matter, and where it begins
-unfoldable pub variable : ℕ → List Dim → List Var → PartFormat Var
-variable v ds vs = do
+unfoldable pub variable : ℕ → (dims : List ℕ) → (before : List Var) → PartFormat Var
+variable v ds before = do
   s ← name v
   shape ← ids v ds
   kept ← attributes v
@@ -233,7 +233,7 @@ variable v ds vs = do
   give (record { name = s; ids = shape; kind = kind; begin = begin })
 
 -- the list of the variables
-unfoldable pub vars : ℕ → List Dim → PartFormat (List Var)
+unfoldable pub vars : ℕ → (dims : List ℕ) → PartFormat (List Var)
 vars v ds = do
   n ← list v 11 3 8192
   many (variable v ds) n []

@@ -4,7 +4,7 @@ use Rattle.std.specs.List.{position_from}
 use Rattle.std.specs.Prelude.{ℕ, ◌+◌, ◌-◌, ◌*◌, ◌/◌, ◌^◌, min, Bool, cond, nat_eq, false, List, [], ◌∷◌, map, get_or, Option, Some, None}
 use Rattle.aql_value.specs.Indices.{product}
 use Rattle.aql_value.specs.IndicesLaws.{offset}
-use Rattle.cdf_header.specs.Header.{Dim, Var, Head}
+use Rattle.cdf_header.specs.Header.{Var, Head}
 use Rattle.cdf_header.specs.Format.{padded, type_size, wide}
 
 -- a number, or 2^128-1 where it is larger
@@ -12,20 +12,20 @@ abbrev pub saturated : ℕ → ℕ
 saturated n = min n (2 ^ 128 - 1)
 
 -- the length in the header of the dimension with this number
-abbrev pub len_at : List Dim → ℕ → ℕ
-len_at ds i = get_or (map (λ d. d.len) ds) i 0
+abbrev pub len_at : List ℕ → ℕ → ℕ
+len_at ds i = get_or ds i 0
 
 -- the lengths of the dimensions with these numbers
-abbrev pub lens : List Dim → List ℕ → List ℕ
+abbrev pub lens : List ℕ → List ℕ → List ℕ
 lens ds is = map (len_at ds) is
 
 -- the first of these dimensions is the record dimension
-abbrev pub is_over_records : List Dim → List ℕ → Bool
+abbrev pub is_over_records : List ℕ → List ℕ → Bool
 is_over_records ds [] = false
 is_over_records ds (i ∷ is) = nat_eq (len_at ds i) 0
 
 -- a record variable
-abbrev pub is_record : List Dim → Var → Bool
+abbrev pub is_record : List ℕ → Var → Bool
 is_record ds v = is_over_records ds v.ids
 
 -- all but the first
@@ -34,26 +34,26 @@ inner [] = []
 inner (i ∷ is) = is
 
 -- the bytes of one record of a record variable, its slab
-abbrev pub slab_size : List Dim → Var → ℕ
+abbrev pub slab_size : List ℕ → Var → ℕ
 slab_size ds v = product (lens ds (inner v.ids)) * type_size v.kind
 
 -- the number of record variables
-abbrev pub record_count : List Dim → List Var → ℕ
+abbrev pub record_count : List ℕ → List Var → ℕ
 record_count ds [] = 0
 record_count ds (v ∷ vs) = cond (is_record ds v) 1 0 + record_count ds vs
 
 -- the bytes of their slabs
-abbrev pub plain_sum : List Dim → List Var → ℕ
+abbrev pub plain_sum : List ℕ → List Var → ℕ
 plain_sum ds [] = 0
 plain_sum ds (v ∷ vs) = cond (is_record ds v) (slab_size ds v) 0 + plain_sum ds vs
 
 -- the same, each slab padded to a multiple of 4
-abbrev pub padded_sum : List Dim → List Var → ℕ
+abbrev pub padded_sum : List ℕ → List Var → ℕ
 padded_sum ds [] = 0
 padded_sum ds (v ∷ vs) = cond (is_record ds v) (padded (slab_size ds v)) 0 + padded_sum ds vs
 
 -- the bytes of a record: each slab padded, but not that of a single record variable
-abbrev pub recsize : List Dim → List Var → ℕ
+abbrev pub recsize : List ℕ → List Var → ℕ
 recsize ds vs = cond (nat_eq (record_count ds vs) 1) (plain_sum ds vs) (padded_sum ds vs)
 
 -- the smaller of a number and one that may be absent
@@ -62,11 +62,11 @@ nearer b None = b
 nearer b (Some c) = min b c
 
 -- the least begin of some record variables, with that of one more, if it is one
-abbrev pub with_begin : List Dim → Var → Option ℕ → Option ℕ
+abbrev pub with_begin : List ℕ → Var → Option ℕ → Option ℕ
 with_begin ds v found = cond (is_record ds v) (Some (nearer v.begin found)) found
 
 -- the least begin of a record variable, where there is one
-abbrev pub least : List Dim → List Var → Option ℕ
+abbrev pub least : List ℕ → List Var → Option ℕ
 least ds [] = None
 least ds (v ∷ vs) = with_begin ds v (least ds vs)
 
@@ -100,7 +100,7 @@ abbrev pub shape : Head → Var → List ℕ
 shape h v = map (extent h) v.ids
 
 -- the offset of the first byte of the cell at an index: row-major from the begin, a record variable's slabs one record apart
-abbrev pub place_of : List Dim → List Var → Var → List ℕ → ℕ
+abbrev pub place_of : List ℕ → List Var → Var → List ℕ → ℕ
 place_of ds vs v [] = v.begin
 place_of ds vs v (r ∷ at) = cond (is_record ds v)
     (r * recsize ds vs + v.begin + offset (lens ds (inner v.ids)) at * type_size v.kind)
@@ -116,7 +116,7 @@ weights_in size [] = []
 weights_in size (d ∷ ds) = (product ds * size) ∷ weights_in size ds
 
 -- those of a variable: a record variable's records stand one record apart
-abbrev pub weights : List Dim → List Var → Var → List ℕ
+abbrev pub weights : List ℕ → List Var → Var → List ℕ
 weights ds vs v = cond (is_record ds v) (recsize ds vs ∷ weights_in (type_size v.kind) (lens ds (inner v.ids))) (weights_in (type_size v.kind) (lens ds v.ids))
 
 -- the number of the first of these variables of a name, counted from i, where there is one

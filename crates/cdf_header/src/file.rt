@@ -1,9 +1,9 @@
 // Reading the header of a file.
-ghost use Rattle.std.specs.Prelude.{◌≡◌, ◌≤◌, ◌<◌, min, length, IfOk, IfErr, IsErr, IsTrue, Err, true};
+ghost use Rattle.std.specs.Prelude.{◌≡◌, ◌+◌, ◌≤◌, ◌<◌, min, length, take, IfOk, IfErr, IsErr, IsTrue, Err, true};
 ghost use Rattle.std.specs.Str.{IsUtf8};
 ghost use Rattle.aql_outside.specs.Contents.{WhereTold, IsAbsent};
 ghost use Rattle.aql_outside.specs.Frames.{Leaves};
-ghost use Rattle.cdf_header.specs.File.{most_header_bytes, IsFront, StaysFront, IsOutside, IsDevice, IsAnswered, IsClassic, IsVersion, IsLost, IsOfHeader, fields_of, header_of};
+ghost use Rattle.cdf_header.specs.File.{most_header_bytes, IsFront, StaysFront, IsReadBehind, IsOutside, IsDevice, IsAnswered, IsClassic, IsVersion, IsLost, IsOfHeader, fields_of, header_of};
 
 use crate::fault::{CdfFault, Fault, ReadError};
 use crate::front::Front;
@@ -15,7 +15,10 @@ use std::alloc::Global;
 use std::str;
 
 /// The most bytes that one read asks for.
-const PIECE: usize = 4096;
+const PIECE: usize = 65536;
+
+/// The bytes that are read first, unless the file has fewer.
+const FIRST: usize = 4096;
 
 /// The most bytes that a header may take.
 const MOST_HEADER_BYTES: u64 = 16_777_216;
@@ -38,13 +41,33 @@ fn read_piece<F: Files>(
     ensures told { WhereTold (F.holds files.old) name.now
         (λ bytes. StaysFront bytes target front.old.items front.new.items result) }
 {
-    let mut piece = [0u8; PIECE];
-    let room = (target - front.len()).min(PIECE);
-    match files.read_at(name, front.len() as u64, &mut piece[..room]) {
-        Ok(count) => match front.extend_from_slice(&piece[..count]) {
-            Ok(()) => Ok(count == room),
-            Err(_) => Err(CdfFault::Memory),
-        },
+    let start = front.len();
+    let room = (target - start).min(PIECE);
+    if front.resize(start + room, 0).is_err() {
+        return Err(CdfFault::Memory);
+    }
+    let count = read_behind(files, name, front, start)?;
+    front.truncate(start + count);
+    Ok(count == room)
+}
+
+// Reads a file from an offset on over the memory behind it, and answers how many bytes came.
+fn read_behind<F: Files>(
+    files: &mut F,
+    name: &str,
+    memory: &mut [u8],
+    start: usize,
+) -> Result<usize, CdfFault>
+    requires { start ≤ length memory.old }
+    ensures frame { Leaves F.holds F.faults F.quiet (IsDevice result) files.old files.new }
+    ensures causes { IfErr result IsOutside }
+    ensures within { IfOk result (λ count. start + count ≤ length memory.new) }
+    ensures kept { take start memory.new ≡ take start memory.old }
+    ensures told { WhereTold (F.holds files.old) name.now
+        (λ bytes. IsReadBehind bytes start memory.new result) }
+{
+    match files.read_at(name, start as u64, &mut memory[start..]) {
+        Ok(count) => Ok(count),
         Err(_) => Err(CdfFault::Device),
     }
 }
@@ -74,7 +97,8 @@ fn grow<F: Files>(
     Ok(true)
 }
 
-// Reads the fields behind the first four bytes, with as much of the front of the file as they take.
+// Reads the fields behind the first four bytes. The front of the file that is read doubles until
+// they stand in it.
 fn read_fields<F: Files>(
     alloc: Global,
     files: &mut F,
@@ -155,7 +179,7 @@ fn header_or_fault<F: Files>(alloc: Global, files: &mut F, name: &str) -> Result
     };
     let most = size.min(MOST_HEADER_BYTES) as usize;
     let mut front = Vec::new(alloc);
-    let target = most.min(PIECE);
+    let target = most.min(FIRST);
     let whole = grow(files, name, &mut front, target)?;
     if !is_classic(&front) {
         return Err(CdfFault::NotClassic);

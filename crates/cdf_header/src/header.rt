@@ -3,13 +3,6 @@ ghost use Rattle.std.specs.Prelude.{◌≡◌};
 
 use std::marker::Model;
 
-// A dimension, with the length 0 for the record dimension.
-#[derive(Debug, Drop)]
-pub(crate) struct Dimension {
-    pub name: Vec<u8>,
-    pub len: u64,
-}
-
 // A variable, with the numbers of its dimensions, the outermost first.
 #[derive(Debug, Drop)]
 pub(crate) struct Variable {
@@ -25,12 +18,13 @@ pub struct Header {
     pub(crate) bytes: u64,
     pub(crate) version: u8,
     pub(crate) numrecs: u64,
-    pub(crate) dims: Vec<Dimension>,
+    // The lengths of the dimensions, 0 for the record dimension.
+    pub(crate) dims: Vec<u64>,
     pub(crate) vars: Vec<Variable>,
 }
 
 impl Model for Header {
-    ghost use Rattle.cdf_header.specs.Header.{Head, dim, var};
+    ghost use Rattle.cdf_header.specs.Header.{Head, var};
     ghost use Rattle.cdf_header.specs.HeaderCode.{coded_head};
     ghost use Rattle.std.specs.Prelude.{map};
 
@@ -42,7 +36,7 @@ impl Model for Header {
       bytes = h.bytes;
       version = h.version;
       numrecs = h.numrecs;
-      dims = map dim h.dims.items;
+      dims = h.dims.items;
       vars = map var h.vars.items;
     } };
 }

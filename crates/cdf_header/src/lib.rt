@@ -10,6 +10,7 @@
 //! header) and `specs/Places`; then `file`, `front`, `lists`, `fields` and `places`.
 #![tactic(auto)]
 
+mod dimensions;
 mod fault;
 mod fields;
 mod file;

@@ -1,47 +1,28 @@
 // The lists of a header.
 ghost use Rattle.std.specs.Prelude.{◌≡◌, ◌≤◌, [], length, map, IfOk};
-ghost use Rattle.cdf_header.specs.Format.{many, times, dimension, dims, id, ids, attribute, attributes, variable, vars, header, record_of, type_size};
-ghost use Rattle.cdf_header.specs.Header.{dim, var, dims_in, vars_in};
+ghost use Rattle.cdf_header.specs.Format.{many, times, dimension, dims, id, ids, attribute, attributes, variable, vars, header, type_size};
+ghost use Rattle.cdf_header.specs.Header.{var, vars_in};
 ghost use Rattle.cdf_header.specs.Gives.{GivesPart};
 
+use crate::dimensions::{Dimensions, record_in};
 use crate::fault::{Fault, ReadError};
 use crate::fields::{list_of, name_of, number, skip_over, type_of};
 use crate::front::Front;
-use crate::header::{Dimension, Header, Variable};
+use crate::header::{Header, Variable};
 use crate::test::Test;
 use std::alloc::Global;
 
-// The number of the record dimension.
-fn record_in(all: &[Dimension]) -> Option<u64>
-    requires { length all.now ≤ 1024 }
-    ensures { result ≡ record_of (map dim all.now) }
-{
-    let mut i = 0;
-    'dims: for d in all {
-        if d.len == 0 {
-            return Some(i);
-        }
-        i += 1;
-    }
-    None
-}
-
 #[tactic(auto, unfolding(crate::specs::Format::dimension))]
-fn dimension_of(
-    alloc: Global,
-    front: &Front,
-    at: usize,
-    before: &[Dimension],
-) -> Result<(Dimension, usize), ReadError>
+fn dimension_of(front: &Front, at: usize, before: &[u64]) -> Result<(u64, usize), ReadError>
     requires at { at ≤ length front.now.bytes.now }
     requires few { length before.now ≤ 1024 }
-    ensures { GivesPart dim (dimension front.now.version (map dim before.now))
+    ensures { GivesPart (λ x. x) (dimension front.now.version before.now)
         front.now.bytes.now at result }
 {
-    let (name, at) = name_of(alloc, front, at)?;
+    let (len, at) = number(front, at, front.wide(), Test::Any)?;
+    let (_, at) = skip_over(front, at, len, 1)?;
     let has = record_in(before).is_some();
-    let (len, at) = number(front, at, front.wide(), Test::Extent { has })?;
-    Ok((Dimension { name, len }, at))
+    number(front, at, front.wide(), Test::Extent { has })
 }
 
 fn dimensions(
@@ -49,17 +30,17 @@ fn dimensions(
     front: &Front,
     at: usize,
     count: u64,
-) -> Result<(Vec<Dimension>, usize), ReadError>
+) -> Result<(Vec<u64>, usize), ReadError>
     requires at { at ≤ length front.now.bytes.now }
     requires few { count ≤ 1024 }
-    ensures read { GivesPart dims_in (many (dimension front.now.version) count [])
+    ensures read { GivesPart (λ x. x.items) (many (dimension front.now.version) count [])
         front.now.bytes.now at result }
     ensures few { IfOk result (λ x. length x.0.items ≤ 1024) }
 {
     let mut found = Vec::new(alloc);
     let mut place = at;
     'items: for _ in 0..count {
-        let (item, after) = dimension_of(alloc, front, place, &found)?;
+        let (item, after) = dimension_of(front, place, &found)?;
         found.push(item)?;
         place = after;
     }
@@ -67,9 +48,9 @@ fn dimensions(
 }
 
 #[tactic(auto, unfolding(crate::specs::Format::dims))]
-fn dims_of(alloc: Global, front: &Front, at: usize) -> Result<(Vec<Dimension>, usize), ReadError>
+fn dims_of(alloc: Global, front: &Front, at: usize) -> Result<(Vec<u64>, usize), ReadError>
     requires at { at ≤ length front.now.bytes.now }
-    ensures read { GivesPart dims_in (dims front.now.version) front.now.bytes.now at result }
+    ensures read { GivesPart (λ x. x.items) (dims front.now.version) front.now.bytes.now at result }
     ensures few { IfOk result (λ x. length x.0.items ≤ 1024) }
 {
     let (count, at) = list_of(front, at, 10, 1, 1024)?;
@@ -131,17 +112,16 @@ fn attributes_of(front: &Front, at: usize) -> Result<((), usize), ReadError>
 fn id_of(
     front: &Front,
     at: usize,
-    dims: &[Dimension],
+    dims: &Dimensions,
     before: &[u64],
 ) -> Result<(u64, usize), ReadError>
     requires at { at ≤ length front.now.bytes.now }
-    requires few { length dims.now ≤ 1024 }
-    ensures { GivesPart (λ x. x) (id front.now.version (map dim dims.now) before.now)
+    ensures { GivesPart (λ x. x) (id front.now.version dims.now.lengths.now before.now)
         front.now.bytes.now at result }
 {
     let test = Test::Id {
-        dims: dims.len() as u64,
-        unlimited: record_in(dims),
+        dims: dims.lengths.len() as u64,
+        unlimited: dims.unlimited,
         first: before.is_empty(),
     };
     number(front, at, front.wide(), test)
@@ -151,12 +131,11 @@ fn id_list(
     alloc: Global,
     front: &Front,
     at: usize,
-    dims: &[Dimension],
+    dims: &Dimensions,
     count: u64,
 ) -> Result<(Vec<u64>, usize), ReadError>
     requires at { at ≤ length front.now.bytes.now }
-    requires few { length dims.now ≤ 1024 }
-    ensures { GivesPart (λ x. x.items) (many (id front.now.version (map dim dims.now)) count [])
+    ensures { GivesPart (λ x. x.items) (many (id front.now.version dims.now.lengths.now) count [])
         front.now.bytes.now at result }
 {
     let mut found = Vec::new(alloc);
@@ -174,11 +153,10 @@ fn ids_of(
     alloc: Global,
     front: &Front,
     at: usize,
-    dims: &[Dimension],
+    dims: &Dimensions,
 ) -> Result<(Vec<u64>, usize), ReadError>
     requires at { at ≤ length front.now.bytes.now }
-    requires few { length dims.now ≤ 1024 }
-    ensures { GivesPart (λ x. x.items) (ids front.now.version (map dim dims.now))
+    ensures { GivesPart (λ x. x.items) (ids front.now.version dims.now.lengths.now)
         front.now.bytes.now at result }
 {
     let (rank, at) = number(
@@ -199,12 +177,11 @@ fn variable_of(
     alloc: Global,
     front: &Front,
     at: usize,
-    dims: &[Dimension],
+    dims: &Dimensions,
     before: &[Variable],
 ) -> Result<(Variable, usize), ReadError>
     requires at { at ≤ length front.now.bytes.now }
-    requires few { length dims.now ≤ 1024 }
-    ensures { GivesPart var (variable front.now.version (map dim dims.now) (map var before.now))
+    ensures { GivesPart var (variable front.now.version dims.now.lengths.now (map var before.now))
         front.now.bytes.now at result }
 {
     let (name, at) = name_of(alloc, front, at)?;
@@ -229,12 +206,11 @@ fn variable_list(
     alloc: Global,
     front: &Front,
     at: usize,
-    dims: &[Dimension],
+    dims: &Dimensions,
     count: u64,
 ) -> Result<(Vec<Variable>, usize), ReadError>
     requires at { at ≤ length front.now.bytes.now }
-    requires few { length dims.now ≤ 1024 }
-    ensures { GivesPart vars_in (many (variable front.now.version (map dim dims.now)) count [])
+    ensures { GivesPart vars_in (many (variable front.now.version dims.now.lengths.now) count [])
         front.now.bytes.now at result }
 {
     let mut found = Vec::new(alloc);
@@ -252,11 +228,10 @@ fn vars_of(
     alloc: Global,
     front: &Front,
     at: usize,
-    dims: &[Dimension],
+    dims: &Dimensions,
 ) -> Result<(Vec<Variable>, usize), ReadError>
     requires at { at ≤ length front.now.bytes.now }
-    requires few { length dims.now ≤ 1024 }
-    ensures { GivesPart vars_in (vars front.now.version (map dim dims.now))
+    ensures { GivesPart vars_in (vars front.now.version dims.now.lengths.now)
         front.now.bytes.now at result }
 {
     let (count, at) = list_of(front, at, 11, 3, 8192)?;
@@ -275,7 +250,7 @@ pub(crate) fn header_of(
     let (numrecs, at) = number(front, 4, front.wide(), Test::Any)?;
     let (dims, at) = dims_of(alloc, front, at)?;
     let (_, at) = attributes_of(front, at)?;
-    let (vars, at) = vars_of(alloc, front, at, &dims)?;
+    let (vars, at) = vars_of(alloc, front, at, &Dimensions::new(&dims))?;
     Ok((
         Header {
             bytes: size,

@@ -3,22 +3,22 @@ ghost use Rattle.std.specs.Prelude.{◌+◌, drop, ◌≡◌, ◌≤◌, ◌<◌
 ghost use Rattle.cdf_header.specs.Places.{len_at, lens, is_record, inner, slab_size, recsize, place_of, place, var_in, variable_at, shape, nearer, with_begin, least, streamed, all_bits, records, extent, weights, find_in, saturated};
 ghost use Rattle.aql_value.specs.Indices.{product};
 ghost use Rattle.aql_value.specs.IndicesLaws.{offset};
-ghost use Rattle.cdf_header.specs.Header.{dim, var};
+ghost use Rattle.cdf_header.specs.Header.{var};
 ghost use Rattle.cdf_header.specs.Format.{type_size, padded};
 
-use crate::header::{Dimension, Header, Variable};
+use crate::header::{Header, Variable};
 use crate::lists::size_of;
 use aql_value::{Index, Str};
 
-fn len_of(dims: &[Dimension], i: u64) -> u64
-    ensures { result ≡ len_at (map dim dims.now) i }
+fn len_of(dims: &[u64], i: u64) -> u64
+    ensures { result ≡ len_at dims.now i }
 {
     let i = i as usize;
-    if i < dims.len() { dims[i].len } else { 0 }
+    if i < dims.len() { dims[i] } else { 0 }
 }
 
-fn product_of(dims: &[Dimension], ids: &[u64]) -> u128
-    ensures { result ≡ saturated (product (lens (map dim dims.now) ids.now)) }
+fn product_of(dims: &[u64], ids: &[u64]) -> u128
+    ensures { result ≡ saturated (product (lens dims.now ids.now)) }
 {
     let mut all = 1u128;
     'ids: for k in 0..ids.len() {
@@ -28,9 +28,9 @@ fn product_of(dims: &[Dimension], ids: &[u64]) -> u128
     all
 }
 
-fn offset_of(dims: &[Dimension], ids: &[u64], at: &[u128]) -> u128
+fn offset_of(dims: &[u64], ids: &[u64], at: &[u128]) -> u128
     requires { length ids.now ≡ length at.now }
-    ensures { result ≡ saturated (offset (lens (map dim dims.now) ids.now) at.now) }
+    ensures { result ≡ saturated (offset (lens dims.now ids.now) at.now) }
 {
     let mut all = 0u128;
     'ids: for k in 0..ids.len() {
@@ -40,8 +40,8 @@ fn offset_of(dims: &[Dimension], ids: &[u64], at: &[u128]) -> u128
     all
 }
 
-fn over_records(dims: &[Dimension], v: &Variable) -> bool
-    ensures { result ≡ is_record (map dim dims.now) (var v.now) }
+fn over_records(dims: &[u64], v: &Variable) -> bool
+    ensures { result ≡ is_record dims.now (var v.now) }
 {
     match v.ids.as_slice() {
         [] => false,
@@ -59,8 +59,8 @@ fn padded_to(n: u128) -> u128
     }
 }
 
-fn slab_of(dims: &[Dimension], v: &Variable) -> u128
-    ensures { result ≡ saturated (slab_size (map dim dims.now) (var v.now)) }
+fn slab_of(dims: &[u64], v: &Variable) -> u128
+    ensures { result ≡ saturated (slab_size dims.now (var v.now)) }
 {
     let all = match v.ids.as_slice() {
         [] => 1,
@@ -69,8 +69,8 @@ fn slab_of(dims: &[Dimension], v: &Variable) -> u128
     all.saturating_mul(u128::from(size_of(v.kind)))
 }
 
-fn record_bytes(dims: &[Dimension], vars: &[Variable]) -> u128
-    ensures { result ≡ saturated (recsize (map dim dims.now) (map var vars.now)) }
+fn record_bytes(dims: &[u64], vars: &[Variable]) -> u128
+    ensures { result ≡ saturated (recsize dims.now (map var vars.now)) }
 {
     let mut count = 0usize;
     let mut plain = 0u128;
@@ -87,10 +87,10 @@ fn record_bytes(dims: &[Dimension], vars: &[Variable]) -> u128
 }
 
 // The offset of the first byte of a cell.
-pub(crate) fn place_in(dims: &[Dimension], vars: &[Variable], v: &Variable, at: &[u128]) -> u128
+pub(crate) fn place_in(dims: &[u64], vars: &[Variable], v: &Variable, at: &[u128]) -> u128
     requires { length v.now.ids.items ≡ length at.now }
     ensures { result ≡ saturated
-        (place_of (map dim dims.now) (map var vars.now) (var v.now) at.now) }
+        (place_of dims.now (map var vars.now) (var v.now) at.now) }
 {
     let begin = u128::from(v.begin);
     let size = u128::from(size_of(v.kind));
@@ -131,8 +131,8 @@ fn nearer_to(begin: u64, found: Option<u64>) -> u64
 }
 
 // The least begin found so far, with that of one variable more.
-fn nearest(dims: &[Dimension], v: &Variable, found: Option<u64>) -> Option<u64>
-    ensures { result ≡ with_begin (map dim dims.now) (var v.now) found }
+fn nearest(dims: &[u64], v: &Variable, found: Option<u64>) -> Option<u64>
+    ensures { result ≡ with_begin dims.now (var v.now) found }
 {
     if over_records(dims, v) {
         Some(nearer_to(v.begin, found))
@@ -141,8 +141,8 @@ fn nearest(dims: &[Dimension], v: &Variable, found: Option<u64>) -> Option<u64>
     }
 }
 
-fn least_begin(dims: &[Dimension], vars: &[Variable]) -> Option<u64>
-    ensures { result ≡ least (map dim dims.now) (map var vars.now) }
+fn least_begin(dims: &[u64], vars: &[Variable]) -> Option<u64>
+    ensures { result ≡ least dims.now (map var vars.now) }
 {
     let mut found = None;
     'vars: for v in vars {
@@ -179,12 +179,12 @@ fn is_streaming(version: u8, numrecs: u64) -> bool
 }
 
 // The number of records.
-fn records_in(bytes: u64, version: u8, numrecs: u64, dims: &[Dimension], vars: &[Variable]) -> u64
+fn records_in(bytes: u64, version: u8, numrecs: u64, dims: &[u64], vars: &[Variable]) -> u64
     ensures { result ≡ records (record {
       bytes = bytes;
       version = version;
       numrecs = numrecs;
-      dims = map dim dims.now;
+      dims = dims.now;
       vars = map var vars.now;
     }) }
 {
@@ -209,19 +209,19 @@ fn first_named(vars: &[Variable], name: &[u8]) -> Option<u64>
 }
 
 // The bytes from one index of a dimension to the next, where the cells stand in row-major order.
-fn row_weight(dims: &[Dimension], v: &Variable, j: usize) -> u128
+fn row_weight(dims: &[u64], v: &Variable, j: usize) -> u128
     requires { j < length v.now.ids.items }
     ensures { result ≡ saturated
-        (product (lens (map dim dims.now) (drop (j + 1) v.now.ids.items)) * type_size v.now.kind) }
+        (product (lens dims.now (drop (j + 1) v.now.ids.items)) * type_size v.now.kind) }
 {
     product_of(dims, &v.ids[j + 1..]).saturating_mul(u128::from(size_of(v.kind)))
 }
 
 // The bytes from one index of a dimension to the next.
-fn weight_in(dims: &[Dimension], vars: &[Variable], v: &Variable, j: usize) -> u128
+fn weight_in(dims: &[u64], vars: &[Variable], v: &Variable, j: usize) -> u128
     requires { j < length v.now.ids.items }
     ensures { result ≡ saturated
-        (get_or (weights (map dim dims.now) (map var vars.now) (var v.now)) j 0) }
+        (get_or (weights dims.now (map var vars.now) (var v.now)) j 0) }
 {
     if j > 0 {
         return row_weight(dims, v, j);

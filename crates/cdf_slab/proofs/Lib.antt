@@ -4,6 +4,7 @@ pub mod Cuts
 pub mod Lasts
 pub mod Stepping
 pub mod Pieces
+pub mod Parts
 pub mod Goings
 pub mod Blocks
 pub mod Answering

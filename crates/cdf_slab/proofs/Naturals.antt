@@ -1,7 +1,9 @@
 -- The cells of a run of numbers.
-use Rattle.std.proofs.Common.{◌≡◌, ℕ, suc, ◌+◌, ◌-◌, ◌*◌, ◌^◌, ◌<◌, ◌≤◌, Bool, true, false, if◌then◌else◌, List, [], ◌∷◌, ◌++◌, length, map, take, drop, get_or, set, Some, None, Ok, Err, refl, sym, ap, subst, ◌∙◌, arith}
+use Rattle.std.proofs.Common.{◌≡◌, ℕ, suc, ◌+◌, ◌-◌, ◌*◌, ◌^◌, ◌<◌, ◌≤◌, Bool, true, false, if◌then◌else◌, List, [], ◌∷◌, ◌++◌, length, map, take, drop, get_or, set, ◌≢◌, below_more, get_or-set_other, get_or-set_same, Some, None, Ok, Err, refl, sym, ap, subst, ◌∙◌, arith}
 use Rattle.std.proofs.lemmas.List.{take-append-drop, drop_more, take_all, take_more, length-take-le, get_or-take, get_or-drop, take_rest}
 use Rattle.std.proofs.lemmas.List.Edits.{fill_by_more}
+use Rattle.std.proofs.lemmas.Nat.{le_or_l, le_or_r}
+use Rattle.std.specs.Int.Bits.{bit_or}
 use Rattle.byteorder.specs.Endian.{big_number}
 use Rattle.aql_value.specs.Datum.{Datum, natural}
 use Rattle.aql_value.specs.Partial.{◌>>=◌, each}
@@ -131,6 +133,16 @@ pub decode_more : (size step : ℕ) (bytes xs : List ℕ) (i x : ℕ) → i < le
 decode_more size step bytes xs i x lt e h =
     subst (λ y. (k : ℕ) → k < i + 1 → get_or (set xs i y) k 0 ≡ big_number size (drop (k * step) bytes)) (sym e)
     (fill_by_more (λ k. big_number size (drop (k * step) bytes)) xs i 0 lt h)
+
+-- none of the numbers that are decoded passes the bits of all
+pub most_more : (xs : List ℕ) (i x bits : ℕ) → i < length xs → ((k : ℕ) → k < i → get_or xs k 0 ≤ bits) → (k : ℕ) → k < i + 1 → get_or (set xs i x) k 0 ≤ bit_or bits x
+most_more xs i x bits lt h =
+    below_more _ _
+    (λ k l.
+    let ne : k ≢ i = omega arith in
+    let le : get_or xs k 0 ≤ bits = h k l in
+    rw get_or-set_other (omega (arith, le, le_or_l bits x)))
+    (rw get_or-set_same (le_or_r bits x))
 
 pub byte_number : (n : ℕ) (bytes : List ℕ) → get_or bytes n 0 ≡ big_number 1 (drop n bytes)
 byte_number n bytes =

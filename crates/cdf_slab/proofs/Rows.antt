@@ -14,11 +14,11 @@ use Rattle.cdf_slab.specs.Numbers.{Number, number_of, number_at}
 use Rattle.cdf_slab.specs.Run.{apart, run, HasAllBytes, HoldsRun}
 use Rattle.cdf_slab.specs.Walk.{DimensionStep, along, walk, HaveRoom, places_left, RoomSoFar, Turn}
 use Rattle.cdf_slab.specs.Slab.{IsLate}
-use Rattle.cdf_slab.specs.Window.{IsPiece}
+use Rattle.cdf_slab.specs.Window.{IsPiece, held}
 use Rattle.cdf_slab.specs.Going.{AppendsCells}
 use Rattle.cdf_slab.proofs.Blocks.{AreWithin-append, ReadSoFar, CountSoFar}
 use Rattle.cdf_slab.proofs.Goings.{goes-then, goes-fails, goes_late, late_more}
-use Rattle.cdf_slab.proofs.Pieces.{piece_number}
+use Rattle.cdf_slab.proofs.Pieces.{piece_number, length-held}
 use Rattle.cdf_slab.proofs.Walking.{map-append, map-twice}
 
 range-append : (a n m : ℕ) → range_with_len a (n + m) ≡ range_with_len a n ++ range_with_len (a + n) m
@@ -87,23 +87,23 @@ row_turn a base i n size end here step m room t le s near =
 
 -- the numbers of a run in a piece are those of the file
 pub run_numbers : (bytes : List ℕ) (w : Window) (kind size place step n : ℕ) → size ≡ type_size kind → HoldsRun w place size step n → IsPiece bytes w →
-    map (number_of kind) (run size step n (drop (place - w.at) w.bytes.items)) ≡ map (number_at bytes kind) (apart place step n)
+    map (number_of kind) (run size step n (drop (place - w.at) (held w))) ≡ map (number_at bytes kind) (apart place step n)
 run_numbers bytes w kind size place step n is h p =
-    map-twice (number_of kind) (λ k. big_number size (drop (k * step) (drop (place - w.at) w.bytes.items))) (range_with_len 0 n)
-    ∙ same_ranges (λ k. number_of kind (big_number size (drop (k * step) (drop (place - w.at) w.bytes.items)))) (λ k. number_at bytes kind (place + k * step)) 0 0 n
+    map-twice (number_of kind) (λ k. big_number size (drop (k * step) (drop (place - w.at) (held w)))) (range_with_len 0 n)
+    ∙ same_ranges (λ k. number_of kind (big_number size (drop (k * step) (drop (place - w.at) (held w))))) (λ k. number_at bytes kind (place + k * step)) 0 0 n
     (λ k lt.
     let z : 0 + k ≡ k = omega arith in
     let o : (place - w.at) + k * step ≡ place + k * step - w.at = omega (arith, h.behind) in
-    ap (λ k. number_of kind (big_number size (drop (k * step) (drop (place - w.at) w.bytes.items)))) z
-    ∙ ap (λ l. number_of kind (big_number size l)) (drop-drop (k * step) (place - w.at) w.bytes.items ∙ ap (λ m. drop m w.bytes.items) o)
+    ap (λ k. number_of kind (big_number size (drop (k * step) (drop (place - w.at) (held w))))) z
+    ∙ ap (λ l. number_of kind (big_number size l)) (drop-drop (k * step) (place - w.at) (held w) ∙ ap (λ m. drop m (held w)) o)
     ∙ ap (number_of kind) (piece_number bytes w (place + k * step) size (record { behind = omega (arith, h.behind); before = h.before k lt }) p)
     ∙ ap (λ s. number_of kind (big_number s (drop (place + k * step) bytes))) is
     ∙ ap (λ k. number_at bytes kind (place + k * step)) (sym z))
     ∙ sym (map-twice (number_at bytes kind) (λ k. place + k * step) (range_with_len 0 n))
 
 -- a run in a piece is one of its bytes from the first on
-pub has_run : (w : Window) (place size step n : ℕ) → HoldsRun w place size step n → HasAllBytes (drop (place - w.at) w.bytes.items) size step n
-has_run w place size step n h = record { room = λ k lt. omega (arith, h.behind, h.before k lt, length-drop (place - w.at) w.bytes.items) }
+pub has_run : (w : Window) (place size step n : ℕ) → HoldsRun w place size step n → HasAllBytes (drop (place - w.at) (held w)) size step n
+has_run w place size step n h = record { room = λ k lt. omega (arith, h.behind, h.before k lt, length-drop (place - w.at) (held w), length-held w) }
 
 numbers-on : (bytes : List ℕ) (kind : ℕ) (a : DimensionStep) (base i n size end here step : ℕ) → RowTurn a base i n size end here step →
     map (number_at bytes kind) (apart here step n) ++ map (number_at bytes kind) (places_left [] a base (i + n)) ≡ map (number_at bytes kind) (places_left [] a base i)
@@ -159,7 +159,7 @@ row_late signed kind size a base i n end here step from now before total e s t g
 
 -- what is made of a run in a piece is made of the file's numbers there
 pub run_told : (signed : Bool) (bytes : List ℕ) (w : Window) (kind size place step n : ℕ) (from : List ℕ) (now : List Datum) (r : Result (List Datum) CdfFault) →
-    size ≡ type_size kind → HoldsRun w place size step n → IsPiece bytes w → from ≡ drop (place - w.at) w.bytes.items →
+    size ≡ type_size kind → HoldsRun w place size step n → IsPiece bytes w → from ≡ drop (place - w.at) (held w) →
     AppendsCells signed (map (number_of kind) (run size step n from)) now r → AppendsCells signed (map (number_at bytes kind) (apart place step n)) now r
 run_told signed bytes w kind size place step n from now r is h p e g =
     subst (λ l. AppendsCells signed l now r) (ap (λ l. map (number_of kind) (run size step n l)) e ∙ run_numbers bytes w kind size place step n is h p) g

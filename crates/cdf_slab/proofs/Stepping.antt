@@ -1,7 +1,7 @@
 -- One dimension after the other.
 use Rattle.std.proofs.Common.{◌≡◌, ℕ, zero, suc, ◌+◌, ◌-◌, ◌^◌, ◌<◌, ◌≤◌, min, true, false, cond, nat_eq, List, [], ◌∷◌, ◌++◌, length, take, get_or, refl, sym, ap, ◌∙◌, arith}
 use Rattle.std.proofs.lemmas.List.{length-map, take_all}
-use Rattle.cdf_header.specs.Header.{Dim, Var}
+use Rattle.cdf_header.specs.Header.{Var}
 use Rattle.cdf_header.specs.Format.{type_size}
 use Rattle.cdf_header.specs.Places.{len_at, lens, inner, is_over_records, recsize, weights_in, weights}
 use Rattle.cdf_slab.specs.declared.axes.Axis.{Axis}
@@ -31,7 +31,7 @@ length-weights_in : (size : ℕ) (ds : List ℕ) → length (weights_in size ds)
 length-weights_in size [] = refl
 length-weights_in size (d ∷ ds) = ap suc (length-weights_in size ds)
 
-length-weights_of : (ds : List Dim) (vs : List Var) (size : ℕ) (ids : List ℕ) → length (cond (is_over_records ds ids) (recsize ds vs ∷ weights_in size (lens ds (inner ids))) (weights_in size (lens ds ids))) ≡ length ids
+length-weights_of : (ds : List ℕ) (vs : List Var) (size : ℕ) (ids : List ℕ) → length (cond (is_over_records ds ids) (recsize ds vs ∷ weights_in size (lens ds (inner ids))) (weights_in size (lens ds ids))) ≡ length ids
 length-weights_of ds vs size [] = refl
 length-weights_of ds vs size (i ∷ ids) =
     elim (nat_eq (len_at ds i) 0) as (λ b. length (cond b (recsize ds vs ∷ weights_in size (lens ds ids)) (weights_in size (lens ds (i ∷ ids)))) ≡ length (i ∷ ids)) [
@@ -39,7 +39,7 @@ length-weights_of ds vs size (i ∷ ids) =
       | false ↦ length-weights_in size (lens ds (i ∷ ids)) ∙ length-map (i ∷ ids) (len_at ds)
     ]
 
-pub length-weights : (ds : List Dim) (vs : List Var) (v : Var) → length (weights ds vs v) ≡ length v.ids
+pub length-weights : (ds : List ℕ) (vs : List Var) (v : Var) → length (weights ds vs v) ≡ length v.ids
 length-weights ds vs v = length-weights_of ds vs (type_size v.kind) v.ids
 
 pub capped_get : (ws : List ℕ) (j : ℕ) → get_or (capped ws) j 0 ≡ min (get_or ws j 0) (2 ^ 128 - 1)

@@ -5,7 +5,7 @@ use Rattle.std.proofs.Math.Nat.{add-mul, mul_assoc, mul_comm}
 use Rattle.aql_value.specs.Indices.{indices, product}
 use Rattle.aql_value.specs.IndicesLaws.{offset}
 use Rattle.aql_value.specs.Laws.Saturation.{saturating_product}
-use Rattle.cdf_header.specs.Header.{Dim, Var, Head}
+use Rattle.cdf_header.specs.Header.{Var, Head}
 use Rattle.cdf_header.specs.Format.{type_size}
 use Rattle.cdf_header.specs.Places.{lens, inner, is_record, recsize, place_of, weights_in, weights}
 use Rattle.cdf_slab.specs.Slab.{point, cell_places}
@@ -69,7 +69,7 @@ weighted_none : (ws : List ℕ) → weighted ws [] ≡ 0
 weighted_none [] = refl
 weighted_none (w ∷ ws) = refl
 
-place_weighted : (ds : List Dim) (vs : List Var) (v : Var) (at : List ℕ) → place_of ds vs v at ≡ v.begin + weighted (weights ds vs v) at
+place_weighted : (ds : List ℕ) (vs : List Var) (v : Var) (at : List ℕ) → place_of ds vs v at ≡ v.begin + weighted (weights ds vs v) at
 place_weighted ds vs v [] = let e = weighted_none (weights ds vs v) in omega (arith, e)
 place_weighted ds vs v (r ∷ at) =
     elim (is_record ds v) as (λ b. cond b (r * recsize ds vs + v.begin + offset (lens ds (inner v.ids)) at * type_size v.kind) (offset (lens ds v.ids) (r ∷ at) * type_size v.kind + v.begin)

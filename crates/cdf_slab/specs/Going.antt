@@ -27,6 +27,13 @@ count_with cells places = length cells + length places
 abbrev pub StaysKind : (signed : Bool) → (before : List Datum) → Result (List Datum) CdfFault → Type 0
 StaysKind signed before result = Every (IsCell signed) before → IfOk result (Every (IsCell signed))
 
+-- the same is read before the same end or an earlier one
+pub record IsPartOf (whole part : Reading) : Type 0 where
+  pub kind : part.kind ≡ whole.kind
+  pub size : part.size ≡ whole.size
+  pub signed : part.signed ≡ whole.signed
+  pub end : part.end ≤ whole.end
+
 -- where the bytes reach to the end of what is read and the piece is one of them: a cell more for each number at these places, and the piece stays one
 abbrev pub ReadsPlaces : (bytes : List ℕ) → Reading → (before now : Window) → (places : List ℕ) → (cells : List Datum) → Result (List Datum) CdfFault → Type 0
 ReadsPlaces bytes reading before now places cells result =

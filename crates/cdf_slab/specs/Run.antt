@@ -1,5 +1,5 @@
 -- Numbers that stand a step apart.
-use Rattle.std.specs.Prelude.{◌≡◌, ℕ, ◌+◌, ◌-◌, ◌*◌, ◌^◌, ◌≤◌, ◌<◌, false, List, length, map, drop, Option, Some, None, if◌then◌else◌}
+use Rattle.std.specs.Prelude.{◌≡◌, ℕ, ◌+◌, ◌-◌, ◌*◌, ◌^◌, ◌≤◌, ◌<◌, false, List, length, slice_index, map, drop, Option, Some, None, if◌then◌else◌}
 use Rattle.std.specs.List.{range_with_len}
 use Rattle.byteorder.specs.Endian.{big_number}
 use Rattle.cdf_header.specs.Format.{type_size}
@@ -18,10 +18,14 @@ run size step n bytes = map (λ k. big_number size (drop (k * step) bytes)) (ran
 pub record HasAllBytes (bytes : List ℕ) (size step n : ℕ) : Type 0 where
   pub room : (k : ℕ) → k < n → k * step + size ≤ length bytes
 
+-- none of the numbers is greater
+abbrev pub AreWithin : (numbers : List ℕ) → (most : ℕ) → Type 0
+AreWithin numbers most = (k : ℕ) → k < length numbers → slice_index numbers k ≤ most
+
 -- n numbers of so many bytes, a step apart from an offset on, stand in the piece
 pub record HoldsRun (w : Window) (place size step n : ℕ) : Type 0 where
   pub behind : w.at ≤ place
-  pub before : (k : ℕ) → k < n → place + k * step + size ≤ w.at + length w.bytes.items
+  pub before : (k : ℕ) → k < n → place + k * step + size ≤ w.at + w.count
 
 -- the least that the bytes of a number below 0 spell, where the type has a sign
 abbrev pub lowest : (kind : ℕ) → Option ℕ

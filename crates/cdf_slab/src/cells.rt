@@ -4,15 +4,17 @@ ghost use Rattle.std.specs.Prelude.{◌≡◌, ◌+◌, ◌-◌, ◌*◌, ◌^�
 ghost use Rattle.aql_outside.specs.Contents.{WhereTold};
 ghost use Rattle.aql_outside.specs.Frames.{Leaves};
 ghost use Rattle.cdf_header.specs.File.{IsDevice};
-ghost use Rattle.cdf_slab.specs.Going.{count_with, StaysKind, ReadsPlaces};
+ghost use Rattle.cdf_slab.specs.Going.{count_with, IsPartOf, StaysKind, ReadsPlaces};
 ghost use Rattle.cdf_slab.specs.Numbers.{IsWidth};
 ghost use Rattle.cdf_slab.specs.Slab.{IsLate};
 ghost use Rattle.cdf_slab.specs.Walk.{step_of, steps_of, walk, HaveRoom, RoomSoFar, Turn};
 
 use crate::axes::Axis;
+use crate::faults::last_end;
+use crate::loading::{REACH, run_in};
 use crate::reading::Reading;
 use crate::runs::push_run;
-use crate::window::{Window, run_in};
+use crate::window::Window;
 use aql_outside::Files;
 use cdf_header::CdfFault;
 use nrca_array::Builder;
@@ -47,6 +49,36 @@ fn step_along(a: Axis) -> u64
 {
     let step = a.stride.saturating_mul(a.weight);
     step.min(u128::from(u64::MAX)) as u64
+}
+
+// The bytes from the first to the last of the cells of these dimensions.
+fn span(axes: &[Axis], size: u64) -> u128 {
+    let mut bytes = u128::from(size);
+    for a in axes {
+        let steps = u128::from(a.count.saturating_sub(1)).saturating_mul(a.stride);
+        bytes = bytes.saturating_add(steps.saturating_mul(a.weight));
+    }
+    bytes
+}
+
+// Whether the cells of one index and those of the next are read apart: they are further from each
+// other than `REACH`, and other bytes stand between. What is answered decides what one read asks
+// for, and nothing of the cells.
+fn is_scattered(a: Axis, rest: &[Axis], size: u64) -> bool {
+    a.count > 1 && u128::from(step_along(a)) > span(rest, size).max(u128::from(REACH))
+}
+
+// What is read of the cells of one index: where they are read apart, nothing behind the last.
+fn block(reading: Reading, apart: bool, rest: &[Axis], base: u128) -> Reading
+    requires { HaveRoom reading.size reading.end (walk (steps_of rest.now) base) }
+    ensures part { IsPartOf reading result }
+    ensures within { HaveRoom result.size result.end (walk (steps_of rest.now) base) }
+{
+    if apart {
+        reading.before(last_end(reading.end, reading.size, rest, base))
+    } else {
+        reading
+    }
 }
 
 // The cells of the last dimension, in runs of numbers that stand in one piece of the file.
@@ -131,10 +163,12 @@ pub(crate) fn read_cells<F: Files>(
         [] => unreachable!(),
         [a] => read_row(files, name, buffers, reading, *a, base, cells),
         [a, rest @ ..] => {
+            let apart = is_scattered(*a, rest, reading.size);
             let mut all = cells;
             'cells: for i in 0..a.count {
                 let here = place_along(*a, rest, base, i, reading);
-                match read_cells(files, name, buffers, reading, rest, here, all) {
+                let part = block(reading, apart, rest, here);
+                match read_cells(files, name, buffers, part, rest, here, all) {
                     Ok(more) => all = more,
                     Err(fault) => return Err(fault),
                 }

@@ -7,12 +7,13 @@
 //! faults is greater only where `Device` is answered.
 //!
 //! Read `specs/Numbers` and `specs/Slab`; then `slab`, `request`, `faults`, `axes`, `cells`,
-//! `reading`, `window`, `runs`, `numbers`.
+//! `reading`, `loading`, `window`, `runs`, `numbers`.
 #![tactic(auto)]
 
 mod axes;
 mod cells;
 mod faults;
+mod loading;
 mod numbers;
 mod reading;
 mod request;

@@ -2,69 +2,107 @@
 
 ghost use Rattle.std.specs.Prelude.{◌≡◌, ℕ, ◌<◌, ◌≤◌, true, length, slice_index};
 ghost use Rattle.cdf_slab.specs.Numbers.{number_of, twos, IsWidth};
-ghost use Rattle.cdf_slab.specs.Run.{run, HasAllBytes, lowest, IsNatural};
+ghost use Rattle.cdf_slab.specs.Run.{run, AreWithin, HasAllBytes, lowest, IsNatural};
 
 use byteorder::{BigEndian, ByteOrder};
 
-/// The numbers that stand in these bytes a step apart, as many as there is room for.
-pub(crate) fn decode(bytes: &[u8], size: u64, step: usize, numbers: &mut [u64])
+/// The numbers that stand in these bytes a step apart, as many as there is room for, and a number
+/// that none of them passes. Those without a gap have loops of their own, of a known step.
+pub(crate) fn decode(bytes: &[u8], size: u64, step: usize, numbers: &mut [u64]) -> u64
     requires size { IsWidth size }
     requires room { HasAllBytes bytes.now size step (length numbers.old) }
-    ensures { numbers.new ≡ run size step (length numbers.old) bytes.now }
+    ensures numbers { numbers.new ≡ run size step (length numbers.old) bytes.now }
+    ensures most { AreWithin numbers.new result }
 {
-    match size {
-        1 => decode_bytes(bytes, step, numbers),
-        2 => decode_shorts(bytes, step, numbers),
-        4 => decode_ints(bytes, step, numbers),
+    match (size, step) {
+        (1, 1) => decode_bytes(bytes, 1, numbers),
+        (2, 2) => decode_shorts(bytes, 2, numbers),
+        (4, 4) => decode_ints(bytes, 4, numbers),
+        (8, 8) => decode_longs(bytes, 8, numbers),
+        (1, _) => decode_bytes(bytes, step, numbers),
+        (2, _) => decode_shorts(bytes, step, numbers),
+        (4, _) => decode_ints(bytes, step, numbers),
         _ => decode_longs(bytes, step, numbers),
     }
 }
 
-fn decode_bytes(bytes: &[u8], step: usize, numbers: &mut [u64])
+#[inline(always)]
+fn decode_bytes(bytes: &[u8], step: usize, numbers: &mut [u64]) -> u64
     requires { HasAllBytes bytes.now 1 step (length numbers.old) }
-    ensures { numbers.new ≡ run 1 step (length numbers.old) bytes.now }
+    ensures numbers { numbers.new ≡ run 1 step (length numbers.old) bytes.now }
+    ensures most { AreWithin numbers.new result }
 {
+    let mut bits = 0;
     for (k, x) in numbers.iter_mut().enumerate() {
-        *x = u64::from(bytes[k * step]);
+        let n = u64::from(bytes[k * step]);
+        bits |= n;
+        *x = n;
     }
+    bits
 }
 
-fn decode_shorts(bytes: &[u8], step: usize, numbers: &mut [u64])
+#[inline(always)]
+fn decode_shorts(bytes: &[u8], step: usize, numbers: &mut [u64]) -> u64
     requires { HasAllBytes bytes.now 2 step (length numbers.old) }
-    ensures { numbers.new ≡ run 2 step (length numbers.old) bytes.now }
+    ensures numbers { numbers.new ≡ run 2 step (length numbers.old) bytes.now }
+    ensures most { AreWithin numbers.new result }
 {
+    let mut bits = 0;
     for (k, x) in numbers.iter_mut().enumerate() {
-        *x = u64::from(BigEndian::read_u16(&bytes[k * step..]));
+        let n = u64::from(BigEndian::read_u16(&bytes[k * step..]));
+        bits |= n;
+        *x = n;
     }
+    bits
 }
 
-fn decode_ints(bytes: &[u8], step: usize, numbers: &mut [u64])
+#[inline(always)]
+fn decode_ints(bytes: &[u8], step: usize, numbers: &mut [u64]) -> u64
     requires { HasAllBytes bytes.now 4 step (length numbers.old) }
-    ensures { numbers.new ≡ run 4 step (length numbers.old) bytes.now }
+    ensures numbers { numbers.new ≡ run 4 step (length numbers.old) bytes.now }
+    ensures most { AreWithin numbers.new result }
 {
+    let mut bits = 0;
     for (k, x) in numbers.iter_mut().enumerate() {
-        *x = u64::from(BigEndian::read_u32(&bytes[k * step..]));
+        let n = u64::from(BigEndian::read_u32(&bytes[k * step..]));
+        bits |= n;
+        *x = n;
     }
+    bits
 }
 
-fn decode_longs(bytes: &[u8], step: usize, numbers: &mut [u64])
+#[inline(always)]
+fn decode_longs(bytes: &[u8], step: usize, numbers: &mut [u64]) -> u64
     requires { HasAllBytes bytes.now 8 step (length numbers.old) }
-    ensures { numbers.new ≡ run 8 step (length numbers.old) bytes.now }
+    ensures numbers { numbers.new ≡ run 8 step (length numbers.old) bytes.now }
+    ensures most { AreWithin numbers.new result }
 {
+    let mut bits = 0;
     for (k, x) in numbers.iter_mut().enumerate() {
-        *x = BigEndian::read_u64(&bytes[k * step..]);
+        let n = BigEndian::read_u64(&bytes[k * step..]);
+        bits |= n;
+        *x = n;
     }
+    bits
 }
 
-/// How many numbers stand before the first below 0, by the type of their variable.
-pub(crate) fn naturals_before(kind: u32, numbers: &[u64]) -> usize
+/// How many numbers stand before the first below 0, by the type of their variable and a number that
+/// none of them passes.
+pub(crate) fn naturals_before(kind: u32, numbers: &[u64], most: u64) -> usize
+    requires { AreWithin numbers.now most }
     ensures within { result ≤ length numbers.now }
     ensures naturals { (k : ℕ) → k < result → IsNatural kind (slice_index numbers.now k) }
     ensures negative { result < length numbers.now
         → (number_of kind (slice_index numbers.now result)).0 ≡ true }
 {
     match lowest_below(kind) {
-        Some(limit) => count_below(limit, numbers),
+        Some(limit) => {
+            if most < limit {
+                numbers.len()
+            } else {
+                count_below(limit, numbers)
+            }
+        }
         None => numbers.len(),
     }
 }

@@ -14,3 +14,20 @@ pub(crate) struct Reading {
     ghost is: { size ≡ type_size kind },
     ghost small: { end < 2 ^ 64 },
 }
+
+impl Reading {
+    /// The same before another end.
+    pub fn before(self, end: u64) -> Reading
+        ensures kind { result.kind ≡ self.kind }
+        ensures size { result.size ≡ self.size }
+        ensures signed { result.signed ≡ self.signed }
+        ensures end { result.end ≡ end }
+    {
+        Reading {
+            kind: self.kind,
+            size: self.size,
+            signed: self.signed,
+            end,
+        }
+    }
+}

@@ -4,7 +4,7 @@ ghost use Rattle.std.specs.Prelude.{◌≡◌, ◌+◌, [], ◌∷◌, false, le
 ghost use Rattle.cdf_header.specs.File.{IsDevice};
 ghost use Rattle.cdf_slab.specs.Going.{AppendsCells};
 ghost use Rattle.cdf_slab.specs.Numbers.{number_of, IsWidth};
-ghost use Rattle.cdf_slab.specs.Run.{run, HasAllBytes};
+ghost use Rattle.cdf_slab.specs.Run.{run, AreWithin, HasAllBytes};
 
 use crate::numbers::{decode, naturals_before, number};
 use crate::reading::Reading;
@@ -55,11 +55,11 @@ pub(crate) fn push_run(
 {
     match numbers.resize(count, 0) {
         Ok(()) => {
-            decode(bytes, reading.size, step, numbers);
+            let most = decode(bytes, reading.size, step, numbers);
             if reading.signed {
                 push_each(alloc, reading, numbers, cells)
             } else {
-                push_naturals(alloc, reading.kind, numbers, cells)
+                push_naturals(alloc, reading.kind, numbers, most, cells)
             }
         }
         Err(_) => Err(CdfFault::Memory),
@@ -88,18 +88,20 @@ fn push_each(
     Ok(all)
 }
 
-// A natural more for each number, up to the first below 0.
+// A natural more for each number, up to the first below 0. None of them passes `most`.
 fn push_naturals(
     alloc: Global,
     kind: u32,
     numbers: &[u64],
+    most: u64,
     cells: Builder,
 ) -> Result<Builder, CdfFault>
+    requires { AreWithin numbers.now most }
     ensures goes { AppendsCells false (map (number_of kind) numbers.now) cells result }
     ensures many { IfOk result (λ all. length all ≡ length cells + length numbers.now) }
     ensures own { IsDevice result → ⊥ }
 {
-    let count = naturals_before(kind, numbers);
+    let count = naturals_before(kind, numbers, most);
     let all = cells.push_naturals(alloc, &numbers[..count])?;
     if count < numbers.len() {
         return Err(CdfFault::Negative {

@@ -2,4 +2,5 @@ mod asked;
 mod files;
 mod headers;
 mod hyperslabs;
+mod limits;
 mod reads;

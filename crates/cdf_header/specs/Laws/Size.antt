@@ -3,7 +3,7 @@ use Rattle.std.proofs.Common.{◌≡◌, ℕ, zero, suc, List, [], ◌∷◌, �
 use Rattle.cdf_header.specs.declared.test.Test.{Test}
 use Rattle.cdf_header.specs.declared.test.Test.TheVariants.{Any}
 use Rattle.cdf_header.specs.Format.{Format, done, ask, PartFormat, ◌>>=◌, num, str, skip, name, list, many, times, dimension, dims, attribute, attributes, id, ids, variable, vars, header, wide, Field, Spells}
-use Rattle.cdf_header.specs.Header.{Head, Dim, Var}
+use Rattle.cdf_header.specs.Header.{Head, Var}
 
 -- P of each header that a format ends with
 abbrev pub Ends : (Head → Type 0) → Format → Type 0
@@ -54,9 +54,9 @@ module _ (P : Head → Type 0) where
   keeps-times item k zero = λ next h. h tt
   keeps-times item k (suc n) = keeps-then item (λ x. times item n) k (λ x. keeps-times item k n)
 
-  keeps-dimension : (v : ℕ) (ds : List Dim) → Keeps (dimension v ds)
+  keeps-dimension : (v : ℕ) (ds : List ℕ) → Keeps (dimension v ds)
   unfolding dimension
-  keeps-dimension v ds = λ next h. keeps-name v _ (λ s. keeps-num (wide v) _ _ (λ len. h (record { name = s; len = len })))
+  keeps-dimension v ds = λ next h. keeps-num (wide v) Any _ (λ n. keeps-skip n _ (λ s. keeps-num (wide v) _ next h))
 
   keeps-dims : (v : ℕ) → Keeps (dims v)
   unfolding dims
@@ -70,17 +70,17 @@ module _ (P : Head → Type 0) where
   unfolding attributes
   keeps-attributes v = λ next h. keeps-list v 12 2 8192 _ (λ n. keeps-times (attribute v) (keeps-attribute v) n next h)
 
-  keeps-ids : (v : ℕ) (ds : List Dim) → Keeps (ids v ds)
+  keeps-ids : (v : ℕ) (ds : List ℕ) → Keeps (ids v ds)
   unfolding ids id
   keeps-ids v ds = λ next h. keeps-num (wide v) _ _ (λ rank. keeps-many (id v ds) (λ is. keeps-num (wide v) _) rank [] next h)
 
-  keeps-variable : (v : ℕ) (ds : List Dim) (vs : List Var) → Keeps (variable v ds vs)
+  keeps-variable : (v : ℕ) (ds : List ℕ) (vs : List Var) → Keeps (variable v ds vs)
   unfolding variable
   keeps-variable v ds vs = λ next h.
       keeps-name v _ (λ s. keeps-ids v ds _ (λ shape. keeps-attributes v _ (λ kept. keeps-num 4 _ _ (λ kind. keeps-num (wide v) Any _ (λ size. keeps-num _ Any _ (λ begin.
       h (record { name = s; ids = shape; kind = kind; begin = begin })))))))
 
-  keeps-vars : (v : ℕ) (ds : List Dim) → Keeps (vars v ds)
+  keeps-vars : (v : ℕ) (ds : List ℕ) → Keeps (vars v ds)
   unfolding vars
   keeps-vars v ds = λ next h. keeps-list v 11 3 8192 _ (λ n. keeps-many (variable v ds) (keeps-variable v ds) n [] next h)
 

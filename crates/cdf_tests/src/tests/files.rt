@@ -126,21 +126,27 @@ pub fn few_bytes(
         files: sure(alloc, bytes)?,
         most,
         furthest: 0,
+        asked: 0,
     })
 }
 
-/// A file whose reads give at most so many bytes, which tells none, and the furthest byte that was
-/// asked for.
+/// A file whose reads give at most so many bytes, which tells none, the furthest byte that was
+/// asked for, and how many were.
 #[derive(Drop)]
 pub struct FewBytes {
     files: SureFiles,
     most: usize,
     furthest: u64,
+    asked: u64,
 }
 
 impl FewBytes {
     pub fn furthest(&self) -> u64 {
         self.furthest
+    }
+
+    pub fn asked(&self) -> u64 {
+        self.asked
     }
 }
 
@@ -161,6 +167,7 @@ impl Files for FewBytes {
     fn read_at(&mut self, name: &str, at: u64, into: &mut [u8]) -> Result<usize, Failed> {
         let to = at.saturating_add(into.len() as u64);
         self.furthest = self.furthest.max(to);
+        self.asked = self.asked.saturating_add(into.len() as u64);
         let room = into.len().min(self.most);
         self.files.read_at(name, at, &mut into[..room])
     }

@@ -223,27 +223,54 @@ fn changed_fields(rt: HostRuntime) -> Result<(), Fail> {
 fn streamed(
     alloc: Global,
     words: &[u32],
+    changes: &[(usize, u32)],
     name: &[u8],
     size: usize,
 ) -> Result<Option<u128>, CdfFault> {
-    let header = header_in(alloc, words, &[(1, 0xffffffff)], size)?;
+    let header = header_in(alloc, words, changes, size)?;
     let name = name_of(alloc, name)?;
     Ok(length_in(&header, &name, 0))
 }
 
-const STREAMED: [(&[u32], &[u8], usize, u128); 5] = [
-    (S, b"v", 108, 2),
-    (S, b"v", 107, 1),
-    (S, b"v", 96, 0),
-    (P, b"w", 156, 2),
-    (T, b"temp", 347, 3),
+// A file's words, the changed ones, a variable, how many bytes are left, and the number of records.
+type Streamed<'a> = (&'a [u32], &'a [(usize, u32)], &'a [u8], usize, u128);
+
+// In the last a record is longer than the file.
+const STREAMED: [Streamed; 6] = [
+    (S, &[(1, 0xffffffff)], b"v", 108, 2),
+    (S, &[(1, 0xffffffff)], b"v", 107, 1),
+    (S, &[(1, 0xffffffff)], b"v", 96, 0),
+    (P, &[(1, 0xffffffff)], b"w", 156, 2),
+    (T, &[(1, 0xffffffff)], b"temp", 347, 3),
+    (S, &[(1, 0xffffffff), (9, 0x7fffffff)], b"v", 108, 0),
 ];
 
 #[test]
 fn streaming(rt: HostRuntime) -> Result<(), Fail> {
-    for (words, name, size, records) in STREAMED {
-        assert_eq!(rt; streamed(rt.alloc(), words, name, size)?, Some(records));
+    for (words, changes, name, size, records) in STREAMED {
+        let found = streamed(rt.alloc(), words, changes, name, size)?;
+        assert_eq!(rt; found, Some(records));
     }
+    Ok(())
+}
+
+fn kind_of(alloc: Global, words: &[u32], changes: &[(usize, u32)], name: &[u8]) -> Option<u32> {
+    match header_in(alloc, words, changes, WHOLE) {
+        Ok(header) => match name_of(alloc, name) {
+            Ok(name) => kind_in(&header, &name),
+            Err(_) => None,
+        },
+        Err(_) => None,
+    }
+}
+
+// Of two variables of one name the first counts.
+#[test]
+fn equal_names(rt: HostRuntime) -> Result<(), Fail> {
+    let renamed = [(25, 0x76000000)];
+    assert_eq!(rt; kind_of(rt.alloc(), P, &[], b"w"), Some(1));
+    assert_eq!(rt; kind_of(rt.alloc(), P, &renamed, b"w"), None);
+    assert_eq!(rt; kind_of(rt.alloc(), P, &renamed, b"v"), Some(3));
     Ok(())
 }
 

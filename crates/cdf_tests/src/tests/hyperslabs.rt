@@ -55,6 +55,14 @@ const T: &[u32] = &TEMPERATURES;
 
 const V: &[u32] = &VERSION_5;
 
+// A variable `v` of bytes of version 5, three times over one dimension of 2^64-2.
+const HUGE_CUBE: [u32; 36] = [
+    0x43444605, 0, 0, 0xa, 0, 1, 0, 1, 0x78000000, 0xffffffff, 0xfffffffe, 0, 0, 0, 0xb, 0, 1, 0,
+    1, 0x76000000, 0, 3, 0, 0, 0, 0, 0, 0, 0, 0, 0, 1, 0, 0, 0, 144,
+];
+
+const FAR: u128 = 18446744073709551613;
+
 const HUGE: u128 = 340282366920938463463374607431768211455;
 
 const ANSWERED: [Case; 10] = [
@@ -157,7 +165,23 @@ fn hyperslabs(rt: HostRuntime) -> Result<(), Fail> {
     Ok(())
 }
 
-const REFUSED: [Case; 10] = [
+const REFUSED: [Case; 12] = [
+    (
+        &HUGE_CUBE,
+        &[],
+        144,
+        b"v",
+        Asked::Naturals(&[FAR, FAR, FAR], &[1, 1, 1], &[1, 1, 1]),
+        Err(CdfFault::Cut { at: HUGE }),
+    ),
+    (
+        &HUGE_CUBE,
+        &[],
+        144,
+        b"v",
+        Asked::Naturals(&[0, 0, FAR], &[1, 1, 1], &[1, 1, 1]),
+        Err(CdfFault::Cut { at: FAR + 144 }),
+    ),
     (
         S,
         &[],

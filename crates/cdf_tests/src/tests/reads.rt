@@ -117,6 +117,36 @@ fn row_agrees(alloc: Global, stride: u32, count: u32) -> Result<bool, Memory> {
     Ok(agrees(&found, Ok((16, &expected))))
 }
 
+// How many bytes are asked for, where every so many-th short is read.
+fn asked(alloc: Global, stride: u128, count: u128) -> Result<Option<u64>, Memory> {
+    let (count, stride) = ([count], [stride]);
+    let request = Asked::Naturals(&[0], &count, &stride);
+    let mut files = few_bytes(alloc, long_row(alloc, 40000), usize::MAX)?;
+    let header = header_of(alloc, long_row(alloc, 40000));
+    let found = read_over(alloc, &mut files, header, b"v", request);
+    Ok(if found.is_ok() {
+        Some(files.asked())
+    } else {
+        None
+    })
+}
+
+// Numbers that stand far from each other are read alone, others with what is between them.
+#[test]
+fn bytes_asked_for(rt: HostRuntime) -> Result<(), Fail> {
+    let cases: [(u128, u128, u64); 5] = [
+        (1, 40000, 80000),
+        (2048, 2, 4098),
+        (2049, 2, 4),
+        (4000, 10, 20),
+        (39999, 2, 4),
+    ];
+    for (stride, count, bytes) in cases {
+        assert_eq!(rt; asked(rt.alloc(), stride, count)?, Some(bytes));
+    }
+    Ok(())
+}
+
 // Rows that are longer than what is read or decoded at once, and the first number below 0 behind it.
 #[test]
 fn long_rows(rt: HostRuntime) -> Result<(), Fail> {

@@ -1,14 +1,14 @@
-use Rattle.std.proofs.Common.{arith, ◌≡◌, ◌++◌, length, take, eq-eqb}
+use Rattle.std.proofs.Common.{arith, ◌≡◌, ◌+◌, length, take, eq-eqb}
 use Rattle.std.proofs.lemmas.Grind.{common_steps}
-use Rattle.aql_outside.specs.Laws.Contents.{given-from_told}
-use Rattle.cdf_header.proofs.Fronts.{front_grows}
+use Rattle.cdf_header.proofs.Fronts.{front_read}
 use Rattle.cdf_header.proofs.file.read_piece.Goals as goal
 
-pub returns-in-Ok-extend_from_slice-clause-told : goal.returns-in-Ok-extend_from_slice-clause-told
-returns-in-Ok-extend_from_slice-clause-told g c = λ bytes there within is.
-    let t = given-from_told _ (g.F.Files.holds c.args.files.now) c.args.name.now bytes c.read_at.new.into _ _ there c.in-Ok.ensures.told in
-    let e : c.extend_from_slice.new.self.items ≡ c.args.front.now.items ++ take c.in-Ok.count c.read_at.new.into = grind (arith, common_steps, c.in-Ok-extend_from_slice.ensures.items) in
-    let len : length c.read_at.new.into ≡ c.min-room.result = grind (arith, common_steps) in
-    let place : c.len-2.result ≡ length c.args.front.now.items = grind (arith, common_steps, c.len-2.ensures) in
-    let p = front_grows bytes c.args.front.now.items c.read_at.new.into c.extend_from_slice.new.self.items c.in-Ok.count c.min-room.result is e len (omega arith) (rw place at t.0) (rw place at t.1) in
+pub returns-clause-told : goal.returns-clause-told
+returns-clause-told g c = λ bytes there within is.
+    let t = c.in_ok-count.ensures.told bytes there in
+    let start : c.len-start.result ≡ length c.args.front.now.items = grind (arith, common_steps, c.len-start.ensures) in
+    let new : c.truncate.new.self.items ≡ take (c.len-start.result + c.in_ok-count.count) c.read_behind.new.memory = grind (arith, common_steps, c.truncate.ensures.items) in
+    let long : length c.read_behind.new.memory ≡ c.len-start.result + c.min-room.result = grind (arith, common_steps) in
+    let kept : take c.len-start.result c.read_behind.new.memory ≡ c.args.front.now.items = grind (arith, common_steps, c.in_ok-count.ensures.kept) in
+    let p = front_read bytes c.args.front.now.items c.read_behind.new.memory c.truncate.new.self.items c.len-start.result c.in_ok-count.count c.min-room.result is start new long kept (omega arith) t.0 t.1 in
     (eq-eqb _ _ p.0, p.1)

@@ -1,7 +1,5 @@
-use Rattle.std.proofs.Common.{◌≡◌, ◌++◌, ◌∷◌, [], map, arith, length-append}
+use Rattle.std.proofs.Common.{◌≡◌, ◌++◌, ◌∷◌, [], arith, length-append}
 use Rattle.std.proofs.lemmas.Result.{err_from_is_err_and}
-use Rattle.std.proofs.lemmas.List.{map_push}
-use Rattle.cdf_header.specs.Header.{dim}
 use Rattle.cdf_header.specs.Format.{many, dimension}
 use Rattle.cdf_header.proofs.Loops.{many_goes, many_stops, many_done}
 use Rattle.cdf_header.proofs.lists.dimensions.Goals as goal
@@ -12,19 +10,19 @@ dimension_of-requires-clause-few c = rw c.deref.ensures.value (omega (arith, c.r
 pub returns-in_err-item-clause-read : goal.returns-in_err-item-clause-read
 returns-in_err-item-clause-read c =
     let p = err_from_is_err_and c.from_residual.result c.from_residual.ensures.1 in
-    rw (p.1, p.2) (many_stops (dimension c.args.front.now.version) (many (dimension c.args.front.now.version) c.args.count []) c.args.at c.args.count c.items.counter (map dim c.items.found.items) c.args.front.now.bytes.now c.items.place c.in_err-item.field-0.0
+    rw (p.1, p.2) (many_stops (dimension c.args.front.now.version) (many (dimension c.args.front.now.version) c.args.count []) c.args.at c.args.count c.items.counter c.items.found.items c.args.front.now.bytes.now c.items.place c.in_err-item.field-0.0
     c.items-test.true (rw c.deref.ensures.value at c.in_err-item.ensures) c.items.invariant.so_far)
 
 pub items-preserved : goal.items-preserved
 items-preserved c =
-    let e : map dim c.push.new.self.items ≡ map dim c.items.found.items ++ dim c.in_ok-item.item ∷ [] = rw c.in_ok-push.ensures.items (map_push _ c.items.found.items c.in_ok-item.item) in
+    let e : c.push.new.self.items ≡ c.items.found.items ++ c.in_ok-item.item ∷ [] = c.in_ok-push.ensures.items in
     let step = rw c.deref.ensures.value at c.in_ok-item.ensures in
     record {
       within = step.within;
       few = rw c.in_ok-push.ensures.items (omega (arith, c.items.invariant.few, length-append c.items.found.items (c.in_ok-item.item ∷ [])));
-      so_far = rw e (many_goes (dimension c.args.front.now.version) (many (dimension c.args.front.now.version) c.args.count []) c.args.at c.args.count c.items.counter (map dim c.items.found.items) c.args.front.now.bytes.now c.items.place (dim c.in_ok-item.item) c.in_ok-item.after
+      so_far = rw e (many_goes (dimension c.args.front.now.version) (many (dimension c.args.front.now.version) c.args.count []) c.args.at c.args.count c.items.counter c.items.found.items c.args.front.now.bytes.now c.items.place c.in_ok-item.item c.in_ok-item.after
           c.items-test.true step c.items.invariant.so_far);
     }
 
 pub returns-clause-read : goal.returns-clause-read
-returns-clause-read c = many_done (dimension c.args.front.now.version) (many (dimension c.args.front.now.version) c.args.count []) c.args.at c.args.count c.items.counter (map dim c.items.found.items) c.args.front.now.bytes.now c.items.place c.items-test.false c.items.invariant.within c.items.invariant.so_far
+returns-clause-read c = many_done (dimension c.args.front.now.version) (many (dimension c.args.front.now.version) c.args.count []) c.args.at c.args.count c.items.counter c.items.found.items c.args.front.now.bytes.now c.items.place c.items-test.false c.items.invariant.within c.items.invariant.so_far

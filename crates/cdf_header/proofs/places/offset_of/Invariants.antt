@@ -1,12 +1,11 @@
-use Rattle.std.proofs.Common.{◌≡◌, ◌≤◌, ◌^◌, ◌-◌, map, min, drop}
+use Rattle.std.proofs.Common.{◌≡◌, ◌≤◌, ◌^◌, ◌-◌, min, drop}
 use Rattle.aql_value.specs.IndicesLaws.{offset}
 use Rattle.cdf_header.specs.Places.{lens}
 use Rattle.cdf_header.proofs.Saturate.{horner}
-use Rattle.cdf_header.specs.Header.{dim}
 use Rattle.cdf_header.proofs.places.offset_of.Given as goal
 
 abbrev pub invariant-ids : goal.invariant-ids
 invariant-ids l = record {
   within : l.all ≤ 2 ^ 128 - 1;
-  so_far : min (horner l.all (lens (map dim l.dims) (drop l.k l.ids)) (drop l.k l.at)) (2 ^ 128 - 1) ≡ min (offset (lens (map dim l.dims) l.ids) l.at) (2 ^ 128 - 1);
+  so_far : min (horner l.all (lens l.dims (drop l.k l.ids)) (drop l.k l.at)) (2 ^ 128 - 1) ≡ min (offset (lens l.dims l.ids) l.at) (2 ^ 128 - 1);
 }

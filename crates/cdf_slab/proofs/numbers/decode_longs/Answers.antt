@@ -1,13 +1,16 @@
 use Rattle.std.proofs.Common.{◌*◌, drop, arith, ◌∙◌}
 use Rattle.std.proofs.lemmas.List.FromFn.{fill_by_all}
 use Rattle.byteorder.specs.Endian.{big_number}
-use Rattle.cdf_slab.proofs.Naturals.{decode_more, number_rest}
+use Rattle.cdf_slab.proofs.Naturals.{decode_more, most_more, number_rest}
 use Rattle.cdf_slab.proofs.numbers.decode_longs.Goals as goal
 
-pub returns : goal.returns
-returns c = fill_by_all (λ k. big_number 8 (drop (k * c.args.step) c.args.bytes.now)) c.loop-k.numbers _ 0 c.loop-k.auto.numbers (λ k lt. c.loop-k.invariant k (omega arith))
+pub returns-clause-numbers : goal.returns-clause-numbers
+returns-clause-numbers c = fill_by_all (λ k. big_number 8 (drop (k * c.args.step) c.args.bytes.now)) c.loop-k.numbers _ 0 c.loop-k.auto.numbers (λ k lt. c.loop-k.invariant.numbers k (omega arith))
 
 pub loop-k-preserved : goal.loop-k-preserved
-loop-k-preserved c =
-    decode_more 8 c.args.step c.args.bytes.now c.loop-k.numbers c.loop-k.k _ (omega arith)
-    (c.read_u64.ensures ∙ number_rest 8 (c.loop-k.k * c.args.step) c.args.bytes.now) c.loop-k.invariant
+loop-k-preserved c = record {
+  numbers =
+      decode_more 8 c.args.step c.args.bytes.now c.loop-k.numbers c.loop-k.k _ (omega arith)
+      (c.read_u64-n.ensures ∙ number_rest 8 (c.loop-k.k * c.args.step) c.args.bytes.now) c.loop-k.invariant.numbers;
+  most = most_more c.loop-k.numbers c.loop-k.k _ _ (omega arith) c.loop-k.invariant.most;
+}

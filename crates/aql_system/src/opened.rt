@@ -1,0 +1,62 @@
+// A file that is open, with its name.
+ghost use Rattle.std.specs.Prelude.{◌≤◌, IfOk, length};
+
+use crate::file_system::read_full;
+use std::io::{self, Read, Seek, SeekFrom};
+use std::{fs, rt};
+
+/// The most bytes of a name that is kept. A file with a longer one is opened for each read.
+const LONGEST: usize = 255;
+
+/// An open file, and the first bytes of its name, as many as the name has where it is kept whole.
+#[derive(Drop)]
+pub(crate) struct OpenedFile<F> {
+    name: [u8; LONGEST],
+    len: usize,
+    file: F,
+}
+
+impl<F: Read + Seek> OpenedFile<F> {
+    /// Opens the file of a name.
+    pub fn open<R: rt::Files<File = F>>(rt: &R, name: &str) -> io::Result<Self> {
+        let file = fs::open(rt, name)?;
+        let (kept, len) = kept_name(name);
+        Ok(OpenedFile {
+            name: kept,
+            len,
+            file,
+        })
+    }
+
+    /// This file where it has the name, and else the one that has it.
+    pub fn renamed<R: rt::Files<File = F>>(self, rt: &R, name: &str) -> io::Result<Self> {
+        if self.has(name) {
+            Ok(self)
+        } else {
+            OpenedFile::open(rt, name)
+        }
+    }
+
+    fn has(&self, name: &str) -> bool {
+        self.len <= LONGEST && &self.name[..self.len] == name.as_bytes()
+    }
+
+    /// Reads from an offset on, until the piece is full or a read gives nothing.
+    pub fn read_from(&mut self, at: u64, into: &mut [u8]) -> io::Result<usize>
+        ensures { IfOk result (λ count. count ≤ length into.new) }
+    {
+        self.file.seek(SeekFrom::Start(at))?;
+        read_full(&mut self.file, into)
+    }
+}
+
+// The bytes of a name and how many, where they are few enough, and else a count that no name has.
+fn kept_name(name: &str) -> ([u8; LONGEST], usize) {
+    let mut kept = [0u8; LONGEST];
+    let len = name.len();
+    if len > LONGEST {
+        return (kept, LONGEST + 1);
+    }
+    kept[..len].copy_from_slice(name.as_bytes());
+    (kept, len)
+}
