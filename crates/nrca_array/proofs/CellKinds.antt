@@ -1,12 +1,16 @@
 -- Which lists of cells are packed, and what one cell more makes of it.
-use Rattle.std.proofs.Common.{◌≡◌, ℕ, ◌*◌, ◌≤◌, Bool, List, [], ◌∷◌, ◌++◌, length, map, Option, Some, None, refl, sym, ◌∙◌, ap, arith}
+use Rattle.std.proofs.Common.{◌≡◌, ℕ, ◌*◌, ◌<◌, ◌≤◌, Bool, List, [], ◌∷◌, ◌++◌, length, map, get_or, Option, Some, None, refl, sym, ◌∙◌, ap, arith}
+use Rattle.std.specs.Prelude.{slice_get}
 use Rattle.std.specs.Option.{option_map}
+use Rattle.std.proofs.lemmas.List.{length-map}
+use Rattle.std.proofs.lemmas.Option.{slice_get-get_or, slice_get-map}
 use Rattle.aql_value.specs.Datum.{Datum, natural, truth, text, tuple, set, array, data_of, list_of}
 use Rattle.aql_value.specs.Laws.Datum.{data_of-list_of}
 use Rattle.aql_value.specs.Operations.{as_natural, as_truth}
 use Rattle.aql_value.specs.Laws.Operations.{each-naturals}
 use Rattle.aql_value.specs.Partial.{◌>>=◌, each}
 use Rattle.aql_value.specs.Laws.Partial.{then-none, each-append_none}
+use Rattle.nrca_array.specs.Places.{natural_of}
 use Rattle.nrca_array.specs.Packing.{width_for, spelled, truth_byte, naturals_packing, truths_packing, pairs_packing, first, packing, as_pair, parts_pair, pair_datum}
 
 each-truths : (bs : List Bool) → each as_truth (map truth bs) ≡ Some bs
@@ -129,3 +133,25 @@ pub pairs-lent : (ps : List (Bool × ℕ)) (bytes : List ℕ) (w : ℕ) → 1 �
 pairs-lent ps bytes w h e f = (λ i. Some (e i, f i)) ∙ sym (pairs-pack ps h)
 
 pub ruleset lent = (naturals-lent, truths-lent, pairs-lent)
+
+-- of cells that are not all naturals no cell is a natural among naturals
+pub plain-others : (cs : List Datum) (i : ℕ) → i < length cs → packing cs ≡ None → None ≡ natural_of cs i
+plain-others [] i h e = absurd (omega (arith, h))
+plain-others (x ∷ xs) i h e = ap (λ o. o >>= λ ns. slice_get (x ∷ xs) i) (sym ((none-kinds x xs e).0))
+
+pub truths-others : (bs : List Bool) (i : ℕ) → i < length (map truth bs) → None ≡ natural_of (map truth bs) i
+truths-others [] i h = absurd (omega (arith, h))
+truths-others (b ∷ bs) i h = refl
+
+pub pairs-others : (ps : List (Bool × ℕ)) (i : ℕ) → i < length (map pair_datum ps) → None ≡ natural_of (map pair_datum ps) i
+pairs-others [] i h = absurd (omega (arith, h))
+pairs-others (p ∷ ps) i h = refl
+
+pub naturals-at : (ns : List ℕ) (i n : ℕ) → i < length (map natural ns) → n ≡ get_or ns i 0 → Some (natural n) ≡ natural_of (map natural ns) i
+naturals-at ns i n h e =
+    ap (λ m. Some (natural m)) e
+    ∙ ap (option_map natural) (sym (slice_get-get_or ns i 0 (omega (arith, h, length-map ns natural))))
+    ∙ sym (slice_get-map natural ns i)
+    ∙ ap (λ o. o >>= λ ms. slice_get (map natural ns) i) (sym (each-naturals ns))
+
+pub ruleset others = (plain-others, truths-others, pairs-others, naturals-at)

@@ -1,7 +1,9 @@
 ghost use Rattle.std.specs.Prelude.{◌≡◌, ◌<◌, ◌≤◌, length, IfOk, slice_get, slice_range, Some, option_map};
 ghost use Rattle.aql_value.specs.Meaning.{datum};
 ghost use Rattle.aql_value.specs.Indices.{cell, IsTable};
+ghost use Rattle.aql_value.specs.Datum.{natural};
 ghost use Rattle.nrca_array.specs.Packing.{packing};
+ghost use Rattle.nrca_array.specs.Places.{IsPlaceOf, natural_cell, natural_of};
 ghost use Rattle.nrca_array.specs.Stored.{kept_cells, IsKept};
 
 use crate::builder::Builder;
@@ -98,15 +100,35 @@ impl Flat {
     pub fn cell(&self, alloc: Global, at: &Index) -> Result<Option<Value>, Memory>
         ensures { IfOk result (λ v. option_map datum v ≡ cell self.now at.now.items) }
     {
+        match self.place_of(at.as_slice()) {
+            Some(place) => Ok(Some(self.cells.get(alloc, place)?)),
+            None => Ok(None),
+        }
+    }
+
+    /// The natural that the cell at an index is, where the cells are all naturals: none of any other
+    /// array, and where there is no such cell. It takes no memory.
+    pub fn natural_at(&self, at: &[u128]) -> Option<u128>
+        ensures { option_map natural result ≡ natural_cell self.now at.now }
+    {
+        match self.place_of(at) {
+            Some(place) => self.cells.natural_at(place),
+            None => None,
+        }
+    }
+
+    // The row-major number of an index: none where there is no such cell.
+    fn place_of(&self, at: &[u128]) -> Option<usize>
+        ensures { IsPlaceOf self.now at.now result }
+    {
         let _count = self.cells.len();
         let kept = &self.dims;
         let dims = kept.dims.as_slice();
-        let at = at.as_slice();
         if is_below(at, dims) {
             let place = place(at, dims);
-            Ok(Some(self.cells.get(alloc, place as usize)?))
+            Some(place as usize)
         } else {
-            Ok(None)
+            None
         }
     }
 
@@ -183,6 +205,19 @@ impl Kept {
                 let (b, n) = pairs.get(at);
                 pair_value(alloc, b, n)
             }
+        }
+    }
+
+    // The natural of a row-major number, where the cells are all naturals.
+    #[tactic(auto, using(crate::proofs::CellKinds::others))]
+    fn natural_at(&self, at: usize) -> Option<u128>
+        requires within { at < length (kept_cells self.now) }
+        requires packed { IsKept self.now }
+        ensures { option_map natural result ≡ natural_of (kept_cells self.now) at }
+    {
+        match self {
+            Kept::Naturals(numbers) => Some(numbers.get(at)),
+            _ => None,
         }
     }
 

@@ -1,20 +1,22 @@
 //! What the forms that evaluate all their parts make of them: the members of `index` run in pieces.
 
-ghost use Rattle.std.specs.Prelude.{◌≡◌, ◌∷◌, [], None};
-ghost use Rattle.aql_value.specs.Operations.{as_set, only};
+ghost use Rattle.std.specs.Prelude.{◌≡◌, ◌≤◌, ◌∷◌, [], None, length};
+ghost use Rattle.aql_value.specs.Operations.{only};
 ghost use Rattle.nrca_array.specs.Held.{held_datum};
 ghost use Rattle.nrca_loops.specs.Parts.{held_values, parts_value};
 ghost use Rattle.nrca_loops.specs.Scope.{boxed_value, held_value};
 ghost use Rattle.aql_value.specs.Strict.{Strict};
-ghost use Rattle.nrca_eval.specs.Limits.{AreLimits};
 ghost use Rattle.nrca_loops.specs.Evaluates.{Applies, strict_form};
+ghost use Rattle.nrca_eval.specs.Gathered.{ReadsPairs};
 
-use crate::loops::index_pieces;
+use crate::joins::joined_pairs;
+use crate::pieces::in_pieces;
+use crate::scope::{Mode, Pool, Scope};
 use aql_outside::Gate;
-use aql_value::{Ascending, Value};
+use aql_value::Ascending;
 use nrca_array::Held;
-use nrca_forms::{index_pairs, strict};
-use nrca_loops::{Counted, to_box};
+use nrca_forms::{Indexed, index_pairs, index_run, strict, strict_boxed};
+use nrca_loops::{Counted, set_of, to_box};
 use nrca_par::EvalFault;
 use nrca_term::Core;
 use std::alloc::Global;
@@ -23,40 +25,38 @@ use std::thread::Threads;
 /// What a form that evaluates all its parts and binds nothing makes of their values, on the heap.
 #[inline(never)]
 pub(crate) fn strict_kept<R: Threads + Sync, G: Gate>(
-    rt: &R,
-    alloc: Global,
+    scope: &Scope<R, G>,
     term: &Core,
     parts: Option<Vec<Held>>,
     budget: u64,
-    workers: u64,
-    gate: &G,
 ) -> Result<Counted<Option<Box<Held>>>, EvalFault>
-    requires { AreLimits budget workers }
     ensures { Applies boxed_value budget (strict_form term.now) (parts_value parts) result }
 {
-    let made = strict_pieces(rt, alloc, term, parts, budget, workers, gate)?;
-    Ok(Counted {
-        answer: to_box(alloc, made.answer)?,
-        turns: made.turns,
-    })
+    match &scope.mode {
+        Mode::Here => strict_boxed(scope.alloc, term, parts, budget),
+        Mode::Pieces(pool) => {
+            let made = strict_pieces(pool, scope.alloc, term, parts, budget)?;
+            Ok(Counted {
+                answer: to_box(scope.alloc, made.answer)?,
+                turns: made.turns,
+            })
+        }
+    }
 }
 
 // The same as `strict` answers it. The members that `index` reads run in pieces.
 fn strict_pieces<R: Threads + Sync, G: Gate>(
-    rt: &R,
+    pool: &Pool<R, G>,
     alloc: Global,
     term: &Core,
     parts: Option<Vec<Held>>,
     budget: u64,
-    workers: u64,
-    gate: &G,
 ) -> Result<Counted<Option<Held>>, EvalFault>
-    requires { AreLimits budget workers }
     ensures { Applies held_value budget (strict_form term.now) (parts_value parts) result }
 {
     match term {
         Core::Index { rank, pairs: _ } => match parts {
-            Some(parts) => index_parts(rt, alloc, *rank, parts, budget, workers, gate),
+            Some(parts) => index_parts(pool, alloc, *rank, parts, budget),
             None => Ok(undefined()),
         },
         _ => strict(alloc, term, parts, budget),
@@ -75,19 +75,16 @@ fn undefined() -> Counted<Option<Held>>
 
 #[tactic(auto, using(nrca_forms::proofs::Arities::arities))]
 fn index_parts<R: Threads + Sync, G: Gate>(
-    rt: &R,
+    pool: &Pool<R, G>,
     alloc: Global,
     rank: u64,
     parts: Vec<Held>,
     budget: u64,
-    workers: u64,
-    gate: &G,
 ) -> Result<Counted<Option<Held>>, EvalFault>
-    requires { AreLimits budget workers }
     ensures { Applies held_value budget (Strict.index rank) (Some (held_values parts)) result }
 {
     match one_part(parts) {
-        Some(value) => index_value(rt, alloc, rank, value, budget, workers, gate),
+        Some(value) => index_value(pool, alloc, rank, value, budget),
         None => Ok(undefined()),
     }
 }
@@ -104,15 +101,12 @@ fn one_part(parts: Vec<Held>) -> Option<Held>
 // What `index` makes of a value: a turn for each member, and one for each cell of the array.
 // Spent where the members, or the members and the cells, pass the budget.
 fn index_value<R: Threads + Sync, G: Gate>(
-    rt: &R,
+    pool: &Pool<R, G>,
     alloc: Global,
     rank: u64,
     value: Held,
     budget: u64,
-    workers: u64,
-    gate: &G,
 ) -> Result<Counted<Option<Held>>, EvalFault>
-    requires { AreLimits budget workers }
     ensures { Applies held_value budget (Strict.index rank) (Some (held_datum value ∷ [])) result }
 {
     let Some(set) = set_of(value) else {
@@ -122,7 +116,7 @@ fn index_value<R: Threads + Sync, G: Gate>(
     if count > budget {
         return Err(EvalFault::Spent);
     }
-    let pairs = index_pieces(rt, alloc, rank, &set, count, workers, gate);
+    let pairs = index_pieces(pool, alloc, rank, &set, count);
     drop(set);
     let pairs = pairs?;
     let made = index_pairs(alloc, rank, pairs, budget - count)?;
@@ -132,16 +126,22 @@ fn index_value<R: Threads + Sync, G: Gate>(
     })
 }
 
-// The set that a value is.
-#[tactic(auto, using(aql_value::specs::Laws::Datum::data_lists))]
-fn set_of(value: Held) -> Option<Ascending>
-    ensures { result ≡ as_set (held_datum value) }
+// The pairs that the first members of a set are: none where one is no pair of an index of that
+// rank and a value. It is never Spent.
+fn index_pieces<R: Threads + Sync, G: Gate>(
+    pool: &Pool<R, G>,
+    alloc: Global,
+    rank: u64,
+    set: &Ascending,
+    count: u64,
+) -> Result<Option<Vec<Indexed>>, EvalFault>
+    requires { count ≤ length set.now }
+    ensures { ReadsPairs rank set.now 0 count result }
 {
-    match value {
-        Held::Value(Value::Members(set)) => Some(set),
-        other => {
-            drop(other);
-            None
-        }
-    }
+    let run = move |from: u64, to: u64| -> Result<Option<Vec<Indexed>>, EvalFault>
+        requires { (from ≤ to) × (to ≤ length set.now) }
+        ensures { ReadsPairs rank set.entry.now from to result }
+    { Ok(index_run(alloc, rank, set, from, to)?) };
+    let pairs = in_pieces(pool, alloc, count, run)?;
+    Ok(joined_pairs(alloc, pairs)?)
 }

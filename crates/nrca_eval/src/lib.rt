@@ -3,33 +3,31 @@
 //! `evaluate` answers the value and the turns of a term exactly, and Spent exactly where the turns
 //! pass the budget, whatever the number of workers. A sum, big union, tabulation or `index` that is
 //! not inside a piece is cut into pieces, each of which runs in a thread of its own; a loop inside
-//! a piece runs there.
+//! a piece runs there. `eval` runs every loop where it stands.
 //!
-//! The evaluation in one thread is `serial`: `eval`, and `sum_run`, `members_run` and `cells_run`, which answer a run of the
-//! members or cells of a loop, each with a budget of its own; `nrca_loops` joins runs that follow each other.
-//!
-//! Read `specs/Parts`, `Runs` and `Loops` with `serial`, one function a form, whose laws stand in `specs/Laws/Form`; then
-//! `specs/Limits` and `Gathered` with `wide`, one function a form again, and `index`, `loops` and `joins`.
+//! Read `specs/Parts`, `Runs` and `Loops` with `scope` and `evaluator`, one function a form and one a kind of loop, whose laws
+//! stand in `specs/Laws/Form`; then `specs/Gathered` with `pieces`, `joins` and `index`.
 #![tactic(auto)]
 
+mod evaluator;
 mod index;
 mod joins;
-mod loops;
-mod serial;
-mod wide;
+mod pieces;
+mod scope;
 
 ghost use Rattle.std.specs.Prelude.{◌≤◌};
 ghost use Rattle.aql_value.specs.Limits.{most_budget, most_workers};
 ghost use Rattle.nrca_term.specs.View.{term_of};
-ghost use Rattle.nrca_loops.specs.Evaluates.{EvaluatesClosed};
+ghost use Rattle.nrca_loops.specs.Evaluates.{EvaluatesClosed, EvaluatesHeld};
 
-use crate::wide::eval_wide;
-use aql_outside::Gate;
-use nrca_loops::{Env, from_box};
+use crate::evaluator::node;
+use crate::scope::{Mode, Pool, Scope};
+use aql_outside::{FreeGate, Gate};
+use nrca_array::Held;
+use nrca_loops::{Counted, Env, from_box};
 pub use nrca_loops::{Done, Globals};
 use nrca_par::EvalFault;
 use nrca_term::Core;
-pub use serial::{cells_run, eval, members_run, sum_run};
 use std::alloc::Global;
 use std::thread::Threads;
 
@@ -48,9 +46,39 @@ pub fn evaluate<R: Threads + Sync, G: Gate>(
     requires workers { (1 ≤ workers) × (workers ≤ most_workers) }
     ensures { EvaluatesClosed budget globals.now (term_of term.now) result }
 {
-    let found = eval_wide(rt, alloc, term, globals, &Env::Empty, budget, workers, gate)?;
+    let scope = Scope {
+        alloc,
+        globals,
+        mode: Mode::Pieces(Pool { rt, workers, gate }),
+    };
+    let found = node(&scope, term, &Env::Empty, budget)?;
     Ok(Done {
         value: from_box(found.answer),
         turns: u128::from(found.turns),
+    })
+}
+
+/// The value of a term and its turns, among the outcomes of the positions and the values of the
+/// variables. Spent exactly where the turns pass the budget; a loop, tabulation or `index` whose
+/// members or cells pass what is left is Spent before its first turn. No thread is started: the type
+/// of a runtime is named alone.
+pub fn eval<R: Threads + Sync>(
+    alloc: Global,
+    term: &Core,
+    globals: &Globals,
+    env: &Env,
+    budget: u64,
+) -> Result<Counted<Option<Held>>, EvalFault>
+    ensures { EvaluatesHeld budget globals.now env.now (term_of term.now) result }
+{
+    let scope: Scope<R, FreeGate> = Scope {
+        alloc,
+        globals,
+        mode: Mode::Here,
+    };
+    let done = node(&scope, term, &*env, budget)?;
+    Ok(Counted {
+        answer: from_box(done.answer),
+        turns: done.turns,
     })
 }

@@ -4,7 +4,7 @@ use Rattle.std.specs.Prelude.{slice_get, nat_eq, if◌then◌else◌}
 use Rattle.std.specs.Option.{option_map}
 use Rattle.std.proofs.lemmas.List.{length-map, map-append, length-take, take-map, drop-map}
 use Rattle.std.proofs.lemmas.Option.{slice_get_past}
-use Rattle.aql_value.specs.Datum.{Datum, natural, tuple}
+use Rattle.aql_value.specs.Datum.{Datum, natural}
 use Rattle.aql_value.specs.Lists.{below}
 use Rattle.aql_value.specs.Laws.Lists.{below-last}
 use Rattle.aql_value.specs.Laws.Operations.{index_one, index_more, length_indexed}

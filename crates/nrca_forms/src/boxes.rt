@@ -1,7 +1,7 @@
 //! What forms make of their parts' values, on the heap.
 
 ghost use Rattle.std.specs.Prelude.{◌≡◌, IfOk};
-ghost use Rattle.aql_value.specs.Operations.{dim_of};
+ghost use Rattle.aql_value.specs.Operations.{dim_of, part_of};
 ghost use Rattle.nrca_array.specs.Held.{held_datum};
 ghost use Rattle.nrca_loops.specs.Parts.{parts_value};
 ghost use Rattle.nrca_loops.specs.Scope.{boxed_value};
@@ -10,7 +10,7 @@ ghost use Rattle.nrca_forms.specs.Made.{kept_cell};
 ghost use Rattle.nrca_loops.specs.Evaluates.{Applies, strict_form};
 
 use crate::forms::strict;
-use crate::operations::{cell_of_parts, dim};
+use crate::operations::{cell_of_parts, dim, part_lent};
 use aql_value::Memory;
 use nrca_array::Held;
 use nrca_loops::{Counted, to_box};
@@ -44,6 +44,24 @@ pub fn dim_boxed(
     let dims = dim(alloc, array, rank)?;
     Ok(Counted {
         answer: to_box(alloc, dims)?,
+        turns: 0,
+    })
+}
+
+/// The part of a tuple that is lent, the parts counted from 1, on the heap and without turns.
+#[inline(never)]
+pub fn part_boxed(
+    alloc: Global,
+    tuple: &Held,
+    at: u64,
+    of: u64,
+    budget: u64,
+) -> Result<Counted<Option<Box<Held>>>, EvalFault>
+    ensures { Within boxed_value budget (part_of at of (held_datum tuple.now)) 0 result }
+{
+    let part = part_lent(alloc, tuple, at, of)?;
+    Ok(Counted {
+        answer: to_box(alloc, part)?,
         turns: 0,
     })
 }

@@ -56,7 +56,7 @@ fn make_value(
         Core::Bool(b) => Ok(free(constant(parts, Value::Bool(*b)))),
         Core::Text(s) => free_value(made_text(alloc, parts, s)),
         Core::Tuple(_) => free_value(tuple(alloc, parts)),
-        Core::Proj { at, of, part: _ } => free_value(made_proj(alloc, parts, *at, *of)),
+        Core::Proj { at, of, part: _ } => Ok(free(made_proj(parts, *at, *of))),
         Core::Arith(op, _, _) => Ok(free(made_arith(parts, *op))),
         Core::Compare(op, _, _) => free_value(made_comparison(alloc, parts, *op)),
         Core::Empty => free_value(made_empty(alloc, parts)),
@@ -166,12 +166,12 @@ fn made_index(
 }
 
 #[tactic(auto, using(crate::proofs::Arities::arities))]
-fn made_proj(alloc: Global, parts: Vec<Held>, at: u64, of: u64) -> Result<Option<Held>, Memory>
-    ensures { IfOk result (λ r. held_value r ≡ unary (part_of at of) (held_values parts)) }
+fn made_proj(parts: Vec<Held>, at: u64, of: u64) -> Option<Held>
+    ensures { held_value result ≡ unary (part_of at of) (held_values parts) }
 {
     match one_part(parts) {
-        Some(v) => proj(alloc, v, at, of),
-        None => Ok(None),
+        Some(v) => proj(v, at, of),
+        None => None,
     }
 }
 

@@ -15,7 +15,7 @@ mod forms;
 mod index;
 mod operations;
 
-pub use boxes::{cell_boxed, dim_boxed, strict_boxed};
+pub use boxes::{cell_boxed, dim_boxed, part_boxed, strict_boxed};
 pub use forms::strict;
 pub use index::{Indexed, index_pairs, index_run, join_pairs};
 pub use operations::{numbers, sum_of, table_of, union_of};

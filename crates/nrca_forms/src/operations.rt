@@ -1,9 +1,10 @@
 //! What the operations make of values as they are kept.
 
-ghost use Rattle.std.specs.Prelude.{◌≡◌, ◌≤◌, ◌∷◌, [], vec_len, IfOk, Some, length, map};
+ghost use Rattle.std.specs.Prelude.{◌≡◌, ◌<◌, ◌≤◌, ◌∷◌, [], vec_len, IfOk, Some, length, map, slice_get};
 ghost use Rattle.std.specs.Option.{option_map};
 ghost use Rattle.aql_value.specs.Datum.{natural, set, data_of};
-ghost use Rattle.aql_value.specs.Operations.{part_of, get_of, dim_of, arith_of, compare_of, union_of as union_datum, tuple_of, set_of, literal_of, cell_of, only, nth};
+ghost use Rattle.aql_value.specs.Meaning.{datum};
+ghost use Rattle.aql_value.specs.Operations.{as_tuple, part_of, get_of, dim_of, arith_of, compare_of, union_of as union_datum, tuple_of, set_of, literal_of, cell_of, only, nth};
 ghost use Rattle.aql_value.specs.Indices.{cell};
 ghost use Rattle.aql_value.specs.Lists.{below};
 ghost use Rattle.aql_value.specs.Strict.{sub_value, Strict};
@@ -95,22 +96,71 @@ fn only_member(alloc: Global, items: &Items) -> Result<Option<Held>, Memory>
 }
 
 #[tactic(auto, using(crate::proofs::Strictly::parts))]
-pub(crate) fn proj(alloc: Global, v: Held, at: u64, of: u64) -> Result<Option<Held>, Memory>
-    ensures { IfOk result (λ r. held_value r ≡ part_of at of (held_datum v)) }
+pub(crate) fn proj(v: Held, at: u64, of: u64) -> Option<Held>
+    ensures { held_value result ≡ part_of at of (held_datum v) }
 {
     let Some(items) = row_of(v) else {
+        return None;
+    };
+    if items.items.len() as u64 != of {
+        return None;
+    }
+    nth_item(items, at)
+}
+
+// The item of a number counted from 1, moved out of the list.
+#[tactic(auto, using(crate::proofs::Strictly::parts))]
+fn nth_item(items: Items, at: u64) -> Option<Held>
+    ensures { held_value result ≡ nth at items }
+{
+    if at == 0 {
+        return None;
+    }
+    let i = (at - 1) as usize;
+    if i < items.items.len() {
+        Some(Held::Value(take_item(items, i)))
+    } else {
+        None
+    }
+}
+
+// The item at a place, moved out of the list.
+fn take_item(items: Items, i: usize) -> Value
+    requires { i < length items }
+    ensures { slice_get items i ≡ Some (datum result) }
+{
+    let mut list = items.items;
+    list.swap_remove(i)
+}
+
+// The part of a tuple that is lent, the parts counted from 1: it alone is copied.
+#[tactic(auto, using(crate::proofs::Strictly::parts))]
+pub(crate) fn part_lent(alloc: Global, v: &Held, at: u64, of: u64) -> Result<Option<Held>, Memory>
+    ensures { IfOk result (λ r. held_value r ≡ part_of at of (held_datum v.now)) }
+{
+    let Some(items) = row_lent(v) else {
         return Ok(None);
     };
     if items.items.len() as u64 != of {
         return Ok(None);
     }
-    let found = nth_item(alloc, &items, at)?;
-    Ok(found)
+    item_lent(alloc, items, at)
 }
 
-// The item of a number counted from 1.
+// The parts of the tuple that a value is.
+#[tactic(auto, using(aql_value::specs::Laws::Datum::data_lists))]
+fn row_lent(v: &Held) -> Option<&Items>
+    ensures { option_map (λ items. items.now) result ≡ as_tuple (held_datum v.now) }
+{
+    match v {
+        Held::Value(Value::Row(parts)) => Some(parts.items()),
+        _ => None,
+    }
+}
+
+// A copy of the item of a number counted from 1.
 #[tactic(auto, using(crate::proofs::Strictly::parts))]
-fn nth_item(alloc: Global, items: &Items, at: u64) -> Result<Option<Held>, Memory>
+fn item_lent(alloc: Global, items: &Items, at: u64) -> Result<Option<Held>, Memory>
     ensures { IfOk result (λ r. held_value r ≡ nth at items.now) }
 {
     if at == 0 {

@@ -112,9 +112,9 @@ pub fn lookup(alloc: Global, env: &Env, at: u64) -> Result<Option<Held>, Memory>
     }
 }
 
-// The number of an index that a variable is, the last being variable 0, or the variable's number
-// beyond the index.
-fn index_variable(numbers: &[u128], at: u64) -> Result<u128, u64>
+/// The number of an index that a variable is, the last being variable 0, or the variable's number
+/// beyond the index.
+pub fn index_variable(numbers: &[u128], at: u64) -> Result<u128, u64>
     ensures { FindsIndex numbers.now at result }
 {
     let count = numbers.len() as u64;

@@ -20,7 +20,7 @@ mod walk;
 
 pub use boxes::{from_box, keep_part, parts_kept, to_box, truth_kept};
 pub use done::{Counted, Done, join_done};
-pub use env::{Env, Globals, lent, lookup, position, variable};
+pub use env::{Env, Globals, index_variable, lent, lookup, position, variable};
 pub use joins::{join_cells, join_sets, join_sums};
 pub use members::{
     Members, Next, as_members, item, members_below, members_of_both, natural, row_of, set_of, truth,

@@ -5,6 +5,7 @@ use Rattle.std.proofs.lemmas.List.{map-append}
 use Rattle.aql_value.specs.Datum.{Datum, natural}
 use Rattle.aql_value.specs.Laws.Operations.{each-naturals}
 use Rattle.aql_value.specs.Operations.{cell_of}
+use Rattle.aql_value.specs.Partial.{◌>>=◌}
 use Rattle.nrca_loops.specs.Parts.{cell_in, numbers_in}
 use Rattle.nrca_loops.specs.Runs.{list_with}
 
@@ -26,3 +27,12 @@ pub index_with : (o : Option (List Datum)) (p : Option Datum) (at more : List �
     list_with o p ≡ Some (map natural more)
 index_with o p at more m n e f g h =
     (λ k. list_with (e k) (f k)) ∙ ap Some (sym (ap (map natural) (g ∙ ap (λ j. at ++ j ∷ []) h) ∙ map-append natural at (n ∷ [])))
+
+cell_there : (o : Option (List ℕ)) (p : Option Datum) (v : Datum) → Some v ≡ (o >>= λ ns. p) → p ≡ Some v
+cell_there None p v e = cc
+cell_there (Some ns) p v e = sym e
+
+-- the number that a cell of an array of naturals is
+pub flat_number : (r : Option ℕ) (n : ℕ) (o : Option (List ℕ)) (p : Option Datum) → Some (natural n) ≡ (o >>= λ ns. p) → IfSome r (λ m. n ≡ m) → IfSome r (λ m. p ≡ Some (natural m))
+flat_number None n o p e h = tt
+flat_number (Some m) n o p e h = cell_there o p (natural n) e ∙ ap (λ k. Some (natural k)) h

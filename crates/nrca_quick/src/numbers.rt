@@ -5,18 +5,17 @@ ghost use Rattle.nrca_loops.specs.Evaluates.{TakesNone};
 ghost use Rattle.nrca_quick.specs.Quick.{IsNumber, IsTruth, IsCell, TakeNone};
 
 use crate::small::{
-    small, small_arith, small_cell, small_compare, small_held, small_part, small_variable,
+    small, small_arith, small_cell, small_compare, small_dim, small_held, small_part,
+    small_variable,
 };
-use aql_value::Index;
 use nrca_array::Held;
 use nrca_loops::{Env, Globals, lent};
 use nrca_term::{Core, Terms};
-use std::alloc::Global;
 
 /// The number that a term is, where it is found so; it takes no turns then. Of an array only cells
-/// that are packed numbers are read, so that nothing is allocated.
+/// that are packed numbers, and the one dimension of an array of rank 1, are read.
 #[cycle(quick)]
-pub fn quick(alloc: Global, term: &Core, globals: &Globals, env: &Env) -> Option<u64>
+pub fn quick(term: &Core, globals: &Globals, env: &Env) -> Option<u64>
     ensures value { IfSome result (λ n. IsNumber globals.now env.now term.now n) }
     ensures turns { IfSome result (λ n. TakesNone globals.now env.now term.now) }
 {
@@ -28,29 +27,29 @@ pub fn quick(alloc: Global, term: &Core, globals: &Globals, env: &Env) -> Option
             None => None,
         },
         Core::Arith(op, first, second) => {
-            let Some(a) = quick(alloc, first, globals, env) else {
+            let Some(a) = quick(first, globals, env) else {
                 return None;
             };
-            let Some(b) = quick(alloc, second, globals, env) else {
+            let Some(b) = quick(second, globals, env) else {
                 return None;
             };
             small_arith(*op, a, b)
         }
-        Core::If(test, yes, no) => match quick_truth(alloc, test, globals, env) {
-            Some(true) => quick(alloc, yes, globals, env),
-            Some(false) => quick(alloc, no, globals, env),
+        Core::If(test, yes, no) => match quick_truth(test, globals, env) {
+            Some(true) => quick(yes, globals, env),
+            Some(false) => quick(no, globals, env),
             None => None,
         },
         Core::Let(bound, body) => match lent(bound, &*globals, &*env) {
             Some(value) => {
                 let inner = Env::Bound(value, &*env);
-                quick(alloc, body, &*globals, &inner)
+                quick(body, &*globals, &inner)
             }
-            None => match quick(alloc, bound, &*globals, &*env) {
+            None => match quick(bound, &*globals, &*env) {
                 Some(number) => {
                     let numbers = [u128::from(number)];
                     let inner = Env::Indices(&numbers, &*env);
-                    quick(alloc, body, &*globals, &inner)
+                    quick(body, &*globals, &inner)
                 }
                 None => None,
             },
@@ -60,7 +59,11 @@ pub fn quick(alloc: Global, term: &Core, globals: &Globals, env: &Env) -> Option
             None => None,
         },
         Core::Sub { array, at } => match lent(array, &*globals, &*env) {
-            Some(held) => quick_cell(alloc, held, at, &*globals, &*env),
+            Some(held) => quick_cell(held, at, &*globals, &*env),
+            None => None,
+        },
+        Core::Dim { rank, array } => match lent(array, &*globals, &*env) {
+            Some(held) => small_dim(held, *rank),
             None => None,
         },
         _ => None,
@@ -69,24 +72,24 @@ pub fn quick(alloc: Global, term: &Core, globals: &Globals, env: &Env) -> Option
 
 // The truth value that a term is, where it is found so.
 #[cycle(quick)]
-fn quick_truth(alloc: Global, term: &Core, globals: &Globals, env: &Env) -> Option<bool>
+fn quick_truth(term: &Core, globals: &Globals, env: &Env) -> Option<bool>
     ensures value { IfSome result (λ b. IsTruth globals.now env.now term.now b) }
     ensures turns { IfSome result (λ b. TakesNone globals.now env.now term.now) }
 {
     match term {
         Core::Bool(b) => Some(*b),
         Core::Compare(op, first, second) => {
-            let Some(a) = quick(alloc, first, globals, env) else {
+            let Some(a) = quick(first, globals, env) else {
                 return None;
             };
-            let Some(b) = quick(alloc, second, globals, env) else {
+            let Some(b) = quick(second, globals, env) else {
                 return None;
             };
             Some(small_compare(*op, a, b))
         }
-        Core::If(test, yes, no) => match quick_truth(alloc, test, globals, env) {
-            Some(true) => quick_truth(alloc, yes, globals, env),
-            Some(false) => quick_truth(alloc, no, globals, env),
+        Core::If(test, yes, no) => match quick_truth(test, globals, env) {
+            Some(true) => quick_truth(yes, globals, env),
+            Some(false) => quick_truth(no, globals, env),
             None => None,
         },
         _ => None,
@@ -97,21 +100,21 @@ fn quick_truth(alloc: Global, term: &Core, globals: &Globals, env: &Env) -> Opti
 // dimensions. The index stands here, so that a level of the recursion keeps little on the stack.
 #[cycle(quick)]
 #[inline(never)]
-fn quick_cell(alloc: Global, array: &Held, at: &Terms, globals: &Globals, env: &Env) -> Option<u64>
+fn quick_cell(array: &Held, at: &Terms, globals: &Globals, env: &Env) -> Option<u64>
     ensures value { IfSome result (λ n. IsCell globals.now env.now array.now at.now n) }
     ensures turns { IfSome result (λ n. TakeNone globals.now env.now at.now) }
 {
-    if at.0.len() > 8 {
-        return None;
-    }
-    let mut index = Index::new(alloc);
+    let mut index = [0u128; 8];
+    let mut count = 0;
     for term in &at.0 {
-        let Some(n) = quick(alloc, term, globals, env) else {
+        let Some(n) = quick(term, globals, env) else {
             return None;
         };
-        let Ok(()) = index.push(u128::from(n)) else {
+        if count == 8 {
             return None;
-        };
+        }
+        index[count] = u128::from(n);
+        count += 1;
     }
-    small_cell(alloc, array, &index)
+    small_cell(array, &index[..count])
 }

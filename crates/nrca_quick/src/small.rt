@@ -1,19 +1,18 @@
 //! Numbers of 64 bits, and what operations make of them.
 
-ghost use Rattle.std.specs.Prelude.{◌≡◌, ◌<◌, length, Some, IfSome, slice_get};
+ghost use Rattle.std.specs.Prelude.{◌≡◌, ◌<◌, ◌∷◌, [], length, Some, IfSome, slice_get};
 ghost use Rattle.std.specs.Ordering.{nat_cmp};
 ghost use Rattle.aql_value.specs.Datum.{natural};
 ghost use Rattle.aql_value.specs.Indices.{cell};
-ghost use Rattle.aql_value.specs.Operations.{cell_of, part_of};
+ghost use Rattle.aql_value.specs.Operations.{cell_of, dim_of, part_of};
 ghost use Rattle.aql_value.specs.Ops.{arith_by, compare_by};
 ghost use Rattle.nrca_array.specs.Held.{held_datum};
-ghost use Rattle.nrca_loops.specs.Scope.{values, FindsIndex};
+ghost use Rattle.nrca_loops.specs.Scope.{values};
 ghost use Rattle.nrca_quick.specs.Quick.{item_of};
 
-use aql_value::{ArithOp, CompareOp, Index, Items, Value};
+use aql_value::{ArithOp, CompareOp, Dims, Items, Value};
 use nrca_array::{Flat, Held};
-use nrca_loops::Env;
-use std::alloc::Global;
+use nrca_loops::{Env, index_variable};
 
 /// The number, where it has 64 bits.
 pub(crate) fn small(n: u128) -> Option<u64>
@@ -99,36 +98,44 @@ fn small_at(items: &Items, i: usize) -> Option<u64>
 
 /// The number that a cell of a packed array is.
 #[tactic(auto, using(aql_value::specs::Laws::Datum::data_lists))]
-pub(crate) fn small_cell(alloc: Global, array: &Held, at: &Index) -> Option<u64>
-    ensures { IfSome result (λ n. cell_of (held_datum array.now) at.now.items ≡ Some (natural n)) }
+pub(crate) fn small_cell(array: &Held, at: &[u128]) -> Option<u64>
+    ensures { IfSome result (λ n. cell_of (held_datum array.now) at.now ≡ Some (natural n)) }
 {
     match array {
-        Held::Flat(flat) => small_flat(alloc, flat, at),
+        Held::Flat(flat) => small_flat(flat, at),
         _ => None,
     }
 }
 
-// A cell that is packed by itself, a number or a truth value, is read without memory.
-fn small_flat(alloc: Global, flat: &Flat, at: &Index) -> Option<u64>
-    ensures { IfSome result (λ n. cell flat.now at.now.items ≡ Some (natural n)) }
+fn small_flat(flat: &Flat, at: &[u128]) -> Option<u64>
+    ensures { IfSome result (λ n. cell flat.now at.now ≡ Some (natural n)) }
 {
-    if !has_single_cells(flat) {
-        return None;
+    match flat.natural_at(at) {
+        Some(n) => small(n),
+        None => None,
     }
-    match flat.cell(alloc, at) {
-        Ok(Some(Value::Nat(n))) => small(n),
+}
+
+/// The number that the dimensions of an array of rank 1 are.
+#[tactic(auto, using(aql_value::specs::Laws::Datum::data_lists))]
+pub(crate) fn small_dim(array: &Held, rank: u64) -> Option<u64>
+    ensures { IfSome result (λ n. dim_of rank (held_datum array.now) ≡ Some (natural n)) }
+{
+    match array {
+        Held::Flat(flat) => small_rank(flat.dims(), rank),
+        Held::Value(Value::Grid(cells)) => small_rank(cells.dims(), rank),
         _ => None,
     }
 }
 
-// Whether the cells are packed, and are not pairs: these have a byte more for each.
-fn has_single_cells(flat: &Flat) -> bool {
-    match flat.packed() {
-        Some((width, bytes)) => match (flat.len() as u64).checked_mul(width / 8) {
-            Some(count) => count == bytes.len() as u64,
-            None => false,
-        },
-        None => false,
+// The one dimension.
+fn small_rank(dims: &Dims, rank: u64) -> Option<u64>
+    ensures { IfSome result (λ n. (rank ≡ 1) × (dims.now ≡ n ∷ [])) }
+{
+    if rank == 1 && dims.dims.len() == 1 {
+        small(dims.dims[0])
+    } else {
+        None
     }
 }
 
@@ -149,18 +156,5 @@ pub(crate) fn small_variable(env: &Env, at: u64) -> Option<u64>
             Ok(number) => small(number),
             Err(beyond) => small_variable(rest, beyond),
         },
-    }
-}
-
-// The number of an index that a variable is, the last being variable 0, or the variable's number
-// beyond the index.
-fn index_variable(numbers: &[u128], at: u64) -> Result<u128, u64>
-    ensures { FindsIndex numbers.now at result }
-{
-    let count = numbers.len() as u64;
-    if at < count {
-        Ok(numbers[(count - 1 - at) as usize])
-    } else {
-        Err(at - count)
     }
 }

@@ -1,5 +1,6 @@
 mod arrays;
 mod evaluation;
+mod numbers;
 mod pieces;
 mod serial;
 mod substitution;

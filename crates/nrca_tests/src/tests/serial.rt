@@ -9,12 +9,20 @@ use nrca_par::EvalFault;
 use nrca_term::Core;
 use std::alloc::Global;
 use std::test::Fail;
+use std::thread::Threads;
 
-fn evaluated(alloc: Global, term: &Core, value: &Option<Value>, budget: u64) -> Outcome {
+// Some runtime is named for its type.
+fn evaluated<R: Threads + Sync>(
+    _rt: &R,
+    alloc: Global,
+    term: &Core,
+    value: &Option<Value>,
+    budget: u64,
+) -> Outcome {
     let globals = Globals {
         list: Vec::new(alloc),
     };
-    let done = eval(alloc, term, &globals, &Env::Empty, budget);
+    let done = eval::<R>(alloc, term, &globals, &Env::Empty, budget);
     drop(globals);
     let done = done?;
     let found = outcome(alloc, &done.answer, value, u128::from(done.turns));
@@ -22,9 +30,9 @@ fn evaluated(alloc: Global, term: &Core, value: &Option<Value>, budget: u64) -> 
     found
 }
 
-fn found(alloc: Global, row: &Row, budget: u64) -> Outcome {
+fn found<R: Threads + Sync>(rt: &R, alloc: Global, row: &Row, budget: u64) -> Outcome {
     let parts = both(term(alloc, row.0), value(alloc, row.1))?;
-    let found = evaluated(alloc, &parts.0, &parts.1, budget);
+    let found = evaluated(rt, alloc, &parts.0, &parts.1, budget);
     drop(parts);
     found
 }
@@ -56,7 +64,7 @@ fn terms_have_their_values_and_turns(rt: HostRuntime) -> Result<(), Fail> {
     for row in &ROWS {
         let turns = u64::from(row.2);
         for budget in turns.saturating_sub(1)..turns + 1 {
-            let found = found(rt.alloc(), row, budget);
+            let found = found(&rt, rt.alloc(), row, budget);
             assert_eq!(rt; found, wanted(row, budget), "{} in {budget}", row.0);
         }
     }
@@ -65,7 +73,7 @@ fn terms_have_their_values_and_turns(rt: HostRuntime) -> Result<(), Fail> {
 
 #[test]
 fn the_greatest_gen_is_spent(rt: HostRuntime) -> Result<(), Fail> {
-    let found = found(rt.alloc(), &("max gen", "undefined", 0), u64::MAX);
+    let found = found(&rt, rt.alloc(), &("max gen", "undefined", 0), u64::MAX);
     assert_eq!(rt; found, Err(EvalFault::Spent));
     Ok(())
 }

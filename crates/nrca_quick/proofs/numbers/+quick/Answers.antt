@@ -1,6 +1,7 @@
-use Rattle.std.proofs.Common.{◌≡◌, length, Some, sym, ◌∙◌, ap, arith}
+use Rattle.std.proofs.Common.{◌≡◌, ◌+◌, ◌<◌, length, take, Some, sym, ◌∙◌, ap, arith}
 use Rattle.std.specs.List.{slice_range}
-use Rattle.std.proofs.lemmas.List.{length-map}
+use Rattle.std.proofs.lemmas.List.{length-map, length-set, take_more_set}
+use Rattle.std.proofs.Math.ListN.{set}
 use Rattle.aql_value.specs.Partial.{each}
 use Rattle.nrca_array.specs.Held.{held_datum}
 use Rattle.nrca_term.specs.Laws.Equations.{term_of-Sub}
@@ -44,7 +45,7 @@ quick_cell-returns-clause-value t c =
     let i = c.loop-term.term-index in
     let end : i ≡ length ts = omega (arith, length-map c.args.at.now.0.items term_of, ap length c.deref-term-items.ensures.value) in
     let index = ap (each f) (sym (range_whole ts i end)) ∙ c.loop-term.invariant.0 in
-    number_of c.small_cell.result _ _ (cell_number (held_datum c.args.array.now) (each f ts) c.loop-term.index.items index) c.small_cell.ensures
+    number_of c.small_cell.result _ _ (cell_number (held_datum c.args.array.now) (each f ts) (take c.loop-term.count c.loop-term.index) index) c.small_cell.ensures
 
 pub quick_cell-loop-term-preserved : goal.quick_cell-loop-term-preserved
 quick_cell-loop-term-preserved t c =
@@ -54,8 +55,14 @@ quick_cell-loop-term-preserved t c =
     let i = c.loop-term.term-index in
     let x = term_of c.term-item.result in
     let inv = c.loop-term.invariant in
+    let n = c.loop-term.count in
+    let more = set c.loop-term.index n c.from.result in
+    let there : n < length c.loop-term.index = omega (arith, inv.2, inv.3, c.if-count-eq8.false) in
     let at = term_at c.deref-term-items.result.now c.args.at.now.0.items i c.term-item.result c.deref-term-items.ensures.value (omega arith) c.term-item.is in (
       each-range_more f g ts 0 i x (omega arith) at
-          ∙ index_with (each f (slice_range ts 0 i)) (f x) c.loop-term.index.items c.push.new.self.items _ c.in-Some.n inv.0 c.in-Some.ensures.value c.in-Ok.ensures.ok c.from.ensures,
+          ∙ index_with (each f (slice_range ts 0 i)) (f x) (take n c.loop-term.index) (take (n + 1) more) _ c.in-Some.n inv.0 c.in-Some.ensures.value
+            (take_more_set c.loop-term.index n c.from.result there) c.from.ensures,
       omega (arith, total-range_more f g ts 0 i x (omega arith) at, inv.1, c.in-Some.ensures.turns),
+      omega (arith, there, inv.3),
+      length-set c.loop-term.index n c.from.result ∙ inv.3,
     )

@@ -1,4 +1,4 @@
-use Rattle.std.proofs.Common.{◌≡◌, map, Some}
+use Rattle.std.proofs.Common.{◌≡◌, ◌≤◌, length, map, take, Some}
 use Rattle.std.specs.List.{slice_range}
 use Rattle.aql_value.specs.Datum.{natural}
 use Rattle.aql_value.specs.Partial.{each, total}
@@ -10,5 +10,7 @@ use Rattle.nrca_quick.proofs.numbers.+quick.Given as goal
 
 abbrev pub invariant-quick_cell-loop-term : goal.invariant-quick_cell-loop-term
 invariant-quick_cell-loop-term l =
-    (each (cden l.globals (values l.env)) (slice_range (terms_of l.at) 0 l.term-index) ≡ Some (map natural l.index.items))
+    (each (cden l.globals (values l.env)) (slice_range (terms_of l.at) 0 l.term-index) ≡ Some (map natural (take l.count l.index)))
     × (total (settle l.globals (values l.env)) (slice_range (terms_of l.at) 0 l.term-index) ≡ 0)
+    × (l.count ≤ 8)
+    × (length l.index ≡ 8)

@@ -1,5 +1,5 @@
 -- The arms of the cycle.
-use Rattle.std.proofs.Common.{◌≡◌, ◌<◌, ◌∷◌, ◌++◌, [], length, Some, ℕ, List, drop, sym, ap, ◌∙◌, arith}
+use Rattle.std.proofs.Common.{◌≡◌, ◌<◌, ◌∷◌, ◌++◌, [], length, Some, ℕ, List, drop, refl, sym, ap, ◌∙◌, arith, rules}
 use Rattle.std.specs.Option.{option_map}
 use Rattle.std.specs.Prelude.{slice_get}
 use Rattle.std.proofs.lemmas.Option.{slice_get_within}
@@ -19,8 +19,8 @@ use Rattle.nrca_term.specs.Laws.Variants.{settle-tab}
 use Rattle.nrca_term.specs.View.{term_of, terms_of}
 use Rattle.nrca_term.specs.Laws.WellFormed.{well_formed-Core}
 use Rattle.nrca_loops.specs.Parts.{numbers_in, parts_value, strict_of, strict_in, table_in}
-use Rattle.nrca_loops.specs.Laws.Run.{range_whole, each-range_more, total-range_more, sum_value-with, all_members-with}
-use Rattle.nrca_loops.specs.Runs.{member_list, members_value, members_with, list_with, all_members, sum_value, sum_with, union_value}
+use Rattle.nrca_loops.specs.Laws.Run.{range_whole, each-range_more, each-range_split, total-range_more, sum_value-with, sum_value-join, all_members-with, union_value-join}
+use Rattle.nrca_loops.specs.Runs.{member_list, members_value, members_with, list_with, all_members, lists_join, sets_join, sum_value, sum_with, sums_join, union_value}
 use Rattle.nrca_loops.specs.Scope.{values, boxed_value, held_value}
 use Rattle.nrca_loops.specs.Within.{itself}
 use Rattle.nrca_loops.specs.Laws.Within.{err_within, same_within}
@@ -28,33 +28,34 @@ use Rattle.nrca_eval.specs.Laws.Form.{count-children, child_of-children, strict_
 use Rattle.nrca_eval.specs.Parts.{children}
 use Rattle.nrca_eval.specs.Runs.{run_values, run_turns, cell_values, cell_turns}
 use Rattle.nrca_eval.proofs.Evaluated.{at_answer, at_fault, member_weight, sub_weight, tab_weight, strict_form, spent_within, spent_whole, written}
+use Rattle.nrca_eval.proofs.Joined.{total_wider, whole_within}
 use Rattle.nrca_quick.specs.Laws.Lent.{term_at, sub_lent, sub_free}
-use Rattle.nrca_eval.proofs.serial.+serial.Goals as goal
+use Rattle.nrca_eval.proofs.evaluator.+eval.Goals as goal
 use Rattle.nrca_term.specs.Laws.Entering.{child-there}
 
 pub node-eval_tab-requires : goal.node-eval_tab-requires
-node-eval_tab-requires t c =
+node-eval_tab-requires g t c κs within =
     let w = ap (λ x. weight_of (term_of x)) c.in-Tab.is ∙ ap weight_of (term_of-Tab c.in-Tab.bounds c.in-Tab.body) in
-    (omega (arith, c.decreases, w, tab_weight (terms_of c.in-Tab.bounds) (term_of c.in-Tab.body.value), ap (λ x. weight_of (term_of x)) c.deref-in-Tab.ensures), tt)
+    (omega (arith, c.decreases, w, tab_weight (terms_of c.in-Tab.bounds) (term_of c.in-Tab.body.value), ap (λ x. weight_of (term_of x)) c.deref-in-Tab.ensures), search rules)
 
 pub node-returns-in-BigUnion : goal.node-returns-in-BigUnion
-node-returns-in-BigUnion t c =
+node-returns-in-BigUnion g t c =
     let whole = ap term_of c.in-BigUnion.is ∙ term_of-BigUnion c.in-BigUnion.over c.in-BigUnion.body ∙ (λ k. big_union_term (term_of (sym c.deref-in-BigUnion.ensures k)) (term_of (sym c.deref-in-BigUnion-2.ensures k))) in
-    same_within boxed_value c.eval_union.result c.args.budget _ _ _ _ (ap (cden c.args.globals.now (values c.args.env.now)) (sym whole)) (ap (settle c.args.globals.now (values c.args.env.now)) (sym whole)) c.eval_union.ensures
+    same_within boxed_value c.eval_union.result c.args.budget _ _ _ _ (ap (cden c.args.scope.now.globals.now (values c.args.env.now)) (sym whole)) (ap (settle c.args.scope.now.globals.now (values c.args.env.now)) (sym whole)) c.eval_union.ensures
 
 pub node-returns-in-Sum : goal.node-returns-in-Sum
-node-returns-in-Sum t c =
+node-returns-in-Sum g t c =
     let whole = ap term_of c.in-Sum.is ∙ term_of-Sum c.in-Sum.over c.in-Sum.body ∙ (λ k. sum_term (term_of (sym c.deref-in-Sum.ensures k)) (term_of (sym c.deref-in-Sum-2.ensures k))) in
-    same_within boxed_value c.eval_sum.result c.args.budget _ _ _ _ (ap (cden c.args.globals.now (values c.args.env.now)) (sym whole)) (ap (settle c.args.globals.now (values c.args.env.now)) (sym whole)) c.eval_sum.ensures
+    same_within boxed_value c.eval_sum.result c.args.budget _ _ _ _ (ap (cden c.args.scope.now.globals.now (values c.args.env.now)) (sym whole)) (ap (settle c.args.scope.now.globals.now (values c.args.env.now)) (sym whole)) c.eval_sum.ensures
 
 pub node-eval_cell-requires : goal.node-eval_cell-requires
-node-eval_cell-requires t c =
+node-eval_cell-requires g t c κs within =
     let w = ap (λ x. weight_of (term_of x)) c.in-Sub.is ∙ ap weight_of (term_of-Sub c.in-Sub.array c.in-Sub.at) in
-    (omega (arith, c.decreases, w, sub_weight (term_of c.in-Sub.array.value) (terms_of c.in-Sub.at)), tt)
+    (omega (arith, c.decreases, w, sub_weight (term_of c.in-Sub.array.value) (terms_of c.in-Sub.at)), search rules)
 
 pub node-returns-in-Some : goal.node-returns-in-Some
-node-returns-in-Some t c =
-    let V = c.args.globals.now in
+node-returns-in-Some g t c =
+    let V = c.args.scope.now.globals.now in
     let vals = values c.args.env.now in
     let a = term_of c.in-Sub.array.value in
     let ts = terms_of c.in-Sub.at in
@@ -67,12 +68,12 @@ node-returns-in-Some t c =
     (sym (ap (cden V vals) whole ∙ sub_lent V vals a v holds free ts)) (sym (ap (settle V vals) whole ∙ sub_free V vals a v holds free ts)) c.eval_cell.ensures
 
 pub eval_all-node-requires : goal.eval_all-node-requires
-eval_all-node-requires t c =
-    (omega (arith, c.decreases, member_weight c.deref-term-items.result.now c.args.terms.now.0.items c.loop-term.term-index c.term-item.result c.deref-term-items.ensures.value (omega arith) c.term-item.is), tt)
+eval_all-node-requires g t c κs within =
+    (omega (arith, c.decreases, member_weight c.deref-term-items.result.now c.args.terms.now.0.items c.loop-term.term-index c.term-item.result c.deref-term-items.ensures.value (omega arith) c.term-item.is), search rules)
 
 pub eval_all-returns-in_err-done : goal.eval_all-returns-in_err-done
-eval_all-returns-in_err-done t c =
-    let V = c.args.globals.now in
+eval_all-returns-in_err-done g t c =
+    let V = c.args.scope.now.globals.now in
     let vals = values c.args.env.now in
     let inv = c.loop-term.invariant in
     let at = term_at c.deref-term-items.result.now c.args.terms.now.0.items c.loop-term.term-index c.term-item.result c.deref-term-items.ensures.value (omega arith) c.term-item.is in
@@ -81,9 +82,9 @@ eval_all-returns-in_err-done t c =
     (λ s. spent_whole (settle V vals) (terms_of c.args.terms.now) c.loop-term.term-index (term_of c.term-item.result) c.args.budget c.loop-term.turns high at inv.1 inv.2 (c.in_err-done.ensures s))
 
 pub eval_all-loop-term-preserved : goal.eval_all-loop-term-preserved
-eval_all-loop-term-preserved t c =
-    let f = cden c.args.globals.now (values c.args.env.now) in
-    let g = settle c.args.globals.now (values c.args.env.now) in
+eval_all-loop-term-preserved g t c =
+    let f = cden c.args.scope.now.globals.now (values c.args.env.now) in
+    let g = settle c.args.scope.now.globals.now (values c.args.env.now) in
     let inv = c.loop-term.invariant in
     let done = c.in_ok-done.ensures in
     let at = term_at c.deref-term-items.result.now c.args.terms.now.0.items c.loop-term.term-index c.term-item.result c.deref-term-items.ensures.value (omega arith) c.term-item.is in (
@@ -93,16 +94,16 @@ eval_all-loop-term-preserved t c =
     )
 
 pub eval_parts-node-requires : goal.eval_parts-node-requires
-eval_parts-node-requires t c =
-    (omega (arith, c.decreases, weight_of-child (term_of c.args.term.now) c.loop-i.i (term_of c.in-Some.part.now) (sym c.in-Some.ensures)), tt)
+eval_parts-node-requires g t c κs within =
+    (omega (arith, c.decreases, weight_of-child (term_of c.args.term.now) c.loop-i.i (term_of c.in-Some.part.now) (sym c.in-Some.ensures)), search rules)
 
 pub eval_parts-unreachable-requires : goal.eval_parts-unreachable-requires
-eval_parts-unreachable-requires t c =
+eval_parts-unreachable-requires g t c =
     child-there (parts_of (term_of c.args.term.now)) c.loop-i.i (omega (arith, c.parts-i-end.ensures)) c.in-None.ensures
 
 pub eval_parts-returns-in_err-done-in-Some : goal.eval_parts-returns-in_err-done-in-Some
-eval_parts-returns-in_err-done-in-Some t c =
-    let V = c.args.globals.now in
+eval_parts-returns-in_err-done-in-Some g t c =
+    let V = c.args.scope.now.globals.now in
     let vals = values c.args.env.now in
     let inv = c.loop-i.invariant in
     let ts = children (parts_of (term_of c.args.term.now)) in
@@ -111,9 +112,9 @@ eval_parts-returns-in_err-done-in-Some t c =
     (λ s. spent_whole (settle V vals) ts c.loop-i.i (term_of c.in-Some.part.now) c.args.budget c.loop-i.turns (slice_get_within ts c.loop-i.i (term_of c.in-Some.part.now) at) at inv.1 inv.2 (c.in_err-done-in-Some.ensures s))
 
 pub eval_parts-loop-i-preserved : goal.eval_parts-loop-i-preserved
-eval_parts-loop-i-preserved t c =
-    let f = cden c.args.globals.now (values c.args.env.now) in
-    let g = settle c.args.globals.now (values c.args.env.now) in
+eval_parts-loop-i-preserved g t c =
+    let f = cden c.args.scope.now.globals.now (values c.args.env.now) in
+    let g = settle c.args.scope.now.globals.now (values c.args.env.now) in
     let inv = c.loop-i.invariant in
     let done = c.in_ok-done-in-Some.ensures in
     let ts = children (parts_of (term_of c.args.term.now)) in
@@ -124,8 +125,8 @@ eval_parts-loop-i-preserved t c =
     )
 
 pub eval_parts-returns : goal.eval_parts-returns
-eval_parts-returns t c =
-    let V = c.args.globals.now in
+eval_parts-returns g t c =
+    let V = c.args.scope.now.globals.now in
     let vals = values c.args.env.now in
     let inv = c.loop-i.invariant in
     let ts = children (parts_of (term_of c.args.term.now)) in
@@ -133,8 +134,8 @@ eval_parts-returns t c =
     (inv.0 ∙ ap (each (cden V vals)) whole, inv.1 ∙ ap (total (settle V vals)) whole, omega (arith, inv.1, inv.2, ap (total (settle V vals)) whole))
 
 pub eval_strict-returns-in_err-parts : goal.eval_strict-returns-in_err-parts
-eval_strict-returns-in_err-parts t c =
-    let V = c.args.globals.now in
+eval_strict-returns-in_err-parts g t c =
+    let V = c.args.scope.now.globals.now in
     let vals = values c.args.env.now in
     let s = strict_of (form_of (term_of c.args.term.now)) in
     let form = strict_form (form_of (term_of c.args.term.now)) c.requires in
@@ -142,8 +143,8 @@ eval_strict-returns-in_err-parts t c =
     err_within boxed_value _ _ _ _ c.in_err-parts.field-0.0 c.from_residual.ensures.0 c.from_residual.ensures.1 (λ e. let h = c.in_err-parts.ensures e in omega (arith, h, taken))
 
 pub eval_strict-returns : goal.eval_strict-returns
-eval_strict-returns t c =
-    let V = c.args.globals.now in
+eval_strict-returns g t c =
+    let V = c.args.scope.now.globals.now in
     let vals = values c.args.env.now in
     let s = strict_of (form_of (term_of c.args.term.now)) in
     let form = strict_form (form_of (term_of c.args.term.now)) c.requires in
@@ -156,8 +157,8 @@ eval_strict-returns t c =
     )
 
 pub eval_sum-returns-in_err-run : goal.eval_sum-returns-in_err-run
-eval_sum-returns-in_err-run t c =
-    let V = c.args.globals.now in
+eval_sum-returns-in_err-run g t c =
+    let V = c.args.scope.now.globals.now in
     let vals = values c.args.env.now in
     let e = term_of c.args.over.now in
     let b = term_of c.args.body.now in
@@ -171,8 +172,8 @@ eval_sum-returns-in_err-run t c =
     (λ s. let h = c.in_err-run.ensures s in omega (arith, h, taken, inner, found.1, found.2, c.len-count.ensures, c.in_ok-answer.turns-is, c.if-count-from.false, c.from.ensures))
 
 pub eval_sum-returns : goal.eval_sum-returns
-eval_sum-returns t c =
-    let V = c.args.globals.now in
+eval_sum-returns g t c =
+    let V = c.args.scope.now.globals.now in
     let vals = values c.args.env.now in
     let e = term_of c.args.over.now in
     let b = term_of c.args.body.now in
@@ -189,8 +190,8 @@ eval_sum-returns t c =
     )
 
 pub eval_union-returns-in_err-run : goal.eval_union-returns-in_err-run
-eval_union-returns-in_err-run t c =
-    let V = c.args.globals.now in
+eval_union-returns-in_err-run g t c =
+    let V = c.args.scope.now.globals.now in
     let vals = values c.args.env.now in
     let e = term_of c.args.over.now in
     let b = term_of c.args.body.now in
@@ -204,8 +205,8 @@ eval_union-returns-in_err-run t c =
     (λ s. let h = c.in_err-run.ensures s in omega (arith, h, taken, inner, found.1, found.2, c.len-count.ensures, c.in_ok-answer.turns-is, c.if-count-from.false, c.from.ensures))
 
 pub eval_union-returns : goal.eval_union-returns
-eval_union-returns t c =
-    let V = c.args.globals.now in
+eval_union-returns g t c =
+    let V = c.args.scope.now.globals.now in
     let vals = values c.args.env.now in
     let e = term_of c.args.over.now in
     let b = term_of c.args.body.now in
@@ -222,8 +223,8 @@ eval_union-returns t c =
     )
 
 pub eval_tab-returns-in_err-answer : goal.eval_tab-returns-in_err-answer
-eval_tab-returns-in_err-answer t c =
-    let V = c.args.globals.now in
+eval_tab-returns-in_err-answer g t c =
+    let V = c.args.scope.now.globals.now in
     let vals = values c.args.env.now in
     let ds = terms_of c.args.bounds.now in
     let b = term_of c.args.body.now in
@@ -231,8 +232,8 @@ eval_tab-returns-in_err-answer t c =
     (λ s. let h = c.in_err-answer.ensures s in omega (arith, h, settle-tab V vals ds b))
 
 pub eval_tab-returns-in_default : goal.eval_tab-returns-in_default
-eval_tab-returns-in_default t c =
-    let V = c.args.globals.now in
+eval_tab-returns-in_default g t c =
+    let V = c.args.scope.now.globals.now in
     let vals = values c.args.env.now in
     let ds = terms_of c.args.bounds.now in
     let b = term_of c.args.body.now in
@@ -243,8 +244,8 @@ eval_tab-returns-in_default t c =
     (sym (tab_none V vals ds b is), omega (arith, idle, found.1), omega (arith, idle, found.2))
 
 pub eval_tab-returns-then-count-from : goal.eval_tab-returns-then-count-from
-eval_tab-returns-then-count-from t c =
-    let V = c.args.globals.now in
+eval_tab-returns-then-count-from g t c =
+    let V = c.args.scope.now.globals.now in
     let vals = values c.args.env.now in
     let ds = terms_of c.args.bounds.now in
     let b = term_of c.args.body.now in
@@ -257,8 +258,8 @@ eval_tab-returns-then-count-from t c =
     λ s. omega (arith, taken, all, found.1, found.2, c.saturating_product-count.ensures, c.in_ok-answer.turns-is, c.if-count-from.true, c.from.ensures)
 
 pub eval_tab-returns-in_err-run : goal.eval_tab-returns-in_err-run
-eval_tab-returns-in_err-run t c =
-    let V = c.args.globals.now in
+eval_tab-returns-in_err-run g t c =
+    let V = c.args.scope.now.globals.now in
     let vals = values c.args.env.now in
     let ds = terms_of c.args.bounds.now in
     let b = term_of c.args.body.now in
@@ -274,8 +275,8 @@ eval_tab-returns-in_err-run t c =
     (λ s. let h = c.in_err-run.ensures s in omega (arith, h, taken, inner, count, found.1, found.2, c.in_ok-answer.turns-is, c.if-count-from.false, c.from.ensures))
 
 pub eval_tab-returns : goal.eval_tab-returns
-eval_tab-returns t c =
-    let V = c.args.globals.now in
+eval_tab-returns g t c =
+    let V = c.args.scope.now.globals.now in
     let vals = values c.args.env.now in
     let ds = terms_of c.args.bounds.now in
     let b = term_of c.args.body.now in
@@ -294,8 +295,8 @@ eval_tab-returns t c =
     )
 
 pub sum_run-returns-in_err-done : goal.sum_run-returns-in_err-done
-sum_run-returns-in_err-done t c =
-    let V = c.args.globals.now in
+sum_run-returns-in_err-done g t c =
+    let V = c.args.scope.now.globals.now in
     let vals = values c.args.env.now in
     let b = term_of c.args.body.now in
     let ms = member_list c.args.members.now in
@@ -308,8 +309,8 @@ sum_run-returns-in_err-done t c =
     (λ s. spent_within g ms c.args.from c.loop-i.i c.args.to m c.args.budget c.loop-i.turns (omega arith) (omega arith) at inv.1 inv.2 (c.in_err-done.ensures s))
 
 pub sum_run-loop-i-preserved : goal.sum_run-loop-i-preserved
-sum_run-loop-i-preserved t c =
-    let V = c.args.globals.now in
+sum_run-loop-i-preserved g t c =
+    let V = c.args.scope.now.globals.now in
     let vals = values c.args.env.now in
     let b = term_of c.args.body.now in
     let ms = member_list c.args.members.now in
@@ -326,8 +327,8 @@ sum_run-loop-i-preserved t c =
     )
 
 pub members_run-returns-in_err-done : goal.members_run-returns-in_err-done
-members_run-returns-in_err-done t c =
-    let V = c.args.globals.now in
+members_run-returns-in_err-done g t c =
+    let V = c.args.scope.now.globals.now in
     let vals = values c.args.env.now in
     let b = term_of c.args.body.now in
     let ms = member_list c.args.members.now in
@@ -340,8 +341,8 @@ members_run-returns-in_err-done t c =
     (λ s. spent_within g ms c.args.from c.loop-i.i c.args.to m c.args.budget c.loop-i.turns (omega arith) (omega arith) at inv.1 inv.2 (c.in_err-done.ensures s))
 
 pub members_run-loop-i-preserved : goal.members_run-loop-i-preserved
-members_run-loop-i-preserved t c =
-    let V = c.args.globals.now in
+members_run-loop-i-preserved g t c =
+    let V = c.args.scope.now.globals.now in
     let vals = values c.args.env.now in
     let b = term_of c.args.body.now in
     let ms = member_list c.args.members.now in
@@ -358,8 +359,8 @@ members_run-loop-i-preserved t c =
     )
 
 pub cells_run-returns-in_err-kept : goal.cells_run-returns-in_err-kept
-cells_run-returns-in_err-kept t c =
-    let V = c.args.globals.now in
+cells_run-returns-in_err-kept g t c =
+    let V = c.args.scope.now.globals.now in
     let vals = values c.args.env.now in
     let b = term_of c.args.body.now in
     let f = λ (at : List ℕ). cden V (walked at [] ++ vals) b in
@@ -375,8 +376,8 @@ cells_run-returns-in_err-kept t c =
     spent_within g (indices c.args.dims.now) c.args.from c.loop-place.place c.args.to here c.args.budget c.loop-place.turns (omega arith) (omega arith) at inv.1 inv.2 (omega (arith, h, ap g seen)))
 
 pub cells_run-loop-place-preserved : goal.cells_run-loop-place-preserved
-cells_run-loop-place-preserved t c =
-    let V = c.args.globals.now in
+cells_run-loop-place-preserved g t c =
+    let V = c.args.scope.now.globals.now in
     let vals = values c.args.env.now in
     let b = term_of c.args.body.now in
     let f = λ (at : List ℕ). cden V (walked at [] ++ vals) b in
@@ -393,3 +394,57 @@ cells_run-loop-place-preserved t c =
       omega (arith, inv.2, done.1, done.2),
       ap length whole ∙ omega (arith, c.set_index.auto.at, c.as_mut_slice.ensures.value, inv.3),
     )
+
+pub sum_members-returns-in_err-sums : goal.sum_members-returns-in_err-sums
+sum_members-returns-in_err-sums g t c =
+    err_within itself _ _ _ _ c.in_err-sums.field-0.0 c.from_residual.ensures.0 c.from_residual.ensures.1
+    (λ s. let ran = c.in_err-sums.ensures.ran s in
+    let passed = ran.4 refl in
+    omega (arith, passed, total_wider (λ (m : Datum). settle c.args.scope.now.globals.now (m ∷ values c.args.env.now) (term_of c.args.body.now)) (member_list c.args.members.now) ran.0 ran.1 c.args.count (omega (arith, ran.2)) ran.3))
+
+pub sum_members-returns : goal.sum_members-returns
+sum_members-returns g t c =
+    let V = c.args.scope.now.globals.now in
+    let vals = values c.args.env.now in
+    let b = term_of c.args.body.now in
+    let ms = member_list c.args.members.now in
+    let f = λ (m : Datum). cden V (m ∷ vals) b in
+    whole_within itself sums_join (λ i j. sum_value (run_values V vals b ms i j)) (λ (m : Datum). settle V (m ∷ vals) b) ms c.args.budget c.args.count
+    (λ i m j low high. sum_value-join (run_values V vals b ms i m) (run_values V vals b ms m j) ∙ ap sum_value (each-range_split ms i m j low high f))
+    (Some 0) refl c.deref.result.now c.in_ok-sums.sums.items c.deref.ensures.value c.in_ok-sums.ensures.joined c.joined_sums.result c.joined_sums.ensures
+
+pub union_members-returns-in_err-sets : goal.union_members-returns-in_err-sets
+union_members-returns-in_err-sets g t c =
+    err_within itself _ _ _ _ c.in_err-sets.field-0.0 c.from_residual-in_err-sets.ensures.0 c.from_residual-in_err-sets.ensures.1
+    (λ s. let ran = c.in_err-sets.ensures.ran s in
+    let passed = ran.4 refl in
+    omega (arith, passed, total_wider (λ (m : Datum). settle c.args.scope.now.globals.now (m ∷ values c.args.env.now) (term_of c.args.body.now)) (member_list c.args.members.now) ran.0 ran.1 c.args.count (omega (arith, ran.2)) ran.3))
+
+pub union_members-returns : goal.union_members-returns
+union_members-returns g t c =
+    let V = c.args.scope.now.globals.now in
+    let vals = values c.args.env.now in
+    let b = term_of c.args.body.now in
+    let ms = member_list c.args.members.now in
+    let f = λ (m : Datum). cden V (m ∷ vals) b in
+    whole_within itself sets_join (λ i j. union_value (run_values V vals b ms i j)) (λ (m : Datum). settle V (m ∷ vals) b) ms c.args.budget c.args.count
+    (λ i m j low high. union_value-join (run_values V vals b ms i m) (run_values V vals b ms m j) ∙ ap union_value (each-range_split ms i m j low high f))
+    (Some []) refl c.in_ok-sets.sets.items c.in_ok-sets.sets.items refl c.in_ok-sets.ensures.joined c.joined_sets.result c.joined_sets.ensures
+
+pub fill_cells-returns-in_err-runs : goal.fill_cells-returns-in_err-runs
+fill_cells-returns-in_err-runs g t c =
+    err_within itself _ _ _ _ c.in_err-runs.field-0.0 c.from_residual.ensures.0 c.from_residual.ensures.1
+    (λ s. let ran = c.in_err-runs.ensures.ran s in
+    let passed = ran.4 refl in
+    omega (arith, passed, total_wider (λ (at : List ℕ). settle c.args.scope.now.globals.now (walked at [] ++ values c.args.env.now) (term_of c.args.body.now)) (indices c.args.dims.now) ran.0 ran.1 c.args.count (omega (arith, ran.2)) ran.3))
+
+pub fill_cells-returns : goal.fill_cells-returns
+fill_cells-returns g t c =
+    let V = c.args.scope.now.globals.now in
+    let vals = values c.args.env.now in
+    let b = term_of c.args.body.now in
+    let ds = c.args.dims.now in
+    let f = λ (at : List ℕ). cden V (walked at [] ++ vals) b in
+    whole_within itself lists_join (λ i j. cell_values V vals b ds i j) (λ (at : List ℕ). settle V (walked at [] ++ vals) b) (indices ds) c.args.budget c.args.count
+    (λ i m j low high. each-range_split (indices ds) i m j low high f)
+    (Some []) refl c.in_ok-runs.runs.items c.in_ok-runs.runs.items refl c.in_ok-runs.ensures.joined c.joined_cells.result c.joined_cells.ensures

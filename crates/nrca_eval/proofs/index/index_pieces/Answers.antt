@@ -2,8 +2,8 @@ use Rattle.std.proofs.Common.{◌≡◌, ◌∙◌}
 use Rattle.nrca_forms.specs.Laws.Index.{pairs_split}
 use Rattle.nrca_forms.specs.Indexing.{pairs_of, pairs_run}
 use Rattle.nrca_loops.specs.Runs.{lists_join}
-use Rattle.nrca_eval.proofs.Pieces.{joined_pieces}
-use Rattle.nrca_eval.proofs.loops.index_pieces.Goals as goal
+use Rattle.nrca_eval.proofs.Joined.{joined_pieces}
+use Rattle.nrca_eval.proofs.index.index_pieces.Goals as goal
 
 pub returns : goal.returns
 returns g c =

@@ -1,0 +1,634 @@
+//! The evaluation of a term: one function a form, and one for each kind of loop.
+
+ghost use Rattle.std.specs.Prelude.{◌≡◌, ◌≤◌, true, length};
+ghost use Rattle.aql_value.specs.Indices.{product};
+ghost use Rattle.nrca_term.specs.Term.{form_of};
+ghost use Rattle.nrca_term.specs.View.{term_of, terms_of};
+ghost use Rattle.nrca_loops.specs.Runs.{member_list};
+ghost use Rattle.nrca_eval.specs.Parts.{is_strict_form, part_terms};
+ghost use Rattle.nrca_loops.specs.Evaluates.{Evaluates, EvaluatesAll, EvaluatesHeld, EvaluatesSet, default_of, if_of, let_of, sum_loop, tab_of, union_loop};
+ghost use Rattle.nrca_eval.specs.Loops.{EvaluatesCell, Fills, Lists, Sums, Unites};
+
+use crate::index::strict_kept;
+use crate::joins::{joined_cells, joined_sets, joined_sums};
+use crate::pieces::{canon_in_threads, in_pieces};
+use crate::scope::{Mode, Scope};
+use aql_outside::Gate;
+use aql_value::{Ascending, Dims, Items, Value, saturating_product};
+use nrca_array::{Builder, Held};
+use nrca_forms::{cell_boxed, dim_boxed, numbers, part_boxed, sum_of, table_of, union_of};
+use nrca_loops::{
+    Counted, Env, Members, Next, as_members, canon_of, cells_and, from_box, join_done, keep_part,
+    lent, members_and, members_below, members_of_both, parts_kept, position, set_index, sum_and,
+    to_box, truth_kept, variable, zeros,
+};
+use nrca_par::EvalFault;
+use nrca_quick::quick;
+use nrca_term::{Core, Terms};
+use std::alloc::Global;
+use std::thread::Threads;
+
+/// The value of a term and its turns, among the outcomes of the positions and the values of the
+/// variables. Spent exactly where the turns pass the budget; a loop, tabulation or `index` whose
+/// members or cells pass what is left is Spent before its first turn. The value stands on the heap,
+/// so that a level of the recursion keeps little on the stack.
+#[cycle(eval)]
+#[inline(never)]
+pub(crate) fn node<R: Threads + Sync, G: Gate>(
+    scope: &Scope<R, G>,
+    term: &Core,
+    env: &Env,
+    budget: u64,
+) -> Result<Counted<Option<Box<Held>>>, EvalFault>
+    ensures { Evaluates budget scope.now.globals.now env.now (term_of term.now) result }
+{
+    match term {
+        Core::Var(at) => variable(scope.alloc, env, *at, budget),
+        Core::Global(n) => position(scope.alloc, scope.globals, *n, budget),
+        Core::Let(bound, body) => eval_let(scope, bound, body, env, budget),
+        Core::If(test, yes, no) => eval_if(scope, test, yes, no, env, budget),
+        Core::Default(first, second) => eval_default(scope, first, second, env, budget),
+        Core::BigUnion { over, body } => eval_union(scope, over, body, env, budget),
+        Core::Sum { over, body } => eval_sum(scope, over, body, env, budget),
+        Core::Tab { bounds, body } => eval_tab(scope, bounds, body, env, budget),
+        Core::Sub { array, at } => match lent(array, scope.globals, &*env) {
+            Some(array) => eval_cell(scope, array, at, env, budget),
+            None => eval_strict(scope, term, env, budget),
+        },
+        Core::Dim { rank, array } => match lent(array, scope.globals, &*env) {
+            Some(array) => dim_boxed(scope.alloc, array, *rank, budget),
+            None => eval_strict(scope, term, env, budget),
+        },
+        Core::Proj { at, of, part } => match lent(part, scope.globals, &*env) {
+            Some(tuple) => part_boxed(scope.alloc, tuple, *at, *of, budget),
+            None => eval_strict(scope, term, env, budget),
+        },
+        _ => eval_strict(scope, term, env, budget),
+    }
+}
+
+// The cell of an array that stands in a variable or a position, and is not copied.
+#[cycle(eval)]
+#[inline(never)]
+fn eval_cell<R: Threads + Sync, G: Gate>(
+    scope: &Scope<R, G>,
+    array: &Held,
+    at: &Terms,
+    env: &Env,
+    budget: u64,
+) -> Result<Counted<Option<Box<Held>>>, EvalFault>
+    ensures { EvaluatesCell budget scope.now.globals.now env.now array.now at.now result }
+{
+    let at = eval_all(scope, at, env, budget)?;
+    Ok(Counted {
+        answer: cell_boxed(scope.alloc, array, at.answer)?,
+        turns: at.turns,
+    })
+}
+
+// A form that evaluates all its parts and binds nothing.
+#[cycle(eval)]
+#[inline(never)]
+fn eval_strict<R: Threads + Sync, G: Gate>(
+    scope: &Scope<R, G>,
+    term: &Core,
+    env: &Env,
+    budget: u64,
+) -> Result<Counted<Option<Box<Held>>>, EvalFault>
+    requires { is_strict_form (form_of (term_of term.now)) ≡ true }
+    ensures { Evaluates budget scope.now.globals.now env.now (term_of term.now) result }
+{
+    let parts = eval_parts(scope, term, env, budget)?;
+    let whole = strict_kept(scope, term, parts.answer, budget - parts.turns)?;
+    Ok(Counted {
+        answer: whole.answer,
+        turns: parts.turns + whole.turns,
+    })
+}
+
+// Every part of a node, from the left, under the variables around the node.
+#[cycle(eval)]
+#[inline(never)]
+fn eval_parts<R: Threads + Sync, G: Gate>(
+    scope: &Scope<R, G>,
+    term: &Core,
+    env: &Env,
+    budget: u64,
+) -> Result<Counted<Option<Vec<Held>>>, EvalFault>
+    ensures { EvaluatesAll budget scope.now.globals.now env.now (part_terms term.now) result }
+{
+    let mut parts = Some(Vec::new(scope.alloc));
+    let mut turns = 0;
+    for i in 0..term.parts() {
+        match term.part(i) {
+            Some(part) => {
+                let done = node(scope, part, env, budget - turns)?;
+                keep_part(&mut parts, done.answer)?;
+                turns += done.turns;
+            }
+            None => unreachable!(),
+        }
+    }
+    Ok(Counted {
+        answer: parts,
+        turns,
+    })
+}
+
+// Terms in a row, from the left.
+#[cycle(eval)]
+#[inline(never)]
+fn eval_all<R: Threads + Sync, G: Gate>(
+    scope: &Scope<R, G>,
+    terms: &Terms,
+    env: &Env,
+    budget: u64,
+) -> Result<Counted<Option<Vec<Held>>>, EvalFault>
+    ensures { EvaluatesAll budget scope.now.globals.now env.now (terms_of terms.now) result }
+{
+    let mut parts = Some(Vec::new(scope.alloc));
+    let mut turns = 0;
+    for term in &terms.0 {
+        let done = node(scope, term, env, budget - turns)?;
+        parts = parts_kept(parts, done.answer)?;
+        turns += done.turns;
+    }
+    Ok(Counted {
+        answer: parts,
+        turns,
+    })
+}
+
+#[cycle(eval)]
+#[inline(never)]
+fn eval_let<R: Threads + Sync, G: Gate>(
+    scope: &Scope<R, G>,
+    bound: &Core,
+    body: &Core,
+    env: &Env,
+    budget: u64,
+) -> Result<Counted<Option<Box<Held>>>, EvalFault>
+    ensures { Evaluates budget scope.now.globals.now env.now (let_of bound.now body.now) result }
+{
+    let Counted { answer, turns } = node(scope, bound, env, budget)?;
+    match answer {
+        Some(value) => {
+            let inner = Env::Bound(&value, &*env);
+            let done = node(scope, body, &inner, budget - turns)?;
+            Ok(Counted {
+                answer: done.answer,
+                turns: turns + done.turns,
+            })
+        }
+        None => Ok(Counted {
+            answer: None,
+            turns,
+        }),
+    }
+}
+
+#[cycle(eval)]
+#[inline(never)]
+fn eval_if<R: Threads + Sync, G: Gate>(
+    scope: &Scope<R, G>,
+    test: &Core,
+    yes: &Core,
+    no: &Core,
+    env: &Env,
+    budget: u64,
+) -> Result<Counted<Option<Box<Held>>>, EvalFault>
+    ensures { Evaluates budget scope.now.globals.now env.now (if_of test.now yes.now no.now)
+        result }
+{
+    let Counted { answer, turns } = node(scope, test, env, budget)?;
+    let left = budget - turns;
+    match truth_kept(answer) {
+        Some(true) => {
+            let done = node(scope, yes, env, left)?;
+            Ok(Counted {
+                answer: done.answer,
+                turns: turns + done.turns,
+            })
+        }
+        Some(false) => {
+            let done = node(scope, no, env, left)?;
+            Ok(Counted {
+                answer: done.answer,
+                turns: turns + done.turns,
+            })
+        }
+        None => Ok(Counted {
+            answer: None,
+            turns,
+        }),
+    }
+}
+
+#[cycle(eval)]
+#[inline(never)]
+fn eval_default<R: Threads + Sync, G: Gate>(
+    scope: &Scope<R, G>,
+    first: &Core,
+    second: &Core,
+    env: &Env,
+    budget: u64,
+) -> Result<Counted<Option<Box<Held>>>, EvalFault>
+    ensures { Evaluates budget scope.now.globals.now env.now (default_of first.now second.now)
+        result }
+{
+    let Counted { answer, turns } = node(scope, first, env, budget)?;
+    match answer {
+        Some(value) => Ok(Counted {
+            answer: Some(value),
+            turns,
+        }),
+        None => {
+            let done = node(scope, second, env, budget - turns)?;
+            Ok(Counted {
+                answer: done.answer,
+                turns: turns + done.turns,
+            })
+        }
+    }
+}
+
+// The members of a loop's operand. Those of `gen` and of `union` are not made into a set.
+#[cycle(eval)]
+#[inline(never)]
+fn eval_members<R: Threads + Sync, G: Gate>(
+    scope: &Scope<R, G>,
+    over: &Core,
+    env: &Env,
+    budget: u64,
+) -> Result<Counted<Option<Members>>, EvalFault>
+    ensures { EvaluatesSet budget scope.now.globals.now env.now (term_of over.now) result }
+{
+    match over {
+        Core::Gen(number) => {
+            let Counted { answer, turns } = node(scope, number, env, budget)?;
+            let members = members_below(from_box(answer), budget - turns)?;
+            Ok(Counted {
+                answer: members.answer,
+                turns: turns + members.turns,
+            })
+        }
+        Core::Union(first, second) => {
+            let Counted { answer, turns } = node(scope, first, env, budget)?;
+            let other = node(scope, second, env, budget - turns)?;
+            Ok(Counted {
+                answer: members_of_both(from_box(answer), from_box(other.answer)),
+                turns: turns + other.turns,
+            })
+        }
+        _ => {
+            let set = node(scope, over, env, budget)?;
+            Ok(Counted {
+                answer: as_members(from_box(set.answer)),
+                turns: set.turns,
+            })
+        }
+    }
+}
+
+#[cycle(eval)]
+#[inline(never)]
+fn eval_sum<R: Threads + Sync, G: Gate>(
+    scope: &Scope<R, G>,
+    over: &Core,
+    body: &Core,
+    env: &Env,
+    budget: u64,
+) -> Result<Counted<Option<Box<Held>>>, EvalFault>
+    ensures { Evaluates budget scope.now.globals.now env.now (sum_loop over.now body.now) result }
+{
+    let Counted { answer, turns } = eval_members(scope, over, env, budget)?;
+    let left = budget - turns;
+    let Some(members) = answer else {
+        return Ok(Counted {
+            answer: None,
+            turns,
+        });
+    };
+    let count = members.len();
+    if count > u128::from(left) {
+        drop(members);
+        return Err(EvalFault::Spent);
+    }
+    let count = count as u64;
+    let run = sum_members(scope, body, env, &members, count, left - count);
+    drop(members);
+    let run = run?;
+    Ok(Counted {
+        answer: to_box(scope.alloc, sum_of(run.answer))?,
+        turns: turns + count + run.turns,
+    })
+}
+
+#[cycle(eval)]
+#[inline(never)]
+fn eval_union<R: Threads + Sync, G: Gate>(
+    scope: &Scope<R, G>,
+    over: &Core,
+    body: &Core,
+    env: &Env,
+    budget: u64,
+) -> Result<Counted<Option<Box<Held>>>, EvalFault>
+    ensures { Evaluates budget scope.now.globals.now env.now (union_loop over.now body.now) result }
+{
+    let Counted { answer, turns } = eval_members(scope, over, env, budget)?;
+    let left = budget - turns;
+    let Some(members) = answer else {
+        return Ok(Counted {
+            answer: None,
+            turns,
+        });
+    };
+    let count = members.len();
+    if count > u128::from(left) {
+        drop(members);
+        return Err(EvalFault::Spent);
+    }
+    let count = count as u64;
+    let run = union_members(scope, body, env, &members, count, left - count);
+    drop(members);
+    let run = run?;
+    Ok(Counted {
+        answer: to_box(scope.alloc, union_of(run.answer))?,
+        turns: turns + count + run.turns,
+    })
+}
+
+#[cycle(eval)]
+#[inline(never)]
+fn eval_tab<R: Threads + Sync, G: Gate>(
+    scope: &Scope<R, G>,
+    bounds: &Terms,
+    body: &Core,
+    env: &Env,
+    budget: u64,
+) -> Result<Counted<Option<Box<Held>>>, EvalFault>
+    ensures { Evaluates budget scope.now.globals.now env.now (tab_of bounds.now body.now) result }
+{
+    let Counted { answer, turns } = eval_all(scope, bounds, env, budget)?;
+    let left = budget - turns;
+    let Some(dims) = numbers(scope.alloc, answer)? else {
+        return Ok(Counted {
+            answer: None,
+            turns,
+        });
+    };
+    let count = saturating_product(dims.dims.as_slice());
+    if count > u128::from(left) {
+        return Err(EvalFault::Spent);
+    }
+    let count = count as u64;
+    let run = fill_cells(scope, body, env, &dims, count, left - count)?;
+    Ok(Counted {
+        answer: to_box(scope.alloc, table_of(dims, run.answer)?)?,
+        turns: turns + count + run.turns,
+    })
+}
+
+// The sum of a body over the first members of a loop, and what the body takes there.
+#[cycle(eval)]
+#[inline(never)]
+fn sum_members<R: Threads + Sync, G: Gate>(
+    scope: &Scope<R, G>,
+    body: &Core,
+    env: &Env,
+    members: &Members,
+    count: u64,
+    budget: u64,
+) -> Result<Counted<Option<u128>>, EvalFault>
+    requires { count ≤ length (member_list members.now) }
+    ensures { Sums budget scope.now.globals.now env.now body.now members.now 0 count result }
+{
+    let Mode::Pieces(pool) = &scope.mode else {
+        return sum_run(scope, body, env, members, 0, count, budget);
+    };
+    let (alloc, globals) = (scope.alloc, scope.globals);
+    let run = move |from: u64, to: u64| -> Result<Counted<Option<u128>>, EvalFault>
+        requires { (from ≤ to) × (to ≤ length (member_list members.now)) }
+        ensures { Sums budget globals.entry.now env.entry.now body.entry.now members.entry.now from
+            to result }
+    {
+        let here: Scope<R, G> = Scope {
+            alloc,
+            globals,
+            mode: Mode::Here,
+        };
+        sum_run(&here, body, env, members, from, to, budget)
+    };
+    let sums = in_pieces(pool, alloc, count, run)?;
+    joined_sums(&sums, budget)
+}
+
+// The set of the members that a body gives at the first members of a loop, and what the body
+// takes there.
+#[cycle(eval)]
+#[inline(never)]
+fn union_members<R: Threads + Sync, G: Gate>(
+    scope: &Scope<R, G>,
+    body: &Core,
+    env: &Env,
+    members: &Members,
+    count: u64,
+    budget: u64,
+) -> Result<Counted<Option<Ascending>>, EvalFault>
+    requires { count ≤ length (member_list members.now) }
+    ensures { Unites budget scope.now.globals.now env.now body.now members.now 0 count result }
+{
+    let Mode::Pieces(pool) = &scope.mode else {
+        let run = members_run(scope, body, env, members, 0, count, budget)?;
+        return Ok(Counted {
+            answer: canon_of(scope.alloc, run.answer)?,
+            turns: run.turns,
+        });
+    };
+    let (rt, alloc, globals) = (pool.rt, scope.alloc, scope.globals);
+    let run = move |from: u64, to: u64| -> Result<Counted<Option<Ascending>>, EvalFault>
+        requires { (from ≤ to) × (to ≤ length (member_list members.now)) }
+        ensures { Unites budget globals.entry.now env.entry.now body.entry.now members.entry.now
+            from to result }
+    {
+        let here: Scope<R, G> = Scope {
+            alloc,
+            globals,
+            mode: Mode::Here,
+        };
+        let run = members_run(&here, body, env, members, from, to, budget)?;
+        Ok(Counted {
+            answer: canon_in_threads(rt, alloc, run.answer)?,
+            turns: run.turns,
+        })
+    };
+    let sets = in_pieces(pool, alloc, count, run)?;
+    joined_sets(alloc, sets, budget)
+}
+
+// The values of a body at the first indices below the dimensions, in row-major order, and what
+// the body takes there.
+#[cycle(eval)]
+#[inline(never)]
+fn fill_cells<R: Threads + Sync, G: Gate>(
+    scope: &Scope<R, G>,
+    body: &Core,
+    env: &Env,
+    dims: &Dims,
+    count: u64,
+    budget: u64,
+) -> Result<Counted<Option<Builder>>, EvalFault>
+    requires { count ≤ product dims.now }
+    ensures { Fills budget scope.now.globals.now env.now body.now dims.now 0 count result }
+{
+    let Mode::Pieces(pool) = &scope.mode else {
+        return cells_run(scope, body, env, dims, 0, count, budget);
+    };
+    let (alloc, globals) = (scope.alloc, scope.globals);
+    let run = move |from: u64, to: u64| -> Result<Counted<Option<Builder>>, EvalFault>
+        requires { (from ≤ to) × (to ≤ product dims.now) }
+        ensures { Fills budget globals.entry.now env.entry.now body.entry.now dims.entry.now from to
+            result }
+    {
+        let here: Scope<R, G> = Scope {
+            alloc,
+            globals,
+            mode: Mode::Here,
+        };
+        cells_run(&here, body, env, dims, from, to, budget)
+    };
+    let runs = in_pieces(pool, alloc, count, run)?;
+    joined_cells(alloc, runs, budget)
+}
+
+// The value of the body of a sum or a tabulation, which is tried as a number first: such a body
+// makes no values on the heap.
+#[cycle(eval)]
+#[inline(never)]
+fn body_value<R: Threads + Sync, G: Gate>(
+    scope: &Scope<R, G>,
+    body: &Core,
+    env: &Env,
+    budget: u64,
+) -> Result<Counted<Option<Held>>, EvalFault>
+    ensures { EvaluatesHeld budget scope.now.globals.now env.now (term_of body.now) result }
+{
+    match quick(body, scope.globals, &*env) {
+        Some(number) => Ok(Counted {
+            answer: Some(Held::Value(Value::Nat(u128::from(number)))),
+            turns: 0,
+        }),
+        None => {
+            let done = node(scope, body, env, budget)?;
+            Ok(Counted {
+                answer: from_box(done.answer),
+                turns: done.turns,
+            })
+        }
+    }
+}
+
+// The sum of a body over the members from one number up to another, and what the body takes
+// there. The members themselves are not counted.
+#[cycle(eval)]
+fn sum_run<R: Threads + Sync, G: Gate>(
+    scope: &Scope<R, G>,
+    body: &Core,
+    env: &Env,
+    members: &Members,
+    from: u64,
+    to: u64,
+    budget: u64,
+) -> Result<Counted<Option<u128>>, EvalFault>
+    requires order { from ≤ to }
+    requires within { to ≤ length (member_list members.now) }
+    ensures { Sums budget scope.now.globals.now env.now body.now members.now from to result }
+{
+    let mut sum = Some(0);
+    let mut turns = 0;
+    let mut sides = members.sides(from);
+    for i in from..to {
+        let Next {
+            member,
+            sides: after,
+        } = members.get(scope.alloc, i, sides)?;
+        sides = after;
+        let inner = Env::Bound(&member, &*env);
+        let done = body_value(scope, body, &inner, budget - turns);
+        drop(member);
+        let done = done?;
+        sum = sum_and(sum, done.answer);
+        turns += done.turns;
+    }
+    Ok(Counted { answer: sum, turns })
+}
+
+// The members that a body gives at the members from one number up to another, one set after the
+// other, and what the body takes there. The members of the loop are not counted.
+#[cycle(eval)]
+fn members_run<R: Threads + Sync, G: Gate>(
+    scope: &Scope<R, G>,
+    body: &Core,
+    env: &Env,
+    members: &Members,
+    from: u64,
+    to: u64,
+    budget: u64,
+) -> Result<Counted<Option<Items>>, EvalFault>
+    requires order { from ≤ to }
+    requires within { to ≤ length (member_list members.now) }
+    ensures { Lists budget scope.now.globals.now env.now body.now members.now from to result }
+{
+    let mut all = Some(Items {
+        items: Vec::new(scope.alloc),
+    });
+    let mut turns = 0;
+    let mut sides = members.sides(from);
+    for i in from..to {
+        let Next {
+            member,
+            sides: after,
+        } = members.get(scope.alloc, i, sides)?;
+        sides = after;
+        let inner = Env::Bound(&member, &*env);
+        let done = node(scope, body, &inner, budget - turns);
+        drop(member);
+        let done = done?;
+        all = members_and(all, from_box(done.answer))?;
+        turns += done.turns;
+    }
+    Ok(Counted { answer: all, turns })
+}
+
+// The values of a body at the indices below the dimensions, from one row-major number up to
+// another, and what the body takes there. The cells are not counted. They are packed as they come.
+#[cycle(eval)]
+fn cells_run<R: Threads + Sync, G: Gate>(
+    scope: &Scope<R, G>,
+    body: &Core,
+    env: &Env,
+    dims: &Dims,
+    from: u64,
+    to: u64,
+    budget: u64,
+) -> Result<Counted<Option<Builder>>, EvalFault>
+    requires order { from ≤ to }
+    requires within { to ≤ product dims.now }
+    ensures { Fills budget scope.now.globals.now env.now body.now dims.now from to result }
+{
+    let mut at = zeros(scope.alloc, dims.dims.len())?;
+    let mut cells = Some(Builder::new(scope.alloc));
+    let mut turns = 0;
+    for place in from..to {
+        set_index(dims.dims.as_slice(), u128::from(place), at.as_mut_slice());
+        let inner = Env::Indices(at.as_slice(), &*env);
+        let done = body_value(scope, body, &inner, budget - turns);
+        let (kept, done) = join_done(cells, done)?;
+        cells = cells_and(scope.alloc, kept, done.answer)?;
+        turns += done.turns;
+    }
+    Ok(Counted {
+        answer: cells,
+        turns,
+    })
+}

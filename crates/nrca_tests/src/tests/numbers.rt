@@ -1,0 +1,94 @@
+//! The terms that are found as numbers of 64 bits, and those that are not.
+
+use crate::tests::words::{pushed, term, value};
+use aql_value::made::both;
+use aql_value::{Memory, Value};
+use nrca_array::{Flat, Held};
+use nrca_loops::{Env, Globals};
+use nrca_quick::quick;
+use std::alloc::Global;
+use std::test::Fail;
+
+// Position 1 is 7, position 2 is [[3; 5, 6, 7]], position 3 is (3, 2^128-1), position 4 is [[2, 1; 8, 9]], and there is no other.
+fn positions(alloc: Global) -> Result<Globals, Memory> {
+    let mut list = Vec::new(alloc);
+    for words in ["7", "3 5 6 7 arr1.3", "3 max tup2", "2 1 8 9 arr2.2"] {
+        pushed(&mut list, position(alloc, words))?;
+    }
+    Ok(Globals { list })
+}
+
+// A position that is packed where it can be.
+fn position(alloc: Global, words: &str) -> Result<Option<Held>, Memory> {
+    Ok(match value(alloc, words)? {
+        Some(Value::Grid(cells)) => Some(Held::Flat(Flat::from_cells(alloc, cells)?)),
+        Some(value) => Some(Held::Value(value)),
+        None => None,
+    })
+}
+
+// The number that is found of a term, where variable 0 is 4 and variable 1 is 9.
+fn found(alloc: Global, words: &str) -> Result<Option<u64>, Memory> {
+    let (term, globals) = both(term(alloc, words), positions(alloc))?;
+    let nine = Held::Value(Value::Nat(9));
+    let outer = Env::Bound(&nine, &Env::Empty);
+    let number = quick(&term, &globals, &Env::Indices(&[4], &outer));
+    drop(term);
+    drop(globals);
+    drop(nine);
+    Ok(number)
+}
+
+const ROWS: [(&str, Option<u64>); 41] = [
+    ("7", Some(7)),
+    ("18446744073709551615", Some(18446744073709551615)),
+    ("max", None),
+    ("v0", Some(4)),
+    ("v1", Some(9)),
+    ("v0 v1 *", Some(36)),
+    ("18446744073709551614 1 +", Some(18446744073709551615)),
+    ("18446744073709551615 1 +", None),
+    // a number that passes 64 bits on the way
+    ("18446744073709551615 1 + 1 -", None),
+    ("4294967296 4294967295 *", Some(18446744069414584320)),
+    ("4294967296 4294967296 *", None),
+    ("3 5 -", Some(0)),
+    ("17 5 /", Some(3)),
+    ("17 5 %", Some(2)),
+    // undefined, alone and in the middle
+    ("17 0 /", None),
+    ("17 0 % 1 +", None),
+    ("7 v0 v1 + let", Some(11)),
+    ("v0 1 + v0 v0 * let", Some(25)),
+    ("17 0 / 1 let", None),
+    ("g2 v0 1 sub1 let", Some(6)),
+    ("1 2 < 3 17 0 / if", Some(3)),
+    ("2 1 < 17 0 / 3 if", Some(3)),
+    ("2 1 < 3 17 0 / if", None),
+    ("2 2 = 3 4 if", Some(3)),
+    ("2 2 <> 3 4 if", Some(4)),
+    ("2 2 < 3 4 if", Some(4)),
+    ("2 2 <= 3 4 if", Some(3)),
+    ("2 2 > 3 4 if", Some(4)),
+    ("2 2 >= 3 4 if", Some(3)),
+    ("g1", Some(7)),
+    ("bot", None),
+    ("g3 p1/2", Some(3)),
+    ("g3 p2/2", None),
+    ("g3 p1/3", None),
+    ("g2 1 sub1", Some(6)),
+    ("g2 3 sub1", None),
+    ("g2 1 1 sub2", None),
+    ("g4 1 0 sub2", Some(9)),
+    ("g4 1 1 sub2", None),
+    ("g2 dim1", Some(3)),
+    ("g4 dim2", None),
+];
+
+#[test]
+fn numbers_are_found(rt: HostRuntime) -> Result<(), Fail> {
+    for row in &ROWS {
+        assert_eq!(rt; found(rt.alloc(), row.0), Ok(row.1), "{}", row.0);
+    }
+    Ok(())
+}
