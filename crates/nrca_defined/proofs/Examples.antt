@@ -8,12 +8,15 @@ use Rattle.aql_types.specs.Types.{natural}
 use Rattle.nrca_term.specs.Term.{Term}
 use Rattle.nrca_term.specs.Meaning.{outcome, cden}
 use Rattle.nrca_term.specs.Typing.{arg, ctyped, instances, OutcomesHave}
-use Rattle.nrca_term.specs.Nodes.{variable, number, arith_term, tab_term}
+use Rattle.nrca_term.specs.Nodes.{variable, number, arith_term, tab_term, sub_term}
 use Rattle.nrca_term.specs.Facts.{Facts, facts_at}
 use Rattle.nrca_term.specs.Firm.{span, firm, is_defined}
-use Rattle.nrca_ranges.specs.declared.shape.Shape.{Shape}
+use Rattle.nrca_ranges.specs.Bounds.{Bounds, HasShape, number as of_number}
+use Rattle.nrca_ranges.specs.Certain.{certain}
 use Rattle.nrca_ranges.specs.Entered.{is_shaped}
-use Rattle.nrca_ranges.specs.Shapes.{HasShape, Tells}
+use Rattle.nrca_ranges.specs.Intervals.{between}
+use Rattle.nrca_ranges.specs.Shapes.{Tells}
+use Rattle.nrca_ranges.specs.Transfer.{bounds}
 use Rattle.nrca_defined.specs.Defined.{IsDefinedAt}
 
 -- no position has a value
@@ -33,6 +36,12 @@ square = arith_term Mul (variable 0) (variable 0)
 abbrev by_index : Term
 by_index = arith_term Quotient (number 10) (variable 0)
 
+abbrev by_more : Term
+by_more = arith_term Quotient (number 10) (arith_term Add (variable 0) (number 1))
+
+abbrev cell : Term
+cell = sub_term (tab_term (number 3 ∷ []) (variable 0)) (variable 0 ∷ [])
+
 abbrev by_seven : Term
 by_seven = arith_term Quotient (variable 0) (number 7)
 
@@ -40,9 +49,26 @@ by_seven = arith_term Quotient (variable 0) (number 7)
 sum_below_1000 : span (below 1000 sum) sum ≡ Some (0, 1998)
 sum_below_1000 = refl
 
+-- and that is all that is known of it
+sum_known : bounds [] (below 1000 sum) sum ≡ of_number (between 0 1998)
+sum_known = refl
+
 -- `10/i` below 3 has no span and is not firm
 quotient_by_index : firm none_defined (below 3 by_index) by_index ≡ false
 quotient_by_index = refl
+
+-- nor is it certain to have a value, though it is from 0 to 10 where it has one; `10/(i+1)` is certain, and not firm
+quotient_uncertain : certain [] (below 3 by_index) by_index ≡ false
+quotient_uncertain = refl
+
+quotient_known : bounds [] (below 3 by_index) by_index ≡ of_number (between 0 10)
+quotient_known = refl
+
+quotient_by_more : certain [] (below 3 by_more) by_more ≡ true
+quotient_by_more = refl
+
+quotient_not_firm : firm none_defined (below 3 by_more) by_more ≡ false
+quotient_not_firm = refl
 
 -- `i/7` below 3 is firm
 quotient_by_seven : firm none_defined (below 3 by_seven) by_seven ≡ true
@@ -54,6 +80,20 @@ square_below = refl
 
 square_past : firm none_defined (below (2 ^ 64 + 1) square) square ≡ false
 square_past = refl
+
+-- nor is it certain to have a value
+square_uncertain : certain [] (below (2 ^ 64 + 1) square) square ≡ false
+square_uncertain = refl
+
+-- `[[j | \j<3]][i]` below 3 is certain to have a value, and below 4 it is not; it is from 0 to 2
+cell_certain : certain [] (below 3 cell) cell ≡ true
+cell_certain = refl
+
+cell_uncertain : certain [] (below 4 cell) cell ≡ false
+cell_uncertain = refl
+
+cell_known : bounds [] (below 3 cell) cell ≡ of_number (between 0 2)
+cell_known = refl
 
 -- the type of a number, among variables that are one number
 number_typed : (n : ℕ) → ctyped (instances []) (natural ∷ []) (number n) natural
@@ -69,7 +109,7 @@ by_index_typed = (tt, arg [] natural ∷ arg [] natural ∷ [], (natural ∷ nat
 no_shapes : Tells [] []
 no_shapes = (λ n s v e k. no_outcome n s v k, none_there)
   where
-    no_outcome : (n : ℕ) (s : Shape) (v : Datum) → outcome [] n ≡ Some v → HasShape s v
+    no_outcome : (n : ℕ) (s : Bounds) (v : Datum) → outcome [] n ≡ Some v → HasShape s v
     no_outcome zero s v k = cc
     no_outcome (suc n) s v k = cc
 

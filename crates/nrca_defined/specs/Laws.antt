@@ -1,4 +1,4 @@
 -- The laws of this crate: what follows from its definitions.
 pub mod Cells
 pub mod Defined
-pub mod Walk
+pub mod Operations

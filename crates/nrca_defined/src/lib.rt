@@ -2,12 +2,10 @@
 //!
 //! The layers above use that `defined` answers true only where the term has a value at all values of positions and
 //! variables that the context of the place allows, and wherever the term is firm (nrca_term, `specs/Firm.antt`).
-//! Read `firm`, which answers whether a term is firm and its span, exactly; then `finer`, which asks the intervals of
-//! nrca_ranges where a term is not firm. Of the definitions read `specs/Defined`; `specs/Walk` is the walk over parts.
+//! Both calls are answered by the walk of nrca_ranges (`tell`); what stands here is that its answer means that.
+//! Read `answers`; of the definitions `specs/Defined`, and `specs/Certain` of nrca_ranges.
 #![tactic(auto)]
 
-mod finer;
-mod firm;
+mod answers;
 
-pub use finer::defined;
-pub use firm::{FirmSpan, firmness};
+pub use answers::{FirmSpan, defined, firmness};

@@ -42,14 +42,6 @@ known_facts c = (context_of c).facts
 abbrev pub around : Ctx → ℕ
 around c = (context_of c).depth
 
--- the context among d variables: those beyond its own are variables of which nothing is known
-abbrev pub at_depth : Ctx → ℕ → Ctx
-at_depth c d = record { facts = c.facts; depth = d; globals = c.globals }
-
--- its facts, and that number of variables
-abbrev pub facts_among : Ctx → ℕ → Facts
-facts_among c d = context_of (at_depth c d)
-
 -- what the context was at the mark
 abbrev pub at_mark : Mark → Facts → Facts
 at_mark m c = record { facts = take m.facts c.facts; depth = m.depth }

@@ -1,3 +1,9 @@
 -- The laws of this crate: what follows from its definitions.
+pub mod Bounds
 pub mod Entered
-pub mod Shapes
+pub mod Forms
+pub mod Intervals
+pub mod Sound
+pub mod Strict
+pub mod Views
+pub mod Walk

@@ -1,123 +1,88 @@
--- What a shape says of a value, the values that a context allows, and the laws of the shapes of forms.
-use Rattle.std.proofs.Common.{◌≡◌, ℕ, ◌+◌, ◌*◌, ◌-◌, ◌<◌, ◌≤◌, ◌^◌, min, max, ◌⊎◌, List, [], ◌∷◌, length, map, Option, Some, None}
-use Rattle.aql_value.specs.declared.ops.ArithOp.{ArithOp}
-use Rattle.aql_value.specs.Ops.{arith_by}
-use Rattle.aql_value.specs.Canon.{canon}
-use Rattle.aql_value.specs.Datum.{Datum, Data, natural, tuple, set, array, data_of, list_of}
-use Rattle.nrca_term.specs.declared.term.Terms.{Terms}
-use Rattle.nrca_term.specs.View.{terms_of}
+-- What contracts see of a `Shape`; the values that a context allows; and what is claimed of the values of terms there.
+use Rattle.std.proofs.Common.{◌≡◌, ℕ, Bool, List, [], ◌∷◌, ◌++◌, map, Option, Some}
+use Rattle.std.specs.Option.{option_map}
+use Rattle.aql_value.specs.Datum.{Datum, Data, natural, set, list_of}
+use Rattle.aql_value.specs.Lists.{Every}
+use Rattle.nrca_term.specs.declared.term.Core.{Core}
+use Rattle.nrca_term.specs.declared.form.Form as code
+use Rattle.nrca_term.specs.declared.form.Strict as code_strict
+use Rattle.nrca_term.specs.View.{term_of, pure_form, pure_strict}
+use Rattle.nrca_term.specs.Places.{entered_in}
 use Rattle.nrca_term.specs.Term.{Term}
-use Rattle.nrca_term.specs.Nodes.{tuple_term}
 use Rattle.nrca_term.specs.Meaning.{Outcomes, outcome, cden, at_position}
 use Rattle.nrca_term.specs.Facts.{Facts, Stands}
-use Rattle.nrca_term.specs.Firm.{is_defined, span}
+use Rattle.nrca_term.specs.Firm.{Span, is_defined, span, firm}
 use Rattle.nrca_ranges.specs.declared.interval.Interval.{Interval}
 use Rattle.nrca_ranges.specs.declared.shape.Shape.{Shape}
-use Rattle.nrca_ranges.specs.declared.shape.Shape.TheVariants.{Unknown, Number, Row, Members, Grid}
+use Rattle.nrca_ranges.specs.declared.shape.Shapes.{Shapes}
+use Rattle.nrca_ranges.specs.declared.shape.Shape.TheOpen.{Shape-F, Shapes-F}
+use Rattle.nrca_ranges.specs.declared.shape.Shape.TheFolds.{fold-Shape}
+use Rattle.nrca_ranges.specs.declared.positions.GlobalShapes.{GlobalShapes}
 use Rattle.nrca_ranges.specs.declared.context.Ctx.{Ctx}
-use Rattle.nrca_ranges.specs.Context.{context_of, at_depth}
+use Rattle.nrca_ranges.specs.Bounds as bounds
+use Rattle.nrca_ranges.specs.Bounds.{Bounds, unknown, number, row_of, IsIn, IsCount, HasShape}
+use Rattle.nrca_ranges.specs.Certain as certainty
+use Rattle.nrca_ranges.specs.Certain.{certain}
+use Rattle.nrca_ranges.specs.Context.{context_of, IsSmallTerm}
 use Rattle.nrca_ranges.specs.Entered.{is_shaped}
+use Rattle.nrca_ranges.specs.Intervals.{between}
+use Rattle.nrca_ranges.specs.Transfer as transfer
 
--- a number is at most `high`, where 2^128-1 means that or more
-abbrev pub UpTo : ℕ → ℕ → Type 0
-UpTo high n = high < 2 ^ 128 - 1 → n ≤ high
+-- one node of a shape, with what is known of each part in its place
+abbrev pub node_bounds : Shape-F Bounds (List Bounds) → Bounds
+node_bounds Shape-F.Unknown = unknown
+node_bounds (Shape-F.Number i) = number i
+node_bounds (Shape-F.Row bs) = bounds.row (row_of bs)
+node_bounds (Shape-F.Members i b) = bounds.members i b.value
+node_bounds (Shape-F.Grid is b) = bounds.grid is b.value
 
--- a number of the interval
-abbrev pub IsIn : Interval → ℕ → Type 0
-IsIn i n = (i.low ≤ n) × UpTo i.high n
+-- the list that a node of the code holds
+abbrev pub list_bounds : Shapes-F Bounds (List Bounds) → List Bounds
+list_bounds bs = bs.0.items
 
--- numbers, each of its interval
-abbrev pub AreIn : List Interval → List ℕ → Type 0
-AreIn [] [] = Unit {0}
-AreIn [] (n ∷ ns) = ⊥
-AreIn (i ∷ is) [] = ⊥
-AreIn (i ∷ is) (n ∷ ns) = IsIn i n × AreIn is ns
+-- what a `Shape` says
+abbrev pub bounds_of : Shape → Bounds
+bounds_of = fold-Shape Bounds (List Bounds) node_bounds list_bounds
 
--- members of a set: different ones at least as many as the lower end, and in all no more than the upper end
-abbrev pub IsCount : Interval → List Datum → Type 0
-IsCount i ms = (i.low ≤ length (canon ms)) × UpTo i.high (length ms)
+-- what the shapes of a list say
+abbrev pub bounds_each : List Shape → List Bounds
+bounds_each = map bounds_of
 
--- a value of the shape
-abbrev pub HasShape : Shape → Datum → Type 0
-HasShape Unknown v = Unit {0}
-HasShape (Number i) v = (n : ℕ) × (v ≡ natural n) × IsIn i n
-HasShape (Row is) v = (ns : List ℕ) × (v ≡ tuple (data_of (map natural ns))) × AreIn is ns
-HasShape (Members i) v = (ms : Data) × (v ≡ set ms) × IsCount i (list_of ms)
-HasShape (Grid is) v = (ds : List ℕ) × (cs : Data) × (v ≡ array ds cs) × AreIn is ds
+-- the second list says what the first says, but for entry i
+abbrev pub KeepsOthers : ℕ → List Shape → List Shape → Type 0
+KeepsOthers i xs ys = transfer.SameOthers i (bounds_each xs) (bounds_each ys)
+
+-- what a list of the code says
+abbrev pub shapes_of : Shapes → List Bounds
+shapes_of s = bounds_each s.0.items
+
+-- what a shape says that may be there or not
+abbrev pub bounds_there : Option Shape → Option Bounds
+bounds_there = option_map bounds_of
+
+-- what is known of the positions' values
+abbrev pub shapes_in : GlobalShapes → List (Option Bounds)
+shapes_in g = map bounds_there g.shapes.items
+
+-- the same in a context
+abbrev pub known_shapes : Ctx → List (Option Bounds)
+known_shapes c = shapes_in c.globals
 
 -- the positions that have a value are those that have a shape, and each value has its position's
-abbrev pub Tells : List (Option Shape) → Outcomes → Type 0
-Tells gs V = ((n : ℕ) (s : Shape) (v : Datum) → at_position gs n ≡ Some (Some s) → outcome V n ≡ Some v → HasShape s v) × ((n : ℕ) → is_shaped gs n ≡ is_defined V n)
+abbrev pub Tells : List (Option Bounds) → Outcomes → Type 0
+Tells gs V = ((n : ℕ) (b : Bounds) (v : Datum) → at_position gs n ≡ Some (Some b) → outcome V n ≡ Some v → HasShape b v) × ((n : ℕ) → is_shaped gs n ≡ is_defined V n)
 
 -- the values of positions and variables that a context allows: the shapes are theirs, and the facts hold
 abbrev pub Allows : Outcomes → Ctx → List Datum → Type 0
-Allows V c vals = Tells c.globals V × Stands V (context_of c) vals
+Allows V c vals = Tells (known_shapes c) V × Stands V (context_of c) vals
 
 -- each value that the term has at values that the context allows has the shape
-unfoldable pub IsShapeIn : Ctx → Term → Shape → Type 0
-IsShapeIn c t s = (V : Outcomes) (vals : List Datum) (v : Datum) → Allows V c vals → cden V vals t ≡ Some v → HasShape s v
+unfoldable pub IsShapeIn : Ctx → Term → Bounds → Type 0
+IsShapeIn c t b = (V : Outcomes) (vals : List Datum) (v : Datum) → Allows V c vals → cden V vals t ≡ Some v → HasShape b v
 
 -- where the term has a span, the shape is that interval
-abbrev pub IsTight : Facts → Term → Shape → Type 0
-IsTight c t s = (x : ℕ × ℕ) → span c t ≡ Some x → s ≡ Number (record { low = x.0; high = x.1 })
-
--- the same at the place of a context among d variables
-abbrev pub IsTightAt : Ctx → ℕ → Term → Shape → Type 0
-IsTightAt c d t s = IsTight (context_of (at_depth c d)) t s
-
--- each value of the first shape has the second
-abbrev pub Widens : Shape → Shape → Type 0
-Widens s r = (v : Datum) → HasShape s v → HasShape r v
-
--- the interval of the numbers that have a shape
-abbrev pub interval_of : Shape → Interval
-interval_of (Number i) = i
-interval_of Unknown = record { low = 0; high = 2 ^ 128 - 1 }
-interval_of (Row is) = record { low = 0; high = 2 ^ 128 - 1 }
-interval_of (Members i) = record { low = 0; high = 2 ^ 128 - 1 }
-interval_of (Grid is) = record { low = 0; high = 2 ^ 128 - 1 }
-
--- the interval of the number of members of the sets that have a shape
-abbrev pub count_of : Shape → Interval
-count_of (Members i) = i
-count_of Unknown = record { low = 0; high = 2 ^ 128 - 1 }
-count_of (Number i) = record { low = 0; high = 2 ^ 128 - 1 }
-count_of (Row is) = record { low = 0; high = 2 ^ 128 - 1 }
-count_of (Grid is) = record { low = 0; high = 2 ^ 128 - 1 }
-
--- the least interval that holds both
-abbrev pub joined : Interval → Interval → Interval
-joined a b = record { low = min a.low b.low; high = max a.high b.high }
-
--- the same at each place of two lists, as far as both go
-abbrev pub joined_each : List Interval → List Interval → List Interval
-joined_each [] js = []
-joined_each (i ∷ is) [] = []
-joined_each (i ∷ is) (j ∷ js) = joined i j ∷ joined_each is js
-
--- arrays with dimensions in the one list of intervals, and those with dimensions in the other, have the shape
-abbrev pub IsJoinOfGrids : List Interval → List Interval → Shape → Type 0
-IsJoinOfGrids is js s = Widens (Grid is) s × Widens (Grid js) s
-
--- of the union of two sets: at least as many members as the greater lower end, at most the sum of the upper ends
-abbrev pub union_count : Interval → Interval → Interval
-union_count a b = record { low = max a.low b.low; high = min (a.high + b.high) (2 ^ 128 - 1) }
-
--- of the union of sets: none, or up to the product of how many they are and how many members each has
-abbrev pub loop_count : Interval → Interval → Interval
-loop_count a b = record { low = 0; high = min (a.high * b.high) (2 ^ 128 - 1) }
-
--- of a sum: the products of how many numbers they are and how great each is
-abbrev pub loop_sum : Interval → Interval → Interval
-loop_sum a b = record { low = min (a.low * b.low) (2 ^ 128 - 1); high = min (a.high * b.high) (2 ^ 128 - 1) }
-
--- nothing is known, or the shape is the position's
-abbrev pub IsPositionShape : Ctx → ℕ → Shape → Type 0
-IsPositionShape c n s = (s ≡ Unknown) ⊎ (at_position c.globals n ≡ Some (Some s))
-
--- what an operation makes of a number of the one interval and a number of the other is in the third
-abbrev pub MakesIn : ArithOp → Interval → Interval → Interval → Type 0
-MakesIn op a b r = (m n k : ℕ) → IsIn a m → IsIn b n → arith_by op m n ≡ Some k → IsIn r k
+abbrev pub IsTight : Facts → Term → Bounds → Type 0
+IsTight c t b = (x : ℕ × ℕ) → span c t ≡ Some x → b ≡ number (between x.0 x.1)
 
 -- each number that the term has as its value, at values that the context allows, is in the interval
 abbrev pub IsNumberIn : Ctx → Term → Interval → Type 0
@@ -134,44 +99,54 @@ AreNumbersIn c [] (i ∷ is) = ⊥
 AreNumbersIn c (t ∷ ts) [] = ⊥
 AreNumbersIn c (t ∷ ts) (i ∷ is) = IsNumberIn c t i × AreNumbersIn c ts is
 
--- the same of terms of the code among d variables
-abbrev pub AreNumbersAt : Ctx → ℕ → Terms → List Interval → Type 0
-AreNumbersAt c d ts is = AreNumbersIn (at_depth c d) (terms_of ts) is
+-- what is known of the term's value at the place of the context
+abbrev pub shape_at : Ctx → Term → Bounds
+shape_at c t = transfer.bounds (known_shapes c) (context_of c) t
 
--- the shape of an index whose numbers are in the intervals: one number, or a tuple of numbers
-abbrev pub index_shape : List Interval → Shape
-index_shape [] = Row []
-index_shape (i ∷ []) = Number i
-index_shape (i ∷ j ∷ is) = Row (i ∷ j ∷ is)
+-- whether the term is firm there
+abbrev pub firm_at : Ctx → Term → Bool
+firm_at c t = firm (is_shaped (known_shapes c)) (context_of c) t
 
--- the shape of the dimensions of an array that has the shape
-abbrev pub dimensions_of : Shape → Shape
-dimensions_of (Grid is) = index_shape is
-dimensions_of Unknown = Unknown
-dimensions_of (Number i) = Unknown
-dimensions_of (Row is) = Unknown
-dimensions_of (Members i) = Unknown
+-- whether it is certain to have a value there
+abbrev pub certain_at : Ctx → Term → Bool
+certain_at c t = certain (known_shapes c) (context_of c) t
 
--- the shape of a number of the interval, where there is one
-abbrev pub number_shape : Option Interval → Shape
-number_shape None = Unknown
-number_shape (Some i) = Number i
+-- its span there
+abbrev pub span_at : Ctx → Term → Span
+span_at c t = span (context_of c) t
 
--- the shape of a part, counted from 1, of a tuple that has the shape
-abbrev pub part_of_shape : Shape → ℕ → Shape
-part_of_shape (Row is) at = number_shape (at_position is at)
-part_of_shape Unknown at = Unknown
-part_of_shape (Number i) at = Unknown
-part_of_shape (Members i) at = Unknown
-part_of_shape (Grid is) at = Unknown
+-- where the term has a span there, the shape is that interval
+abbrev pub IsTightIn : Ctx → Term → Bounds → Type 0
+IsTightIn c t b = IsTight (context_of c) t b
 
--- each term has numbers of its interval alone
-abbrev pub AreNumerals : Ctx → List Term → List Interval → Type 0
-AreNumerals c [] [] = Unit {0}
-AreNumerals c [] (i ∷ is) = ⊥
-AreNumerals c (t ∷ ts) [] = ⊥
-AreNumerals c (t ∷ ts) (i ∷ is) = IsShapeIn c t (Number i) × AreNumerals c ts is
+-- of a small term the shape is what is known of its value, the interval that of this shape, and the count likewise
+abbrev pub IsExactShape : Ctx → Term → Bounds → Type 0
+IsExactShape c t b = IsSmallTerm c.depth t → b ≡ shape_at c t
 
--- a shape of the tuple of terms of the code, among d variables
-abbrev pub IsRowShape : Ctx → ℕ → Terms → Shape → Type 0
-IsRowShape c d ts s = IsShapeIn (at_depth c d) (tuple_term (terms_of ts)) s
+-- the same of the interval of a number
+abbrev pub IsExactNumber : Ctx → Term → Interval → Type 0
+IsExactNumber c t i = IsSmallTerm c.depth t → i ≡ transfer.interval_of (shape_at c t)
+
+-- the same of the number of a set's members
+abbrev pub IsExactCount : Ctx → Term → Interval → Type 0
+IsExactCount c t i = IsSmallTerm c.depth t → i ≡ transfer.count_of (shape_at c t)
+
+-- the second list is the first with a shape, or none, behind the others
+abbrev pub PushesShape : GlobalShapes → Option Shape → GlobalShapes → Type 0
+PushesShape old s new = shapes_in new ≡ shapes_in old ++ bounds_there s ∷ []
+
+-- what is known of the value of a strict form of the code, by the shapes of its parts
+abbrev pub bounds_by_strict : code_strict.Strict → List Shape → Bounds
+bounds_by_strict f ss = transfer.strict_bounds (pure_strict f) (bounds_each ss)
+
+-- the same of every form
+abbrev pub bounds_by_form : GlobalShapes → code.Form → List Shape → Bounds
+bounds_by_form g f ss = transfer.form_bounds (shapes_in g) (pure_form f) (bounds_each ss)
+
+-- whether a node of the form has a value wherever its parts have
+abbrev pub certain_by_form : GlobalShapes → code.Form → List Shape → Bool
+certain_by_form g f ss = certainty.form_certain (is_shaped (shapes_in g)) (pure_form f) (bounds_each ss)
+
+-- what the first context allows, the second allows at each list of values with which an evaluation comes to part i of the term
+abbrev pub AllowsInside : Ctx → Core → ℕ → Ctx → Type 0
+AllowsInside c t i r = (V : Outcomes) (vals : List Datum) → Allows V c vals → Every (λ new. Allows V r (new ++ vals)) (entered_in V vals (term_of t) i)

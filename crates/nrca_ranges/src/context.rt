@@ -5,6 +5,7 @@ ghost use Rattle.nrca_term.specs.Term.{parts_of, count};
 ghost use Rattle.nrca_term.specs.View.{term_of};
 ghost use Rattle.nrca_term.specs.Facts.{no_facts};
 ghost use Rattle.nrca_ranges.specs.Context.{fact_of, facts_in, known_facts, around};
+ghost use Rattle.nrca_ranges.specs.Shapes.{known_shapes, AllowsInside};
 ghost use Rattle.nrca_ranges.specs.Context.{context_of, at_mark, IsSmallTerm, HasRoom, AddsTo, IsEntered, LeaveRoom, bound_fact, bounds_facts, loop_facts, part_facts, test_facts};
 
 use crate::positions::GlobalShapes;
@@ -83,7 +84,7 @@ impl Ctx {
     /// A context with the same facts, variables and shapes.
     pub fn copy(&self, alloc: Global) -> Result<Ctx, Memory>
         ensures context { IfOk result (λ c. context_of c ≡ context_of self.now) }
-        ensures globals { IfOk result (λ c. c.globals ≡ self.now.globals) }
+        ensures globals { IfOk result (λ c. known_shapes c ≡ known_shapes self.now) }
     {
         let facts = copy_facts(alloc, self.facts.as_slice())?;
         let globals = self.globals.copy(alloc)?;
@@ -99,7 +100,8 @@ impl Ctx {
         requires has { part < count (parts_of (term_of parent.now)) }
         requires inside { IsSmallTerm self.now.depth (term_of parent.now) }
         ensures entered { IfOk result (λ c. IsEntered self.now parent.now part c) }
-        ensures globals { IfOk result (λ c. c.globals ≡ self.now.globals) }
+        ensures globals { IfOk result (λ c. known_shapes c ≡ known_shapes self.now) }
+        ensures allows { IfOk result (λ c. AllowsInside self.now parent.now part c) }
     {
         let mut inner = self.copy(alloc)?;
         let _mark = inner.push(alloc, parent, part)?;
@@ -160,7 +162,7 @@ fn copy_fact(alloc: Global, fact: &Fact) -> Result<Fact, Memory>
 
 // The facts that a part of a node has beside those around the node.
 #[inline(never)]
-fn add_facts(
+pub(crate) fn add_facts(
     alloc: Global,
     facts: &mut Vec<Fact>,
     depth: u64,

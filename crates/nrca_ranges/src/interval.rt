@@ -3,7 +3,7 @@
 ghost use Rattle.std.specs.Prelude.{◌≡◌, IfOk};
 ghost use Rattle.nrca_term.specs.View.{term_of};
 ghost use Rattle.nrca_term.specs.Firm as firm;
-ghost use Rattle.nrca_ranges.specs.Context.{fact_of, context_of, at_depth, facts_among};
+ghost use Rattle.nrca_ranges.specs.Context.{fact_of, facts_in, context_of};
 ghost use Rattle.nrca_ranges.specs.Spans.{span_of, IsOrdered, span_of_variable};
 
 use crate::context::{Ctx, Fact, Known};
@@ -190,15 +190,15 @@ pub fn variable_span(ctx: &Ctx, i: u64) -> Option<Interval>
     ensures exact { span_of result ≡ span_of_variable ctx.now i }
     ensures ordered { IsOrdered result }
 {
-    variable_span_at(ctx, ctx.depth, i)
+    span_among(ctx.facts.as_slice(), ctx.depth, i)
 }
 
-// The same among `depth` variables.
-fn variable_span_at(ctx: &Ctx, depth: u64, i: u64) -> Option<Interval>
-    ensures exact { span_of result ≡ span_of_variable (at_depth ctx.now depth) i }
+// The same of a list of facts among `depth` variables.
+pub(crate) fn span_among(facts: &[Fact], depth: u64, i: u64) -> Option<Interval>
+    ensures exact { span_of result ≡ firm.variable_span depth i (facts_in facts.now) }
     ensures ordered { IsOrdered result }
 {
-    for fact in &ctx.facts {
+    for fact in facts {
         let found = fact_span(depth, i, fact);
         if found.is_some() {
             return found;
@@ -212,20 +212,12 @@ pub fn span(term: &Core, ctx: &Ctx) -> Option<Interval>
     ensures exact { span_of result ≡ firm.span (context_of ctx.now) (term_of term.now) }
     ensures ordered { IsOrdered result }
 {
-    span_at(term, ctx, ctx.depth)
-}
-
-/// The same among `depth` variables; of those beyond the context's own nothing is known.
-pub fn span_at(term: &Core, ctx: &Ctx, depth: u64) -> Option<Interval>
-    ensures exact { span_of result ≡ firm.span (facts_among ctx.now depth) (term_of term.now) }
-    ensures ordered { IsOrdered result }
-{
     match term {
-        Core::Var(i) => variable_span_at(ctx, depth, *i),
+        Core::Var(i) => variable_span(ctx, *i),
         Core::Nat(n) => Some(Interval { low: *n, high: *n }),
         Core::Arith(op, a, b) => {
-            let left = span_at(a, ctx, depth);
-            let right = span_at(b, ctx, depth);
+            let left = span(a, ctx);
+            let right = span(b, ctx);
             arith_span(*op, left, right, b.number())
         }
         _ => None,

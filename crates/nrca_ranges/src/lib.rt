@@ -3,18 +3,24 @@
 //! A context keeps the comparisons that are known at the place, how many variables stand around it, and the shapes of
 //! the positions' values. The layers above use that `push` and `take_back` keep exactly the facts of the place, that
 //! `span` is the span of the definitions (nrca_term, `specs/Firm.antt`), and that each value of the term, at the values
-//! of variables and positions that the context allows, has the shape that `shape_of` answers.
-//! Read `context`, `interval`, `shape`, `positions`; of the definitions `specs/Context`, `specs/Spans`, `specs/Shapes`.
+//! of variables and positions that the context allows, has the shape that `shape_of` answers. `tell` answers by one walk
+//! what is known of a term: whether it is firm, whether it is certain to have a value, its span and its shape.
+//! Read `context`, `interval`, `shape`, `positions`, `finding`, then `operations`, `transfer`, `walk`; of the definitions
+//! `specs/Context`, `Spans`, `Bounds`, `Shapes`, `Intervals`, `Transfer`, `Certain`; `specs/Walk` is the walk.
 #![tactic(auto)]
 
 mod context;
+mod finding;
 mod interval;
+mod operations;
 mod positions;
 mod shape;
+mod transfer;
+mod walk;
 
 pub use context::{Ctx, Fact, Known, Mark};
+pub use finding::{count_of, is_small, number_of, numbers_of, shape_of, tell};
 pub use interval::{Interval, Intervals, arith_span, span, variable_span};
 pub use positions::{GlobalShapes, shape_of_value};
-pub use shape::{
-    Shape, count_interval, count_of, number_interval, number_of, numbers_of, shape_of,
-};
+pub use shape::{Shape, Shapes, cell_shape, count_interval, join, member_shape, number_interval};
+pub use walk::Told;

@@ -1,15 +1,16 @@
 //! The shapes of the values that positions hold.
 
-ghost use Rattle.std.specs.Prelude.{◌≡◌, ◌++◌, [], ◌∷◌, IfOk, OnOk, OnErr};
+ghost use Rattle.std.specs.Prelude.{◌≡◌, [], map, IfOk, OnOk, OnErr};
 ghost use Rattle.aql_value.specs.Meaning.{datum};
-ghost use Rattle.nrca_ranges.specs.Entered.{is_shaped};
-ghost use Rattle.nrca_ranges.specs.Shapes.{HasShape, AreIn};
+ghost use Rattle.nrca_ranges.specs.Bounds.{HasShape};
+ghost use Rattle.nrca_ranges.specs.Entered.{is_shaped, position_bounds};
+ghost use Rattle.nrca_ranges.specs.Exact.{only, shown};
+ghost use Rattle.nrca_ranges.specs.Shapes.{bounds_of, bounds_there, shapes_in, PushesShape};
 
 use crate::interval::{Interval, Intervals};
 use crate::shape::Shape;
 use aql_value::{Dims, Memory, Value};
 use std::alloc::Global;
-use std::marker::Model;
 
 /// For each position, counted from 1, the shape of its value, or none where it has no value.
 #[derive(Drop)]
@@ -17,19 +18,10 @@ pub struct GlobalShapes {
     pub(crate) shapes: Vec<Option<Shape>>,
 }
 
-impl Model for GlobalShapes {
-    ghost use Rattle.std.specs.Prelude.{List, Option};
-    ghost use Rattle.nrca_ranges.specs.declared.shape.Shape.{Shape};
-
-    ghost Value = { List (Option Shape) };
-
-    ghost view = { λ s. s.shapes.items };
-}
-
 impl GlobalShapes {
     /// No position. It takes no memory.
     pub fn new(alloc: Global) -> GlobalShapes
-        ensures { result ≡ [] }
+        ensures { shapes_in result ≡ [] }
     {
         GlobalShapes {
             shapes: Vec::new(alloc),
@@ -37,9 +29,8 @@ impl GlobalShapes {
     }
 
     /// Whether position n, counted from 1, is there and has a shape. It takes no memory.
-    #[tactic(auto, using(crate::specs::Laws::Entered::positions))]
     pub fn has(&self, n: u64) -> bool
-        ensures { result ≡ is_shaped self.now n }
+        ensures { result ≡ is_shaped (shapes_in self.now) n }
     {
         if n >= 1 && n <= self.shapes.len() as u64 {
             self.shapes[(n - 1) as usize].is_some()
@@ -48,10 +39,24 @@ impl GlobalShapes {
         }
     }
 
+    /// The shape of the value of position n, counted from 1, and nothing known where it has none.
+    pub fn shape(&self, alloc: Global, n: u64) -> Result<Shape, Memory>
+        ensures { IfOk result (λ s. bounds_of s ≡ position_bounds (shapes_in self.now) n) }
+    {
+        if n >= 1 && n <= self.shapes.len() as u64 {
+            match &self.shapes[(n - 1) as usize] {
+                Some(shape) => shape.copy(alloc),
+                None => Ok(Shape::Unknown),
+            }
+        } else {
+            Ok(Shape::Unknown)
+        }
+    }
+
     /// One position more, behind the others. Where memory is wanting, the list is as it was.
     pub fn push(&mut self, shape: Option<Shape>) -> Result<(), Memory>
-        ensures pushed { OnOk result (self.new ≡ self.old ++ shape ∷ []) }
-        ensures kept { OnErr result (self.new ≡ self.old) }
+        ensures pushed { OnOk result (PushesShape self.old shape self.new) }
+        ensures kept { OnErr result (shapes_in self.new ≡ shapes_in self.old) }
     {
         self.shapes.push(shape)?;
         Ok(())
@@ -59,7 +64,7 @@ impl GlobalShapes {
 
     /// An equal list.
     pub fn copy(&self, alloc: Global) -> Result<GlobalShapes, Memory>
-        ensures { IfOk result (λ g. g ≡ self.now) }
+        ensures { IfOk result (λ g. shapes_in g ≡ shapes_in self.now) }
     {
         let mut shapes = Vec::new(alloc);
         for shape in self.shapes.iter() {
@@ -72,7 +77,7 @@ impl GlobalShapes {
 
 // An equal shape, where there is one.
 fn copy_shape(alloc: Global, shape: &Option<Shape>) -> Result<Option<Shape>, Memory>
-    ensures { IfOk result (λ s. s ≡ shape.now) }
+    ensures { IfOk result (λ s. bounds_there s ≡ bounds_there shape.now) }
 {
     match shape {
         Some(shape) => Ok(Some(shape.copy(alloc)?)),
@@ -81,23 +86,29 @@ fn copy_shape(alloc: Global, shape: &Option<Shape>) -> Result<Option<Shape>, Mem
 }
 
 /// A shape that the value has: of a number that number, of a set the number of its members, of an
-/// array its dimensions.
+/// array its dimensions. Of members, cells and the parts of tuples it says nothing.
 pub fn shape_of_value(alloc: Global, v: &Value) -> Result<Shape, Memory>
-    ensures { IfOk result (λ s. HasShape s (datum v.now)) }
+    ensures holds { IfOk result (λ s. HasShape (bounds_of s) (datum v.now)) }
+    ensures exact { IfOk result (λ s. bounds_of s ≡ shown (datum v.now)) }
 {
     match v {
         Value::Nat(n) => Ok(Shape::Number(Interval { low: *n, high: *n })),
         Value::Members(m) => {
             let members = m.items();
             let count = members.items.len() as u128;
-            Ok(Shape::Members(Interval {
-                low: count,
-                high: count,
-            }))
+            let member = Box::new(alloc, Shape::Unknown)?;
+            Ok(Shape::Members {
+                count: Interval {
+                    low: count,
+                    high: count,
+                },
+                member,
+            })
         }
         Value::Grid(c) => {
-            let items = exact_dimensions(alloc, c.dims())?;
-            Ok(Shape::Grid(items))
+            let cell = Box::new(alloc, Shape::Unknown)?;
+            let dims = exact_dimensions(alloc, c.dims())?;
+            Ok(Shape::Grid { dims, cell })
         }
         _ => Ok(Shape::Unknown),
     }
@@ -105,7 +116,7 @@ pub fn shape_of_value(alloc: Global, v: &Value) -> Result<Shape, Memory>
 
 // The interval of each dimension alone.
 fn exact_dimensions(alloc: Global, dims: &Dims) -> Result<Intervals, Memory>
-    ensures { IfOk result (λ s. AreIn s dims.now) }
+    ensures { IfOk result (λ s. s ≡ map only dims.now) }
 {
     let mut items = Vec::new(alloc);
     for d in dims.dims.iter() {

@@ -1,115 +1,202 @@
--- What follows from the definitions of `Defined`.
-use Rattle.std.proofs.Common.{◌≡◌, ℕ, zero, suc, ◌+◌, ◌*◌, ◌-◌, ◌<◌, ◌≤◌, ◌/◌, ◌%◌, ◌^◌, Bool, true, false, nat_eq, List, [], ◌∷◌, length, Option, Some, refl, sym, ap, subst, ◌∙◌, arith, inl, inr}
-use Rattle.std.proofs.lemmas.Bool.{lt-ltb, eqb-true, cases_Bool}
-use Rattle.std.proofs.lemmas.Nat.{mul-le}
-use Rattle.aql_value.specs.declared.ops.ArithOp.{ArithOp}
-use Rattle.aql_value.specs.declared.ops.ArithOp.TheVariants.{Add, Monus, Mul, Quotient, Remainder}
-use Rattle.aql_value.specs.Datum as datum
+-- A term that is certain to have a value has one (`certain-defined`).
+use Rattle.std.proofs.Common.{◌≡◌, ℕ, zero, suc, ◌+◌, ◌*◌, ◌-◌, ◌<◌, ◌≤◌, ◌^◌, Bool, true, false, ◌&&◌, ◌||◌, sum, List, [], ◌∷◌, ◌++◌, length, map, Option, Some, None, unwrap_or, refl, sym, ap, subst, ◌∙◌, arith, if◌then◌else◌, eq-eqb}
+use Rattle.std.specs.List.{slice_get}
+use Rattle.std.proofs.lemmas.Bool.{lt-ltb, and_parts}
 use Rattle.aql_value.specs.Datum.{Datum}
-use Rattle.aql_value.specs.Laws.Datum.{list_of-data_of}
-use Rattle.aql_value.specs.Laws.Set.{length_canon}
-use Rattle.aql_value.specs.Ops.{arith_by}
-use Rattle.aql_value.specs.Partial.{◌>>=◌}
-use Rattle.aql_value.specs.Strict.{Strict, strict_value}
-use Rattle.aql_types.specs.Types.{natural, set_of}
-use Rattle.nrca_term.specs.Term.{Term}
-use Rattle.nrca_term.specs.Nodes.{arith_term, get_term}
-use Rattle.nrca_term.specs.Meaning.{cden}
-use Rattle.nrca_term.specs.Facts.{Facts, Stands}
-use Rattle.nrca_term.specs.Firm.{firm}
-use Rattle.nrca_term.specs.Laws.Sound.{sound}
-use Rattle.nrca_term.specs.Typing.{instances}
-use Rattle.nrca_term.specs.Laws.Variants.{cden-strict}
-use Rattle.nrca_laws.specs.Laws.Firms.{firm-defined}
-use Rattle.nrca_laws.specs.Laws.Typed.{strict-typed, TermsTyped}
+use Rattle.aql_value.specs.Laws.Lists.{Every-impl, Every-join, Every-map}
+use Rattle.aql_value.specs.Laws.Partial.{each-total, each-length, each-values}
+use Rattle.aql_value.specs.Lists.{Every}
+use Rattle.aql_value.specs.Operations.{as_natural, as_set, sum_of}
+use Rattle.aql_value.specs.Partial.{◌>>=◌, each, or_else}
+use Rattle.aql_value.specs.Strict.{strict_value}
+use Rattle.aql_types.specs.Laws.Operation.{has-append, has-length, some-list}
+use Rattle.aql_types.specs.Types as types
+use Rattle.aql_types.specs.Types.{Ty, natural}
+use Rattle.aql_types.specs.ValueTypes.{HasType, HaveTypes}
+use Rattle.nrca_term.specs.Term.{Term, Parts, node, none, part, Form, child_of, count, WellFormed}
+use Rattle.nrca_term.specs.Meaning.{Outcomes, Part, worth, here, form_value, members_value, loop_values, cden, part_values}
+use Rattle.nrca_term.specs.Places.{otherwise, entered}
+use Rattle.nrca_term.specs.Typing.{Arg, arg, form_rule, ctyped, parts_typed, instances, OutcomesHave}
+use Rattle.nrca_term.specs.Facts.{Facts, enter_facts, Stands}
+use Rattle.nrca_term.specs.Firm.{wants_all, firm}
+use Rattle.nrca_term.specs.Laws.Contexts.{stands-enter}
+use Rattle.nrca_term.specs.Laws.Entering.{length-part_values}
+use Rattle.nrca_term.specs.Laws.Facts.{natural-is}
+use Rattle.nrca_term.specs.Laws.Sound.{AllSound, sound-get, sounds, sound-length, loop-sound, parts-sound, has-here}
+use Rattle.nrca_term.specs.Laws.TypedForm.{well_formed-typed}
+use Rattle.nrca_term.specs.Laws.TypedPlaces.{entered-own}
+use Rattle.nrca_laws.specs.Operations.{Valued}
+use Rattle.nrca_laws.specs.Laws.Firms.{PositionsAre, PartsDefined, form-defined, firm-defined}
+use Rattle.nrca_laws.specs.Laws.Operations.{set-is}
 use Rattle.nrca_laws.specs.Laws.Ways.{outcomes-are}
-use Rattle.nrca_ranges.specs.declared.shape.Shape.{Shape}
-use Rattle.nrca_ranges.specs.declared.interval.Interval.{Interval}
 use Rattle.nrca_ranges.specs.declared.context.Ctx.{Ctx}
+use Rattle.nrca_ranges.specs.Bounds.{Bounds, IsIn, HasShape}
+use Rattle.nrca_ranges.specs.Certain.{form_certain, certain, all_certain, some_certain}
 use Rattle.nrca_ranges.specs.Context.{context_of}
 use Rattle.nrca_ranges.specs.Entered.{is_shaped}
-use Rattle.nrca_ranges.specs.Shapes.{Tells, IsCount, IsNumberIn, IsCountIn}
-use Rattle.nrca_defined.specs.Defined.{IsDefinedAt, AlwaysFits, IsOneMember}
+use Rattle.nrca_ranges.specs.Shapes.{Tells, known_shapes, firm_at, certain_at}
+use Rattle.nrca_ranges.specs.Transfer.{interval_of, count_of, entry_at, all_bounds}
+use Rattle.nrca_ranges.specs.Laws.Bounds.{interval-is}
+use Rattle.nrca_ranges.specs.Laws.Forms.{AllShaped, here-shaped, loop-shaped}
+use Rattle.nrca_ranges.specs.Laws.Intervals.{capped-is, sum-most}
+use Rattle.nrca_ranges.specs.Laws.Sound.{parts-shaped, length-all_bounds}
+use Rattle.nrca_defined.specs.Defined.{IsDefinedAt, IsDefinedIn}
+use Rattle.nrca_defined.specs.Laws.Operations.{strict-fits}
 
--- a firm term
-pub firm-is : (gs : List (Option Shape)) (c : Facts) (t : Term) (b : Bool) → b ≡ firm (is_shaped gs) c t → b ≡ true → IsDefinedAt gs c t
+-- parts without variables that have values, as a list
+here-valued : (ps : List Part) → ((i : ℕ) → i < length ps → Valued (worth ps i [])) → (vs : List Datum) × (each here ps ≡ Some vs)
+here-valued [] h = ([], refl)
+here-valued (p ∷ ps) h =
+    let a = h 0 (omega arith) in
+    let r = here-valued ps (λ i l. h (suc i) (omega (arith, l))) in
+    (a.0 ∷ r.0, rw (a.1, r.1) refl)
+
+-- the sum of numbers whose greatest possible sum stays below 2^128-1
+sum-there : (a b : Bounds) (rs : List Datum) (m : ℕ) → (count_of a).high * (interval_of b).high < 2 ^ 128 - 1 → ((count_of a).high < 2 ^ 128 - 1 → m ≤ (count_of a).high) → length rs ≡ m → Every (HasType natural) rs → Every (HasShape b) rs →
+    Valued (sum_of rs)
+sum-there a b rs m l u k t h =
+    let ns = each-total as_natural rs (Every-impl (HasType natural) (λ w. (n : ℕ) × (as_natural w ≡ Some n)) (λ w q. (q.0, ap as_natural q.1)) rs t) in
+    let g : Every (IsIn (interval_of b)) ns.0 = each-values as_natural (HasShape b) (IsIn (interval_of b)) (λ w n p i. interval-is b n (subst (HasShape b) (natural-is w n i) p)) rs ns.0 h ns.1 in
+    let s = sum-most (count_of a).high (interval_of b).high ns.0 l (λ p. omega (arith, each-length as_natural rs ns.0 ns.1, k, u p)) (Every-impl (IsIn (interval_of b)) (λ n. (interval_of b).high < 2 ^ 128 - 1 → n ≤ (interval_of b).high) (λ n i. i.1) ns.0 g) in
+    rw ns.1 (rw (lt-ltb (sum ns.0) (2 ^ 128) (omega (arith, s, l))) (_, refl))
+
+-- a node that wants all its parts, and has a value wherever its parts have, has one where each part has one wherever it is entered
+form-fits : (G : ℕ → Ty → Type 0) (V : Outcomes) (D : ℕ → Bool) (env : List Ty) (vals : List Datum) → PositionsAre D V → HaveTypes env vals → (f : Form) (args : List Arg) (T : Ty) (ps : List Part) (bs : List Bounds) →
+    form_certain D f bs ≡ true → wants_all f ≡ true → form_rule G env f args T → AllSound args ps → PartsDefined f ps → length bs ≡ length ps → AllShaped f ps bs → Valued (form_value V vals f ps)
+form-fits G V D env vals d h (Form.var i) args T ps bs e w r s k l a = form-defined G V D env vals d h (Form.var i) args T ps refl refl r s k
+form-fits G V D env vals d h (Form.global n) args T ps bs e w r s k l a = form-defined G V D env vals d h (Form.global n) args T ps e refl r s k
+form-fits G V D env vals d h Form.bind args T ps bs e w r s k l a = form-defined G V D env vals d h Form.bind args T ps refl refl r s k
+form-fits G V D env vals d h Form.choose args T ps bs e w r s k l a = form-defined G V D env vals d h Form.choose args T ps refl refl r s k
+form-fits G V D env vals d h Form.default args T ps bs e w r s k l a = cc
+form-fits G V D env vals d h Form.big_union args T ps bs e w r s k l a = form-defined G V D env vals d h Form.big_union args T ps refl refl r s k
+form-fits G V D env vals d h (Form.tab rank) args T ps bs e w r s k l a = form-defined G V D env vals d h (Form.tab rank) args T ps refl refl r s k
+form-fits G V D env vals d h Form.sum args T ps bs e w r s k l a =
+    let s = sounds args (arg [] (types.set_of r.0) ∷ arg (r.0 ∷ []) natural ∷ []) ps r.1 s in
+    let n : 2 ≡ length ps = sound-length (arg [] (types.set_of r.0) ∷ arg (r.0 ∷ []) natural ∷ []) ps s in
+    let v = (k 0 (omega (arith, n))).0 in
+    let m = set-is r.0 v.0 (sound-get (arg [] (types.set_of r.0) ∷ arg (r.0 ∷ []) natural ∷ []) ps 0 (arg [] (types.set_of r.0)) s refl [] v.0 tt v.1) in
+    let q : members_value ps ≡ Some m.0 = ap (λ o. o >>= as_set) v.1 ∙ m.1 in
+    let bodies = subst (λ o. Every (λ new. Valued (worth ps 1 new)) (map (λ x. x ∷ []) (unwrap_or o []))) q (k 1 (omega (arith, n))) in
+    let rs = each-total (λ x. worth ps 1 (x ∷ [])) m.0 (Every-map (λ new. Valued (worth ps 1 new)) (λ x. x ∷ []) m.0 bodies) in
+    let loop : loop_values ps ≡ Some rs.0 = ap (λ o. o >>= each (λ x. worth ps 1 (x ∷ []))) q ∙ rs.1 in
+    let z = loop-shaped ps bs rs.0 (a 0) (a 1) loop in
+    subst (λ o. Valued (o >>= sum_of)) (sym loop)
+    (sum-there (entry_at bs 0) (entry_at bs 1) rs.0 (length z.0) (capped-is ((count_of (entry_at bs 0)).high * (interval_of (entry_at bs 1)).high) e) z.2.1 z.1 (loop-sound r.0 natural ps rs.0 s loop) z.3)
+form-fits G V D env vals d h (Form.strict c) args T ps bs e w r s k l a =
+    let v = here-valued ps (λ i q. (k i q).0) in
+    subst (λ o. Valued (o >>= strict_value c)) (sym v.1)
+    (strict-fits c r.0 T bs v.0 e r.2 (has-here r.0 ps v.0 (sounds args (map (arg []) r.0) ps r.1 s) v.1) (here-shaped ps bs v.0 l (λ i w q. (a i).0 w q) v.1))
+
+-- whether part i of those from number j on is certain to have a value
+abbrev pub certain_part : List (Option Bounds) → Facts → Term → (j : ℕ) → Parts → (i : ℕ) → Bool
+certain_part gs c t j none i = false
+certain_part gs c t j (part k u ps) zero = certain gs (enter_facts c t j) u
+certain_part gs c t j (part k u ps) (suc i) = certain_part gs c t (suc j) ps i
+
+-- where all parts from j on are certain, each is; where some part is, there is one
+each-certain : (gs : List (Option Bounds)) (c : Facts) (t : Term) (j : ℕ) (ps : Parts) (i : ℕ) → all_certain gs c t j ps ≡ true → i < count ps → certain_part gs c t j ps i ≡ true
+each-certain gs c t j none i h l = absurd (omega (arith, l))
+each-certain gs c t j (part k u ps) zero h l = (and_parts (certain gs (enter_facts c t j) u) (all_certain gs c t (suc j) ps) h).0
+each-certain gs c t j (part k u ps) (suc i) h l = each-certain gs c t (suc j) ps i (and_parts (certain gs (enter_facts c t j) u) (all_certain gs c t (suc j) ps) h).1 (omega (arith, l))
+
+one-certain : (gs : List (Option Bounds)) (c : Facts) (t : Term) (j : ℕ) (ps : Parts) → some_certain gs c t j ps ≡ true → (i : ℕ) × (i < count ps) × (certain_part gs c t j ps i ≡ true)
+one-certain gs c t j none h = cc
+one-certain gs c t j (part k u ps) h = at (λ q. one-certain gs c t (suc j) ps q) (certain gs (enter_facts c t j) u) refl h
+  where
+    at : (some_certain gs c t (suc j) ps ≡ true → (i : ℕ) × (i < count ps) × (certain_part gs c t (suc j) ps i ≡ true)) → (b : Bool) → certain gs (enter_facts c t j) u ≡ b → (b || some_certain gs c t (suc j) ps) ≡ true →
+        (i : ℕ) × (i < suc (count ps)) × (certain_part gs c t j (part k u ps) i ≡ true)
+    at later true e q = (0, omega arith, e)
+    at later false e q = let r = later q in (suc r.0, omega (arith, r.1), r.2)
+
+-- each part has an argument, and is a term
+arg-there : (args : List Arg) (ps : List Part) (i : ℕ) → AllSound args ps → i < length ps → (a : Arg) × (slice_get args i ≡ Some a)
+arg-there [] [] i h l = absurd (omega (arith, l))
+arg-there [] (p ∷ ps) i h l = absurd h
+arg-there (a ∷ args) [] i h l = absurd h
+arg-there (a ∷ args) (p ∷ ps) zero h l = (a, refl)
+arg-there (a ∷ args) (p ∷ ps) (suc i) h l = arg-there args ps i h.1 (omega (arith, l))
+
+child-there : (ps : Parts) (i : ℕ) → i < count ps → (u : Term) × (child_of ps i ≡ Some u)
+child-there none i l = absurd (omega (arith, l))
+child-there (part k u ps) zero l = (u, refl)
+child-there (part k u ps) (suc i) l = child-there ps i (omega (arith, l))
+
+-- the types and the facts with which a part is entered
+ways-in : (G : ℕ → Ty → Type 0) (V : Outcomes) → OutcomesHave G V → (c : Facts) (f : Form) (ps : Parts) (env : List Ty) (vals : List Datum) (T : Ty) (args : List Arg) → HaveTypes env vals → Stands V c vals → WellFormed (node f ps) →
+    form_rule G env f args T → parts_typed G env ps args → (i : ℕ) → i < count ps → (a : Arg) × (slice_get args i ≡ Some a) × Every (λ new. HaveTypes a.own new × Stands V (enter_facts c (node f ps) i) (new ++ vals)) (entered f (part_values V vals ps) i)
+ways-in G V g c f ps env vals T args h st wf r t i l =
+    let s = parts-sound G V g ps env vals args h t in
+    let a = arg-there args (part_values V vals ps) i s (omega (arith, l, length-part_values V vals ps)) in
+    let u = child-there ps i l in (
+      a.0,
+      a.1,
+      Every-join (HaveTypes a.0.own) (λ new. Stands V (enter_facts c (node f ps) i) (new ++ vals)) _ (λ new p q. (p, q)) (entered f (part_values V vals ps) i)
+          (entered-own G env f args T (part_values V vals ps) i a.0 r s a.1) (stands-enter V c vals (node f ps) i u.0 wf u.1 st),
+    )
+
+-- each part that is certain to have a value has one at each list of values with which an evaluation of the node comes to it
+abbrev pub CertainParts : List (Option Bounds) → Outcomes → Facts → List Datum → Form → Parts → Type 0
+CertainParts gs V c vals f ps = (i : ℕ) → i < count ps → certain_part gs c (node f ps) 0 ps i ≡ true → Every (λ new. Valued (worth (part_values V vals ps) i new)) (entered f (part_values V vals ps) i)
+
+-- a default is worth its first part, and else its second
+default-valued : (V : Outcomes) (vals : List Datum) (ps : List Part) (i : ℕ) → i < 2 → Every (λ new. Valued (worth ps i new)) (entered Form.default ps i) → Valued (form_value V vals Form.default ps)
+default-valued V vals ps zero l h = let v = h.0 in rw v.1 (_, refl)
+default-valued V vals ps (suc zero) l h = at (worth ps 0 []) h
+  where
+    at : (o : Option Datum) → Every (λ new. Valued (worth ps 1 new)) (otherwise o) → Valued (or_else o (worth ps 1 []))
+    at None k = k.0
+    at (Some v) k = (v, refl)
+default-valued V vals ps (suc (suc i)) l h = absurd (omega (arith, l))
+
+-- a node whose form and parts tell that it has a value
+node-defined : (G : ℕ → Ty → Type 0) (V : Outcomes) (gs : List (Option Bounds)) → OutcomesHave G V → Tells gs V → PositionsAre (is_shaped gs) V → (f : Form) (ps : Parts) (c : Facts) (env : List Ty) (vals : List Datum) (T : Ty) (args : List Arg) →
+    HaveTypes env vals → Stands V c vals → WellFormed (node f ps) → form_rule G env f args T → parts_typed G env ps args → CertainParts gs V c vals f ps → form_certain (is_shaped gs) f (all_bounds gs c (node f ps) 0 ps) ≡ true →
+    (a : Bool) → wants_all f ≡ a → (if a then all_certain gs c (node f ps) 0 ps else some_certain gs c (node f ps) 0 ps) ≡ true → Valued (cden V vals (node f ps))
+node-defined G V gs g tl d f ps c env vals T args h st wf r t k e true w p =
+    form-fits G V (is_shaped gs) env vals d h f args T (part_values V vals ps) (all_bounds gs c (node f ps) 0 ps) e w r (parts-sound G V g ps env vals args h t)
+    (λ i l. let m : i < count ps = omega (arith, l, length-part_values V vals ps) in k i m (each-certain gs c (node f ps) 0 ps i p m))
+    (length-all_bounds gs c (node f ps) 0 ps ∙ sym (length-part_values V vals ps))
+    (parts-shaped gs V tl f ps c vals wf st)
+node-defined G V gs g tl d Form.default ps c env vals T args h st wf r t k e false w p =
+    let q = one-certain gs c (node Form.default ps) 0 ps p in
+    let n : 2 ≡ length (part_values V vals ps) = sound-length (arg [] T ∷ arg [] T ∷ []) (part_values V vals ps) (sounds args (arg [] T ∷ arg [] T ∷ []) (part_values V vals ps) r (parts-sound G V g ps env vals args h t)) in
+    default-valued V vals (part_values V vals ps) q.0 (omega (arith, q.1, n, length-part_values V vals ps)) (k q.0 q.1 q.2)
+node-defined G V gs g tl d f ps c env vals T args h st wf r t k e false w p = cc
+
+mutual
+  -- a typed term that is certain to have a value has one
+  pub certain-defined : (G : ℕ → Ty → Type 0) (V : Outcomes) (gs : List (Option Bounds)) → OutcomesHave G V → Tells gs V → PositionsAre (is_shaped gs) V → (t : Term) (c : Facts) (env : List Ty) (vals : List Datum) (T : Ty) →
+      HaveTypes env vals → Stands V c vals → ctyped G env t T → certain gs c t ≡ true → Valued (cden V vals t)
+  certain-defined G V gs g tl d (node f ps) c env vals T h st ty e =
+      by-parts (firm (is_shaped gs) c (node f ps)) refl e
+      (λ i l p. let w = ways-in G V g c f ps env vals T ty.1 h st (well_formed-typed G env (node f ps) T ty) ty.2 ty.3 i l in
+      Every-impl _ _ (λ new q. parts-defined G V gs g tl d (node f ps) c ps 0 env vals ty.1 h ty.3 i i w.0 (omega arith) p w.1 new q.0 q.1) (entered f (part_values V vals ps) i) w.2)
+    where
+      by-parts : (b : Bool) → firm (is_shaped gs) c (node f ps) ≡ b → (b || (form_certain (is_shaped gs) f (all_bounds gs c (node f ps) 0 ps) && (if wants_all f then all_certain gs c (node f ps) 0 ps else some_certain gs c (node f ps) 0 ps))) ≡ true →
+          CertainParts gs V c vals f ps → Valued (cden V vals (node f ps))
+      by-parts true z q k = firm-defined G V (is_shaped gs) g d (node f ps) c env vals T h st ty z
+      by-parts false z q k =
+          let b = and_parts (form_certain (is_shaped gs) f (all_bounds gs c (node f ps) 0 ps)) (if wants_all f then all_certain gs c (node f ps) 0 ps else some_certain gs c (node f ps) 0 ps) q in
+          node-defined G V gs g tl d f ps c env vals T ty.1 h st (well_formed-typed G env (node f ps) T ty) ty.2 ty.3 k b.0 (wants_all f) refl b.1
+
+  parts-defined : (G : ℕ → Ty → Type 0) (V : Outcomes) (gs : List (Option Bounds)) → OutcomesHave G V → Tells gs V → PositionsAre (is_shaped gs) V → (t : Term) (c : Facts) (ps : Parts) (j : ℕ) (env : List Ty) (vals : List Datum) (args : List Arg) → HaveTypes env vals → parts_typed G env ps args →
+      (i n : ℕ) (a : Arg) → n ≡ j + i → certain_part gs c t j ps i ≡ true → slice_get args i ≡ Some a → (new : List Datum) → HaveTypes a.own new → Stands V (enter_facts c t n) (new ++ vals) → Valued (worth (part_values V vals ps) i new)
+  parts-defined G V gs g tl d t c none j env vals args h ty i n a q p e new m k = cc
+  parts-defined G V gs g tl d t c (part w u ps) j env vals args h ty zero n a q p e new m k =
+      let z : ty.0 ≡ a = some-list ty.0 a (ap (λ x. slice_get x 0) (sym ty.2) ∙ e) in
+      let m' : HaveTypes ty.0.own new = subst (λ x. HaveTypes x.own new) (sym z) m in
+      let y : n ≡ j = omega (arith, q) in
+      let v = certain-defined G V gs g tl d u (enter_facts c t j) (ty.0.own ++ env) (new ++ vals) ty.0.has (has-append ty.0.own env new vals m' h) (subst (λ x. Stands V (enter_facts c t x) (new ++ vals)) y k) ty.4 p in
+      subst (λ b. Valued (if b then cden V (new ++ vals) u else None)) (sym (eq-eqb (length new) w (has-length ty.0.own new m' ∙ ty.3))) v
+  parts-defined G V gs g tl d t c (part w u ps) j env vals args h ty (suc i) n a q p e new m k =
+      parts-defined G V gs g tl d t c ps (suc j) env vals ty.1 h ty.5 i n a (omega (arith, q)) p (ap (λ x. slice_get x (suc i)) (sym ty.2) ∙ e) new m k
+
+-- so of a term at the place of a context
+pub sound-answer : (c : Ctx) (t : Term) (b : Bool) → b ≡ certain_at c t → b ≡ true → IsDefinedIn c t
 unfolding IsDefinedAt
-firm-is gs c t b e k given V env vals T g h tl st ty =
-    firm-defined (instances given) V (is_shaped gs) g (λ n q. outcomes-are V n (sym (tl.1 n) ∙ q)) t c env vals T h st ty (sym e ∙ k)
+sound-answer c t b e k given V env vals T g h tl st ty =
+    certain-defined (instances given) V (known_shapes c) g tl (λ n q. outcomes-are V n (sym (tl.1 n) ∙ q)) t (context_of c) env vals T h st ty (sym e ∙ k)
 
--- what arithmetic makes of two numbers that its sides are worth
-made : (op : ArithOp) (o p : Option Datum) (m n k : ℕ) → o ≡ Some (datum.natural m) → p ≡ Some (datum.natural n) → arith_by op m n ≡ Some k →
-    ((o >>= λ y. (p >>= λ z. Some (z ∷ [])) >>= λ ys. Some (y ∷ ys)) >>= strict_value (Strict.arith op)) ≡ Some (datum.natural k)
-made op o p m n k e f g = rw (e, f) (rw g refl)
-
--- arithmetic that fits at all numbers of its sides' intervals, where both sides have values
-pub arith-is : (c : Ctx) (gs : List (Option Shape)) (d : Facts) (op : ArithOp) (a b : Term) (x y : Interval) → IsNumberIn c a x → IsNumberIn c b y → AlwaysFits op x y →
-    IsDefinedAt c.globals (context_of c) a → IsDefinedAt gs d b → gs ≡ c.globals → d ≡ context_of c → IsDefinedAt c.globals (context_of c) (arith_term op a b)
-unfolding IsDefinedAt
-arith-is c gs d op a b x y ha hb f da db eg ed given V env vals T g h tl st ty =
-    let r = strict-typed (instances given) env (Strict.arith op) (a ∷ b ∷ []) T ty in
-    let t = subst (TermsTyped (instances given) env (a ∷ b ∷ [])) r.1.0 r.2 in
-    let v = da given V env vals natural g h tl st t.0 in
-    let w = db given V env vals natural g h (subst (λ l. Tells l V) (sym eg) tl) (subst (λ z. Stands V z vals) (sym ed) st) t.1.0 in
-    let m = sound (instances given) V g a env vals natural v.0 h t.0 v.1 in
-    let n = sound (instances given) V g b env vals natural w.0 h t.1.0 w.1 in
-    let p : cden V vals a ≡ Some (datum.natural m.0) = v.1 ∙ ap Some m.1 in
-    let q : cden V vals b ≡ Some (datum.natural n.0) = w.1 ∙ ap Some n.1 in
-    let k = f m.0 n.0 (ha V vals m.0 (tl, st) p) (hb V vals n.0 (tl, st) q) in
-    (datum.natural k.0, cden-strict V vals (Strict.arith op) (a ∷ b ∷ []) ∙ made op (cden V vals a) (cden V vals b) m.0 n.0 k.0 p q k.1)
-
--- a product of numbers is at most that of the upper ends, where that one stays below 2^128-1
-high-product : (g h m n : ℕ) → g * h < 2 ^ 128 - 1 → (g < 2 ^ 128 - 1 → m ≤ g) → (h < 2 ^ 128 - 1 → n ≤ h) → m * n ≤ g * h
-high-product zero h m n l x y = let z : m ≡ 0 = omega (arith, x (omega arith)) in omega (arith, ap (λ q. q * n) z)
-high-product (suc g) zero m n l x y = let z : n ≡ 0 = omega (arith, y (omega arith)) in omega (arith, ap (λ q. m * q) z)
-high-product (suc g) (suc h) m n l x y =
-    let p : 1 * suc h ≤ suc g * suc h = mul-le 1 (suc h) (suc g) (suc h) (omega arith) (omega arith) in
-    let q : suc g * 1 ≤ suc g * suc h = mul-le (suc g) 1 (suc g) (suc h) (omega arith) (omega arith) in
-    mul-le m n (suc g) (suc h) (x (omega (arith, l, q))) (y (omega (arith, l, p)))
-
--- a sum whose upper end stays below 2^128-1 always fits
-pub fits-sum : (a b : Interval) → a.high + b.high < 2 ^ 128 - 1 → AlwaysFits Add a b
-fits-sum a b l m n x y = (m + n, rw (lt-ltb (m + n) (2 ^ 128) (omega (arith, l, x.1 (omega (arith, l)), y.1 (omega (arith, l))))) refl)
-
--- so does such a product
-pub fits-product : (a b : Interval) → a.high * b.high < 2 ^ 128 - 1 → AlwaysFits Mul a b
-fits-product a b l m n x y = (m * n, rw (lt-ltb (m * n) (2 ^ 128) (omega (arith, l, high-product a.high b.high m n l x.1 y.1))) refl)
-
--- a difference that stops at 0 always fits
-pub fits-monus : (a b : Interval) → AlwaysFits Monus a b
-fits-monus a b m n x y = (m - n, refl)
-
--- a number above 0 is not 0
-not-zero : (n : ℕ) → 0 < n → nat_eq n 0 ≡ false
-not-zero n l = elim (cases_Bool (nat_eq n 0)) [ inl e ↦ absurd (omega (arith, l, eqb-true n 0 e)) | inr e ↦ e ]
-
--- a quotient by a number above 0 always fits
-pub fits-quotient : (a b : Interval) → 0 < b.low → AlwaysFits Quotient a b
-fits-quotient a b l m n x y = (m / n, rw (not-zero n (omega (arith, l, y.0))) refl)
-
--- so does such a remainder
-pub fits-remainder : (a b : Interval) → 0 < b.low → AlwaysFits Remainder a b
-fits-remainder a b l m n x y = (m % n, rw (not-zero n (omega (arith, l, y.0))) refl)
-
--- a list of one member
-one-member : (vs : List Datum) → length vs ≡ 1 → (v : Datum) × (vs ≡ v ∷ [])
-one-member [] e = absurd (omega (arith, e))
-one-member (v ∷ []) e = (v, refl)
-one-member (v ∷ w ∷ vs) e = absurd (omega (arith, e))
-
--- the member of a set of one
-taken : (o : Option Datum) (vs : List Datum) (v : Datum) → o ≡ Some (datum.set (datum.data_of vs)) → vs ≡ v ∷ [] → ((o >>= λ y. Some (y ∷ [])) >>= strict_value Strict.get) ≡ Some v
-taken o vs v e z = ap (λ p. (p >>= λ y. Some (y ∷ [])) >>= strict_value Strict.get) (e ∙ ap (λ l. Some (datum.set (datum.data_of l))) z)
-
--- the member of a set that has a value and always one member
-pub get-is : (c : Ctx) (a : Term) (i : Interval) → IsCountIn c a i → IsOneMember i → IsDefinedAt c.globals (context_of c) a → IsDefinedAt c.globals (context_of c) (get_term a)
-unfolding IsDefinedAt
-get-is c a i n o d given V env vals T g h tl st ty =
-    let r = strict-typed (instances given) env Strict.get (a ∷ []) T ty in
-    let t = subst (TermsTyped (instances given) env (a ∷ [])) r.1 r.2 in
-    let v = d given V env vals (set_of T) g h tl st t.0 in
-    let m = sound (instances given) V g a env vals (set_of T) v.0 h t.0 v.1 in
-    let p : cden V vals a ≡ Some (datum.set (datum.data_of m.0)) = v.1 ∙ ap Some m.1 in
-    let k : IsCount i m.0 = subst (IsCount i) (list_of-data_of m.0) (n V vals (datum.data_of m.0) (tl, st) p) in
-    let w = one-member m.0 (omega (arith, o.0, o.1, k.0, k.1 (omega (arith, o.1)), length_canon m.0)) in
-    (w.0, cden-strict V vals Strict.get (a ∷ []) ∙ taken (cden V vals a) m.0 w.0 p w.1)
+-- a firm term is certain to have a value
+pub firm-certain : (c : Ctx) (t : Term) (b : Bool) → b ≡ certain_at c t → firm_at c t ≡ true → b ≡ true
+firm-certain c (node f ps) b e k = e ∙ ap (λ x. x || (form_certain (is_shaped (known_shapes c)) f (all_bounds (known_shapes c) (context_of c) (node f ps) 0 ps) && (if wants_all f then all_certain (known_shapes c) (context_of c) (node f ps) 0 ps else some_certain (known_shapes c) (context_of c) (node f ps) 0 ps))) k

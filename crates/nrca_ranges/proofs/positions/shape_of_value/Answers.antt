@@ -1,20 +1,57 @@
-use Rattle.std.proofs.Common.{◌≡◌, length, ap, sym, subst, ◌∙◌, arith}
+use Rattle.std.proofs.Common.{◌≡◌, length, map, ap, sym, subst, ◌∙◌, arith}
 use Rattle.std.proofs.lemmas.List.{length-map}
-use Rattle.aql_value.specs.Datum.{data_of}
+use Rattle.aql_value.specs.Datum.{data_of, list_of}
 use Rattle.aql_value.specs.Laws.Datum.{list_of-data_of}
 use Rattle.aql_value.specs.Meaning.{datum}
 use Rattle.nrca_ranges.specs.declared.interval.Interval.{Interval}
-use Rattle.nrca_ranges.specs.Shapes.{IsCount, AreIn}
-use Rattle.nrca_ranges.specs.Laws.Shapes.{count-is}
+use Rattle.nrca_ranges.specs.Bounds.{HasShape, IsCount, AreIn, unknown, members, grid}
+use Rattle.nrca_ranges.specs.Exact.{only, shown}
+use Rattle.nrca_ranges.specs.Shapes.{bounds_of}
+use Rattle.nrca_ranges.specs.Laws.Bounds.{count-is, nothing-known}
+use Rattle.nrca_ranges.specs.Laws.Views.{bounds_of-Unknown, bounds_of-Members, bounds_of-Grid}
+use Rattle.nrca_ranges.proofs.Lists.{are-only}
 use Rattle.nrca_ranges.proofs.positions.shape_of_value.Goals as goal
 
-pub returns-in-Members : goal.returns-in-Members
-returns-in-Members c =
+pub returns-in_ok-member-in-Members-clause-holds : goal.returns-in_ok-member-in-Members-clause-holds
+returns-in_ok-member-in-Members-clause-holds c =
     let n = c.len-count.result in
     let i : Interval = record { low = n; high = n } in
     let e : n ≡ length c.in-Members.m = omega (arith, c.len-count.ensures, length-map c.members.inside.items.items datum, ap length (c.members.view_is ∙ c.items-members.ensures.items)) in
-    (data_of c.in-Members.m, ap datum c.in-Members.is, subst (IsCount i) (sym (list_of-data_of c.in-Members.m)) (count-is i c.in-Members.m n c.items-members.ensures.ascending (sym e) (omega arith, λ l. omega arith)))
+    let z = bounds_of-Members i c.in_ok-member-in-Members.member ∙ ap (λ s. members i (bounds_of s)) c.in_ok-member-in-Members.ensures.ok ∙ ap (members i) bounds_of-Unknown in
+    subst (λ b. HasShape b (datum c.args.v.now)) (sym z) (
+      data_of c.in-Members.m,
+      ap datum c.in-Members.is,
+      subst (IsCount i) (sym (list_of-data_of c.in-Members.m)) (count-is i c.in-Members.m n c.items-members.ensures.ascending (sym e) (omega arith, λ l. omega arith)),
+      nothing-known (list_of (data_of c.in-Members.m)),
+    )
 
-pub returns-in_ok-items-in-Grid : goal.returns-in_ok-items-in-Grid
-returns-in_ok-items-in-Grid c =
-    (c.in-Grid.c.dims, data_of c.in-Grid.c.cells, ap datum c.in-Grid.is, subst (AreIn c.in_ok-items-in-Grid.items) c.dims.ensures c.in_ok-items-in-Grid.ensures)
+pub returns-in_ok-member-in-Members-clause-exact : goal.returns-in_ok-member-in-Members-clause-exact
+returns-in_ok-member-in-Members-clause-exact c =
+    let n = c.len-count.result in
+    let e : n ≡ length c.in-Members.m = omega (arith, c.len-count.ensures, length-map c.members.inside.items.items datum, ap length (c.members.view_is ∙ c.items-members.ensures.items)) in
+    bounds_of-Members (only n) c.in_ok-member-in-Members.member
+    ∙ ap (λ s. members (only n) (bounds_of s)) c.in_ok-member-in-Members.ensures.ok
+    ∙ ap (members (only n)) bounds_of-Unknown
+    ∙ ap (λ k. members (only k) unknown) (e ∙ ap length (sym (list_of-data_of c.in-Members.m)))
+    ∙ ap shown (sym (ap datum c.in-Members.is))
+
+pub returns-in_ok-dims-in-Grid-clause-holds : goal.returns-in_ok-dims-in-Grid-clause-holds
+returns-in_ok-dims-in-Grid-clause-holds c =
+    let is = c.in_ok-dims-in-Grid.dims in
+    let z = bounds_of-Grid is c.in_ok-cell-in-Grid.cell ∙ ap (λ s. grid is (bounds_of s)) c.in_ok-cell-in-Grid.ensures.ok ∙ ap (grid is) bounds_of-Unknown in
+    subst (λ b. HasShape b (datum c.args.v.now)) (sym z) (
+      c.in-Grid.c.dims,
+      data_of c.in-Grid.c.cells,
+      ap datum c.in-Grid.is,
+      subst (λ l. AreIn l c.in-Grid.c.dims) (sym (c.in_ok-dims-in-Grid.ensures ∙ ap (map only) c.dims.ensures)) (are-only c.in-Grid.c.dims),
+      nothing-known (list_of (data_of c.in-Grid.c.cells)),
+    )
+
+pub returns-in_ok-dims-in-Grid-clause-exact : goal.returns-in_ok-dims-in-Grid-clause-exact
+returns-in_ok-dims-in-Grid-clause-exact c =
+    let is = c.in_ok-dims-in-Grid.dims in
+    bounds_of-Grid is c.in_ok-cell-in-Grid.cell
+    ∙ ap (λ s. grid is (bounds_of s)) c.in_ok-cell-in-Grid.ensures.ok
+    ∙ ap (grid is) bounds_of-Unknown
+    ∙ ap (λ l. grid l unknown) (c.in_ok-dims-in-Grid.ensures ∙ ap (map only) c.dims.ensures)
+    ∙ ap shown (sym (ap datum c.in-Grid.is))

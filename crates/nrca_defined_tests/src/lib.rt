@@ -1,0 +1,5 @@
+//! Tests of contexts, shapes and the error analysis of core terms.
+#![tactic(auto)]
+
+#[cfg(test)]
+mod tests;

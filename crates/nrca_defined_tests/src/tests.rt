@@ -1,0 +1,4 @@
+mod contexts;
+mod rows;
+mod shapes;
+mod words;

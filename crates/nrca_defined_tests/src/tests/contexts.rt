@@ -1,0 +1,171 @@
+//! The facts of places, and contexts that are entered and left.
+
+use crate::tests::words;
+use aql_value::Memory;
+use nrca_ranges::{Ctx, Fact, GlobalShapes, Known, is_small};
+use nrca_subst::same;
+use nrca_term::Core;
+use std::alloc::Global;
+use std::test::Fail;
+
+// A term, the steps to a part of it, and the facts of the part's place: each a kind, its number of variables and its words.
+const PLACES: &str = "\
+5 v0 tab1|0|
+5 v0 tab1|1|D 1 v0 5 <
+5 v0 v0 tup2 tab1|1 1|D 1 v0 5 <
+5 6 v0 tab2|2|D 2 v1 5 <;D 2 v0 6 <
+5 gen v0 one U|0|
+5 gen v0 one U|1|D 1 v0 5 <
+5 gen v0 one U|1 0|D 1 v0 5 <
+{} v0 one U|1|
+5 gen v0 S|1|D 1 v0 5 <
+g1 1 < 2 3 if|0|
+g1 1 < 2 3 if|1|T 0 g1 1 <
+g1 1 < 2 3 if|2|F 0 g1 1 <
+T 2 3 if|1|
+5 v0 1 < 2 v0 if tab1|1 2|D 1 v0 5 <;F 1 v0 1 <
+5 v0 1 < g1 v1 let v0 if tab1|1 1 1|D 1 v0 5 <;T 1 v0 1 <
+5 v0 1 < g1 v1 let v0 if tab1|1 1 0|D 1 v0 5 <;T 1 v0 1 <
+5 v0 1 < v0 gen v0 one U {} if tab1|1 1 1|D 1 v0 5 <;T 1 v0 1 <;D 2 v0 v1 <
+5 v0 gen v0 gen v0 S S tab1|1 1 1|D 1 v0 5 <;D 2 v0 v1 <;D 3 v0 v1 <
+g1 2 let|1|
+g1 2 or|1|";
+
+fn known_of(word: &str) -> Option<Known> {
+    match word {
+        "D" => Some(Known::Domain),
+        "T" => Some(Known::Test),
+        "F" => Some(Known::Denied),
+        _ => None,
+    }
+}
+
+// Enters the part, where there is one.
+fn entered(alloc: Global, ctx: &mut Ctx, term: &Core, part: u64) -> Result<bool, Memory> {
+    if part < term.parts() && is_small(term, ctx.depth()) {
+        let _mark = ctx.push(alloc, term, part)?;
+        return Ok(true);
+    }
+    Ok(false)
+}
+
+// Goes down the steps; false where one leaves the term.
+fn gone(alloc: Global, ctx: &mut Ctx, term: &Core, steps: &str) -> Result<bool, Memory> {
+    let mut at = term;
+    for step in steps.split(' ') {
+        let part = step.parse::<u64>().map_err(|_| Memory)?;
+        if !entered(alloc, ctx, at, part)? {
+            return Ok(false);
+        }
+        match at.part(part) {
+            Some(inner) => at = inner,
+            None => return Ok(false),
+        }
+    }
+    Ok(true)
+}
+
+// Whether the fact is the one of that kind, number of variables and words.
+fn is_fact(alloc: Global, fact: &Fact, wanted: &str) -> Result<bool, Memory> {
+    match wanted.split_once(' ') {
+        Some((kind, rest)) => match rest.split_once(' ') {
+            Some((depth, comparison)) => {
+                let alike = known_of(kind) == Some(fact.known) && depth.parse() == Ok(fact.depth);
+                let term = words::term(alloc, comparison)?;
+                let equal = same(&fact.comparison, &term);
+                drop(term);
+                Ok(alike && equal)
+            }
+            None => Ok(false),
+        },
+        None => Ok(false),
+    }
+}
+
+// Whether the facts are those of the row.
+fn are_facts(alloc: Global, facts: &[Fact], wanted: &str) -> Result<bool, Memory> {
+    let mut count = 0usize;
+    if wanted.is_empty() {
+        return Ok(facts.is_empty());
+    }
+    for one in wanted.split(';') {
+        if count >= facts.len() || !is_fact(alloc, &facts[count], one)? {
+            return Ok(false);
+        }
+        count += 1;
+    }
+    Ok(count == facts.len())
+}
+
+// Whether the place has the facts of the row.
+fn has_facts(alloc: Global, term: &Core, steps: &str, wanted: &str) -> Result<bool, Memory> {
+    let mut ctx = Ctx::new(alloc, GlobalShapes::new(alloc));
+    let found = match gone(alloc, &mut ctx, term, steps) {
+        Ok(true) => are_facts(alloc, ctx.facts(), wanted),
+        Ok(false) => Ok(false),
+        Err(error) => Err(error),
+    };
+    drop(ctx);
+    found
+}
+
+fn is_right(alloc: Global, row: &str) -> Result<bool, Memory> {
+    match row.split_once('|') {
+        Some((words, rest)) => match rest.split_once('|') {
+            Some((steps, wanted)) => {
+                let term = words::term(alloc, words)?;
+                let found = has_facts(alloc, &term, steps, wanted);
+                drop(term);
+                found
+            }
+            None => Ok(false),
+        },
+        None => Ok(false),
+    }
+}
+
+#[test]
+fn facts_of_places(rt: HostRuntime) -> Result<(), Fail> {
+    let alloc = rt.alloc();
+    let mut count = 0u64;
+    for row in PLACES.split('\n') {
+        assert!(rt; is_right(alloc, row)?, "{row}");
+        count = count.saturating_add(1);
+    }
+    assert_eq!(rt; count, 20);
+    Ok(())
+}
+
+// How many facts and variables there are inside, and again outside.
+fn counted(alloc: Global, ctx: &mut Ctx, term: &Core) -> Result<(usize, u64, usize, u64), Memory> {
+    if term.parts() > 1 && is_small(term, ctx.depth()) {
+        let mark = ctx.push(alloc, term, 1)?;
+        let facts = ctx.facts().len();
+        let depth = ctx.depth();
+        ctx.take_back(mark);
+        return Ok((facts, depth, ctx.facts().len(), ctx.depth()));
+    }
+    Err(Memory)
+}
+
+fn counted_of(alloc: Global, words: &str) -> Result<(usize, u64, usize, u64), Memory> {
+    let term = words::term(alloc, words)?;
+    let mut ctx = Ctx::new(alloc, GlobalShapes::new(alloc));
+    let found = counted(alloc, &mut ctx, &term);
+    drop(term);
+    drop(ctx);
+    found
+}
+
+#[test]
+fn a_part_is_left_as_it_was_entered(rt: HostRuntime) -> Result<(), Fail> {
+    let alloc = rt.alloc();
+    for (words, facts, depth) in [
+        ("5 v0 tab1", 1, 1),
+        ("g1 1 < 2 3 if", 1, 0),
+        ("g1 v0 let", 0, 1),
+    ] {
+        assert_eq!(rt; counted_of(alloc, words)?, (facts, depth, 0, 0), "{words}");
+    }
+    Ok(())
+}

@@ -1,0 +1,108 @@
+-- Lists of intervals and of shapes: one entry more, one entry in the place of another, and entries by their place.
+use Rattle.std.proofs.Common.{◌≡◌, ℕ, zero, suc, ◌+◌, ◌-◌, ◌<◌, ◌≤◌, min, Bool, true, false, ◌&&◌, List, [], ◌∷◌, ◌++◌, length, map, take, drop, get_or, refl, sym, ap, ◌∙◌, arith, add-one}
+use Rattle.std.proofs.Math.ListN.{set}
+use Rattle.nrca_ranges.specs.declared.interval.Interval.{Interval}
+use Rattle.nrca_ranges.specs.declared.shape.Shape.{Shape}
+use Rattle.nrca_ranges.specs.Bounds.{Bounds, unknown, row_of, AreIn}
+use Rattle.nrca_ranges.specs.Certain.{all_below}
+use Rattle.nrca_ranges.specs.Exact.{only, AreExactNumbers}
+use Rattle.nrca_ranges.specs.Intervals.{hull, hulls, is_below}
+use Rattle.nrca_term.specs.Term.{Term}
+use Rattle.nrca_ranges.specs.declared.context.Ctx.{Ctx}
+use Rattle.nrca_ranges.specs.Shapes.{bounds_of, bounds_each, IsNumberIn, AreNumbersIn, IsExactNumber}
+use Rattle.nrca_ranges.specs.Transfer.{interval_of, entry_at, first_intervals, part_at}
+
+-- numbers, each in the interval of it alone
+pub are-only : (ns : List ℕ) → AreIn (map only ns) ns
+are-only [] = tt
+are-only (n ∷ ns) = ((omega arith, λ l. omega arith), are-only ns)
+
+-- entry i of a list of shapes
+pub entry-there : (xs : List Shape) (i : ℕ) (x : Shape) → i < length xs → x ≡ get_or xs i x → bounds_of x ≡ entry_at (bounds_each xs) i
+entry-there [] i x l e = absurd (omega (arith, l))
+entry-there (y ∷ xs) zero x l e = ap bounds_of e
+entry-there (y ∷ xs) (suc i) x l e = entry-there xs i x (omega (arith, l)) e
+
+-- past the end there is none
+pub entry-past : (xs : List Shape) (i : ℕ) → length xs ≤ i → entry_at (bounds_each xs) i ≡ unknown
+entry-past [] i l = refl
+entry-past (y ∷ xs) zero l = absurd (omega (arith, l))
+entry-past (y ∷ xs) (suc i) l = entry-past xs i (omega (arith, l))
+
+-- a part of a tuple counts from 1
+pub part-entry : (bs : List Bounds) (i : ℕ) → part_at (row_of bs) (suc i) ≡ entry_at bs i
+part-entry [] i = refl
+part-entry (b ∷ bs) zero = refl
+part-entry (b ∷ bs) (suc i) = part-entry bs i
+
+-- one place more of two lists that are widened
+pub widened : (xs bs cur new : List Interval) (i : ℕ) (x d w : Interval) → i < length xs → length xs ≡ length bs → cur ≡ hulls (take i xs) (take i bs) ++ drop i xs → x ≡ get_or cur i x → w ≡ hull x (get_or bs i d) → new ≡ set cur i w →
+    new ≡ hulls (take (i + 1) xs) (take (i + 1) bs) ++ drop (i + 1) xs
+widened xs bs cur new i x d w l e h p k z =
+    z ∙ ap (λ c. set c i w) h ∙ ap (set (hulls (take i xs) (take i bs) ++ drop i xs) i) (k ∙ ap (λ a. hull a (get_or bs i d)) (p ∙ ap (λ c. get_or c i x) h))
+    ∙ step xs bs i l e ∙ ap (λ n. hulls (take n xs) (take n bs) ++ drop n xs) (sym (add-one i))
+  where
+    step : (xs bs : List Interval) (i : ℕ) → i < length xs → length xs ≡ length bs →
+        set (hulls (take i xs) (take i bs) ++ drop i xs) i (hull (get_or (hulls (take i xs) (take i bs) ++ drop i xs) i x) (get_or bs i d)) ≡ hulls (take (suc i) xs) (take (suc i) bs) ++ drop (suc i) xs
+    step [] bs i l e = absurd (omega (arith, l))
+    step (a ∷ xs) [] i l e = absurd (omega (arith, e))
+    step (a ∷ xs) (b ∷ bs) zero l e = refl
+    step (a ∷ xs) (b ∷ bs) (suc i) l e = ap (λ c. hull a b ∷ c) (step xs bs i (omega (arith, l)) (omega (arith, e)))
+
+-- at the end all are widened
+pub widened-all : (xs bs cur : List Interval) (i : ℕ) → length bs ≤ i → length xs ≡ length bs → cur ≡ hulls (take i xs) (take i bs) ++ drop i xs → cur ≡ hulls xs bs
+widened-all xs bs cur i l e h = h ∙ go xs bs i l e
+  where
+    go : (xs bs : List Interval) (i : ℕ) → length bs ≤ i → length xs ≡ length bs → hulls (take i xs) (take i bs) ++ drop i xs ≡ hulls xs bs
+    go [] [] zero l e = refl
+    go [] [] (suc i) l e = refl
+    go [] (b ∷ bs) i l e = absurd (omega (arith, e))
+    go (a ∷ xs) [] i l e = absurd (omega (arith, e))
+    go (a ∷ xs) (b ∷ bs) zero l e = absurd (omega (arith, l))
+    go (a ∷ xs) (b ∷ bs) (suc i) l e = ap (λ c. hull a b ∷ c) (go xs bs i (omega (arith, l)) (omega (arith, e)))
+
+-- another shape in the place of one entry leaves the others
+pub kept-others : (xs : List Shape) (i : ℕ) (y : Shape) (j : ℕ) → (j ≡ i → ⊥) → entry_at (bounds_each (set xs i y)) j ≡ entry_at (bounds_each xs) j
+kept-others [] i y j n = refl
+kept-others (x ∷ xs) zero y zero n = absurd (n refl)
+kept-others (x ∷ xs) zero y (suc j) n = refl
+kept-others (x ∷ xs) (suc i) y zero n = refl
+kept-others (x ∷ xs) (suc i) y (suc j) n = kept-others xs i y j (λ e. n (ap suc e))
+
+-- a part of a tuple by its number
+pub part-number : (bs : List Bounds) (at : ℕ) → 0 < at → entry_at bs (at - 1) ≡ part_at (row_of bs) at
+part-number bs zero l = absurd (omega (arith, l))
+part-number bs (suc i) l = let z : suc i - 1 ≡ i = omega arith in ap (entry_at bs) z ∙ sym (part-entry bs i)
+
+-- as many as there are at most
+pub first-min : (xs : List Shape) (n : ℕ) → map interval_of (bounds_each (take (min n (length xs)) xs)) ≡ first_intervals n (bounds_each xs)
+first-min xs zero = let z : min zero (length xs) ≡ 0 = omega arith in ap (λ k. map interval_of (bounds_each (take k xs))) z
+first-min [] (suc n) = let z : min (suc n) 0 ≡ 0 = omega arith in ap (λ k. map interval_of (bounds_each (take {A = Shape} k []))) z
+first-min (x ∷ xs) (suc n) =
+    let z : min (suc n) (length (x ∷ xs)) ≡ suc (min n (length xs)) = omega arith in
+    ap (λ k. map interval_of (bounds_each (take k (x ∷ xs)))) z ∙ ap (λ l. interval_of (bounds_of x) ∷ l) (first-min xs n)
+
+-- there are not as many numbers as dimensions
+pub unequal-below : (ds : List Interval) (xs : List Shape) → (length ds ≡ length xs → ⊥) → false ≡ all_below ds (bounds_each xs)
+unequal-below [] [] h = absurd (h refl)
+unequal-below [] (x ∷ xs) h = refl
+unequal-below (d ∷ ds) [] h = refl
+unequal-below (d ∷ ds) (x ∷ xs) h = at (is_below (interval_of (bounds_of x)) d) (unequal-below ds xs (λ e. h (ap suc e)))
+  where
+    at : (b : Bool) → false ≡ all_below ds (bounds_each xs) → false ≡ (b && all_below ds (bounds_each xs))
+    at true r = r
+    at false r = refl
+
+-- one term more, with its interval
+pub numbers-more : (c : Ctx) (ts : List Term) (is : List Interval) (t : Term) (i : Interval) → AreNumbersIn c ts is → IsNumberIn c t i → AreNumbersIn c (ts ++ t ∷ []) (is ++ i ∷ [])
+numbers-more c [] [] t i h k = (k, tt)
+numbers-more c [] (j ∷ is) t i h k = absurd h
+numbers-more c (u ∷ ts) [] t i h k = absurd h
+numbers-more c (u ∷ ts) (j ∷ is) t i h k = (h.0, numbers-more c ts is t i h.1 k)
+
+-- the same of exact ones
+pub exact-more : (c : Ctx) (ts : List Term) (is : List Interval) (t : Term) (i : Interval) → AreExactNumbers c ts is → IsExactNumber c t i → AreExactNumbers c (ts ++ t ∷ []) (is ++ i ∷ [])
+exact-more c [] [] t i h k = (k, tt)
+exact-more c [] (j ∷ is) t i h k = absurd h
+exact-more c (u ∷ ts) [] t i h k = absurd h
+exact-more c (u ∷ ts) (j ∷ is) t i h k = (h.0, exact-more c ts is t i h.1 k)

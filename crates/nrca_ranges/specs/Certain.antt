@@ -1,0 +1,80 @@
+-- Terms that are certain to have a value: the firm ones, and those of which the shapes of the parts tell it.
+use Rattle.std.proofs.Common.{ℕ, suc, Bool, true, false, ◌&&◌, ◌||◌, List, [], ◌∷◌, Option, if◌then◌else◌}
+use Rattle.aql_value.specs.Strict.{Strict}
+use Rattle.nrca_term.specs.Term.{Term, Parts, node, none, part, Form}
+use Rattle.nrca_term.specs.Facts.{Facts, enter_facts}
+use Rattle.nrca_term.specs.Firm.{wants_all, firm}
+use Rattle.nrca_ranges.specs.declared.interval.Interval.{Interval}
+use Rattle.nrca_ranges.specs.Bounds.{Bounds, unknown, number, row, members, grid}
+use Rattle.nrca_ranges.specs.Entered.{is_shaped}
+use Rattle.nrca_ranges.specs.Intervals.{is_end, always_fits, is_below, is_one, loop_sum}
+use Rattle.nrca_ranges.specs.Transfer.{interval_of, count_of, entry_at, all_bounds}
+
+-- whether there are as many numbers as dimensions, each below its own
+abbrev pub all_below : List Interval → List Bounds → Bool
+all_below [] [] = true
+all_below [] (b ∷ bs) = false
+all_below (d ∷ ds) [] = false
+all_below (d ∷ ds) (b ∷ bs) = is_below (interval_of b) d && all_below ds bs
+
+-- whether the numbers are an index of each array that has the shape
+abbrev pub is_index : Bounds → List Bounds → Bool
+is_index (grid is b) bs = all_below is bs
+is_index unknown bs = false
+is_index (number i) bs = false
+is_index (row as') bs = false
+is_index (members i b) bs = false
+
+-- an array, and then the numbers of an index
+abbrev pub is_cell : List Bounds → Bool
+is_cell [] = false
+is_cell (b ∷ bs) = is_index b bs
+
+-- whether an operation has a value wherever its parts have, by their shapes
+abbrev pub strict_certain : Strict → List Bounds → Bool
+strict_certain (Strict.nat n) bs = true
+strict_certain (Strict.bool b) bs = true
+strict_certain (Strict.text s) bs = true
+strict_certain Strict.bottom bs = false
+strict_certain Strict.tuple bs = true
+strict_certain (Strict.proj at of) bs = true
+strict_certain (Strict.arith op) bs = always_fits op (interval_of (entry_at bs 0)) (interval_of (entry_at bs 1))
+strict_certain (Strict.compare op) bs = true
+strict_certain Strict.empty bs = true
+strict_certain Strict.single bs = true
+strict_certain Strict.union bs = true
+strict_certain Strict.gen bs = true
+strict_certain Strict.get bs = is_one (count_of (entry_at bs 0))
+strict_certain Strict.sub bs = is_cell bs
+strict_certain (Strict.dim rank) bs = true
+strict_certain (Strict.index rank) bs = false
+strict_certain (Strict.literal rank) bs = false
+
+-- whether a node of the form has a value wherever its parts have, D telling which positions are defined; of a default, one part
+abbrev pub form_certain : (ℕ → Bool) → Form → List Bounds → Bool
+form_certain D (Form.var i) bs = true
+form_certain D (Form.global n) bs = D n
+form_certain D Form.bind bs = true
+form_certain D Form.choose bs = true
+form_certain D Form.default bs = true
+form_certain D Form.big_union bs = true
+form_certain D Form.sum bs = is_end (loop_sum (count_of (entry_at bs 0)) (interval_of (entry_at bs 1))).high
+form_certain D (Form.tab rank) bs = true
+form_certain D (Form.strict s) bs = strict_certain s bs
+
+abbrev mutual
+  -- a term that is certain to have a value at a place with these facts, the positions' values having these shapes
+  pub certain : List (Option Bounds) → Facts → Term → Bool
+  certain gs c (node f ps) =
+      firm (is_shaped gs) c (node f ps)
+      || (form_certain (is_shaped gs) f (all_bounds gs c (node f ps) 0 ps) && (if wants_all f then all_certain gs c (node f ps) 0 ps else some_certain gs c (node f ps) 0 ps))
+
+  -- all of the parts from part i of a term on
+  pub all_certain : List (Option Bounds) → Facts → Term → ℕ → Parts → Bool
+  all_certain gs c t i none = true
+  all_certain gs c t i (part k u ps) = certain gs (enter_facts c t i) u && all_certain gs c t (suc i) ps
+
+  -- one of the parts from part i of a term on
+  pub some_certain : List (Option Bounds) → Facts → Term → ℕ → Parts → Bool
+  some_certain gs c t i none = false
+  some_certain gs c t i (part k u ps) = certain gs (enter_facts c t i) u || some_certain gs c t (suc i) ps

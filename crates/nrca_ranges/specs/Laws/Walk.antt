@@ -1,0 +1,253 @@
+-- What follows from the definitions of `Walk`: a node from its parts, and the walk over them.
+use Rattle.std.proofs.Common.{◌≡◌, ℕ, zero, suc, ◌+◌, Bool, true, false, ◌&&◌, ◌||◌, List, [], ◌∷◌, ◌++◌, length, take, is_some, Option, Some, None, refl, sym, ap, subst, ◌∙◌, arith, add-one, append-nil, append_assoc, if◌then◌else◌}
+use Rattle.std.proofs.lemmas.List.{take-map, map-append}
+use Rattle.aql_value.specs.declared.ops.ArithOp.{ArithOp}
+use Rattle.aql_value.specs.Strict.{Strict}
+use Rattle.nrca_term.specs.Term.{Term, Parts, node, none, part, Form, form_of, parts_of, child_of, binders_of, count}
+use Rattle.nrca_term.specs.Nodes.{arith_term}
+use Rattle.nrca_term.specs.Facts as facts
+use Rattle.nrca_term.specs.Facts.{Facts, enter_facts}
+use Rattle.nrca_term.specs.Firm.{Span, number_of, arith_span, arith_firm, span, form_sure, form_firm, wants_all, firm, all_firm, some_firm, or_span, fact_span, variable_span}
+use Rattle.nrca_ranges.specs.declared.context.Ctx.{Ctx}
+use Rattle.nrca_ranges.specs.declared.context.Fact.{Fact}
+use Rattle.nrca_ranges.specs.declared.shape.Shape.{Shape}
+use Rattle.nrca_ranges.specs.declared.walk.Gathered.{Gathered}
+use Rattle.nrca_ranges.specs.declared.walk.Side.{Side}
+use Rattle.nrca_ranges.specs.declared.walk.Told.{Told}
+use Rattle.nrca_ranges.specs.Bounds.{Bounds, number}
+use Rattle.nrca_ranges.specs.Certain.{form_certain, certain, all_certain, some_certain}
+use Rattle.nrca_ranges.specs.declared.interval.Interval.{Interval}
+use Rattle.nrca_ranges.specs.Context.{fact_of, facts_in, context_of}
+use Rattle.nrca_ranges.specs.Entered.{is_shaped}
+use Rattle.nrca_ranges.specs.Intervals.{always_fits, arith_interval}
+use Rattle.nrca_ranges.specs.Shapes.{bounds_of, bounds_each}
+use Rattle.nrca_ranges.specs.Spans.{span_of, IsOrdered}
+use Rattle.nrca_ranges.specs.Transfer.{interval_of, by_span, form_bounds, bounds, all_bounds}
+use Rattle.nrca_ranges.specs.Walk.{facts_below, IsOther, Test, all_true, some_true, rest_true, parts_true, gathered, later_parts, IsTold, IsSide, IsArithTold, AreTold}
+
+-- the parts of a node that are firm, and those that are certain to have a value, as the tests that they are
+all-firm : (D : ℕ → Bool) (c : Facts) (t : Term) (i : ℕ) (ps : Parts) → all_firm D c t i ps ≡ all_true (firm D) c t i ps
+all-firm D c t i none = refl
+all-firm D c t i (part k u ps) = ap (λ b. firm D (enter_facts c t i) u && b) (all-firm D c t (suc i) ps)
+
+some-firm : (D : ℕ → Bool) (c : Facts) (t : Term) (i : ℕ) (ps : Parts) → some_firm D c t i ps ≡ some_true (firm D) c t i ps
+some-firm D c t i none = refl
+some-firm D c t i (part k u ps) = ap (λ b. firm D (enter_facts c t i) u || b) (some-firm D c t (suc i) ps)
+
+all-certain : (gs : List (Option Bounds)) (c : Facts) (t : Term) (i : ℕ) (ps : Parts) → all_certain gs c t i ps ≡ all_true (certain gs) c t i ps
+all-certain gs c t i none = refl
+all-certain gs c t i (part k u ps) = ap (λ b. certain gs (enter_facts c t i) u && b) (all-certain gs c t (suc i) ps)
+
+some-certain : (gs : List (Option Bounds)) (c : Facts) (t : Term) (i : ℕ) (ps : Parts) → some_certain gs c t i ps ≡ some_true (certain gs) c t i ps
+some-certain gs c t i none = refl
+some-certain gs c t i (part k u ps) = ap (λ b. certain gs (enter_facts c t i) u || b) (some-certain gs c t (suc i) ps)
+
+-- a node that is not arithmetic is firm by its form and its parts
+other-sure : (D : ℕ → Bool) (f : Form) (s : Span) (ps : Parts) → IsOther f → form_firm D f s ps ≡ form_sure D f
+other-sure D (Form.strict (Strict.arith op)) s ps o = absurd o
+other-sure D f s ps o = refl
+
+firm-node : (D : ℕ → Bool) (c : Facts) (t : Term) → IsOther (form_of t) → firm D c t ≡ (form_sure D (form_of t) && parts_true (firm D) c t)
+firm-node D c (node f ps) o =
+    ap (λ b. b && (if wants_all f then all_firm D c (node f ps) 0 ps else some_firm D c (node f ps) 0 ps)) (other-sure D f (span c (node f ps)) ps o)
+    ∙ ap (λ b. form_sure D f && b) (go (wants_all f))
+  where
+    go : (a : Bool) → (if a then all_firm D c (node f ps) 0 ps else some_firm D c (node f ps) 0 ps) ≡ (if a then all_true (firm D) c (node f ps) 0 ps else some_true (firm D) c (node f ps) 0 ps)
+    go true = all-firm D c (node f ps) 0 ps
+    go false = some-firm D c (node f ps) 0 ps
+
+certain-node : (gs : List (Option Bounds)) (c : Facts) (t : Term) →
+    certain gs c t ≡ (firm (is_shaped gs) c t || (form_certain (is_shaped gs) (form_of t) (all_bounds gs c t 0 (parts_of t)) && parts_true (certain gs) c t))
+certain-node gs c (node f ps) =
+    ap (λ b. firm (is_shaped gs) c (node f ps) || (form_certain (is_shaped gs) f (all_bounds gs c (node f ps) 0 ps) && b)) (go (wants_all f))
+  where
+    go : (a : Bool) → (if a then all_certain gs c (node f ps) 0 ps else some_certain gs c (node f ps) 0 ps) ≡ (if a then all_true (certain gs) c (node f ps) 0 ps else some_true (certain gs) c (node f ps) 0 ps)
+    go true = all-certain gs c (node f ps) 0 ps
+    go false = some-certain gs c (node f ps) 0 ps
+
+bounds-node : (gs : List (Option Bounds)) (c : Facts) (t : Term) → bounds gs c t ≡ by_span (span c t) (form_bounds gs (form_of t) (all_bounds gs c t 0 (parts_of t)))
+bounds-node gs c (node f ps) = refl
+
+-- what is told of a node that is not arithmetic, from what is told of its parts
+pub node-told : (gs : List (Option Bounds)) (c : Facts) (t : Term) (x : Told) (g : Gathered) (ss : List Shape) (sure fits : Bool) → IsOther (form_of t) → AreTold gs c t g ss →
+    sure ≡ form_sure (is_shaped gs) (form_of t) → fits ≡ form_certain (is_shaped gs) (form_of t) (bounds_each ss) → x.firm ≡ (sure && g.firm) → x.certain ≡ (x.firm || (fits && g.certain)) →
+    span_of x.span ≡ span c t → IsOrdered x.span → bounds_of x.shape ≡ by_span (span_of x.span) (form_bounds gs (form_of t) (bounds_each ss)) → IsTold gs c t x
+node-told gs c t x g ss sure fits o h s f a b e k m =
+    let p : x.firm ≡ firm (is_shaped gs) c t = a ∙ ap (λ y. y && g.firm) s ∙ ap (λ y. form_sure (is_shaped gs) (form_of t) && y) h.firm ∙ sym (firm-node (is_shaped gs) c t o) in
+    record {
+      firm = p;
+      certain =
+          b ∙ ap (λ y. y || (fits && g.certain)) p ∙ ap (λ y. firm (is_shaped gs) c t || (y && g.certain)) (f ∙ ap (form_certain (is_shaped gs) (form_of t)) h.shapes)
+          ∙ ap (λ y. firm (is_shaped gs) c t || (form_certain (is_shaped gs) (form_of t) (all_bounds gs c t 0 (parts_of t)) && y)) h.certain
+          ∙ sym (certain-node gs c t);
+      span = e;
+      ordered = k;
+      shape = m ∙ ap (λ y. by_span y (form_bounds gs (form_of t) (bounds_each ss))) e ∙ ap (λ l. by_span (span c t) (form_bounds gs (form_of t) l)) h.shapes ∙ sym (bounds-node gs c t);
+    }
+
+-- contexts with the same facts and as many variables
+facts-same : (F G : List facts.Fact) (d e : ℕ) → F ≡ G → d ≡ e → (let x : Facts = record { facts = F; depth = d } in x) ≡ (let y : Facts = record { facts = G; depth = e } in y)
+facts-same F G d e p q = ap (λ l. let x : Facts = record { facts = l; depth = d } in x) p ∙ ap (λ n. let x : Facts = record { facts = G; depth = n } in x) q
+
+-- the sides of an arithmetic node stand at its own place
+side-first : (c : Facts) (op : ArithOp) (a b : Term) → enter_facts c (arith_term op a b) 0 ≡ c
+side-first c op a b = facts-same (c.facts ++ []) c.facts (c.depth + 0) c.depth (append-nil c.facts) (omega arith)
+
+side-second : (c : Facts) (op : ArithOp) (a b : Term) → enter_facts c (arith_term op a b) 1 ≡ c
+side-second c op a b = facts-same (c.facts ++ []) c.facts (c.depth + 0) c.depth (append-nil c.facts) (omega arith)
+
+-- so arithmetic is told of by its span or divisor, and by what is told of its sides
+arith-firm : (D : ℕ → Bool) (c : Facts) (op : ArithOp) (a b : Term) →
+    firm D c (arith_term op a b) ≡ (arith_firm op (span c (arith_term op a b)) (number_of b) && (firm D c a && (firm D c b && true)))
+arith-firm D c op a b =
+    ap (λ x. arith_firm op (span c (arith_term op a b)) (number_of b) && (firm D x a && (firm D (enter_facts c (arith_term op a b) 1) b && true))) (side-first c op a b)
+    ∙ ap (λ x. arith_firm op (span c (arith_term op a b)) (number_of b) && (firm D c a && (firm D x b && true))) (side-second c op a b)
+
+arith-certain : (gs : List (Option Bounds)) (c : Facts) (op : ArithOp) (a b : Term) →
+    certain gs c (arith_term op a b)
+    ≡ (firm (is_shaped gs) c (arith_term op a b) || (always_fits op (interval_of (bounds gs c a)) (interval_of (bounds gs c b)) && (certain gs c a && (certain gs c b && true))))
+arith-certain gs c op a b =
+    ap (λ x. firm (is_shaped gs) c (arith_term op a b) || (always_fits op (interval_of (bounds gs x a)) (interval_of (bounds gs (enter_facts c (arith_term op a b) 1) b)) && (certain gs x a && (certain gs (enter_facts c (arith_term op a b) 1) b && true)))) (side-first c op a b)
+    ∙ ap (λ x. firm (is_shaped gs) c (arith_term op a b) || (always_fits op (interval_of (bounds gs c a)) (interval_of (bounds gs x b)) && (certain gs c a && (certain gs x b && true)))) (side-second c op a b)
+
+arith-bounds : (gs : List (Option Bounds)) (c : Facts) (op : ArithOp) (a b : Term) →
+    bounds gs c (arith_term op a b) ≡ by_span (span c (arith_term op a b)) (number (arith_interval op (interval_of (bounds gs c a)) (interval_of (bounds gs c b))))
+arith-bounds gs c op a b =
+    ap (λ x. by_span (span c (arith_term op a b)) (number (arith_interval op (interval_of (bounds gs x a)) (interval_of (bounds gs (enter_facts c (arith_term op a b) 1) b))))) (side-first c op a b)
+    ∙ ap (λ x. by_span (span c (arith_term op a b)) (number (arith_interval op (interval_of (bounds gs c a)) (interval_of (bounds gs x b))))) (side-second c op a b)
+
+pub arith-told : (gs : List (Option Bounds)) (c d : Facts) (op : ArithOp) (a b : Term) (l r : Side) (n : Option ℕ) (x : Told) → IsSide gs c a l → IsSide gs d b r → d ≡ c → n ≡ number_of b → IsArithTold op l r n x →
+    IsTold gs c (arith_term op a b) x
+arith-told gs c d op a b l r n x h k z m y =
+    let k : IsSide gs c b r = subst (λ w. IsSide gs w b r) z k in
+    let s : span_of x.span ≡ span c (arith_term op a b) =
+    y.span ∙ ap (λ w. arith_span op w (span_of r.span) n) h.span ∙ ap (λ w. arith_span op (span c a) w n) k.span ∙ ap (arith_span op (span c a) (span c b)) m in
+    let p : x.firm ≡ firm (is_shaped gs) c (arith_term op a b) =
+    y.firm ∙ ap (λ w. arith_firm op w n && (l.firm && (r.firm && true))) s
+    ∙ ap (λ w. arith_firm op (span c (arith_term op a b)) w && (l.firm && (r.firm && true))) m
+    ∙ ap (λ w. arith_firm op (span c (arith_term op a b)) (number_of b) && (w && (r.firm && true))) h.firm
+    ∙ ap (λ w. arith_firm op (span c (arith_term op a b)) (number_of b) && (firm (is_shaped gs) c a && (w && true))) k.firm
+    ∙ sym (arith-firm (is_shaped gs) c op a b) in
+    record {
+      firm = p;
+      certain =
+          y.certain ∙ ap (λ w. w || (always_fits op l.number r.number && (l.certain && (r.certain && true)))) p
+          ∙ ap (λ w. firm (is_shaped gs) c (arith_term op a b) || (always_fits op w r.number && (l.certain && (r.certain && true)))) h.number
+          ∙ ap (λ w. firm (is_shaped gs) c (arith_term op a b) || (always_fits op (interval_of (bounds gs c a)) w && (l.certain && (r.certain && true)))) k.number
+          ∙ ap (λ w. firm (is_shaped gs) c (arith_term op a b) || (always_fits op (interval_of (bounds gs c a)) (interval_of (bounds gs c b)) && (w && (r.certain && true)))) h.certain
+          ∙ ap (λ w. firm (is_shaped gs) c (arith_term op a b) || (always_fits op (interval_of (bounds gs c a)) (interval_of (bounds gs c b)) && (certain gs c a && (w && true)))) k.certain
+          ∙ sym (arith-certain gs c op a b);
+      span = s;
+      ordered = y.ordered;
+      shape =
+          y.shape ∙ ap (λ w. by_span w (number (arith_interval op l.number r.number))) s
+          ∙ ap (λ w. by_span (span c (arith_term op a b)) (number (arith_interval op w r.number))) h.number
+          ∙ ap (λ w. by_span (span c (arith_term op a b)) (number (arith_interval op (interval_of (bounds gs c a)) w))) k.number
+          ∙ sym (arith-bounds gs c op a b);
+    }
+
+-- the first of the later parts is the part of that number
+later-child : (ps : Parts) (i : ℕ) (u : Term) → child_of ps i ≡ Some u → later_parts i ps ≡ part (binders_of ps i) u (later_parts (suc i) ps)
+later-child none i u e = cc
+later-child (part k t ps) zero u e = let z : t ≡ u = cc in ap (λ x. part k x ps) z
+later-child (part k t ps) (suc i) u e = later-child ps i u e
+
+-- behind the last there is none
+later-none : (ps : Parts) → later_parts (count ps) ps ≡ none
+later-none none = refl
+later-none (part k t ps) = later-none ps
+
+-- gathering begins
+pub gather-first : (all r : Bool) → r ≡ gathered all all r
+gather-first true r = refl
+gather-first false r = refl
+
+gather-again : (all a b r : Bool) → gathered all a (gathered all b r) ≡ gathered all (gathered all a b) r
+gather-again true true b r = refl
+gather-again true false b r = refl
+gather-again false true b r = refl
+gather-again false false b r = refl
+
+-- one part more
+pub gather-more : (T : Test) (c : Facts) (t : Term) (all a b r n : Bool) (i : ℕ) (ps : Parts) (u : Term) → child_of ps i ≡ Some u → b ≡ T (enter_facts c t i) u → n ≡ gathered all a b →
+    r ≡ gathered all a (rest_true T c t all i (later_parts i ps)) → r ≡ gathered all n (rest_true T c t all (i + 1) (later_parts (i + 1) ps))
+gather-more T c t all a b r n i ps u e h k z =
+    z ∙ ap (λ l. gathered all a (rest_true T c t all i l)) (later-child ps i u e) ∙ ap (gathered all a) (at all) ∙ gather-again all a b (rest_true T c t all (suc i) (later_parts (suc i) ps))
+    ∙ ap (λ x. gathered all x (rest_true T c t all (suc i) (later_parts (suc i) ps))) (sym k) ∙ ap (λ j. gathered all n (rest_true T c t all j (later_parts j ps))) (sym (add-one i))
+  where
+    at : (s : Bool) → rest_true T c t s i (part (binders_of ps i) u (later_parts (suc i) ps)) ≡ gathered s b (rest_true T c t s (suc i) (later_parts (suc i) ps))
+    at true = ap (λ x. x && all_true T c t (suc i) (later_parts (suc i) ps)) (sym h)
+    at false = ap (λ x. x || some_true T c t (suc i) (later_parts (suc i) ps)) (sym h)
+
+-- and the last
+pub gather-last : (T : Test) (c : Facts) (t : Term) (all a : Bool) (i : ℕ) (ps : Parts) (r : Bool) → i ≡ count ps → r ≡ gathered all a (rest_true T c t all i (later_parts i ps)) → a ≡ r
+gather-last T c t all a i ps r e z = sym (z ∙ ap (λ j. gathered all a (rest_true T c t all j (later_parts j ps))) e ∙ ap (λ l. gathered all a (rest_true T c t all (count ps) l)) (later-none ps) ∙ at all a)
+  where
+    at : (s a : Bool) → gathered s a (rest_true T c t s (count ps) none) ≡ a
+    at true true = refl
+    at true false = refl
+    at false true = refl
+    at false false = refl
+
+-- one shape more
+pub shapes-more : (gs : List (Option Bounds)) (c : Facts) (t : Term) (i : ℕ) (ps : Parts) (u : Term) (xs ys : List Shape) (x : Shape) (r : List Bounds) → child_of ps i ≡ Some u → bounds_of x ≡ bounds gs (enter_facts c t i) u → ys ≡ xs ++ x ∷ [] →
+    r ≡ bounds_each xs ++ all_bounds gs c t i (later_parts i ps) → r ≡ bounds_each ys ++ all_bounds gs c t (i + 1) (later_parts (i + 1) ps)
+shapes-more gs c t i ps u xs ys x r e h k z =
+    z ∙ ap (λ l. bounds_each xs ++ all_bounds gs c t i l) (later-child ps i u e)
+    ∙ ap (λ b. bounds_each xs ++ (b ∷ all_bounds gs c t (suc i) (later_parts (suc i) ps))) (sym h)
+    ∙ sym (append_assoc (bounds_each xs) (bounds_of x ∷ []) (all_bounds gs c t (suc i) (later_parts (suc i) ps)))
+    ∙ ap (λ l. l ++ all_bounds gs c t (suc i) (later_parts (suc i) ps)) (sym (map-append bounds_of xs (x ∷ [])) ∙ ap bounds_each (sym k))
+    ∙ ap (λ j. bounds_each ys ++ all_bounds gs c t j (later_parts j ps)) (sym (add-one i))
+
+pub shapes-last : (gs : List (Option Bounds)) (c : Facts) (t : Term) (i : ℕ) (ps : Parts) (xs : List Shape) (r : List Bounds) → i ≡ count ps → r ≡ bounds_each xs ++ all_bounds gs c t i (later_parts i ps) → bounds_each xs ≡ r
+shapes-last gs c t i ps xs r e z =
+    sym (z ∙ ap (λ j. bounds_each xs ++ all_bounds gs c t j (later_parts j ps)) e ∙ ap (λ l. bounds_each xs ++ all_bounds gs c t (count ps) l) (later-none ps) ∙ append-nil (bounds_each xs))
+
+-- the facts of a part, behind those of the context
+pub below-entered : (F G H A : List facts.Fact) (d e b : ℕ) → H ≡ G ++ A → e ≡ d + b →
+    (let x : Facts = record { facts = F ++ H; depth = e } in x) ≡ (let y : Facts = record { facts = (F ++ G) ++ A; depth = d + b } in y)
+below-entered F G H A d e b p q = facts-same (F ++ H) ((F ++ G) ++ A) e (d + b) (ap (λ l. F ++ l) p ∙ sym (append_assoc F G A)) q
+
+-- the front of a list, as long as it is
+take-front : {X : Type 0} (xs ys : List X) (n : ℕ) → length xs ≡ n → take n (xs ++ ys) ≡ xs
+take-front [] ys n e = ap (λ k. take k ys) (sym e)
+take-front (x ∷ xs) ys n e = ap (λ k. take k (x ∷ xs ++ ys)) (sym e) ∙ ap (λ l. x ∷ l) (take-front xs ys (length xs) refl)
+
+-- what is left where the facts of a part are taken back
+pub taken-back : (xs ys zs : List Fact) (A : List facts.Fact) (n : ℕ) → n ≡ length xs → facts_in ys ≡ facts_in xs ++ A → zs ≡ take n ys → facts_in zs ≡ facts_in xs
+taken-back xs ys zs A n e h k =
+    ap facts_in k ∙ sym (take-map fact_of n ys) ∙ ap (take n) h ∙ take-front (facts_in xs) A n (length-facts xs ∙ sym e)
+  where
+    length-facts : (xs : List Fact) → length (facts_in xs) ≡ length xs
+    length-facts [] = refl
+    length-facts (x ∷ xs) = ap suc (length-facts xs)
+
+-- the span of a variable by one list of facts behind another
+pub variable-behind : (d i : ℕ) (F G : List facts.Fact) → variable_span d i (F ++ G) ≡ or_span (variable_span d i F) (variable_span d i G)
+variable-behind d i [] G = refl
+variable-behind d i (f ∷ F) G = ap (or_span (fact_span d i f)) (variable-behind d i F G) ∙ again (fact_span d i f) (variable_span d i F) (variable_span d i G)
+  where
+    again : (x y z : Span) → or_span x (or_span y z) ≡ or_span (or_span x y) z
+    again (Some x) y z = refl
+    again None y z = refl
+
+-- so where the first list tells it, and where it does not
+pub found-first : (o : Option Interval) (d i : ℕ) (F G : List facts.Fact) → is_some o ≡ true → span_of o ≡ variable_span d i F → span_of o ≡ variable_span d i (F ++ G)
+found-first None d i F G t e = cc
+found-first (Some x) d i F G t e = ap (λ s. or_span s (variable_span d i G)) e ∙ sym (variable-behind d i F G)
+
+pub found-second : (o p : Option Interval) (d i : ℕ) (F G : List facts.Fact) → is_some o ≡ false → span_of o ≡ variable_span d i F → span_of p ≡ variable_span d i G → span_of p ≡ variable_span d i (F ++ G)
+found-second (Some x) p d i F G t e k = cc
+found-second None p d i F G t e k = k ∙ ap (λ s. or_span s (variable_span d i G)) e ∙ sym (variable-behind d i F G)
+
+-- the same facts below a context
+pub below-same : (c : Ctx) (xs ys : List Fact) (d : ℕ) → facts_in xs ≡ facts_in ys → facts_below c xs d ≡ facts_below c ys d
+below-same c xs ys d e = facts-same (facts_in c.facts.items ++ facts_in xs) (facts_in c.facts.items ++ facts_in ys) d d (ap (λ l. facts_in c.facts.items ++ l) e) refl
+
+-- and none
+pub below-none : (c : Ctx) (xs : List Fact) → xs ≡ [] → facts_below c xs c.depth ≡ context_of c
+below-none c xs e = facts-same (facts_in c.facts.items ++ facts_in xs) (facts_in c.facts.items) c.depth c.depth (ap (λ l. facts_in c.facts.items ++ facts_in l) e ∙ append-nil (facts_in c.facts.items)) refl
+
+-- the place of a part below a context
+pub part-below : (c : Ctx) (xs ys : List Fact) (t : Term) (i d e : ℕ) → facts_in ys ≡ facts_in xs ++ facts.added d (form_of t) (parts_of t) i → e ≡ d + binders_of (parts_of t) i → facts_below c ys e ≡ enter_facts (facts_below c xs d) t i
+part-below c xs ys t i d e p q = below-entered (facts_in c.facts.items) (facts_in xs) (facts_in ys) (facts.added d (form_of t) (parts_of t) i) d e (binders_of (parts_of t) i) p q

@@ -1,0 +1,148 @@
+-- The walk over a term: the facts of a place inside of it, and what is gathered of the parts of a node.
+use Rattle.std.proofs.Common.{◌≡◌, ℕ, zero, suc, ◌++◌, Bool, true, false, ◌&&◌, ◌||◌, List, Option, if◌then◌else◌}
+use Rattle.std.specs.declared.vec.Vec.{Vec}
+use Rattle.std.proofs.Common.{Global}
+use Rattle.aql_value.specs.declared.ops.ArithOp.{ArithOp}
+use Rattle.aql_value.specs.Strict.{Strict}
+use Rattle.nrca_term.specs.declared.term.Core.{Core}
+use Rattle.nrca_term.specs.View.{term_of}
+use Rattle.nrca_term.specs.Term.{Term, Parts, none, part, Form, form_of, parts_of}
+use Rattle.nrca_term.specs.Nodes.{arith_term}
+use Rattle.nrca_term.specs.Facts.{Facts, enter_facts}
+use Rattle.nrca_term.specs.Firm as pure
+use Rattle.nrca_ranges.specs.declared.context.Ctx.{Ctx}
+use Rattle.nrca_ranges.specs.declared.context.Fact.{Fact}
+use Rattle.nrca_ranges.specs.declared.shape.Shape.{Shape}
+use Rattle.nrca_ranges.specs.declared.walk.Gathered.{Gathered}
+use Rattle.nrca_ranges.specs.declared.walk.Side.{Side}
+use Rattle.nrca_ranges.specs.declared.walk.Told.{Told}
+use Rattle.nrca_ranges.specs.Bounds.{Bounds, number}
+use Rattle.nrca_ranges.specs.Certain as certainty
+use Rattle.nrca_ranges.specs.Context.{facts_in, context_of}
+use Rattle.nrca_ranges.specs.Entered.{is_shaped}
+use Rattle.nrca_ranges.specs.Shapes.{bounds_of, bounds_each, known_shapes}
+use Rattle.nrca_ranges.specs.Spans.{span_of, IsOrdered}
+use Rattle.nrca_ranges.specs.Intervals as intervals
+use Rattle.nrca_ranges.specs.Transfer as transfer
+
+-- the facts of a place inside of a term that stands at the context: its own behind the context's
+abbrev pub facts_below : Ctx → List Fact → ℕ → Facts
+facts_below c own d = record { facts = facts_in c.facts.items ++ facts_in own; depth = d }
+
+-- the span of a term of the code there
+abbrev pub span_with : Ctx → List Fact → ℕ → Core → pure.Span
+span_with c own d t = pure.span (facts_below c own d) (term_of t)
+
+-- the span of variable i there
+abbrev pub span_below : Ctx → List Fact → ℕ → ℕ → pure.Span
+span_below c own d i = pure.variable_span d i (facts_in c.facts.items ++ facts_in own)
+
+-- an arithmetic node of terms of the code
+abbrev pub arith_of : ArithOp → Core → Core → Term
+arith_of op a b = arith_term op (term_of a) (term_of b)
+
+-- a form that is not arithmetic
+abbrev pub IsOther : Form → Type 0
+IsOther (Form.strict (Strict.arith op)) = ⊥
+IsOther _ = Unit {0}
+
+-- a truth value of a term at a place
+abbrev pub Test : Type 0
+Test = Facts → Term → Bool
+
+-- whether the test holds of all parts from part i of a term on, each at its own place
+abbrev pub all_true : Test → Facts → Term → ℕ → Parts → Bool
+all_true T c t i none = true
+all_true T c t i (part k u ps) = T (enter_facts c t i) u && all_true T c t (suc i) ps
+
+-- whether it holds of one of them
+abbrev pub some_true : Test → Facts → Term → ℕ → Parts → Bool
+some_true T c t i none = false
+some_true T c t i (part k u ps) = T (enter_facts c t i) u || some_true T c t (suc i) ps
+
+-- whether it holds of all, or else of one of them
+abbrev pub rest_true : Test → Facts → Term → Bool → ℕ → Parts → Bool
+rest_true T c t all i ps = if all then all_true T c t i ps else some_true T c t i ps
+
+-- whether it holds of the parts as the form of the term wants it
+abbrev pub parts_true : Test → Facts → Term → Bool
+parts_true T c t = rest_true T c t (pure.wants_all (form_of t)) 0 (parts_of t)
+
+-- both, or else one of them
+abbrev pub gathered : Bool → Bool → Bool → Bool
+gathered all a b = if all then a && b else a || b
+
+-- the parts from the one of that number on
+abbrev pub later_parts : ℕ → Parts → Parts
+later_parts zero ps = ps
+later_parts (suc n) none = none
+later_parts (suc n) (part k t ps) = later_parts n ps
+
+-- what is told of a term at a place is true of it
+pub record IsTold (gs : List (Option Bounds)) (c : Facts) (t : Term) (x : Told) : Type 0 where
+  pub firm : x.firm ≡ pure.firm (is_shaped gs) c t
+  pub certain : x.certain ≡ certainty.certain gs c t
+  pub span : span_of x.span ≡ pure.span c t
+  pub ordered : IsOrdered x.span
+  pub shape : bounds_of x.shape ≡ transfer.bounds gs c t
+
+-- the same in a context
+abbrev pub IsToldIn : Ctx → Term → Told → Type 0
+IsToldIn c t x = IsTold (known_shapes c) (context_of c) t x
+
+-- the same of a term of the code inside of one that stands at the context, with these facts of its own
+abbrev pub IsToldWith : Ctx → List Fact → ℕ → Core → Told → Type 0
+IsToldWith c own d t x = IsTold (known_shapes c) (facts_below c own d) (term_of t) x
+
+-- the same with a list that can grow
+abbrev pub IsToldBelow : Ctx → Vec Fact Global → ℕ → Core → Told → Type 0
+IsToldBelow c own d t x = IsToldWith c own.items d t x
+
+-- the same of an arithmetic node
+abbrev pub IsArithBelow : Ctx → Vec Fact Global → ℕ → ArithOp → Core → Core → Told → Type 0
+IsArithBelow c own d op a b x = IsTold (known_shapes c) (facts_below c own.items d) (arith_of op a b) x
+
+-- the same of part i of the term, at the part's own place
+abbrev pub IsPartTold : Ctx → Vec Fact Global → ℕ → Core → ℕ → Core → Told → Type 0
+IsPartTold c own d t i u x = IsTold (known_shapes c) (enter_facts (facts_below c own.items d) (term_of t) i) (term_of u) x
+
+-- a side that is told so
+pub record IsSideOf (x : Told) (s : Side) : Type 0 where
+  pub firm : s.firm ≡ x.firm
+  pub certain : s.certain ≡ x.certain
+  pub span : s.span ≡ x.span
+  pub number : s.number ≡ transfer.interval_of (bounds_of x.shape)
+
+-- what is told of a side is true of it
+pub record IsSide (gs : List (Option Bounds)) (c : Facts) (t : Term) (s : Side) : Type 0 where
+  pub firm : s.firm ≡ pure.firm (is_shaped gs) c t
+  pub certain : s.certain ≡ certainty.certain gs c t
+  pub span : span_of s.span ≡ pure.span c t
+  pub ordered : IsOrdered s.span
+  pub number : s.number ≡ transfer.interval_of (transfer.bounds gs c t)
+
+-- the same inside of a term that stands at the context
+abbrev pub IsSideBelow : Ctx → Vec Fact Global → ℕ → Core → Side → Type 0
+IsSideBelow c own d t s = IsSide (known_shapes c) (facts_below c own.items d) (term_of t) s
+
+-- what is told of an arithmetic node, from what is told of its sides and the number that the second one is
+pub record IsArithTold (op : ArithOp) (a b : Side) (n : Option ℕ) (x : Told) : Type 0 where
+  pub firm : x.firm ≡ (pure.arith_firm op (span_of x.span) n && (a.firm && (b.firm && true)))
+  pub certain : x.certain ≡ (x.firm || (intervals.always_fits op a.number b.number && (a.certain && (b.certain && true))))
+  pub span : span_of x.span ≡ pure.arith_span op (span_of a.span) (span_of b.span) n
+  pub ordered : IsOrdered x.span
+  pub shape : bounds_of x.shape ≡ transfer.by_span (span_of x.span) (number (intervals.arith_interval op a.number b.number))
+
+-- what is told of all parts of a term, and their shapes, is true of them
+pub record AreTold (gs : List (Option Bounds)) (c : Facts) (t : Term) (x : Gathered) (ss : List Shape) : Type 0 where
+  pub firm : x.firm ≡ parts_true (pure.firm (is_shaped gs)) c t
+  pub certain : x.certain ≡ parts_true (certainty.certain gs) c t
+  pub shapes : bounds_each ss ≡ transfer.all_bounds gs c t 0 (parts_of t)
+
+-- the same inside of a term that stands at the context
+abbrev pub AreToldWith : Ctx → List Fact → ℕ → Core → Gathered → List Shape → Type 0
+AreToldWith c own d t x ss = AreTold (known_shapes c) (facts_below c own d) (term_of t) x ss
+
+-- the same with a list that can grow
+abbrev pub AreToldBelow : Ctx → Vec Fact Global → ℕ → Core → Gathered → Vec Shape Global → Type 0
+AreToldBelow c own d t x ss = AreToldWith c own.items d t x ss.items
