@@ -19,7 +19,7 @@ use Rattle.nrca_arrayrules.proofs.Sides.{false-true}
 use Rattle.nrca_arrayrules.specs.Constants.{IsConstantArray, IsConstantSubscript, IsPlace, IsCell, AreBelow, cell_or_bottom}
 
 -- equal subscripts of literals have equal dimensions, cells and indices
-subscript-same : (ds es cs xs at ys : List Term) → sub_term (literal_term ds cs) at ≡ sub_term (literal_term es xs) ys → (ds ≡ es) × (cs ≡ xs) × (at ≡ ys)
+pub subscript-same : (ds es cs xs at ys : List Term) → sub_term (literal_term ds cs) at ≡ sub_term (literal_term es xs) ys → (ds ≡ es) × (cs ≡ xs) × (at ≡ ys)
 subscript-same ds es cs xs at ys e =
     let h : literal_term ds cs ≡ literal_term es xs = cc in
     let p : plain at none ≡ plain ys none = cc in
@@ -48,13 +48,13 @@ a5_reading t r ws ds cs at h (outside ns xs is e f l g k w) =
     (ns, is, z.0, z.2, l, f ∙ ap length (sym z.1))
 
 -- a place within a list has an item
-item_at : (ts : List Term) (j : ℕ) → j < length ts → slice_get ts j ≡ Some (get_or ts j bottom_term)
+pub item_at : (ts : List Term) (j : ℕ) → j < length ts → slice_get ts j ≡ Some (get_or ts j bottom_term)
 item_at [] j h = absurd (omega (arith, h))
 item_at (t ∷ ts) zero h = refl
 item_at (t ∷ ts) (suc j) h = item_at ts j (omega (arith, h))
 
 -- the cell, or Bottom, is a right side of A5
-a5_redex : (t o r : Term) (ds cs at : List Term) → t ≡ sub_term o at → o ≡ literal_term ds cs → (w : IsConstantSubscript ds cs at) → r ≡ cell_or_bottom cs (offset_of w.0 w.1) → (ws : List Way) × Subscript t r ws
+pub a5_redex : (t o r : Term) (ds cs at : List Term) → t ≡ sub_term o at → o ≡ literal_term ds cs → (w : IsConstantSubscript ds cs at) → r ≡ cell_or_bottom cs (offset_of w.0 w.1) → (ws : List Way) × Subscript t r ws
 a5_redex t o r ds cs at h k w e = by (offset_of w.0 w.1) refl
   where
     left : t ≡ sub_term (constant_literal w.0 cs) (map number w.1)
@@ -152,7 +152,7 @@ pub place-whole : (ds at : List Term) (j p : ℕ) → length ds ≤ j → length
 place-whole ds at j p l e t = subst (λ xs. IsPlace xs at (Some p)) (whole-list ds j l) (subst (λ xs. IsPlace (take j ds) xs (Some p)) (whole-list at j (omega (arith, l, e))) t)
 
 -- the place of a constant subscript is its place in row-major order, and within the cells
-place-is : (ds cs at : List Term) (p : ℕ) → IsConstantSubscript ds cs at → length cs < 2 ^ 64 → (t : IsPlace ds at (Some p)) → (p ≡ t.2) × (p < length cs)
+pub place-is : (ds cs at : List Term) (p : ℕ) → IsConstantSubscript ds cs at → length cs < 2 ^ 64 → (t : IsPlace ds at (Some p)) → (p ≡ t.2) × (p < length cs)
 place-is ds cs at p w l t =
     let z = numbers-same w.0 t.0 (sym w.2 ∙ t.3) in
     let q = offset_of_within t.0 t.1 t.2 t.5 in

@@ -75,9 +75,9 @@ fn cell_at(dims: &Terms, cells: Terms, at: &Terms) -> Core
     }
 }
 
-// The place of the index in row-major order, or 2^128-1 where it is larger. None where it is not
-// below the dimensions, or where one of them is no number.
-fn place(dims: &Terms, at: &Terms) -> Option<u128>
+/// The place of the index in row-major order, or 2^128-1 where it is larger. None where it is not
+/// below the dimensions, or where one of them is no number.
+pub fn place(dims: &Terms, at: &Terms) -> Option<u128>
     requires { length (terms_of dims.now) ≡ length (terms_of at.now) }
     ensures { IsPlace (terms_of dims.now) (terms_of at.now) result }
 {

@@ -1,0 +1,44 @@
+-- The order of the table of rules, but for the checks of comparisons.
+use Rattle.std.proofs.Common.{◌≡◌, ℕ, suc, Bool, false, Option, Some, None}
+use Rattle.nrca_term.specs.declared.trace.Rule.{Rule}
+use Rattle.nrca_term.specs.declared.trace.Rule.TheVariants.{B1, K1, I1, I2, L1, L2, L3, P1, P2, S1, S2, S3, S4, S5, S6, S7, S8, S9, A1, A2, A3, A4, A5, A6, A7, C1, C2, C3, C4, N1, N2}
+use Rattle.nrca_term.specs.Normal.{is_check}
+
+-- the place of a rule, counted from 0; the checks come last
+abbrev pub number_of : Rule → ℕ
+number_of B1 = 0
+number_of K1 = 1
+number_of I1 = 2
+number_of I2 = 3
+number_of L1 = 4
+number_of L2 = 5
+number_of L3 = 6
+number_of P1 = 7
+number_of P2 = 8
+number_of S1 = 9
+number_of S2 = 10
+number_of S3 = 11
+number_of S4 = 12
+number_of S5 = 13
+number_of S6 = 14
+number_of S7 = 15
+number_of S8 = 16
+number_of S9 = 17
+number_of A1 = 18
+number_of A2 = 19
+number_of A3 = 20
+number_of A4 = 21
+number_of A5 = 22
+number_of A6 = 23
+number_of A7 = 24
+number_of N1 = 25
+number_of N2 = 26
+number_of C1 = 27
+number_of C2 = 27
+number_of C3 = 27
+number_of C4 = 27
+
+-- the next rule, and none behind the last
+abbrev pub IsAfter : Rule → Option Rule → Type 0
+IsAfter R None = suc (number_of R) ≡ 27
+IsAfter R (Some Q) = (is_check Q ≡ false) × (number_of Q ≡ suc (number_of R))
