@@ -19,12 +19,9 @@ SIGNATURE = re.compile(r"^((?:(?:abbrev|unfoldable|pub) )*)(\S+) :(?: |$)(.*)$")
 DATA = re.compile(r"^(ℕ|Datum|Ty|Subst|Term|Parts|List |Type |Option |Bool|Trees?$|String)")
 # public calls whose parameters are fixed, and a test's call of one
 WIDE = {"step", "answer_all", "read_slab", "read"}
-# functions of the three great recursions (inference, translation, evaluation), each of which hands on what it was lent; docs/DECISIONS.md
-# says why they take no struct
-HANDED_ON = set(
-    "infer_choice infer_function infer_sum wrap_parts grid sum_run union_run members_run cells_run sum_pieces union_pieces union_piece "
-    "cells_pieces eval_wide wide_strict wide_parts wide_all wide_let wide_if wide_default wide_members wide_sum wide_union wide_tab".split()
-)
+# functions of the recursions of inference and translation, each of which hands on what it was lent; docs/DECISIONS.md says why they take no
+# struct
+HANDED_ON = {"infer_choice", "infer_function", "infer_sum", "wrap_parts", "grid"}
 # laws that a definition beside them is made of
 NEEDED = {"run-spell", "run-spell_all"}
 
