@@ -219,10 +219,17 @@ fn text(alloc: Global, text: &str) -> Result<Str, Memory> {
     })
 }
 
+// Of shorts four at a time.
 fn sum_of(width: u64, bytes: &[u8]) -> u64 {
     let mut sum = 0u64;
     if width == 16 {
-        for i in 0..bytes.len() / 2 {
+        let whole = bytes.len() / 8;
+        for i in 0..whole {
+            let four = LittleEndian::read_u64(&bytes[8 * i..]);
+            let two = (four & 0xffff_0000_ffff).wrapping_add((four >> 16) & 0xffff_0000_ffff);
+            sum = sum.wrapping_add(two & 0xffff_ffff).wrapping_add(two >> 32);
+        }
+        for i in 4 * whole..bytes.len() / 2 {
             sum = sum.wrapping_add(u64::from(LittleEndian::read_u16(&bytes[2 * i..])));
         }
     } else {

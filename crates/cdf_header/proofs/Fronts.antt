@@ -2,7 +2,8 @@
 use Rattle.std.proofs.Common.{◌≡◌, ℕ, ◌+◌, ◌-◌, ◌≤◌, min, List, ◌++◌, length, take, drop, Result, Err, sym, ap, subst, ◌∙◌, arith, length-take}
 use Rattle.std.proofs.Math.Seq.{take-add, take-append-add}
 use Rattle.std.proofs.lemmas.List.{take-append-drop, take_min}
-use Rattle.cdf_header.specs.File.{most_header_bytes, IsFront, IsOutside, IsAnswered}
+use Rattle.cdf_header.specs.File.{IsFront, IsOutside, IsAnswered}
+use Rattle.cdf_header.specs.Limits.{most_header_bytes}
 use Rattle.cdf_header.specs.declared.fault.CdfFault.{CdfFault}
 use Rattle.cdf_header.specs.declared.fault.CdfFault.TheVariants as faults
 use Rattle.cdf_header.specs.declared.fault.ReadError.{ReadError}

@@ -6,7 +6,8 @@ use Rattle.aql_outside.specs.Contents.{Content, bytes_in, TellsSize}
 use Rattle.aql_outside.specs.Laws.Contents.{size-from_told}
 use Rattle.cdf_header.specs.declared.fault.CdfFault.{CdfFault}
 use Rattle.cdf_header.specs.declared.fault.CdfFault.TheVariants as faults
-use Rattle.cdf_header.specs.File.{most_header_bytes, IsOutside, IsOfHeader, IsFront, IsClassic}
+use Rattle.cdf_header.specs.File.{IsOutside, IsOfHeader, IsFront, IsClassic}
+use Rattle.cdf_header.specs.Limits.{most_header_bytes}
 
 pub same_byte : (bytes front : List ℕ) (i : ℕ) → IsFront bytes front → i < length front → get_or front i 0 ≡ get_or bytes i 0
 same_byte bytes front i is lt = ap (λ x. get_or x i 0) is ∙ get_or-take (length front) bytes i 0 lt

@@ -6,10 +6,7 @@ use Rattle.cdf_header.specs.declared.fault.Fault.TheVariants.{Short, Malformed, 
 use Rattle.cdf_header.specs.declared.fault.CdfFault.{CdfFault}
 use Rattle.cdf_header.specs.declared.fault.CdfFault.TheVariants as faults
 use Rattle.cdf_header.specs.Header.{Head}
-
--- the most bytes that a header may take
-abbrev pub most_header_bytes : ℕ
-most_header_bytes = 16777216
+use Rattle.cdf_header.specs.Limits.{most_header_bytes}
 
 -- these bytes are the front of the file's
 abbrev pub IsFront : (bytes front : List ℕ) → Type 0

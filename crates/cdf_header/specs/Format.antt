@@ -6,6 +6,7 @@ use Rattle.cdf_header.specs.declared.fault.Fault.TheVariants.{Short, Malformed, 
 use Rattle.cdf_header.specs.declared.test.Test.{Test}
 use Rattle.cdf_header.specs.declared.test.Test.TheVariants.{Any, Tag, Count, Extent, Id, NcType}
 use Rattle.cdf_header.specs.Header.{Var, Head}
+use Rattle.cdf_header.specs.Limits.{most_dimensions, most_attributes, most_variables, most_rank}
 
 -- a number of so many bytes, or so many bytes and padding to a multiple of four
 pub data Kind : Type 0 where
@@ -187,7 +188,7 @@ dimension v before = do
 -- the list of the dimensions
 unfoldable pub dims : ℕ → PartFormat (List ℕ)
 dims v = do
-  n ← list v 10 1 1024
+  n ← list v 10 1 most_dimensions
   many (dimension v) n []
 
 -- the bytes of a value of a type
@@ -208,7 +209,7 @@ attribute v = do
 -- a list of attributes
 unfoldable pub attributes : ℕ → PartFormat (Unit {0})
 attributes v = do
-  n ← list v 12 2 8192
+  n ← list v 12 2 most_attributes
   times (attribute v) n
 
 -- the number of a dimension of a variable, behind those of others; the record dimension stands first
@@ -218,7 +219,7 @@ id v ds is = num (wide v) (Id (length ds) (record_of ds) (nat_eq (length is) 0))
 -- the numbers of the dimensions of a variable
 unfoldable pub ids : ℕ → (dims : List ℕ) → PartFormat (List ℕ)
 ids v ds = do
-  rank ← num (wide v) (Count 1 4 1024)
+  rank ← num (wide v) (Count 1 4 most_rank)
   many (id v ds) rank []
 
 -- a variable: its name, its dimensions, its attributes, its type, a size that is of no matter, and where it begins
@@ -235,7 +236,7 @@ variable v ds before = do
 -- the list of the variables
 unfoldable pub vars : ℕ → (dims : List ℕ) → PartFormat (List Var)
 vars v ds = do
-  n ← list v 11 3 8192
+  n ← list v 11 3 most_variables
   many (variable v ds) n []
 
 -- the fields behind the first four bytes, in a file of so many bytes

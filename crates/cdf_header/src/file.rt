@@ -3,11 +3,13 @@ ghost use Rattle.std.specs.Prelude.{◌≡◌, ◌+◌, ◌≤◌, ◌<◌, min,
 ghost use Rattle.std.specs.Str.{IsUtf8};
 ghost use Rattle.aql_outside.specs.Contents.{WhereTold, IsAbsent};
 ghost use Rattle.aql_outside.specs.Frames.{Leaves};
-ghost use Rattle.cdf_header.specs.File.{most_header_bytes, IsFront, StaysFront, IsReadBehind, IsOutside, IsDevice, IsAnswered, IsClassic, IsVersion, IsLost, IsOfHeader, fields_of, header_of};
+ghost use Rattle.cdf_header.specs.File.{IsFront, StaysFront, IsReadBehind, IsOutside, IsDevice, IsAnswered, IsClassic, IsVersion, IsLost, IsOfHeader, fields_of, header_of};
+ghost use Rattle.cdf_header.specs.Limits.{most_header_bytes};
 
 use crate::fault::{CdfFault, Fault, ReadError};
 use crate::front::Front;
 use crate::header::Header;
+use crate::limits::MOST_HEADER_BYTES;
 use crate::lists::header_of;
 use aql_outside::Files;
 use aql_value::Str;
@@ -19,9 +21,6 @@ const PIECE: usize = 65536;
 
 /// The bytes that are read first, unless the file has fewer.
 const FIRST: usize = 4096;
-
-/// The most bytes that a header may take.
-const MOST_HEADER_BYTES: u64 = 16_777_216;
 
 // Takes the next piece of the file, and says whether it came whole.
 fn read_piece<F: Files>(

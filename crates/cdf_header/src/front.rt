@@ -1,6 +1,6 @@
 // The front of a file.
 ghost use Rattle.std.specs.Prelude.{◌≡◌, ◌≤◌, ◌⊎◌, length};
-ghost use Rattle.cdf_header.specs.File.{most_header_bytes};
+ghost use Rattle.cdf_header.specs.Limits.{most_header_bytes};
 ghost use Rattle.cdf_header.specs.Format.{wide};
 
 /// The first bytes of a file, as far as they were read, and the file's version.

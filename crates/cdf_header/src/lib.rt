@@ -6,7 +6,7 @@
 //! contract sees a `Header` as a `Head`, and `Header::place` is the offset of a cell as `place`
 //! says.
 //!
-//! Read `specs/Header`, `specs/Format` (which field comes next), `specs/File` (a file and its
+//! Read `specs/Header`, `specs/Format` (which field comes next), `specs/Limits`, `specs/File` (a file and its
 //! header) and `specs/Places`; then `file`, `front`, `lists`, `fields` and `places`.
 #![tactic(auto)]
 
@@ -16,6 +16,7 @@ mod fields;
 mod file;
 mod front;
 mod header;
+mod limits;
 mod lists;
 mod places;
 mod test;
@@ -23,4 +24,5 @@ mod test;
 pub use fault::{CdfFault, Fault};
 pub use file::read_header;
 pub use header::Header;
+pub use limits::{MOST_ATTRIBUTES, MOST_DIMENSIONS, MOST_HEADER_BYTES, MOST_RANK, MOST_VARIABLES};
 pub use test::Test;

@@ -3,19 +3,21 @@ ghost use Rattle.std.specs.Prelude.{◌≡◌, ◌≤◌, [], length, map, IfOk}
 ghost use Rattle.cdf_header.specs.Format.{many, times, dimension, dims, id, ids, attribute, attributes, variable, vars, header, type_size};
 ghost use Rattle.cdf_header.specs.Header.{var, vars_in};
 ghost use Rattle.cdf_header.specs.Gives.{GivesPart};
+ghost use Rattle.cdf_header.specs.Limits.{most_dimensions};
 
 use crate::dimensions::{Dimensions, record_in};
 use crate::fault::{Fault, ReadError};
 use crate::fields::{list_of, name_of, number, skip_over, type_of};
 use crate::front::Front;
 use crate::header::{Header, Variable};
+use crate::limits::{MOST_ATTRIBUTES, MOST_DIMENSIONS, MOST_RANK, MOST_VARIABLES};
 use crate::test::Test;
 use std::alloc::Global;
 
 #[tactic(auto, unfolding(crate::specs::Format::dimension))]
 fn dimension_of(front: &Front, at: usize, before: &[u64]) -> Result<(u64, usize), ReadError>
     requires at { at ≤ length front.now.bytes.now }
-    requires few { length before.now ≤ 1024 }
+    requires few { length before.now ≤ most_dimensions }
     ensures { GivesPart (λ x. x) (dimension front.now.version before.now)
         front.now.bytes.now at result }
 {
@@ -32,10 +34,10 @@ fn dimensions(
     count: u64,
 ) -> Result<(Vec<u64>, usize), ReadError>
     requires at { at ≤ length front.now.bytes.now }
-    requires few { count ≤ 1024 }
+    requires few { count ≤ most_dimensions }
     ensures read { GivesPart (λ x. x.items) (many (dimension front.now.version) count [])
         front.now.bytes.now at result }
-    ensures few { IfOk result (λ x. length x.0.items ≤ 1024) }
+    ensures few { IfOk result (λ x. length x.0.items ≤ most_dimensions) }
 {
     let mut found = Vec::new(alloc);
     let mut place = at;
@@ -51,9 +53,9 @@ fn dimensions(
 fn dims_of(alloc: Global, front: &Front, at: usize) -> Result<(Vec<u64>, usize), ReadError>
     requires at { at ≤ length front.now.bytes.now }
     ensures read { GivesPart (λ x. x.items) (dims front.now.version) front.now.bytes.now at result }
-    ensures few { IfOk result (λ x. length x.0.items ≤ 1024) }
+    ensures few { IfOk result (λ x. length x.0.items ≤ most_dimensions) }
 {
-    let (count, at) = list_of(front, at, 10, 1, 1024)?;
+    let (count, at) = list_of(front, at, 10, 1, MOST_DIMENSIONS)?;
     dimensions(alloc, front, at, count)
 }
 
@@ -104,7 +106,7 @@ fn attributes_of(front: &Front, at: usize) -> Result<((), usize), ReadError>
     requires at { at ≤ length front.now.bytes.now }
     ensures { GivesPart (λ _. tt) (attributes front.now.version) front.now.bytes.now at result }
 {
-    let (count, at) = list_of(front, at, 12, 2, 8192)?;
+    let (count, at) = list_of(front, at, 12, 2, MOST_ATTRIBUTES)?;
     attribute_list(front, at, count)
 }
 
@@ -166,7 +168,7 @@ fn ids_of(
         Test::Count {
             before: 1,
             list: 4,
-            most: 1024,
+            most: MOST_RANK,
         },
     )?;
     id_list(alloc, front, at, dims, rank)
@@ -234,7 +236,7 @@ fn vars_of(
     ensures { GivesPart vars_in (vars front.now.version dims.now.lengths.now)
         front.now.bytes.now at result }
 {
-    let (count, at) = list_of(front, at, 11, 3, 8192)?;
+    let (count, at) = list_of(front, at, 11, 3, MOST_VARIABLES)?;
     variable_list(alloc, front, at, dims, count)
 }
 

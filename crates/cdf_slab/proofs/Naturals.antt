@@ -1,9 +1,7 @@
 -- The cells of a run of numbers.
-use Rattle.std.proofs.Common.{◌≡◌, ℕ, suc, ◌+◌, ◌-◌, ◌*◌, ◌^◌, ◌<◌, ◌≤◌, Bool, true, false, if◌then◌else◌, List, [], ◌∷◌, ◌++◌, length, map, take, drop, get_or, set, ◌≢◌, below_more, get_or-set_other, get_or-set_same, Some, None, Ok, Err, refl, sym, ap, subst, ◌∙◌, arith}
-use Rattle.std.proofs.lemmas.List.{take-append-drop, drop_more, take_all, take_more, length-take-le, get_or-take, get_or-drop, take_rest}
-use Rattle.std.proofs.lemmas.List.Edits.{fill_by_more}
-use Rattle.std.proofs.lemmas.Nat.{le_or_l, le_or_r}
-use Rattle.std.specs.Int.Bits.{bit_or}
+use Rattle.std.proofs.Common.{◌≡◌, ℕ, suc, ◌+◌, ◌-◌, ◌*◌, ◌^◌, ◌<◌, ◌≤◌, Bool, true, false, if◌then◌else◌, List, [], ◌∷◌, ◌++◌, length, map, take, drop, get_or, Option, Some, None, Ok, Err, length-append, refl, sym, ap, subst, ◌∙◌, arith}
+use Rattle.std.proofs.lemmas.List.{take-append-drop, drop_more, take_all, take_more, length-take-le, length-map, get_or-take}
+use Rattle.std.proofs.lemmas.List.FromFn.{length-map-range_with_len}
 use Rattle.byteorder.specs.Endian.{big_number}
 use Rattle.aql_value.specs.Datum.{Datum, natural}
 use Rattle.aql_value.specs.Partial.{◌>>=◌, each}
@@ -12,6 +10,7 @@ use Rattle.cdf_header.specs.declared.fault.CdfFault.{CdfFault}
 use Rattle.cdf_header.specs.declared.fault.CdfFault.TheVariants as faults
 use Rattle.cdf_slab.specs.Numbers.{Number, has_sign, twos, number_of, cell_of}
 use Rattle.cdf_slab.specs.Run.{lowest, IsNatural}
+use Rattle.nrca_array.specs.Runs.{run, AreBelow, IsFirstFrom}
 use Rattle.cdf_slab.specs.Slab.{first_negative}
 use Rattle.cdf_header.specs.File.{IsOutside}
 use Rattle.cdf_slab.specs.Going.{AppendsCells}
@@ -127,28 +126,20 @@ outside_goes signed ns before (faults.Outside d) out = absurd out
 outside_goes signed ns before (faults.Cut k) out = absurd out
 outside_goes signed ns before (faults.Negative c) out = absurd out
 
--- one number more is decoded
-pub decode_more : (size step : ℕ) (bytes xs : List ℕ) (i x : ℕ) → i < length xs → x ≡ big_number size (drop (i * step) bytes) → ((k : ℕ) → k < i → get_or xs k 0 ≡ big_number size (drop (k * step) bytes)) →
-    (k : ℕ) → k < i + 1 → get_or (set xs i x) k 0 ≡ big_number size (drop (k * step) bytes)
-decode_more size step bytes xs i x lt e h =
-    subst (λ y. (k : ℕ) → k < i + 1 → get_or (set xs i y) k 0 ≡ big_number size (drop (k * step) bytes)) (sym e)
-    (fill_by_more (λ k. big_number size (drop (k * step) bytes)) xs i 0 lt h)
+-- all of the numbers, where each is below the least that is spelled below 0
+pub run_all : (kind : ℕ) (least : Option ℕ) (ns : List ℕ) (before all : List Datum) → least ≡ lowest kind → AreBelow least ns → all ≡ before ++ map natural ns → AppendsCells false (map (number_of kind) ns) before (Ok all)
+run_all kind None ns before all e below is = naturals_go kind ns before all (λ k lt. natural_each kind (get_or ns k 0) (sym e)) is
+run_all kind (Some l) ns before all e below is = naturals_go kind ns before all (λ k lt. natural_below kind l (get_or ns k 0) (sym e) (below k lt)) is
 
--- none of the numbers that are decoded passes the bits of all
-pub most_more : (xs : List ℕ) (i x bits : ℕ) → i < length xs → ((k : ℕ) → k < i → get_or xs k 0 ≤ bits) → (k : ℕ) → k < i + 1 → get_or (set xs i x) k 0 ≤ bit_or bits x
-most_more xs i x bits lt h =
-    below_more _ _
-    (λ k l.
-    let ne : k ≢ i = omega arith in
-    let le : get_or xs k 0 ≤ bits = h k l in
-    rw get_or-set_other (omega (arith, le, le_or_l bits x)))
-    (rw get_or-set_same (le_or_r bits x))
+-- the first of the numbers that reaches it
+pub run_reached : (kind : ℕ) (least : Option ℕ) (ns : List ℕ) (at : ℕ) (before : List Datum) → least ≡ lowest kind → IsFirstFrom least ns at → AppendsCells false (map (number_of kind) ns) before (Err (faults.Negative (length before + at)))
+run_reached kind None ns at before e first = absurd first
+run_reached kind (Some l) ns at before e first =
+    let front = before ++ map natural (take at ns) in
+    let goes = naturals_first kind ns at before front (omega (arith, first.0)) (λ k lt. natural_below kind l (get_or ns k 0) (sym e) (first.2 k lt)) refl in
+    subst (λ c. AppendsCells false (map (number_of kind) ns) before (Err (faults.Negative c)))
+    (omega (arith, length-append before (map natural (take at ns)), length-map (take at ns) natural, length-take-le at ns (omega (arith, first.0))))
+    (negative_go kind ns at before front first.0 goes (negative_from kind l (get_or ns at 0) (sym e) first.1))
 
-pub byte_number : (n : ℕ) (bytes : List ℕ) → get_or bytes n 0 ≡ big_number 1 (drop n bytes)
-byte_number n bytes =
-    let z : n + 0 ≡ n = omega arith in
-    let e : get_or (drop n bytes) 0 0 ≡ get_or bytes n 0 = get_or-drop n bytes 0 0 ∙ ap (λ m. get_or bytes m 0) z in
-    omega (arith, e)
-
-pub number_rest : (size n : ℕ) (bytes : List ℕ) → big_number size (take (length bytes - n) (drop n bytes)) ≡ big_number size (drop n bytes)
-number_rest size n bytes = ap (big_number size) (take_rest bytes n)
+pub length-run : (size step n : ℕ) (bytes : List ℕ) → length (run size step n bytes) ≡ n
+length-run size step n bytes = length-map-range_with_len (λ j. big_number size (drop (j * step) bytes)) 0 n

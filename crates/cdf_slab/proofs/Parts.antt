@@ -1,6 +1,5 @@
 -- What is read before an earlier end is read before the end.
-use Rattle.std.proofs.Common.{◌≡◌, ℕ, ◌≤◌, List, map, Result, subst, arith}
-use Rattle.std.specs.Prelude.{IfErr}
+use Rattle.std.proofs.Common.{ℕ, List, map, Result, subst, arith}
 use Rattle.aql_value.specs.Datum.{Datum}
 use Rattle.cdf_header.specs.declared.fault.CdfFault.{CdfFault}
 use Rattle.cdf_slab.specs.declared.reading.Reading.{Reading}

@@ -11,7 +11,8 @@ use Rattle.cdf_header.specs.Format.{type_size}
 use Rattle.cdf_header.specs.declared.fault.CdfFault.{CdfFault}
 use Rattle.cdf_slab.specs.declared.window.Window.{Window}
 use Rattle.cdf_slab.specs.Numbers.{Number, number_of, number_at}
-use Rattle.cdf_slab.specs.Run.{apart, run, HasAllBytes, HoldsRun}
+use Rattle.cdf_slab.specs.Run.{apart, HoldsRun}
+use Rattle.nrca_array.specs.Runs.{run, HasAllBytes}
 use Rattle.cdf_slab.specs.Walk.{DimensionStep, along, walk, HaveRoom, places_left, RoomSoFar, Turn}
 use Rattle.cdf_slab.specs.Slab.{IsLate}
 use Rattle.cdf_slab.specs.Window.{IsPiece, held}

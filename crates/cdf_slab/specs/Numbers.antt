@@ -1,12 +1,8 @@
 -- The numbers of a variable, and the cells that they give.
-use Rattle.std.specs.Prelude.{◌≡◌, ℕ, ◌-◌, ◌*◌, ◌^◌, Bool, true, false, ◌||◌, ◌⊎◌, nat_eq, nat_lt, List, [], ◌∷◌, drop, Option, Some, None, if◌then◌else◌}
+use Rattle.std.specs.Prelude.{◌≡◌, ℕ, ◌-◌, ◌*◌, ◌^◌, Bool, true, false, ◌||◌, nat_eq, nat_lt, List, [], ◌∷◌, drop, Option, Some, None, if◌then◌else◌}
 use Rattle.byteorder.specs.Endian.{big_number}
 use Rattle.aql_value.specs.Datum.{Datum, natural, truth, tuple, data_of}
 use Rattle.cdf_header.specs.Format.{type_size}
-
--- the bytes that a number may take
-abbrev pub IsWidth : ℕ → Type 0
-IsWidth size = (size ≡ 1) ⊎ ((size ≡ 2) ⊎ ((size ≡ 4) ⊎ (size ≡ 8)))
 
 -- a number as a file tells it: whether it is below 0, and how far it is from 0
 abbrev pub Number : Type 0

@@ -5,9 +5,9 @@ ghost use Rattle.aql_outside.specs.Contents.{WhereTold};
 ghost use Rattle.aql_outside.specs.Frames.{Leaves};
 ghost use Rattle.cdf_header.specs.File.{IsDevice};
 ghost use Rattle.cdf_slab.specs.Going.{count_with, IsPartOf, StaysKind, ReadsPlaces};
-ghost use Rattle.cdf_slab.specs.Numbers.{IsWidth};
 ghost use Rattle.cdf_slab.specs.Slab.{IsLate};
 ghost use Rattle.cdf_slab.specs.Walk.{step_of, steps_of, walk, HaveRoom, RoomSoFar, Turn};
+ghost use Rattle.nrca_array.specs.Runs.{IsWidth};
 
 use crate::axes::Axis;
 use crate::faults::last_end;
@@ -17,18 +17,10 @@ use crate::runs::push_run;
 use crate::window::Window;
 use aql_outside::Files;
 use cdf_header::CdfFault;
-use nrca_array::Builder;
+use nrca_array::{Builder, Run};
 
-/// The most numbers that are decoded at once.
-const RUN: u64 = 4096;
-
-/// What reading cells needs besides them: the piece of the file that was read last, and a buffer
-/// for numbers, whose content is of no matter.
-#[derive(Drop)]
-pub(crate) struct Buffers {
-    pub window: Window,
-    pub numbers: Vec<u64>,
-}
+/// The most numbers that are taken at once.
+const RUN: u64 = 8192;
 
 // The place of an index of a dimension, where those behind it have room.
 fn place_along(a: Axis, rest: &[Axis], base: u128, i: u64, reading: Reading) -> u128
@@ -85,7 +77,7 @@ fn block(reading: Reading, apart: bool, rest: &[Axis], base: u128) -> Reading
 fn read_row<F: Files>(
     files: &mut F,
     name: &str,
-    buffers: &mut Buffers,
+    window: &mut Window,
     reading: Reading,
     a: Axis,
     base: u128,
@@ -100,28 +92,25 @@ fn read_row<F: Files>(
         (λ all. length all ≡ count_with cells (walk (step_of a ∷ []) base)) }
     ensures kinds { StaysKind reading.signed cells result }
     ensures told { WhereTold (F.holds files.old) name.now
-        (λ bytes. ReadsPlaces bytes reading buffers.old.window buffers.new.window
+        (λ bytes. ReadsPlaces bytes reading window.old window.new
         (walk (step_of a ∷ []) base) cells result) }
 {
-    let alloc = *buffers.numbers.allocator();
+    let alloc = *window.memory.allocator();
     let step = step_along(a);
     let mut all = cells;
     let mut i = 0;
     'row: while i < a.count {
         let here = place_along(a, &[], base, i, reading) as u64;
         let most = (a.count - i).min(RUN);
-        match run_in(files, name, &mut buffers.window, reading, here, step, most) {
+        match run_in(files, name, window, reading, here, step, most) {
             Ok(count) => {
-                let bytes = buffers.window.from(here);
-                match push_run(
-                    alloc,
-                    reading,
-                    bytes,
-                    step as usize,
-                    count as usize,
-                    &mut buffers.numbers,
-                    all,
-                ) {
+                let run = Run {
+                    bytes: window.from(here),
+                    size: reading.size as usize,
+                    step: step as usize,
+                    count: count as usize,
+                };
+                match push_run(alloc, reading, run, all) {
                     Ok(more) => {
                         all = more;
                         i += count;
@@ -140,7 +129,7 @@ fn read_row<F: Files>(
 pub(crate) fn read_cells<F: Files>(
     files: &mut F,
     name: &str,
-    buffers: &mut Buffers,
+    window: &mut Window,
     reading: Reading,
     axes: &[Axis],
     base: u128,
@@ -156,19 +145,19 @@ pub(crate) fn read_cells<F: Files>(
         (λ all. length all ≡ count_with cells (walk (steps_of axes.now) base)) }
     ensures kinds { StaysKind reading.signed cells result }
     ensures told { WhereTold (F.holds files.old) name.now
-        (λ bytes. ReadsPlaces bytes reading buffers.old.window buffers.new.window
+        (λ bytes. ReadsPlaces bytes reading window.old window.new
         (walk (steps_of axes.now) base) cells result) }
 {
     match axes {
         [] => unreachable!(),
-        [a] => read_row(files, name, buffers, reading, *a, base, cells),
+        [a] => read_row(files, name, window, reading, *a, base, cells),
         [a, rest @ ..] => {
             let apart = is_scattered(*a, rest, reading.size);
             let mut all = cells;
             'cells: for i in 0..a.count {
                 let here = place_along(*a, rest, base, i, reading);
                 let part = block(reading, apart, rest, here);
-                match read_cells(files, name, buffers, part, rest, here, all) {
+                match read_cells(files, name, window, part, rest, here, all) {
                     Ok(more) => all = more,
                     Err(fault) => return Err(fault),
                 }

@@ -4,9 +4,9 @@ ghost use Rattle.std.specs.Prelude.{◌≡◌, ◌+◌, ◌-◌, ◌^◌, ◌≤
 ghost use Rattle.aql_outside.specs.Contents.{WhereTold};
 ghost use Rattle.aql_outside.specs.Frames.{Leaves};
 ghost use Rattle.cdf_header.specs.File.{IsDevice, IsOutside};
-ghost use Rattle.cdf_slab.specs.Numbers.{IsWidth};
 ghost use Rattle.cdf_slab.specs.Run.{HoldsRun};
 ghost use Rattle.cdf_slab.specs.Window.{HasBytes, IsRead, IsLoaded, StaysPiece, IsOfPiece};
+ghost use Rattle.nrca_array.specs.Runs.{IsWidth};
 
 use crate::reading::Reading;
 use crate::window::Window;

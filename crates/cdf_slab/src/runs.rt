@@ -3,13 +3,13 @@
 ghost use Rattle.std.specs.Prelude.{◌≡◌, ◌+◌, [], ◌∷◌, false, length, map, IfOk};
 ghost use Rattle.cdf_header.specs.File.{IsDevice};
 ghost use Rattle.cdf_slab.specs.Going.{AppendsCells};
-ghost use Rattle.cdf_slab.specs.Numbers.{number_of, IsWidth};
-ghost use Rattle.cdf_slab.specs.Run.{run, AreWithin, HasAllBytes};
+ghost use Rattle.cdf_slab.specs.Numbers.{number_of};
+ghost use Rattle.nrca_array.specs.Runs.{IsWidth, IsWhole, run_numbers};
 
-use crate::numbers::{decode, naturals_before, number};
+use crate::numbers::{lowest_below, number};
 use crate::reading::Reading;
 use cdf_header::CdfFault;
-use nrca_array::Builder;
+use nrca_array::{Builder, Run, RunError};
 use std::alloc::Global;
 
 /// One cell more, of a number as its bytes spell it.
@@ -35,52 +35,39 @@ pub(crate) fn push_number(
     Ok(cells.push_natural(alloc, u128::from(far))?)
 }
 
-/// So many cells more, of the numbers that stand in these bytes a step apart, decoded into a
-/// buffer.
+/// The cells of a run of numbers more.
 pub(crate) fn push_run(
     alloc: Global,
     reading: Reading,
-    bytes: &[u8],
-    step: usize,
-    count: usize,
-    numbers: &mut Vec<u64>,
+    run: Run,
     cells: Builder,
 ) -> Result<Builder, CdfFault>
-    requires size { IsWidth reading.size }
-    requires room { HasAllBytes bytes.now reading.size step count }
+    requires size { IsWidth run.size }
+    requires whole { IsWhole run }
     ensures goes { AppendsCells reading.signed
-        (map (number_of reading.kind) (run reading.size step count bytes.now)) cells result }
-    ensures many { IfOk result (λ all. length all ≡ length cells + count) }
+        (map (number_of reading.kind) (run_numbers run.entry)) cells result }
+    ensures many { IfOk result (λ all. length all ≡ length cells + run.entry.count) }
     ensures own { IsDevice result → ⊥ }
 {
-    match numbers.resize(count, 0) {
-        Ok(()) => {
-            let most = decode(bytes, reading.size, step, numbers);
-            if reading.signed {
-                push_each(alloc, reading, numbers, cells)
-            } else {
-                push_naturals(alloc, reading.kind, numbers, most, cells)
-            }
-        }
-        Err(_) => Err(CdfFault::Memory),
+    if reading.signed {
+        push_each(alloc, reading, run, cells)
+    } else {
+        push_naturals(alloc, reading.kind, run, cells)
     }
 }
 
 // A cell more for each number.
-fn push_each(
-    alloc: Global,
-    reading: Reading,
-    numbers: &[u64],
-    cells: Builder,
-) -> Result<Builder, CdfFault>
-    ensures goes { AppendsCells reading.signed (map (number_of reading.kind) numbers.now) cells
-        result }
-    ensures many { IfOk result (λ all. length all ≡ length cells + length numbers.now) }
+fn push_each(alloc: Global, reading: Reading, run: Run, cells: Builder) -> Result<Builder, CdfFault>
+    requires size { IsWidth run.size }
+    requires whole { IsWhole run }
+    ensures goes { AppendsCells reading.signed
+        (map (number_of reading.kind) (run_numbers run.entry)) cells result }
+    ensures many { IfOk result (λ all. length all ≡ length cells + run.entry.count) }
     ensures own { IsDevice result → ⊥ }
 {
     let mut all = cells;
-    'numbers: for x in numbers {
-        match push_number(alloc, reading, *x, all) {
+    'numbers: for k in 0..run.count {
+        match push_number(alloc, reading, run.get(k), all) {
             Ok(more) => all = more,
             Err(fault) => return Err(fault),
         }
@@ -88,25 +75,22 @@ fn push_each(
     Ok(all)
 }
 
-// A natural more for each number, up to the first below 0. None of them passes `most`.
-fn push_naturals(
-    alloc: Global,
-    kind: u32,
-    numbers: &[u64],
-    most: u64,
-    cells: Builder,
-) -> Result<Builder, CdfFault>
-    requires { AreWithin numbers.now most }
-    ensures goes { AppendsCells false (map (number_of kind) numbers.now) cells result }
-    ensures many { IfOk result (λ all. length all ≡ length cells + length numbers.now) }
+// A natural more for each number, up to the first below 0. No memory has so many cells that the
+// number of one is too great.
+fn push_naturals(alloc: Global, kind: u32, run: Run, cells: Builder) -> Result<Builder, CdfFault>
+    requires size { IsWidth run.size }
+    requires whole { IsWhole run }
+    ensures goes { AppendsCells false (map (number_of kind) (run_numbers run.entry)) cells result }
+    ensures many { IfOk result (λ all. length all ≡ length cells + run.entry.count) }
     ensures own { IsDevice result → ⊥ }
 {
-    let count = naturals_before(kind, numbers, most);
-    let all = cells.push_naturals(alloc, &numbers[..count])?;
-    if count < numbers.len() {
-        return Err(CdfFault::Negative {
-            cell: all.len() as u64,
-        });
+    let before = cells.len();
+    match cells.push_run(alloc, run, lowest_below(kind)) {
+        Ok(all) => Ok(all),
+        Err(RunError::Memory) => Err(CdfFault::Memory),
+        Err(RunError::Reached { at }) => match before.checked_add(at) {
+            Some(cell) => Err(CdfFault::Negative { cell: cell as u64 }),
+            None => Err(CdfFault::Memory),
+        },
     }
-    Ok(all)
 }

@@ -13,7 +13,7 @@ ghost use Rattle.cdf_slab.specs.Request.{early_of, cut_of, IsOfAsked};
 ghost use Rattle.cdf_slab.specs.Slab.{most_cells, index_fault, early_fault, first_zero, AnswersSlab, AnswersRead, AnswersEarly, IsShaped, IsLate, IsLateOf, IsOfRequest, NeedsNoCell, AsksNothing};
 
 use crate::axes::axes_of;
-use crate::cells::{Buffers, read_cells};
+use crate::cells::read_cells;
 use crate::faults::{cut_from, last_end, outside_dimension, variable_fault, zero_stride};
 use crate::reading::Reading;
 use crate::request::Request;
@@ -156,12 +156,9 @@ fn read_some<F: Files>(
         signed: asked.signed,
         end: last_end(end, size, &axes, base),
     };
-    let mut buffers = Buffers {
-        window: Window::new(alloc),
-        numbers: Vec::new(alloc),
-    };
+    let mut window = Window::new(alloc);
     let none = Builder::new(alloc);
-    match read_cells(files, name, &mut buffers, reading, &axes, base, none) {
+    match read_cells(files, name, &mut window, reading, &axes, base, none) {
         Ok(cells) => Ok(array_of(alloc, cells, asked.count)?),
         Err(fault) => Err(fault),
     }

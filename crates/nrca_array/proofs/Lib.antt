@@ -4,3 +4,5 @@ pub mod PairsKept
 pub mod CellKinds
 pub mod Steps
 pub mod Places
+pub mod RunsWritten
+pub mod Fitting

@@ -75,3 +75,7 @@ pub record ArePairs (w n : ℕ) (bytes : List ℕ) : Type 0 where
   pub truths : AreTruths (drop (n * w) bytes)
   pub many : length (drop (n * w) bytes) ≡ n
   pub spells : bytes ≡ spelled w (numbers_at w n bytes) ++ drop (n * w) bytes
+
+-- pairs whose numbers each fit 128 bits
+abbrev pub AreSmallPairs : List (Bool × ℕ) → Type 0
+AreSmallPairs ps = greatest (map (λ p. p.1) ps) < 2 ^ 128

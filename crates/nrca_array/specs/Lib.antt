@@ -3,3 +3,4 @@ pub mod Kept
 pub mod Stored
 pub mod Held
 pub mod Places
+pub mod Runs

@@ -5,11 +5,13 @@ ghost use Rattle.aql_value.specs.Meaning.{datum};
 ghost use Rattle.aql_value.specs.Indices.{table, IsTable};
 ghost use Rattle.nrca_array.specs.Packing.{as_pair, pair_datum, packing};
 ghost use Rattle.nrca_array.specs.Kept.{paired_up};
+ghost use Rattle.nrca_array.specs.Runs.{IsWidth, IsWhole, AppendsRun, run_numbers};
 ghost use Rattle.nrca_array.specs.Stored.{stored, IsStored, kept_cells, IsKept, pair_cells};
 
 use crate::flat::{Flat, Kept};
 use crate::numbers::Numbers;
 use crate::pairs::Pairs;
+use crate::run::{Run, RunError};
 use crate::truths::Truths;
 use crate::values::{pair_of, pair_value};
 use aql_value::{Dims, Items, Memory, Value, saturating_product};
@@ -133,6 +135,32 @@ impl Builder {
             Store::Plain(items) => each_pushed(Store::Plain(items), alloc, numbers),
             Store::Truths(truths) => each_pushed(Store::Truths(truths), alloc, numbers),
             Store::Pairs(pairs, truths) => each_pushed(Store::Pairs(pairs, truths), alloc, numbers),
+        }
+    }
+
+    /// The numbers of a run as the next cells, naturals, where each is below the limit; with no
+    /// limit all are. Else the place of the first that reaches it is answered.
+    pub fn push_run(self, alloc: Global, run: Run, limit: Option<u64>) -> Result<Builder, RunError>
+        requires size { IsWidth run.size }
+        requires whole { IsWhole run }
+        ensures { AppendsRun limit (run_numbers run.entry) self result }
+    {
+        if run.count == 0 {
+            return Ok(self);
+        }
+        match self.cells {
+            Store::Naturals(numbers) => run_appended(numbers, alloc, run, limit),
+            Store::Plain(items) => {
+                if items.items.is_empty() {
+                    run_appended(Numbers::new(alloc), alloc, run, limit)
+                } else {
+                    run_pushed(Store::Plain(items), alloc, run, limit)
+                }
+            }
+            Store::Truths(truths) => run_pushed(Store::Truths(truths), alloc, run, limit),
+            Store::Pairs(numbers, truths) => {
+                run_pushed(Store::Pairs(numbers, truths), alloc, run, limit)
+            }
         }
     }
 
@@ -260,6 +288,59 @@ fn each_pushed(cells: Store, alloc: Global, numbers: &[u64]) -> Result<Builder, 
     let mut all = Builder { cells };
     for n in numbers {
         all = all.push_natural(alloc, u128::from(*n))?;
+    }
+    Ok(all)
+}
+
+// Naturals, and then those of a run, up to the first that reaches the limit.
+fn run_appended(
+    numbers: Numbers,
+    alloc: Global,
+    run: Run,
+    limit: Option<u64>,
+) -> Result<Builder, RunError>
+    requires some { 1 ≤ run.count }
+    requires size { IsWidth run.size }
+    requires whole { IsWhole run }
+    ensures { AppendsRun limit (run_numbers run.entry) (map natural numbers) result }
+{
+    let (numbers, bits) = numbers.extend_run(alloc, run)?;
+    match run.first_from(limit, bits) {
+        None => Ok(Builder {
+            cells: Store::Naturals(numbers),
+        }),
+        Some(at) => Err(RunError::Reached { at }),
+    }
+}
+
+// Cells, and then the numbers of a run, up to the first that reaches the limit.
+fn run_pushed(
+    cells: Store,
+    alloc: Global,
+    run: Run,
+    limit: Option<u64>,
+) -> Result<Builder, RunError>
+    requires stored { IsStored cells }
+    requires size { IsWidth run.size }
+    requires whole { IsWhole run }
+    ensures { AppendsRun limit (run_numbers run.entry) (stored cells) result }
+{
+    match run.first_reached(limit) {
+        None => Ok(each_of_run(cells, alloc, run)?),
+        Some(at) => Err(RunError::Reached { at }),
+    }
+}
+
+// Cells, and then the numbers of a run, taken one at a time.
+fn each_of_run(cells: Store, alloc: Global, run: Run) -> Result<Builder, Memory>
+    requires stored { IsStored cells }
+    requires size { IsWidth run.size }
+    requires whole { IsWhole run }
+    ensures { IfOk result (λ all. all ≡ stored cells ++ map natural (run_numbers run.entry)) }
+{
+    let mut all = Builder { cells };
+    for k in 0..run.count {
+        all = all.push_natural(alloc, u128::from(run.get(k)))?;
     }
     Ok(all)
 }

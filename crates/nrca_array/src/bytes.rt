@@ -1,12 +1,13 @@
-//! Numbers in bytes, the lowest byte first.
+//! Numbers in bytes: of what is kept the lowest byte stands first, of what is read the highest.
 
 ghost use Rattle.std.specs.Prelude.{◌≡◌, ◌+◌, ◌*◌, ◌^◌, ◌<◌, ◌≤◌, ◌++◌, length, drop, IfSome, OnOk, OnErr};
-ghost use Rattle.byteorder.specs.Endian.{little_number};
+ghost use Rattle.byteorder.specs.Endian.{little_number, big_number};
 ghost use Rattle.nrca_array.specs.Packing.{greatest, spelled};
 ghost use Rattle.nrca_array.specs.Kept.{width_bytes, little_in, spelled_in};
+ghost use Rattle.nrca_array.specs.Runs.{IsWidth};
 
 use crate::width::Width;
-use byteorder::{ByteOrder, LittleEndian};
+use byteorder::{BigEndian, ByteOrder, LittleEndian};
 use std::alloc::AllocError;
 
 /// The number whose bytes stand at a place.
@@ -28,6 +29,36 @@ fn first_number(width: Width, part: &[u8]) -> u128
         Width::Four => u128::from(LittleEndian::read_u32(part)),
         Width::Eight => u128::from(LittleEndian::read_u64(part)),
         Width::Sixteen => LittleEndian::read_u128(part),
+    }
+}
+
+/// The number in the first bytes, the highest first.
+#[inline(always)]
+pub(crate) fn first_big(size: usize, part: &[u8]) -> u64
+    requires size { IsWidth size }
+    requires room { size ≤ length part.now }
+    ensures { result ≡ big_number size part.now }
+{
+    match size {
+        1 => u64::from(part[0]),
+        2 => u64::from(BigEndian::read_u16(part)),
+        4 => u64::from(BigEndian::read_u32(part)),
+        _ => BigEndian::read_u64(part),
+    }
+}
+
+/// Writes the lowest bytes of a number over the first of these, the lowest first.
+#[inline(always)]
+pub(crate) fn write_low(part: &mut [u8], width: Width, x: u64)
+    requires { width_bytes width ≤ length part.old }
+    ensures { part.new ≡ little_in width x ++ drop (width_bytes width) part.old }
+{
+    match width {
+        Width::One => part[0] = (x & 0xff) as u8,
+        Width::Two => LittleEndian::write_u16(part, (x & 0xffff) as u16),
+        Width::Four => LittleEndian::write_u32(part, (x & 0xffff_ffff) as u32),
+        Width::Eight => LittleEndian::write_u64(part, x),
+        Width::Sixteen => LittleEndian::write_u128(part, u128::from(x)),
     }
 }
 
@@ -54,8 +85,8 @@ pub(crate) fn put_all(bytes: &mut Vec<u8>, width: Width, xs: &[u64]) -> Result<(
     Ok(())
 }
 
-// Where the bytes of so many numbers end: nowhere, if memory has no such place.
-fn end_of(from: usize, width: Width, count: usize) -> Option<usize>
+/// Where the bytes of so many numbers end: nowhere, if memory has no such place.
+pub(crate) fn end_of(from: usize, width: Width, count: usize) -> Option<usize>
     ensures { IfSome result (λ end. end ≡ from + count * width_bytes width) }
 {
     count.checked_mul(width.bytes())?.checked_add(from)

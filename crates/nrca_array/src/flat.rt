@@ -1,7 +1,8 @@
 ghost use Rattle.std.specs.Prelude.{◌≡◌, ◌<◌, ◌≤◌, length, IfOk, slice_get, slice_range, Some, option_map};
 ghost use Rattle.aql_value.specs.Meaning.{datum};
 ghost use Rattle.aql_value.specs.Indices.{cell, IsTable};
-ghost use Rattle.aql_value.specs.Datum.{natural};
+ghost use Rattle.aql_value.specs.Datum.{natural, data_of};
+ghost use Rattle.aql_value.specs.Valid.{AreValues};
 ghost use Rattle.nrca_array.specs.Packing.{packing};
 ghost use Rattle.nrca_array.specs.Places.{IsPlaceOf, natural_cell, natural_of};
 ghost use Rattle.nrca_array.specs.Stored.{kept_cells, IsKept};
@@ -10,6 +11,7 @@ use crate::builder::Builder;
 use crate::numbers::Numbers;
 use crate::pairs::Pairs;
 use crate::truths::Truths;
+use crate::validity::all_valid;
 use crate::values::pair_value;
 use aql_value::{Cells, Dims, Index, Items, Memory, Value, is_below, place};
 use std::alloc::Global;
@@ -157,6 +159,14 @@ impl Flat {
         self.cells.packed()
     }
 
+    // Shows that the cells are values of the language.
+    pub(crate) fn valid_cells(&self)
+        ensures cells { AreValues (data_of self.now.cells) }
+        ensures table { IsTable self.now }
+    {
+        self.cells.valid();
+    }
+
     /// The same array as `Cells`.
     pub fn to_cells(&self, alloc: Global) -> Result<Cells, Memory>
         ensures { IfOk result (λ cells. cells ≡ self.now) }
@@ -232,6 +242,19 @@ impl Kept {
             Kept::Naturals(numbers) => Some(numbers.lend()),
             Kept::Truths(truths) => Some((8, truths.lend())),
             Kept::Pairs(pairs) => Some(pairs.lend()),
+        }
+    }
+
+    // Shows that the cells are values of the language.
+    #[tactic(auto, using(crate::proofs::Fitting::naturals_valued, crate::proofs::Fitting::truths_valued, crate::proofs::Fitting::pairs_valued))]
+    fn valid(&self)
+        ensures { AreValues (data_of (kept_cells self.now)) }
+    {
+        match self {
+            Kept::Plain(items) => all_valid(items),
+            Kept::Naturals(numbers) => numbers.fit(),
+            Kept::Truths(_) => (),
+            Kept::Pairs(pairs) => pairs.fit(),
         }
     }
 

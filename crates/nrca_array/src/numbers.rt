@@ -1,8 +1,11 @@
-ghost use Rattle.std.specs.Prelude.{◌≡◌, ◌+◌, ◌*◌, ◌^◌, ◌<◌, [], ◌∷◌, ◌++◌, length, slice_index, IfOk};
+ghost use Rattle.std.specs.Prelude.{◌≡◌, ◌+◌, ◌*◌, ◌^◌, ◌<◌, [], ◌∷◌, ◌++◌, max, length, slice_index, IfOk};
 ghost use Rattle.nrca_array.specs.Packing.{greatest, spelled, width_for};
 ghost use Rattle.nrca_array.specs.Kept.{width_bytes, numbers_at, IsWider, Respells, numbers_in, spelled_in};
+ghost use Rattle.nrca_array.specs.Runs.{IsWidth, IsWhole, HaveBits, run_numbers, RespellsWith};
 
 use crate::bytes::{number_at, put, put_all};
+use crate::put_runs::put_run;
+use crate::run::Run;
 use crate::width::Width;
 use aql_value::Memory;
 use std::alloc::Global;
@@ -91,6 +94,27 @@ impl Numbers {
         })
     }
 
+    /// The numbers of a run more, and the bits that some of them has.
+    pub(crate) fn extend_run(self, alloc: Global, run: Run) -> Result<(Numbers, u64), Memory>
+        requires size { IsWidth run.size }
+        requires whole { IsWhole run }
+        ensures numbers { IfOk result (λ r. r.0 ≡ self ++ run_numbers run.entry) }
+        ensures bits { IfOk result (λ r. HaveBits (run_numbers run.entry) r.1) }
+    {
+        let Numbers {
+            width,
+            count,
+            bytes,
+        } = self;
+        let (width, bytes, bits) = put_widened(alloc, width, count, bytes, run)?;
+        let numbers = Numbers {
+            width,
+            count: count + run.count,
+            bytes,
+        };
+        Ok((numbers, bits))
+    }
+
     /// These numbers, and then the others.
     pub(crate) fn append(self, alloc: Global, others: Numbers) -> Result<Numbers, Memory>
         ensures { IfOk result (λ ns. ns ≡ self ++ others) }
@@ -131,6 +155,13 @@ impl Numbers {
         ensures bytes { result.1.now ≡ spelled (width_for self.now) self.now }
     {
         (8 * self.width.bytes() as u64, &self.bytes)
+    }
+
+    /// Shows that each number fits 128 bits.
+    pub(crate) fn fit(&self)
+        ensures { greatest self.now < 2 ^ 128 }
+    {
+        let _count = self.count;
     }
 
     /// Equal numbers.
@@ -181,4 +212,36 @@ fn widen(
         put(&mut wider, least, number_at(width, &bytes, i))?;
     }
     Ok((least, wider))
+}
+
+// The first numbers of one width and then those of a run, in the least width of all of these, and
+// the bits that some number of the run has. Most often the width stays; where it does not, what was
+// written of the run is written again.
+fn put_widened(
+    alloc: Global,
+    width: Width,
+    count: usize,
+    mut bytes: Vec<u8>,
+    run: Run,
+) -> Result<(Width, Vec<u8>, u64), Memory>
+    requires spells { bytes.items ≡ spelled_in width (numbers_in width count bytes.items) }
+    requires fits { greatest (numbers_in width count bytes.items) < 256 ^ width_bytes width }
+    requires size { IsWidth run.size }
+    requires whole { IsWhole run }
+    ensures width { IfOk result
+        (λ r. width_bytes r.0 ≡ max (width_bytes width) (width_for (run_numbers run.entry))) }
+    ensures bytes { IfOk result (λ r. RespellsWith width count bytes run.entry r.0 r.1) }
+    ensures small { IfOk result (λ _. greatest (run_numbers run.entry) < 2 ^ 128) }
+    ensures bits { IfOk result (λ r. HaveBits (run_numbers run.entry) r.2) }
+{
+    let from = bytes.len();
+    let bits = put_run(&mut bytes, width, run)?;
+    let least = Width::least(u128::from(bits));
+    if least.bytes() <= width.bytes() {
+        return Ok((width, bytes, bits));
+    }
+    bytes.truncate(from);
+    let (width, mut bytes) = widen(alloc, width, count, bytes, least)?;
+    put_run(&mut bytes, width, run)?;
+    Ok((width, bytes, bits))
 }

@@ -1,6 +1,6 @@
 ghost use Rattle.std.specs.Prelude.{◌≡◌, ◌<◌, ◌*◌, length, map, IfOk, slice_get, Some};
 ghost use Rattle.nrca_array.specs.Packing.{pairs_packing};
-ghost use Rattle.nrca_array.specs.Kept.{paired_up};
+ghost use Rattle.nrca_array.specs.Kept.{paired_up, AreSmallPairs};
 
 use crate::bytes::number_at;
 use crate::numbers::Numbers;
@@ -68,6 +68,14 @@ impl Pairs {
         ensures bytes { result.1.now ≡ (pairs_packing self.now).1 }
     {
         (8 * self.width.bytes() as u64, &self.bytes)
+    }
+
+    /// Shows that each number fits 128 bits.
+    #[tactic(auto, using(crate::proofs::Fitting::small_pairs))]
+    pub(crate) fn fit(&self)
+        ensures { AreSmallPairs self.now }
+    {
+        let _count = self.count;
     }
 
     /// Equal pairs.

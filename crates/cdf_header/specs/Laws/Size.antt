@@ -4,6 +4,7 @@ use Rattle.cdf_header.specs.declared.test.Test.{Test}
 use Rattle.cdf_header.specs.declared.test.Test.TheVariants.{Any}
 use Rattle.cdf_header.specs.Format.{Format, done, ask, PartFormat, ◌>>=◌, num, str, skip, name, list, many, times, dimension, dims, attribute, attributes, id, ids, variable, vars, header, wide, Field, Spells}
 use Rattle.cdf_header.specs.Header.{Head, Var}
+use Rattle.cdf_header.specs.Limits.{most_dimensions, most_attributes, most_variables}
 
 -- P of each header that a format ends with
 abbrev pub Ends : (Head → Type 0) → Format → Type 0
@@ -60,7 +61,7 @@ module _ (P : Head → Type 0) where
 
   keeps-dims : (v : ℕ) → Keeps (dims v)
   unfolding dims
-  keeps-dims v = λ next h. keeps-list v 10 1 1024 _ (λ n. keeps-many (dimension v) (keeps-dimension v) n [] next h)
+  keeps-dims v = λ next h. keeps-list v 10 1 most_dimensions _ (λ n. keeps-many (dimension v) (keeps-dimension v) n [] next h)
 
   keeps-attribute : (v : ℕ) → Keeps (attribute v)
   unfolding attribute
@@ -68,7 +69,7 @@ module _ (P : Head → Type 0) where
 
   keeps-attributes : (v : ℕ) → Keeps (attributes v)
   unfolding attributes
-  keeps-attributes v = λ next h. keeps-list v 12 2 8192 _ (λ n. keeps-times (attribute v) (keeps-attribute v) n next h)
+  keeps-attributes v = λ next h. keeps-list v 12 2 most_attributes _ (λ n. keeps-times (attribute v) (keeps-attribute v) n next h)
 
   keeps-ids : (v : ℕ) (ds : List ℕ) → Keeps (ids v ds)
   unfolding ids id
@@ -82,7 +83,7 @@ module _ (P : Head → Type 0) where
 
   keeps-vars : (v : ℕ) (ds : List ℕ) → Keeps (vars v ds)
   unfolding vars
-  keeps-vars v ds = λ next h. keeps-list v 11 3 8192 _ (λ n. keeps-many (variable v ds) (keeps-variable v ds) n [] next h)
+  keeps-vars v ds = λ next h. keeps-list v 11 3 most_variables _ (λ n. keeps-many (variable v ds) (keeps-variable v ds) n [] next h)
 
 header-ends : (size v : ℕ) → Ends (λ h. h.bytes ≡ size) (header size v done)
 unfolding header

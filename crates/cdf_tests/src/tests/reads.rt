@@ -162,3 +162,50 @@ fn long_rows(rt: HostRuntime) -> Result<(), Fail> {
     }
     Ok(())
 }
+
+// The short at i of 40,000, each below 256 but perhaps the last.
+fn narrow_at(i: u32, last: u16) -> u16 {
+    if i == 39999 { last } else { (i % 256) as u16 }
+}
+
+// The same file with these shorts.
+fn narrow_row(alloc: Global, last: u16) -> Result<Vec<u8>, Memory> {
+    let words: [u32; 20] = [
+        0x43444601, 0, 0xa, 1, 1, 0x78000000, 40000, 0, 0, 0xb, 1, 1, 0x76000000, 1, 0, 0, 0, 3,
+        80000, 80,
+    ];
+    let mut bytes = bytes_of(alloc, &words)?;
+    for i in 0..40000u32 {
+        bytes.extend_from_slice(&narrow_at(i, last).to_be_bytes())?;
+    }
+    Ok(bytes)
+}
+
+// Their bytes in so many bits, the lowest first.
+fn narrow_bytes(alloc: Global, last: u16, width: u64) -> Result<Vec<u8>, Memory> {
+    let mut bytes = Vec::new(alloc);
+    for i in 0..40000u32 {
+        let [low, high] = narrow_at(i, last).to_le_bytes();
+        bytes.push(low)?;
+        if width == 16 {
+            bytes.push(high)?;
+        }
+    }
+    Ok(bytes)
+}
+
+// Shorts that fit in a byte are kept in one, and in two where one behind all others does not.
+#[test]
+fn narrow_rows(rt: HostRuntime) -> Result<(), Fail> {
+    let alloc = rt.alloc();
+    let cases: [(u16, u64); 2] = [(255, 8), (256, 16)];
+    for (last, width) in cases {
+        let files = sure(alloc, narrow_row(alloc, last));
+        let header = header_of(alloc, narrow_row(alloc, last));
+        let request = Asked::Naturals(&[0], &[40000], &[1]);
+        let found = read_sure(alloc, files, header, b"v", request);
+        let expected = narrow_bytes(alloc, last, width)?;
+        assert!(rt; agrees(&found, Ok((width, &expected))));
+    }
+    Ok(())
+}

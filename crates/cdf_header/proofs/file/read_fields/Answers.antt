@@ -3,7 +3,8 @@ use Rattle.std.proofs.lemmas.Result.{err_from_is_err_and}
 use Rattle.std.proofs.lemmas.Grind.{common_steps}
 use Rattle.cdf_header.specs.declared.fault.Fault.TheVariants.{Short, Malformed, TooMany}
 use Rattle.cdf_header.specs.Format.{header, done, run}
-use Rattle.cdf_header.specs.File.{most_header_bytes, fields_answer, fields_of}
+use Rattle.cdf_header.specs.File.{fields_answer, fields_of}
+use Rattle.cdf_header.specs.Limits.{most_header_bytes}
 use Rattle.cdf_header.proofs.Fronts.{final, whole, stopped, outside_answers}
 use Rattle.cdf_header.proofs.Readings.{outside_of_header}
 use Rattle.cdf_header.proofs.file.read_fields.Goals as goal

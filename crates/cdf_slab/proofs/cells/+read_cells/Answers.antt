@@ -20,7 +20,7 @@ cells-preserved t g c =
       blames = blamed_then _ _ _ _ _ _ c.cells.invariant.blames (λ x. x) (blamed_as _ _ ⊥ _ _ (λ e. cc) (λ x. absurd x) c.in-Ok.ensures.frame.blames);
       told = λ bytes there le p.
           let old = c.cells.invariant.told bytes there le p in
-          let r = part_reads bytes c.args.reading c.block-part.result c.cells.buffers.window c.read_cells.new.buffers.window (walk (steps_of (take (length c.args.axes.now - 1) (drop 1 c.args.axes.now))) c.place_along-here.result) c.cells.all (Ok c.in-Ok.more) c.block-part.ensures.part (c.in-Ok.ensures.told bytes (ap (λ h. bytes_in h c.args.name.now) c.cells.invariant.kept ∙ there)) le old.0 in
+          let r = part_reads bytes c.args.reading c.block-part.result c.cells.window c.read_cells.new.window (walk (steps_of (take (length c.args.axes.now - 1) (drop 1 c.args.axes.now))) c.place_along-here.result) c.cells.all (Ok c.in-Ok.more) c.block-part.ensures.part (c.in-Ok.ensures.told bytes (ap (λ h. bytes_in h c.args.name.now) c.cells.invariant.kept ∙ there)) le old.0 in
           (r.1, read_next _ _ _ _ _ _ _ _ _ _ _ _ _ _ old.1 s c.cells-test.true r.0);
     }
 
@@ -28,7 +28,7 @@ pub returns-in-Err-clause-told : goal.returns-in-Err-clause-told
 returns-in-Err-clause-told t g c = λ bytes there le p.
     let s = c.place_along-here.ensures.turn in
     let old = c.cells.invariant.told bytes there le p in
-    let r = part_reads bytes c.args.reading c.block-part.result c.cells.buffers.window c.read_cells.new.buffers.window (walk (steps_of (take (length c.args.axes.now - 1) (drop 1 c.args.axes.now))) c.place_along-here.result) c.cells.all (Err c.in-Err.fault) c.block-part.ensures.part (c.in-Err.ensures.told bytes (ap (λ h. bytes_in h c.args.name.now) c.cells.invariant.kept ∙ there)) le old.0 in
+    let r = part_reads bytes c.args.reading c.block-part.result c.cells.window c.read_cells.new.window (walk (steps_of (take (length c.args.axes.now - 1) (drop 1 c.args.axes.now))) c.place_along-here.result) c.cells.all (Err c.in-Err.fault) c.block-part.ensures.part (c.in-Err.ensures.told bytes (ap (λ h. bytes_in h c.args.name.now) c.cells.invariant.kept ∙ there)) le old.0 in
     (read_fails _ _ _ _ _ _ _ _ _ _ _ _ _ _ old.1 s c.cells-test.true r.0, tt)
 
 pub returns-in-Err-clause-late : goal.returns-in-Err-clause-late

@@ -2,10 +2,11 @@ use Rattle.std.proofs.Common.{length, ◌≡◌, ◌≤◌, List, ℕ, Some, map
 use Rattle.aql_outside.specs.Causes.{Blames}
 use Rattle.aql_outside.specs.Contents.{bytes_in}
 use Rattle.aql_value.specs.Lists.{Every}
-use Rattle.cdf_slab.specs.Numbers.{IsWidth, IsCell, number_at}
+use Rattle.cdf_slab.specs.Numbers.{IsCell, number_at}
 use Rattle.cdf_slab.specs.Walk.{step_of, steps_of, walk, RoomSoFar}
 use Rattle.cdf_slab.specs.Window.{IsPiece}
 use Rattle.cdf_slab.proofs.Blocks.{ReadSoFar, CountSoFar}
+use Rattle.nrca_array.specs.Runs.{IsWidth}
 use Rattle.cdf_slab.proofs.cells.+read_cells.Given as goal
 
 abbrev pub decreases-read_cells : goal.decreases-read_cells
@@ -19,7 +20,7 @@ invariant-cells g l = record {
   kinds : Every (IsCell l.reading.signed) l.fn.cells → Every (IsCell l.reading.signed) l.all;
   kept : g.F.Files.holds l.files ≡ g.F.Files.holds l.fn.files;
   blames : Blames g.F.Files.quiet ⊥ (g.F.Files.faults l.fn.files) (g.F.Files.faults l.files);
-  told : (bytes : List ℕ) → bytes_in (g.F.Files.holds l.fn.files) l.name ≡ Some bytes → l.reading.end ≤ length bytes → IsPiece bytes l.fn.buffers.window →
-      IsPiece bytes l.buffers.window
+  told : (bytes : List ℕ) → bytes_in (g.F.Files.holds l.fn.files) l.name ≡ Some bytes → l.reading.end ≤ length bytes → IsPiece bytes l.fn.window →
+      IsPiece bytes l.window
       × ReadSoFar l.reading.signed bytes l.reading.kind (steps_of l.rest) (step_of l.a) l.base l.i (map (number_at bytes l.reading.kind) (walk (steps_of l.axes) l.base)) l.all l.fn.cells;
 }

@@ -2,10 +2,11 @@ use Rattle.std.proofs.Common.{length, ◌≡◌, ◌-◌, ◌≤◌, ◌^◌, �
 use Rattle.aql_outside.specs.Causes.{Blames}
 use Rattle.aql_outside.specs.Contents.{bytes_in}
 use Rattle.aql_value.specs.Lists.{Every}
-use Rattle.cdf_slab.specs.Numbers.{IsWidth, IsCell, number_at}
+use Rattle.cdf_slab.specs.Numbers.{IsCell, number_at}
 use Rattle.cdf_slab.specs.Walk.{step_of, walk, RoomSoFar}
 use Rattle.cdf_slab.specs.Window.{IsPiece}
 use Rattle.cdf_slab.proofs.Blocks.{ReadSoFar, CountSoFar}
+use Rattle.nrca_array.specs.Runs.{IsWidth}
 use Rattle.cdf_slab.proofs.cells.read_row.Given as goal
 
 abbrev pub decreases-row : goal.decreases-row
@@ -21,7 +22,7 @@ invariant-row g l = record {
   kinds : Every (IsCell l.reading.signed) l.fn.cells → Every (IsCell l.reading.signed) l.all;
   kept : g.F.Files.holds l.files ≡ g.F.Files.holds l.fn.files;
   blames : Blames g.F.Files.quiet ⊥ (g.F.Files.faults l.fn.files) (g.F.Files.faults l.files);
-  told : (bytes : List ℕ) → bytes_in (g.F.Files.holds l.fn.files) l.name ≡ Some bytes → l.reading.end ≤ length bytes → IsPiece bytes l.fn.buffers.window →
-      IsPiece bytes l.buffers.window
+  told : (bytes : List ℕ) → bytes_in (g.F.Files.holds l.fn.files) l.name ≡ Some bytes → l.reading.end ≤ length bytes → IsPiece bytes l.fn.window →
+      IsPiece bytes l.window
       × ReadSoFar l.reading.signed bytes l.reading.kind [] (step_of l.a) l.base l.i (map (number_at bytes l.reading.kind) (walk (step_of l.a ∷ []) l.base)) l.all l.fn.cells;
 }

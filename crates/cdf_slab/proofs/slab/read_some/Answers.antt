@@ -101,7 +101,7 @@ returns-in-Ok-clause-told g c = λ bytes there is.
     let none = sym cut ∙ c.in_default.is in
     let visited = walk_found h v c.args.asked.now.start.now c.args.asked.now.count.now c.args.asked.now.stride.now c.in_ok-axes.axes.items c.deref-3.result.now c.bytes-end.result c.from-base.result l
     c.deref-3.ensures.value c.bytes-end.ensures (c.from-base.ensures ∙ c.begin.ensures) small none in
-    let r = c.in-Ok.ensures.told bytes there (omega (arith, is, c.bytes-end.ensures, c.last_end.ensures.is)) (c.new.ensures bytes) in
+    let r = c.in-Ok.ensures.told bytes there (omega (arith, is, c.bytes-end.ensures, c.last_end.ensures.is)) (c.new-window.ensures bytes) in
     let a = read_all c.args.asked.now.signed (slab_numbers bytes h v c.args.asked.now.start.now c.args.asked.now.count.now c.args.asked.now.stride.now) c.args.asked.now.count.now c.in-Ok.cells (goes_as c.args.asked.now.signed bytes c.kind.result v.kind _ (cell_places h v c.args.asked.now.start.now c.args.asked.now.count.now c.args.asked.now.stride.now) c.new-none.result (Ok c.in-Ok.cells) c.kind.ensures visited c.new-none.ensures r.0) in
     (ap (λ o. or_else (option_map faults.Cut o) (negative_fault c.args.asked.now.signed (slab_numbers bytes h v c.args.asked.now.start.now c.args.asked.now.count.now c.args.asked.now.stride.now))) none ∙ a.0, a.1 ∙ ap Some (sym c.in_ok-array_of-in-Ok.ensures.made))
 
@@ -129,7 +129,7 @@ returns-clause-told g c = λ bytes there is.
     let none = sym cut ∙ c.in_default.is in
     let visited = walk_found h v c.args.asked.now.start.now c.args.asked.now.count.now c.args.asked.now.stride.now c.in_ok-axes.axes.items c.deref-3.result.now c.bytes-end.result c.from-base.result l
     c.deref-3.ensures.value c.bytes-end.ensures (c.from-base.ensures ∙ c.begin.ensures) small none in
-    let r = c.in-Err.ensures.told bytes there (omega (arith, is, c.bytes-end.ensures, c.last_end.ensures.is)) (c.new.ensures bytes) in
+    let r = c.in-Err.ensures.told bytes there (omega (arith, is, c.bytes-end.ensures, c.last_end.ensures.is)) (c.new-window.ensures bytes) in
     subst (λ o. IsSlabAnswer (or_else (option_map faults.Cut o) (negative_fault c.args.asked.now.signed (slab_numbers bytes h v c.args.asked.now.start.now c.args.asked.now.count.now c.args.asked.now.stride.now)))
     (slab bytes h v c.args.asked.now.start.now c.args.asked.now.count.now c.args.asked.now.stride.now c.args.asked.now.signed) (Err c.in-Err.fault)) (sym none)
     (read_some c.args.asked.now.signed (slab_numbers bytes h v c.args.asked.now.start.now c.args.asked.now.count.now c.args.asked.now.stride.now) (slab bytes h v c.args.asked.now.start.now c.args.asked.now.count.now c.args.asked.now.stride.now c.args.asked.now.signed) c.in-Err.fault (goes_as c.args.asked.now.signed bytes c.kind.result v.kind _ (cell_places h v c.args.asked.now.start.now c.args.asked.now.count.now c.args.asked.now.stride.now) c.new-none.result (Err c.in-Err.fault) c.kind.ensures visited c.new-none.ensures r.0))

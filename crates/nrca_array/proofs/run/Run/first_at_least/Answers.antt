@@ -1,0 +1,6 @@
+use Rattle.std.proofs.Common.{arith}
+use Rattle.nrca_array.proofs.RunsWritten.{length-run}
+use Rattle.nrca_array.proofs.run.Run.first_at_least.Goals as goal
+
+pub returns : goal.returns
+returns c = λ k lt. c.loop-k.invariant k (omega (arith, lt, length-run c.args.self.size c.args.self.step c.args.self.count c.args.self.bytes.now))
