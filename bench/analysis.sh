@@ -2,7 +2,8 @@
 # Measures what nrca_ranges and nrca_defined answer of core terms: processor seconds of a balanced term of 20,001 nodes under 100
 # nested tests, `defined` asked at each node, and of 8 nested tabulations of 8 dimensions; with the word `depth`, how deep a chain
 # of some forms is walked on a stack of 8 MB; with the word `random` (and a seed, and a number of terms), whether random terms have
-# a value wherever `defined` says yes. Makes a small repository of its own in a temporary folder; run it from anywhere.
+# a value wherever `defined` says yes; with the word `all` (and the same two numbers) each of these. Makes a small repository of its
+# own in a temporary folder; run it from anywhere.
 set -eu
 . "$(dirname "$0")/crates.sh"
 begin nrca_defined nrca_ranges nrca_term aql_value anyhow
@@ -343,11 +344,8 @@ MEASURE
 cd "$work/crates/measure"
 echo 1 | rt run -- root > "$work/log" 2>&1 || { cat "$work/log"; exit 1; }
 program=$(find "$work/crates/measure/out" -maxdepth 1 -type f -perm -u+x | head -1)
-if [ "${1:-}" = random ]; then
-    python3 "$top/bench/random_analysis.py" "$program" "${2:-1}" "${3:-50000}"
-    exit
-fi
-python3 - "$program" "${1:-}" <<'MEASURE'
+measure() {
+    python3 - "$program" "$1" <<'MEASURE'
 import resource
 import subprocess
 import sys
@@ -415,3 +413,13 @@ else:
     ]:
         print(f"{name:54} {used(call, words) - used(without, words):6.3f}")
 MEASURE
+}
+case "${1:-}" in
+    random) python3 "$top/bench/random_analysis.py" "$program" "${2:-1}" "${3:-50000}" ;;
+    all)
+        measure times
+        measure depth
+        python3 "$top/bench/random_analysis.py" "$program" "${2:-1}" "${3:-50000}"
+        ;;
+    *) measure "${1:-times}" ;;
+esac

@@ -3,7 +3,9 @@ pub mod Bounds
 pub mod Entered
 pub mod Forms
 pub mod Intervals
+pub mod Ordered
 pub mod Sound
 pub mod Strict
+pub mod Summaries
 pub mod Views
 pub mod Walk

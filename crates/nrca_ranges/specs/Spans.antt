@@ -1,5 +1,5 @@
 -- Intervals as spans.
-use Rattle.std.specs.Prelude.{ℕ, ◌≤◌, Option, Some, None}
+use Rattle.std.specs.Prelude.{◌≡◌, ℕ, ◌≤◌, Option, Some, None}
 use Rattle.nrca_term.specs.Firm.{Span, variable_span}
 use Rattle.nrca_ranges.specs.Context.{facts_in}
 use Rattle.nrca_ranges.specs.declared.context.Ctx.{Ctx}
@@ -14,6 +14,10 @@ span_of (Some i) = Some (i.low, i.high)
 abbrev pub IsOrdered : Option Interval → Type 0
 IsOrdered None = Unit {0}
 IsOrdered (Some i) = i.low ≤ i.high
+
+-- the same of a span
+abbrev pub InOrder : Span → Type 0
+InOrder s = (x : ℕ × ℕ) → s ≡ Some x → x.0 ≤ x.1
 
 -- the span of variable i at the place of the context
 abbrev pub span_of_variable : Ctx → ℕ → Span

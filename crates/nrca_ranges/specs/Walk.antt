@@ -1,20 +1,19 @@
 -- The walk over a term: the facts of a place inside of it, and what is gathered of the parts of a node.
-use Rattle.std.proofs.Common.{◌≡◌, ℕ, zero, suc, ◌++◌, Bool, true, false, ◌&&◌, ◌||◌, List, Option, if◌then◌else◌}
-use Rattle.std.specs.declared.vec.Vec.{Vec}
-use Rattle.std.proofs.Common.{Global}
+use Rattle.std.proofs.Common.{◌≡◌, ℕ, zero, suc, ◌≤◌, ◌++◌, Bool, true, false, ◌&&◌, ◌||◌, List, [], ◌∷◌, length, map, take, drop, Option, Some, None, if◌then◌else◌}
 use Rattle.aql_value.specs.declared.ops.ArithOp.{ArithOp}
 use Rattle.aql_value.specs.Strict.{Strict}
 use Rattle.nrca_term.specs.declared.term.Core.{Core}
 use Rattle.nrca_term.specs.View.{term_of}
-use Rattle.nrca_term.specs.Term.{Term, Parts, none, part, Form, form_of, parts_of}
+use Rattle.nrca_term.specs.Term.{Term, Parts, none, part, Form, form_of, parts_of, child_of}
 use Rattle.nrca_term.specs.Nodes.{arith_term}
 use Rattle.nrca_term.specs.Facts.{Facts, enter_facts}
 use Rattle.nrca_term.specs.Firm as pure
 use Rattle.nrca_ranges.specs.declared.context.Ctx.{Ctx}
 use Rattle.nrca_ranges.specs.declared.context.Fact.{Fact}
+use Rattle.nrca_ranges.specs.declared.interval.Interval.{Interval}
 use Rattle.nrca_ranges.specs.declared.shape.Shape.{Shape}
 use Rattle.nrca_ranges.specs.declared.walk.Gathered.{Gathered}
-use Rattle.nrca_ranges.specs.declared.walk.Side.{Side}
+use Rattle.nrca_ranges.specs.declared.walk.Progress.{Progress}
 use Rattle.nrca_ranges.specs.declared.walk.Told.{Told}
 use Rattle.nrca_ranges.specs.Bounds.{Bounds, number}
 use Rattle.nrca_ranges.specs.Certain as certainty
@@ -94,44 +93,88 @@ IsToldIn c t x = IsTold (known_shapes c) (context_of c) t x
 abbrev pub IsToldWith : Ctx → List Fact → ℕ → Core → Told → Type 0
 IsToldWith c own d t x = IsTold (known_shapes c) (facts_below c own d) (term_of t) x
 
--- the same with a list that can grow
-abbrev pub IsToldBelow : Ctx → Vec Fact Global → ℕ → Core → Told → Type 0
-IsToldBelow c own d t x = IsToldWith c own.items d t x
+-- what is told of a term, as data: whether it is firm, whether it is certain to have a value, its span, its shape
+pub record Summary : Type 0 where
+  pub firm : Bool
+  pub certain : Bool
+  pub span : pure.Span
+  pub shape : Bounds
 
--- the same of an arithmetic node
-abbrev pub IsArithBelow : Ctx → Vec Fact Global → ℕ → ArithOp → Core → Core → Told → Type 0
-IsArithBelow c own d op a b x = IsTold (known_shapes c) (facts_below c own.items d) (arith_of op a b) x
+-- the four together
+abbrev pub summary_with : Bool → Bool → pure.Span → Bounds → Summary
+summary_with f c s b = record { firm = f; certain = c; span = s; shape = b }
 
--- the same of part i of the term, at the part's own place
-abbrev pub IsPartTold : Ctx → Vec Fact Global → ℕ → Core → ℕ → Core → Told → Type 0
-IsPartTold c own d t i u x = IsTold (known_shapes c) (enter_facts (facts_below c own.items d) (term_of t) i) (term_of u) x
+-- what is told, as data
+unfoldable pub summary_of : Told → Summary
+summary_of x = summary_with x.firm x.certain (span_of x.span) (bounds_of x.shape)
 
--- a side that is told so
-pub record IsSideOf (x : Told) (s : Side) : Type 0 where
-  pub firm : s.firm ≡ x.firm
-  pub certain : s.certain ≡ x.certain
-  pub span : s.span ≡ x.span
-  pub number : s.number ≡ transfer.interval_of (bounds_of x.shape)
+-- what is to be told of a term at a place
+unfoldable pub summary : List (Option Bounds) → Facts → Term → Summary
+summary gs c t = summary_with (pure.firm (is_shaped gs) c t) (certainty.certain gs c t) (pure.span c t) (transfer.bounds gs c t)
 
--- what is told of a side is true of it
-pub record IsSide (gs : List (Option Bounds)) (c : Facts) (t : Term) (s : Side) : Type 0 where
-  pub firm : s.firm ≡ pure.firm (is_shaped gs) c t
-  pub certain : s.certain ≡ certainty.certain gs c t
-  pub span : span_of s.span ≡ pure.span c t
-  pub ordered : IsOrdered s.span
-  pub number : s.number ≡ transfer.interval_of (transfer.bounds gs c t)
+-- the same of a part that is there, at its own place
+abbrev pub part_summary : List (Option Bounds) → Facts → Term → ℕ → Option Term → List Summary
+part_summary gs c t i None = []
+part_summary gs c t i (Some u) = summary gs (enter_facts c t i) u ∷ []
 
--- the same inside of a term that stands at the context
-abbrev pub IsSideBelow : Ctx → Vec Fact Global → ℕ → Core → Side → Type 0
-IsSideBelow c own d t s = IsSide (known_shapes c) (facts_below c own.items d) (term_of t) s
+-- the same of the parts from part i of a term on
+abbrev pub summaries : List (Option Bounds) → Facts → Term → ℕ → Parts → List Summary
+summaries gs c t i none = []
+summaries gs c t i (part k u ps) = summary gs (enter_facts c t i) u ∷ summaries gs c t (suc i) ps
+
+-- the data of a list
+abbrev pub told_each : List Told → List Summary
+told_each = map summary_of
+
+-- whether the test holds of all of a list, or else of one of them
+abbrev pub rest_of : Bool → (Summary → Bool) → List Summary → Bool
+rest_of all T [] = all
+rest_of all T (s ∷ ss) = gathered all (T s) (rest_of all T ss)
+
+-- what is to be told of a term of the code inside of one that stands at the context, with these facts of its own
+abbrev pub summary_below : Ctx → List Fact → ℕ → Core → Summary
+summary_below c own d t = summary (known_shapes c) (facts_below c own d) (term_of t)
+
+-- the same of all its parts
+abbrev pub summaries_below : Ctx → List Fact → ℕ → Core → List Summary
+summaries_below c own d t = summaries (known_shapes c) (facts_below c own d) (term_of t) 0 (parts_of (term_of t))
+
+-- what is told of such a term
+abbrev pub IsSummary : Ctx → List Fact → ℕ → Core → Told → Type 0
+IsSummary c own d t x = summary_of x ≡ summary_below c own d t
+
+-- a walk has the same facts of its own as before
+abbrev pub KeepsFacts : Progress → Progress → Type 0
+KeepsFacts p q = facts_in q.facts.items ≡ facts_in p.facts.items
+
+-- what is told of the term stands behind what was told before
+abbrev pub TellsOf : Ctx → ℕ → Core → Progress → Progress → Type 0
+TellsOf c d t p q = told_each q.told.items ≡ told_each p.told.items ++ summary_below c p.facts.items d t ∷ []
+
+-- the same of part i, where it is there
+abbrev pub TellsOfPart : Ctx → ℕ → Core → ℕ → Progress → Progress → Type 0
+TellsOfPart c d t i p q =
+    told_each q.told.items ≡ told_each p.told.items ++ part_summary (known_shapes c) (facts_below c p.facts.items d) (term_of t) i (child_of (parts_of (term_of t)) i)
+
+-- behind the first n of what was told stands what is told of the parts of the term
+abbrev pub HoldsParts : Ctx → ℕ → Core → ℕ → Progress → Type 0
+HoldsParts c d t n p = (n ≤ length p.told.items) × (drop n (told_each p.told.items) ≡ summaries_below c p.facts.items d t)
+
+-- what is told of the term has taken their place
+abbrev pub ClosesNode : Ctx → ℕ → Core → ℕ → Progress → Progress → Type 0
+ClosesNode c d t n p q = told_each q.told.items ≡ take n (told_each p.told.items) ++ summary_below c p.facts.items d t ∷ []
+
+-- the interval of the number that is told of
+abbrev pub number_told : Told → Interval
+number_told x = transfer.interval_of (bounds_of x.shape)
 
 -- what is told of an arithmetic node, from what is told of its sides and the number that the second one is
-pub record IsArithTold (op : ArithOp) (a b : Side) (n : Option ℕ) (x : Told) : Type 0 where
+pub record IsArithTold (op : ArithOp) (a b : Told) (n : Option ℕ) (x : Told) : Type 0 where
   pub firm : x.firm ≡ (pure.arith_firm op (span_of x.span) n && (a.firm && (b.firm && true)))
-  pub certain : x.certain ≡ (x.firm || (intervals.always_fits op a.number b.number && (a.certain && (b.certain && true))))
+  pub certain : x.certain ≡ (x.firm || (intervals.always_fits op (number_told a) (number_told b) && (a.certain && (b.certain && true))))
   pub span : span_of x.span ≡ pure.arith_span op (span_of a.span) (span_of b.span) n
   pub ordered : IsOrdered x.span
-  pub shape : bounds_of x.shape ≡ transfer.by_span (span_of x.span) (number (intervals.arith_interval op a.number b.number))
+  pub shape : bounds_of x.shape ≡ transfer.by_span (span_of x.span) (number (intervals.arith_interval op (number_told a) (number_told b)))
 
 -- what is told of all parts of a term, and their shapes, is true of them
 pub record AreTold (gs : List (Option Bounds)) (c : Facts) (t : Term) (x : Gathered) (ss : List Shape) : Type 0 where
@@ -143,6 +186,7 @@ pub record AreTold (gs : List (Option Bounds)) (c : Facts) (t : Term) (x : Gathe
 abbrev pub AreToldWith : Ctx → List Fact → ℕ → Core → Gathered → List Shape → Type 0
 AreToldWith c own d t x ss = AreTold (known_shapes c) (facts_below c own d) (term_of t) x ss
 
--- the same with a list that can grow
-abbrev pub AreToldBelow : Ctx → Vec Fact Global → ℕ → Core → Gathered → Vec Shape Global → Type 0
-AreToldBelow c own d t x ss = AreToldWith c own.items d t x ss.items
+-- the parts gathered: whether all, or else one of them, are so
+pub record IsGathered (all : Bool) (ss : List Summary) (x : Gathered) : Type 0 where
+  pub firm : x.firm ≡ rest_of all (λ s. s.firm) ss
+  pub certain : x.certain ≡ rest_of all (λ s. s.certain) ss

@@ -15,7 +15,7 @@ ghost use Rattle.nrca_ranges.specs.Walk.{IsToldIn};
 use crate::context::Ctx;
 use crate::interval::{Interval, span};
 use crate::shape::{Shape, count_interval, number_interval};
-use crate::walk::{Told, walk};
+use crate::walk::{Progress, Told, walk};
 use aql_value::Memory;
 use nrca_term::{Core, Terms, weight};
 use std::alloc::Global;
@@ -68,9 +68,12 @@ pub fn tell(alloc: Global, term: &Core, ctx: &Ctx) -> Result<Told, Memory>
     ensures told { IfOk result (λ x. IsToldIn ctx.now (term_of term.now) x) }
     ensures holds { IfOk result (λ x. IsShapeIn ctx.now (term_of term.now) (bounds_of x.shape)) }
 {
-    let mut own = Vec::new(alloc);
-    let told = walk(alloc, term, ctx, &mut own, ctx.depth)?;
-    Ok(told)
+    let mut progress = Progress {
+        facts: Vec::new(alloc),
+        told: Vec::new(alloc),
+    };
+    walk(alloc, term, ctx, ctx.depth, &mut progress)?;
+    Ok(progress.told.remove(0))
 }
 
 /// The shape of the values that a term may have at the place: its span, where it has one. Of a term that

@@ -1,8 +1,9 @@
 //! The shapes of the values that positions hold.
 
-ghost use Rattle.std.specs.Prelude.{◌≡◌, [], map, IfOk, OnOk, OnErr};
+ghost use Rattle.std.specs.Prelude.{◌≡◌, ◌-◌, [], length, map, take, IfOk, OnOk, OnErr};
+ghost use Rattle.aql_value.specs.Datum.{Data, array};
 ghost use Rattle.aql_value.specs.Meaning.{datum};
-ghost use Rattle.nrca_ranges.specs.Bounds.{HasShape};
+ghost use Rattle.nrca_ranges.specs.Bounds.{HasShape, grid, unknown};
 ghost use Rattle.nrca_ranges.specs.Entered.{is_shaped, position_bounds};
 ghost use Rattle.nrca_ranges.specs.Exact.{only, shown};
 ghost use Rattle.nrca_ranges.specs.Shapes.{bounds_of, bounds_there, shapes_in, PushesShape};
@@ -62,6 +63,13 @@ impl GlobalShapes {
         Ok(())
     }
 
+    /// All positions but the last. It takes no memory.
+    pub fn pop(&mut self)
+        ensures { shapes_in self.new ≡ take (length (shapes_in self.old) - 1) (shapes_in self.old) }
+    {
+        drop(self.shapes.pop());
+    }
+
     /// An equal list.
     pub fn copy(&self, alloc: Global) -> Result<GlobalShapes, Memory>
         ensures { IfOk result (λ g. shapes_in g ≡ shapes_in self.now) }
@@ -106,12 +114,22 @@ pub fn shape_of_value(alloc: Global, v: &Value) -> Result<Shape, Memory>
             })
         }
         Value::Grid(c) => {
-            let cell = Box::new(alloc, Shape::Unknown)?;
-            let dims = exact_dimensions(alloc, c.dims())?;
-            Ok(Shape::Grid { dims, cell })
+            let shape = shape_of_dims(alloc, c.dims())?;
+            Ok(shape)
         }
         _ => Ok(Shape::Unknown),
     }
+}
+
+/// The shape of each array of these dimensions. Of its cells it says nothing.
+pub fn shape_of_dims(alloc: Global, dims: &Dims) -> Result<Shape, Memory>
+    ensures holds { IfOk result
+        (λ s. (cells : Data) → HasShape (bounds_of s) (array dims.now cells)) }
+    ensures exact { IfOk result (λ s. bounds_of s ≡ grid (map only dims.now) unknown) }
+{
+    let cell = Box::new(alloc, Shape::Unknown)?;
+    let exact = exact_dimensions(alloc, dims)?;
+    Ok(Shape::Grid { dims: exact, cell })
 }
 
 // The interval of each dimension alone.

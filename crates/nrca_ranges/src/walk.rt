@@ -1,19 +1,20 @@
 //! One walk over a term: whether it is firm, whether it is certain to have a value, its span, and its shape.
 
-ghost use Rattle.std.specs.Prelude.{◌≡◌, ◌&&◌, ◌||◌, true, [], is_some, Some, ℕ, IfOk, OnOk};
-ghost use Rattle.nrca_term.specs.Term.{form_of, parts_of, child_of};
+ghost use Rattle.std.specs.Prelude.{◌≡◌, ◌&&◌, ◌||◌, true, map, is_some, Some, ℕ, IfOk, OnOk};
+ghost use Rattle.nrca_term.specs.Term.{form_of};
 ghost use Rattle.nrca_term.specs.View.{term_of, pure_form, pure_strict};
 ghost use Rattle.nrca_term.specs.Firm as pure;
 ghost use Rattle.nrca_ranges.specs.Certain as certainty;
 ghost use Rattle.aql_value.specs.Strict as operations;
-ghost use Rattle.nrca_ranges.specs.Context.{facts_in, IsSmallTerm};
+ghost use Rattle.nrca_ranges.specs.Context.{IsSmallTerm};
 ghost use Rattle.nrca_ranges.specs.Entered.{is_shaped};
 ghost use Rattle.nrca_ranges.specs.Shapes.{bounds_of, bounds_each, shapes_in, certain_by_form};
 ghost use Rattle.nrca_ranges.specs.Spans.{span_of, IsOrdered};
 ghost use Rattle.nrca_ranges.specs.Transfer.{by_span};
-ghost use Rattle.nrca_ranges.specs.Walk.{span_with, span_below, arith_of, IsOther, gathered};
-ghost use Rattle.nrca_ranges.specs.Walk.{IsSideOf, IsArithTold, IsToldWith, AreToldWith};
-ghost use Rattle.nrca_ranges.specs.Walk.{IsToldBelow, IsArithBelow, IsSideBelow, AreToldBelow, IsPartTold};
+ghost use Rattle.nrca_ranges.specs.Walk.{span_with, span_below, IsOther, gathered};
+ghost use Rattle.nrca_ranges.specs.Walk.{IsArithTold, IsToldWith, AreToldWith, IsGathered};
+ghost use Rattle.nrca_ranges.specs.Walk.{told_each, summaries_below, IsSummary};
+ghost use Rattle.nrca_ranges.specs.Walk.{KeepsFacts, TellsOf, TellsOfPart, HoldsParts, ClosesNode};
 
 use crate::context::{Ctx, Fact, add_facts};
 use crate::interval::{Interval, arith_span, span_among};
@@ -34,13 +35,12 @@ pub struct Told {
     pub shape: Shape,
 }
 
-/// What is told of a side of an arithmetic node: its shape is that of a number of the interval.
-#[derive(Clone, Copy)]
-pub(crate) struct Side {
-    pub firm: bool,
-    pub certain: bool,
-    pub span: Option<Interval>,
-    pub number: Interval,
+/// What a walk keeps: the facts of the parts that it is in, behind those of the context; and what is told of
+/// terms whose nodes are not yet told of, in order.
+#[derive(Drop)]
+pub(crate) struct Progress {
+    pub facts: Vec<Fact>,
+    pub told: Vec<Told>,
 }
 
 /// What is told of the parts of a node together: of a default of one of them, else of all.
@@ -303,9 +303,8 @@ fn node_span(term: &Core, ctx: &Ctx, own: &[Fact], depth: u64) -> Option<Interva
     }
 }
 
-// A node that is not arithmetic, from its parts.
-#[inline(never)]
-fn node_told(
+// A node that is not arithmetic, from what is gathered of its parts.
+fn shaped_told(
     alloc: Global,
     term: &Core,
     ctx: &Ctx,
@@ -334,22 +333,20 @@ fn node_told(
     })
 }
 
-// An arithmetic node, from its sides.
-#[inline(never)]
-fn arith_told(op: ArithOp, left: Side, right: Side, n: Option<u128>) -> Told
-    requires left { IsOrdered left.span }
-    requires right { IsOrdered right.span }
-    ensures { IsArithTold op left right n result }
+// An arithmetic node, from its sides and the number that the second one is.
+fn arith_told(op: ArithOp, left: &Told, right: &Told, n: Option<u128>) -> Told
+    requires left { IsOrdered left.now.span }
+    requires right { IsOrdered right.now.span }
+    ensures { IsArithTold op left.now right.now n result }
 {
+    let first = number_interval(&left.shape);
+    let second = number_interval(&right.shape);
     let span = arith_span(op, left.span, right.span, n);
     let own = arith_firm(op, span, n);
-    let fits = always_fits(op, left.number, right.number);
     let firm = all_of(own, left.firm, right.firm);
+    let fits = always_fits(op, first, second);
     let certain = either(firm, all_of(fits, left.certain, right.certain));
-    let shape = spanned(
-        span,
-        Shape::Number(arith_interval(op, left.number, right.number)),
-    );
+    let shape = spanned(span, Shape::Number(arith_interval(op, first, second)));
     Told {
         firm,
         certain,
@@ -358,145 +355,128 @@ fn arith_told(op: ArithOp, left: Side, right: Side, n: Option<u128>) -> Told
     }
 }
 
-// What is told of a term as a side of an arithmetic node.
-fn side_of(told: Told) -> Side
-    ensures { IsSideOf told result }
+// What is gathered of the parts of a node.
+fn gather_all(all: bool, parts: &[Told]) -> Gathered
+    ensures { IsGathered all (told_each parts.now) result }
 {
-    Side {
-        firm: told.firm,
-        certain: told.certain,
-        span: told.span,
-        number: number_interval(&told.shape),
+    let mut firm = all;
+    let mut certain = all;
+    for told in parts {
+        firm = gather(all, firm, told.firm);
+        certain = gather(all, certain, told.certain);
+    }
+    Gathered { firm, certain }
+}
+
+// The shapes of the parts of a node.
+fn take_shapes(alloc: Global, parts: Vec<Told>) -> Result<Vec<Shape>, Memory>
+    ensures { IfOk result (λ v. bounds_each v.items ≡ map (λ s. s.shape) (told_each parts.items)) }
+{
+    let mut shapes = Vec::new(alloc);
+    for told in parts {
+        shapes.push(told.shape)?;
+    }
+    Ok(shapes)
+}
+
+// A node that is not arithmetic, from its parts.
+fn other_told(
+    alloc: Global,
+    term: &Core,
+    ctx: &Ctx,
+    own: &[Fact],
+    depth: u64,
+    parts: Vec<Told>,
+) -> Result<Told, Memory>
+    requires other { IsOther (form_of (term_of term.now)) }
+    requires parts { told_each parts.items ≡ summaries_below ctx.now own.now depth term.now }
+    ensures { IfOk result (λ x. IsSummary ctx.now own.now depth term.now x) }
+{
+    let found = gather_all(wants_all(term.form()), parts.as_slice());
+    let shapes = take_shapes(alloc, parts)?;
+    let told = shaped_told(alloc, term, ctx, own, depth, found, shapes)?;
+    Ok(told)
+}
+
+// A node, from its parts.
+fn node_told(
+    alloc: Global,
+    term: &Core,
+    ctx: &Ctx,
+    own: &[Fact],
+    depth: u64,
+    parts: Vec<Told>,
+) -> Result<Told, Memory>
+    requires parts { told_each parts.items ≡ summaries_below ctx.now own.now depth term.now }
+    ensures { IfOk result (λ x. IsSummary ctx.now own.now depth term.now x) }
+{
+    match term {
+        Core::Arith(op, _, b) => Ok(arith_told(*op, &parts[0], &parts[1], b.number())),
+        _ => other_told(alloc, term, ctx, own, depth, parts),
     }
 }
 
-/// What is told of a term inside of one that stands at the context: behind the context's facts stand its
-/// own, and `depth` variables are around it.
+// What is told of a node takes the place of what is told of its parts, which stands behind the first `base`.
+#[inline(never)]
+fn close_node(
+    alloc: Global,
+    term: &Core,
+    ctx: &Ctx,
+    depth: u64,
+    base: usize,
+    progress: &mut Progress,
+) -> Result<(), Memory>
+    requires parts { HoldsParts ctx.now depth term.now base progress.old }
+    ensures back { KeepsFacts progress.old progress.new }
+    ensures told { OnOk result (ClosesNode ctx.now depth term.now base progress.old progress.new) }
+{
+    let parts = progress.told.split_off(base)?;
+    let told = node_told(alloc, term, ctx, progress.facts.as_slice(), depth, parts)?;
+    progress.told.push(told)?;
+    Ok(())
+}
+
+/// Tells of a term inside of one that stands at the context: `depth` variables are around it.
 #[cycle(walk)]
 pub(crate) fn walk(
     alloc: Global,
     term: &Core,
     ctx: &Ctx,
-    own: &mut Vec<Fact>,
     depth: u64,
-) -> Result<Told, Memory>
+    progress: &mut Progress,
+) -> Result<(), Memory>
     requires inside { IsSmallTerm depth (term_of term.now) }
-    ensures back { OnOk result (facts_in own.new.items ≡ facts_in own.old.items) }
-    ensures told { IfOk result (λ x. IsToldBelow ctx.now own.old depth term.now x) }
+    ensures back { OnOk result (KeepsFacts progress.old progress.new) }
+    ensures told { OnOk result (TellsOf ctx.now depth term.now progress.old progress.new) }
 {
-    match term {
-        Core::Arith(op, a, b) => walk_arith(alloc, *op, a, b, ctx, own, depth),
-        _ => walk_node(alloc, term, ctx, own, depth),
-    }
-}
-
-// An arithmetic node.
-#[cycle(walk)]
-fn walk_arith(
-    alloc: Global,
-    op: ArithOp,
-    a: &Core,
-    b: &Core,
-    ctx: &Ctx,
-    own: &mut Vec<Fact>,
-    depth: u64,
-) -> Result<Told, Memory>
-    requires inside { IsSmallTerm depth (arith_of op a.now b.now) }
-    ensures back { OnOk result (facts_in own.new.items ≡ facts_in own.old.items) }
-    ensures told { IfOk result (λ x. IsArithBelow ctx.now own.old depth op a.now b.now x) }
-{
-    let left = walk_side(alloc, a, ctx, own, depth)?;
-    let right = walk_side(alloc, b, ctx, own, depth)?;
-    let told = arith_told(op, left, right, b.number());
-    Ok(told)
-}
-
-// A side of an arithmetic node.
-#[cycle(walk)]
-fn walk_side(
-    alloc: Global,
-    term: &Core,
-    ctx: &Ctx,
-    own: &mut Vec<Fact>,
-    depth: u64,
-) -> Result<Side, Memory>
-    requires inside { IsSmallTerm depth (term_of term.now) }
-    ensures back { OnOk result (facts_in own.new.items ≡ facts_in own.old.items) }
-    ensures told { IfOk result (λ x. IsSideBelow ctx.now own.old depth term.now x) }
-{
-    let told = walk(alloc, term, ctx, own, depth)?;
-    let found = side_of(told);
-    Ok(found)
-}
-
-// A node that is not arithmetic.
-#[cycle(walk)]
-fn walk_node(
-    alloc: Global,
-    term: &Core,
-    ctx: &Ctx,
-    own: &mut Vec<Fact>,
-    depth: u64,
-) -> Result<Told, Memory>
-    requires inside { IsSmallTerm depth (term_of term.now) }
-    requires other { IsOther (form_of (term_of term.now)) }
-    ensures back { OnOk result (facts_in own.new.items ≡ facts_in own.old.items) }
-    ensures told { IfOk result (λ x. IsToldBelow ctx.now own.old depth term.now x) }
-{
-    let mut shapes = Vec::new(alloc);
-    let found = walk_parts(alloc, term, ctx, own, depth, &mut shapes)?;
-    let told = node_told(alloc, term, ctx, own.as_slice(), depth, found, shapes)?;
-    Ok(told)
-}
-
-// All parts of a node, each at its own place; their shapes go to the end of an empty list.
-#[cycle(walk)]
-fn walk_parts(
-    alloc: Global,
-    term: &Core,
-    ctx: &Ctx,
-    own: &mut Vec<Fact>,
-    depth: u64,
-    shapes: &mut Vec<Shape>,
-) -> Result<Gathered, Memory>
-    requires inside { IsSmallTerm depth (term_of term.now) }
-    requires empty { shapes.old.items ≡ [] }
-    ensures back { OnOk result (facts_in own.new.items ≡ facts_in own.old.items) }
-    ensures told { IfOk result (λ x. AreToldBelow ctx.now own.old depth term.now x shapes.new) }
-{
-    let all = wants_all(term.form());
-    let mut firm = all;
-    let mut certain = all;
+    let base = progress.told.len();
     for i in 0..term.parts() {
-        if let Some(part) = term.part(i) {
-            let told = walk_part(alloc, term, part, i, ctx, own, depth)?;
-            firm = gather(all, firm, told.firm);
-            certain = gather(all, certain, told.certain);
-            shapes.push(told.shape)?;
-        }
+        walk_part(alloc, term, i, ctx, depth, progress)?;
     }
-    Ok(Gathered { firm, certain })
+    close_node(alloc, term, ctx, depth, base, progress)?;
+    Ok(())
 }
 
-// A part of a node, at its own place.
+// Tells of a part of a node, at its own place. It is written into `walk`, so that a level of the term costs one frame.
 #[cycle(walk)]
+#[inline(always)]
 fn walk_part(
     alloc: Global,
     term: &Core,
-    part: &Core,
     i: u64,
     ctx: &Ctx,
-    own: &mut Vec<Fact>,
     depth: u64,
-) -> Result<Told, Memory>
+    progress: &mut Progress,
+) -> Result<(), Memory>
     requires inside { IsSmallTerm depth (term_of term.now) }
-    requires child { Some (term_of part.now) ≡ child_of (parts_of (term_of term.now)) i }
-    ensures back { OnOk result (facts_in own.new.items ≡ facts_in own.old.items) }
-    ensures told { IfOk result (λ x. IsPartTold ctx.now own.old depth term.now i part.now x) }
+    ensures back { OnOk result (KeepsFacts progress.old progress.new) }
+    ensures told { OnOk result (TellsOfPart ctx.now depth term.now i progress.old progress.new) }
 {
-    let before = own.len();
-    add_facts(alloc, own, depth, term, i)?;
-    let told = walk(alloc, part, ctx, own, depth + term.binders(i))?;
-    own.truncate(before);
-    Ok(told)
+    if let Some(part) = term.part(i) {
+        let before = progress.facts.len();
+        add_facts(alloc, &mut progress.facts, depth, term, i)?;
+        walk(alloc, part, ctx, depth + term.binders(i), progress)?;
+        progress.facts.truncate(before);
+    }
+    Ok(())
 }

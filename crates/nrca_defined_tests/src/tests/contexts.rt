@@ -28,6 +28,15 @@ T 2 3 if|1|
 5 v0 1 < g1 v1 let v0 if tab1|1 1 0|D 1 v0 5 <;T 1 v0 1 <
 5 v0 1 < v0 gen v0 one U {} if tab1|1 1 1|D 1 v0 5 <;T 1 v0 1 <;D 2 v0 v1 <
 5 v0 gen v0 gen v0 S S tab1|1 1 1|D 1 v0 5 <;D 2 v0 v1 <;D 3 v0 v1 <
+5 6 v1 v0 < v0 v1 if tab2|2 1|D 2 v1 5 <;D 2 v0 6 <;T 2 v1 v0 <
+5 6 v1 v0 < v0 v1 if tab2|2 2|D 2 v1 5 <;D 2 v0 6 <;F 2 v1 v0 <
+5 6 v0 gen v0 v2 < v0 1 if S tab2|2 1 1|D 2 v1 5 <;D 2 v0 6 <;D 3 v0 v1 <;T 3 v0 v2 <
+5 6 v0 gen v0 v2 < v0 1 if S tab2|2 1 2|D 2 v1 5 <;D 2 v0 6 <;D 3 v0 v1 <;F 3 v0 v2 <
+5 6 v0 gen v0 v2 < v0 1 if S tab2|2 1 0|D 2 v1 5 <;D 2 v0 6 <;D 3 v0 v1 <
+g1 2 < 3 gen v0 one U {} if|1 1|T 0 g1 2 <;D 1 v0 3 <
+g1 2 < 3 gen v0 one U {} if|1 0|T 0 g1 2 <
+5 v0 v0 tab1 tab1|1 0|D 1 v0 5 <
+5 v0 v0 tab1 tab1|1 1|D 1 v0 5 <;D 2 v0 v1 <
 g1 2 let|1|
 g1 2 or|1|";
 
@@ -132,7 +141,7 @@ fn facts_of_places(rt: HostRuntime) -> Result<(), Fail> {
         assert!(rt; is_right(alloc, row)?, "{row}");
         count = count.saturating_add(1);
     }
-    assert_eq!(rt; count, 20);
+    assert_eq!(rt; count, 29);
     Ok(())
 }
 

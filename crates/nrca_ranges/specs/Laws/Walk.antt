@@ -1,9 +1,9 @@
 -- What follows from the definitions of `Walk`: a node from its parts, and the walk over them.
-use Rattle.std.proofs.Common.{◌≡◌, ℕ, zero, suc, ◌+◌, Bool, true, false, ◌&&◌, ◌||◌, List, [], ◌∷◌, ◌++◌, length, take, is_some, Option, Some, None, refl, sym, ap, subst, ◌∙◌, arith, add-one, append-nil, append_assoc, if◌then◌else◌}
-use Rattle.std.proofs.lemmas.List.{take-map, map-append}
+use Rattle.std.proofs.Common.{◌≡◌, ℕ, suc, ◌+◌, Bool, true, false, ◌&&◌, ◌||◌, List, [], ◌∷◌, ◌++◌, length, take, is_some, Option, Some, None, refl, sym, ap, ◌∙◌, arith, append-nil, append_assoc, if◌then◌else◌}
+use Rattle.std.proofs.lemmas.List.{take-map, take_at}
 use Rattle.aql_value.specs.declared.ops.ArithOp.{ArithOp}
 use Rattle.aql_value.specs.Strict.{Strict}
-use Rattle.nrca_term.specs.Term.{Term, Parts, node, none, part, Form, form_of, parts_of, child_of, binders_of, count}
+use Rattle.nrca_term.specs.Term.{Term, Parts, node, none, part, Form, form_of, parts_of, binders_of}
 use Rattle.nrca_term.specs.Nodes.{arith_term}
 use Rattle.nrca_term.specs.Facts as facts
 use Rattle.nrca_term.specs.Facts.{Facts, enter_facts}
@@ -12,7 +12,6 @@ use Rattle.nrca_ranges.specs.declared.context.Ctx.{Ctx}
 use Rattle.nrca_ranges.specs.declared.context.Fact.{Fact}
 use Rattle.nrca_ranges.specs.declared.shape.Shape.{Shape}
 use Rattle.nrca_ranges.specs.declared.walk.Gathered.{Gathered}
-use Rattle.nrca_ranges.specs.declared.walk.Side.{Side}
 use Rattle.nrca_ranges.specs.declared.walk.Told.{Told}
 use Rattle.nrca_ranges.specs.Bounds.{Bounds, number}
 use Rattle.nrca_ranges.specs.Certain.{form_certain, certain, all_certain, some_certain}
@@ -23,7 +22,7 @@ use Rattle.nrca_ranges.specs.Intervals.{always_fits, arith_interval}
 use Rattle.nrca_ranges.specs.Shapes.{bounds_of, bounds_each}
 use Rattle.nrca_ranges.specs.Spans.{span_of, IsOrdered}
 use Rattle.nrca_ranges.specs.Transfer.{interval_of, by_span, form_bounds, bounds, all_bounds}
-use Rattle.nrca_ranges.specs.Walk.{facts_below, IsOther, Test, all_true, some_true, rest_true, parts_true, gathered, later_parts, IsTold, IsSide, IsArithTold, AreTold}
+use Rattle.nrca_ranges.specs.Walk.{facts_below, IsOther, all_true, some_true, parts_true, number_told, IsTold, IsArithTold, AreTold}
 
 -- the parts of a node that are firm, and those that are certain to have a value, as the tests that they are
 all-firm : (D : ℕ → Bool) (c : Facts) (t : Term) (i : ℕ) (ps : Parts) → all_firm D c t i ps ≡ all_true (firm D) c t i ps
@@ -90,10 +89,10 @@ facts-same : (F G : List facts.Fact) (d e : ℕ) → F ≡ G → d ≡ e → (le
 facts-same F G d e p q = ap (λ l. let x : Facts = record { facts = l; depth = d } in x) p ∙ ap (λ n. let x : Facts = record { facts = G; depth = n } in x) q
 
 -- the sides of an arithmetic node stand at its own place
-side-first : (c : Facts) (op : ArithOp) (a b : Term) → enter_facts c (arith_term op a b) 0 ≡ c
+pub side-first : (c : Facts) (op : ArithOp) (a b : Term) → enter_facts c (arith_term op a b) 0 ≡ c
 side-first c op a b = facts-same (c.facts ++ []) c.facts (c.depth + 0) c.depth (append-nil c.facts) (omega arith)
 
-side-second : (c : Facts) (op : ArithOp) (a b : Term) → enter_facts c (arith_term op a b) 1 ≡ c
+pub side-second : (c : Facts) (op : ArithOp) (a b : Term) → enter_facts c (arith_term op a b) 1 ≡ c
 side-second c op a b = facts-same (c.facts ++ []) c.facts (c.depth + 0) c.depth (append-nil c.facts) (omega arith)
 
 -- so arithmetic is told of by its span or divisor, and by what is told of its sides
@@ -116,10 +115,8 @@ arith-bounds gs c op a b =
     ap (λ x. by_span (span c (arith_term op a b)) (number (arith_interval op (interval_of (bounds gs x a)) (interval_of (bounds gs (enter_facts c (arith_term op a b) 1) b))))) (side-first c op a b)
     ∙ ap (λ x. by_span (span c (arith_term op a b)) (number (arith_interval op (interval_of (bounds gs c a)) (interval_of (bounds gs x b))))) (side-second c op a b)
 
-pub arith-told : (gs : List (Option Bounds)) (c d : Facts) (op : ArithOp) (a b : Term) (l r : Side) (n : Option ℕ) (x : Told) → IsSide gs c a l → IsSide gs d b r → d ≡ c → n ≡ number_of b → IsArithTold op l r n x →
-    IsTold gs c (arith_term op a b) x
-arith-told gs c d op a b l r n x h k z m y =
-    let k : IsSide gs c b r = subst (λ w. IsSide gs w b r) z k in
+pub arith-told : (gs : List (Option Bounds)) (c : Facts) (op : ArithOp) (a b : Term) (l r : Told) (n : Option ℕ) (x : Told) → IsTold gs c a l → IsTold gs c b r → n ≡ number_of b → IsArithTold op l r n x → IsTold gs c (arith_term op a b) x
+arith-told gs c op a b l r n x h k m y =
     let s : span_of x.span ≡ span c (arith_term op a b) =
     y.span ∙ ap (λ w. arith_span op w (span_of r.span) n) h.span ∙ ap (λ w. arith_span op (span c a) w n) k.span ∙ ap (arith_span op (span c a) (span c b)) m in
     let p : x.firm ≡ firm (is_shaped gs) c (arith_term op a b) =
@@ -131,92 +128,30 @@ arith-told gs c d op a b l r n x h k z m y =
     record {
       firm = p;
       certain =
-          y.certain ∙ ap (λ w. w || (always_fits op l.number r.number && (l.certain && (r.certain && true)))) p
-          ∙ ap (λ w. firm (is_shaped gs) c (arith_term op a b) || (always_fits op w r.number && (l.certain && (r.certain && true)))) h.number
-          ∙ ap (λ w. firm (is_shaped gs) c (arith_term op a b) || (always_fits op (interval_of (bounds gs c a)) w && (l.certain && (r.certain && true)))) k.number
+          y.certain ∙ ap (λ w. w || (always_fits op (number_told l) (number_told r) && (l.certain && (r.certain && true)))) p
+          ∙ ap (λ w. firm (is_shaped gs) c (arith_term op a b) || (always_fits op (interval_of w) (number_told r) && (l.certain && (r.certain && true)))) h.shape
+          ∙ ap (λ w. firm (is_shaped gs) c (arith_term op a b) || (always_fits op (interval_of (bounds gs c a)) (interval_of w) && (l.certain && (r.certain && true)))) k.shape
           ∙ ap (λ w. firm (is_shaped gs) c (arith_term op a b) || (always_fits op (interval_of (bounds gs c a)) (interval_of (bounds gs c b)) && (w && (r.certain && true)))) h.certain
           ∙ ap (λ w. firm (is_shaped gs) c (arith_term op a b) || (always_fits op (interval_of (bounds gs c a)) (interval_of (bounds gs c b)) && (certain gs c a && (w && true)))) k.certain
           ∙ sym (arith-certain gs c op a b);
       span = s;
       ordered = y.ordered;
       shape =
-          y.shape ∙ ap (λ w. by_span w (number (arith_interval op l.number r.number))) s
-          ∙ ap (λ w. by_span (span c (arith_term op a b)) (number (arith_interval op w r.number))) h.number
-          ∙ ap (λ w. by_span (span c (arith_term op a b)) (number (arith_interval op (interval_of (bounds gs c a)) w))) k.number
+          y.shape ∙ ap (λ w. by_span w (number (arith_interval op (number_told l) (number_told r)))) s
+          ∙ ap (λ w. by_span (span c (arith_term op a b)) (number (arith_interval op (interval_of w) (number_told r)))) h.shape
+          ∙ ap (λ w. by_span (span c (arith_term op a b)) (number (arith_interval op (interval_of (bounds gs c a)) (interval_of w)))) k.shape
           ∙ sym (arith-bounds gs c op a b);
     }
-
--- the first of the later parts is the part of that number
-later-child : (ps : Parts) (i : ℕ) (u : Term) → child_of ps i ≡ Some u → later_parts i ps ≡ part (binders_of ps i) u (later_parts (suc i) ps)
-later-child none i u e = cc
-later-child (part k t ps) zero u e = let z : t ≡ u = cc in ap (λ x. part k x ps) z
-later-child (part k t ps) (suc i) u e = later-child ps i u e
-
--- behind the last there is none
-later-none : (ps : Parts) → later_parts (count ps) ps ≡ none
-later-none none = refl
-later-none (part k t ps) = later-none ps
-
--- gathering begins
-pub gather-first : (all r : Bool) → r ≡ gathered all all r
-gather-first true r = refl
-gather-first false r = refl
-
-gather-again : (all a b r : Bool) → gathered all a (gathered all b r) ≡ gathered all (gathered all a b) r
-gather-again true true b r = refl
-gather-again true false b r = refl
-gather-again false true b r = refl
-gather-again false false b r = refl
-
--- one part more
-pub gather-more : (T : Test) (c : Facts) (t : Term) (all a b r n : Bool) (i : ℕ) (ps : Parts) (u : Term) → child_of ps i ≡ Some u → b ≡ T (enter_facts c t i) u → n ≡ gathered all a b →
-    r ≡ gathered all a (rest_true T c t all i (later_parts i ps)) → r ≡ gathered all n (rest_true T c t all (i + 1) (later_parts (i + 1) ps))
-gather-more T c t all a b r n i ps u e h k z =
-    z ∙ ap (λ l. gathered all a (rest_true T c t all i l)) (later-child ps i u e) ∙ ap (gathered all a) (at all) ∙ gather-again all a b (rest_true T c t all (suc i) (later_parts (suc i) ps))
-    ∙ ap (λ x. gathered all x (rest_true T c t all (suc i) (later_parts (suc i) ps))) (sym k) ∙ ap (λ j. gathered all n (rest_true T c t all j (later_parts j ps))) (sym (add-one i))
-  where
-    at : (s : Bool) → rest_true T c t s i (part (binders_of ps i) u (later_parts (suc i) ps)) ≡ gathered s b (rest_true T c t s (suc i) (later_parts (suc i) ps))
-    at true = ap (λ x. x && all_true T c t (suc i) (later_parts (suc i) ps)) (sym h)
-    at false = ap (λ x. x || some_true T c t (suc i) (later_parts (suc i) ps)) (sym h)
-
--- and the last
-pub gather-last : (T : Test) (c : Facts) (t : Term) (all a : Bool) (i : ℕ) (ps : Parts) (r : Bool) → i ≡ count ps → r ≡ gathered all a (rest_true T c t all i (later_parts i ps)) → a ≡ r
-gather-last T c t all a i ps r e z = sym (z ∙ ap (λ j. gathered all a (rest_true T c t all j (later_parts j ps))) e ∙ ap (λ l. gathered all a (rest_true T c t all (count ps) l)) (later-none ps) ∙ at all a)
-  where
-    at : (s a : Bool) → gathered s a (rest_true T c t s (count ps) none) ≡ a
-    at true true = refl
-    at true false = refl
-    at false true = refl
-    at false false = refl
-
--- one shape more
-pub shapes-more : (gs : List (Option Bounds)) (c : Facts) (t : Term) (i : ℕ) (ps : Parts) (u : Term) (xs ys : List Shape) (x : Shape) (r : List Bounds) → child_of ps i ≡ Some u → bounds_of x ≡ bounds gs (enter_facts c t i) u → ys ≡ xs ++ x ∷ [] →
-    r ≡ bounds_each xs ++ all_bounds gs c t i (later_parts i ps) → r ≡ bounds_each ys ++ all_bounds gs c t (i + 1) (later_parts (i + 1) ps)
-shapes-more gs c t i ps u xs ys x r e h k z =
-    z ∙ ap (λ l. bounds_each xs ++ all_bounds gs c t i l) (later-child ps i u e)
-    ∙ ap (λ b. bounds_each xs ++ (b ∷ all_bounds gs c t (suc i) (later_parts (suc i) ps))) (sym h)
-    ∙ sym (append_assoc (bounds_each xs) (bounds_of x ∷ []) (all_bounds gs c t (suc i) (later_parts (suc i) ps)))
-    ∙ ap (λ l. l ++ all_bounds gs c t (suc i) (later_parts (suc i) ps)) (sym (map-append bounds_of xs (x ∷ [])) ∙ ap bounds_each (sym k))
-    ∙ ap (λ j. bounds_each ys ++ all_bounds gs c t j (later_parts j ps)) (sym (add-one i))
-
-pub shapes-last : (gs : List (Option Bounds)) (c : Facts) (t : Term) (i : ℕ) (ps : Parts) (xs : List Shape) (r : List Bounds) → i ≡ count ps → r ≡ bounds_each xs ++ all_bounds gs c t i (later_parts i ps) → bounds_each xs ≡ r
-shapes-last gs c t i ps xs r e z =
-    sym (z ∙ ap (λ j. bounds_each xs ++ all_bounds gs c t j (later_parts j ps)) e ∙ ap (λ l. bounds_each xs ++ all_bounds gs c t (count ps) l) (later-none ps) ∙ append-nil (bounds_each xs))
 
 -- the facts of a part, behind those of the context
 pub below-entered : (F G H A : List facts.Fact) (d e b : ℕ) → H ≡ G ++ A → e ≡ d + b →
     (let x : Facts = record { facts = F ++ H; depth = e } in x) ≡ (let y : Facts = record { facts = (F ++ G) ++ A; depth = d + b } in y)
 below-entered F G H A d e b p q = facts-same (F ++ H) ((F ++ G) ++ A) e (d + b) (ap (λ l. F ++ l) p ∙ sym (append_assoc F G A)) q
 
--- the front of a list, as long as it is
-take-front : {X : Type 0} (xs ys : List X) (n : ℕ) → length xs ≡ n → take n (xs ++ ys) ≡ xs
-take-front [] ys n e = ap (λ k. take k ys) (sym e)
-take-front (x ∷ xs) ys n e = ap (λ k. take k (x ∷ xs ++ ys)) (sym e) ∙ ap (λ l. x ∷ l) (take-front xs ys (length xs) refl)
-
 -- what is left where the facts of a part are taken back
 pub taken-back : (xs ys zs : List Fact) (A : List facts.Fact) (n : ℕ) → n ≡ length xs → facts_in ys ≡ facts_in xs ++ A → zs ≡ take n ys → facts_in zs ≡ facts_in xs
 taken-back xs ys zs A n e h k =
-    ap facts_in k ∙ sym (take-map fact_of n ys) ∙ ap (take n) h ∙ take-front (facts_in xs) A n (length-facts xs ∙ sym e)
+    ap facts_in k ∙ sym (take-map fact_of n ys) ∙ ap (take n) h ∙ take_at (facts_in xs) A n (length-facts xs ∙ sym e)
   where
     length-facts : (xs : List Fact) → length (facts_in xs) ≡ length xs
     length-facts [] = refl

@@ -1,6 +1,6 @@
 use Rattle.std.proofs.Common.{◌≡◌, length, map, ap, sym, subst, ◌∙◌, arith}
 use Rattle.std.proofs.lemmas.List.{length-map}
-use Rattle.aql_value.specs.Datum.{data_of, list_of}
+use Rattle.aql_value.specs.Datum.{data_of, list_of, array}
 use Rattle.aql_value.specs.Laws.Datum.{list_of-data_of}
 use Rattle.aql_value.specs.Meaning.{datum}
 use Rattle.nrca_ranges.specs.declared.interval.Interval.{Interval}
@@ -35,23 +35,11 @@ returns-in_ok-member-in-Members-clause-exact c =
     ∙ ap (λ k. members (only k) unknown) (e ∙ ap length (sym (list_of-data_of c.in-Members.m)))
     ∙ ap shown (sym (ap datum c.in-Members.is))
 
-pub returns-in_ok-dims-in-Grid-clause-holds : goal.returns-in_ok-dims-in-Grid-clause-holds
-returns-in_ok-dims-in-Grid-clause-holds c =
-    let is = c.in_ok-dims-in-Grid.dims in
-    let z = bounds_of-Grid is c.in_ok-cell-in-Grid.cell ∙ ap (λ s. grid is (bounds_of s)) c.in_ok-cell-in-Grid.ensures.ok ∙ ap (grid is) bounds_of-Unknown in
-    subst (λ b. HasShape b (datum c.args.v.now)) (sym z) (
-      c.in-Grid.c.dims,
-      data_of c.in-Grid.c.cells,
-      ap datum c.in-Grid.is,
-      subst (λ l. AreIn l c.in-Grid.c.dims) (sym (c.in_ok-dims-in-Grid.ensures ∙ ap (map only) c.dims.ensures)) (are-only c.in-Grid.c.dims),
-      nothing-known (list_of (data_of c.in-Grid.c.cells)),
-    )
+pub returns-in_ok-shape-in-Grid-clause-holds : goal.returns-in_ok-shape-in-Grid-clause-holds
+returns-in_ok-shape-in-Grid-clause-holds c =
+    subst (HasShape (bounds_of c.in_ok-shape-in-Grid.shape)) (ap (λ ds. array ds (data_of c.in-Grid.c.cells)) c.dims.ensures ∙ sym (ap datum c.in-Grid.is))
+    (c.in_ok-shape-in-Grid.ensures.holds (data_of c.in-Grid.c.cells))
 
-pub returns-in_ok-dims-in-Grid-clause-exact : goal.returns-in_ok-dims-in-Grid-clause-exact
-returns-in_ok-dims-in-Grid-clause-exact c =
-    let is = c.in_ok-dims-in-Grid.dims in
-    bounds_of-Grid is c.in_ok-cell-in-Grid.cell
-    ∙ ap (λ s. grid is (bounds_of s)) c.in_ok-cell-in-Grid.ensures.ok
-    ∙ ap (grid is) bounds_of-Unknown
-    ∙ ap (λ l. grid l unknown) (c.in_ok-dims-in-Grid.ensures ∙ ap (map only) c.dims.ensures)
-    ∙ ap shown (sym (ap datum c.in-Grid.is))
+pub returns-in_ok-shape-in-Grid-clause-exact : goal.returns-in_ok-shape-in-Grid-clause-exact
+returns-in_ok-shape-in-Grid-clause-exact c =
+    c.in_ok-shape-in-Grid.ensures.exact ∙ ap (λ l. grid (map only l) unknown) c.dims.ensures ∙ ap shown (sym (ap datum c.in-Grid.is))
