@@ -1,8 +1,9 @@
 -- What a plan is, for shapes that tell of the outcomes of the positions.
-use Rattle.std.proofs.Common.{List, [], Option}
+use Rattle.std.proofs.Common.{◌≤◌, ◌+◌, ◌^◌, List, [], length, Option}
 use Rattle.aql_types.specs.Types.{Ty}
 use Rattle.nrca_term.specs.declared.trace.Step.{Step}
-use Rattle.nrca_term.specs.Term.{Term}
+use Rattle.nrca_term.specs.Term.{Term, weight_of}
+use Rattle.nrca_term.specs.View.{term_of}
 use Rattle.nrca_term.specs.Meaning.{Outcomes}
 use Rattle.nrca_term.specs.Typing.{ctyped, instances, OutcomesHave}
 use Rattle.nrca_term.specs.TypedPlaces.{Keeps}
@@ -10,6 +11,7 @@ use Rattle.nrca_term.specs.Rules.{Replay}
 use Rattle.nrca_term.specs.Normal.{IsNormal}
 use Rattle.nrca_ranges.specs.Bounds.{Bounds}
 use Rattle.nrca_ranges.specs.Shapes.{Tells}
+use Rattle.nrca_normal.specs.declared.normal.Plan.{Plan}
 
 -- the trace replays from the one term to the other, where the first is typed and the shapes tell of outcomes of their types
 unfoldable pub IsReplayed : List (Option Bounds) → Term → List Step → Term → Type 0
@@ -23,3 +25,17 @@ IsNormalIn gs t = (V : Outcomes) → Tells gs V → IsNormal V t
 -- the second term has each type of the first, whatever types are given for the positions
 unfoldable pub KeepsTypes : Term → Term → Type 0
 KeepsTypes t u = (given : List Ty) → Keeps (instances given) t u
+
+-- a plan of a closed term over the outcomes of the positions: the recorded rewritings lead to it, no rule is left whose condition is seen
+-- to hold, and the rewritings are few
+pub record IsPlan (V : Outcomes) (start : Term) (trace : List Step) (plan : Term) : Type 0 where
+  pub replayed : Replay V trace start plan
+  pub normal : IsNormal V plan
+  pub few : length trace ≤ (weight_of start + 1) ^ 3
+
+-- what is answered for a term, where the shapes tell of the outcomes
+pub record IsPlanOf (gs : List (Option Bounds)) (start : Term) (p : Plan) : Type 0 where
+  pub replayed : IsReplayed gs start p.trace (term_of p.term)
+  pub normal : IsNormalIn gs (term_of p.term)
+  pub few : length p.trace ≤ (weight_of start + 1) ^ 3
+  pub types : KeepsTypes start (term_of p.term)

@@ -17,4 +17,4 @@ mod rewriting;
 mod search;
 mod ways;
 
-pub use normal::{Plan, normalise};
+pub use normal::{Plan, normalise, normalise_over};

@@ -44,7 +44,7 @@ use Rattle.nrca_normal.specs.declared.search.Site.{Site}
 use Rattle.nrca_normal.specs.Conditions.{name_of, MayFire, HasCondition, IsMade, IsQuietAt}
 use Rattle.nrca_normal.specs.Found.{QuietBefore, QuietEverywhere, FiresAt, TellsPlace}
 use Rattle.nrca_normal.specs.Rewriting.{MayRewrite, IsRewritten}
-use Rattle.nrca_normal.specs.Planned.{IsReplayed, IsNormalIn, KeepsTypes}
+use Rattle.nrca_normal.specs.Planned.{IsReplayed, IsNormalIn, KeepsTypes, IsPlanOf}
 use Rattle.nrca_normal.specs.Progress.{IsReady, IsBegun, IsSiteOf, HasGone, IsAtEnd, IsUnderWay}
 use Rattle.nrca_normal.specs.Laws.Found.{behind-root, behind-kept}
 
@@ -209,3 +209,16 @@ cube n = pow-succ' n 2 ∙ ap (λ m. n * m) (pow-succ' n 1 ∙ ap (λ m. n * m) 
 
 pub end-few : (gs : List (Option Bounds)) (t : Term) (p q : Progress) → IsUnderWay gs t p → IsAtEnd p q → length q.steps.items ≤ (weight_of t + 1) ^ 3
 end-few gs t p q h e = omega (arith, h.falls, ap length e.steps, left-bound t, cube (weight_of t + 1))
+
+-- what is answered at the end
+pub end-plan : (gs : List (Option Bounds)) (t : Term) (p q : Progress) → IsUnderWay gs t p → IsAtEnd p q → IsPlanOf gs t (record { term = q.term; trace = q.steps.items })
+end-plan gs t p q h e = record {
+  replayed = end-replayed gs t p q h e;
+  normal = end-normal gs t p q h e;
+  few = end-few gs t p q h e;
+  types = end-types gs t p q h e;
+}
+
+-- nothing has been done of the term that is there
+pub begun-there : (gs : List (Option Bounds)) (t : Term) (p : Progress) → IsBegun gs t p → IsBegun (known_shapes p.ctx) (term_of p.term) p
+begun-there gs t p h = record { globals = refl; root = h.root; term = refl; steps = h.steps; from = h.from }

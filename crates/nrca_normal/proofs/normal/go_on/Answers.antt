@@ -17,8 +17,8 @@ take_step-requires c =
     site-of c.args.progress.now _ c.in-Some.site c.requires refl refl (ap shapes_in c.in_ok-site.ensures.globals) c.in_ok-site.ensures.back
     (subst (TellsSite c.args.progress.now.ctx (term_of c.args.progress.now.term)) c.in-Some.is c.in_ok-site.ensures.found)
 
-pub returns-in-None : goal.returns-in-None
-returns-in-None c = record {
+pub returns-in-None-clause-more : goal.returns-in-None-clause-more
+returns-in-None-clause-more c = record {
   term = refl;
   steps = refl;
   quiet = subst (λ x. QuietEverywhere (known_shapes c.args.progress.now.ctx) x (term_of c.args.progress.now.term)) c.requires.root

@@ -7,8 +7,8 @@ use Rattle.nrca_normal.proofs.normal.take_step.Goals as goal
 pub rewrite-requires-clause-place : goal.rewrite-requires-clause-place
 rewrite-requires-clause-place c = subst (MayRewrite c.args.site.firing (term_of c.args.progress.now.term)) (sym (c.deref.ensures.value ∙ c.reverse.ensures.items)) (may-take c.args.progress.now c.args.site c.requires)
 
-pub returns : goal.returns
-returns c =
+pub returns-clause-gone : goal.returns-clause-gone
+returns-clause-gone c =
     taken c.args.progress.now _ c.args.site _ c.requires
     (subst (λ p. IsRewritten c.args.site.firing (term_of c.args.progress.now.term) p (term_of c.rewrite.new.term)) (c.deref.ensures.value ∙ c.reverse.ensures.items) c.in_ok-rewrite.ensures)
     refl refl c.rule.ensures (c.in_ok-copied.ensures ∙ c.deref-2.ensures.value ∙ c.reverse.ensures.items) c.in_ok-push.ensures.items c.reverse.ensures.items

@@ -1,0 +1,5 @@
+mod knowing;
+mod plans;
+mod rules;
+mod scripts;
+mod words;
