@@ -19,9 +19,9 @@ SIGNATURE = re.compile(r"^((?:(?:abbrev|unfoldable|pub) )*)(\S+) :(?: |$)(.*)$")
 DATA = re.compile(r"^(ℕ|Datum|Ty|Subst|Term|Parts|List |Type |Option |Bool|Trees?$|String)")
 # public calls whose parameters are fixed, and a test's call of one
 WIDE = {"step", "answer_all", "read_slab", "read"}
-# functions of the recursions of inference and translation, each of which hands on what it was lent; docs/DECISIONS.md says why they take no
-# struct
-HANDED_ON = {"infer_choice", "infer_function", "infer_sum", "wrap_parts", "grid"}
+# functions of the recursions of inference and translation, and of a step, each of which hands on what it was lent; docs/DECISIONS.md says
+# why they take no struct
+HANDED_ON = {"infer_choice", "infer_function", "infer_sum", "wrap_parts", "grid", "run_readval"}
 # laws that a definition beside them is made of
 NEEDED = {"run-spell", "run-spell_all"}
 

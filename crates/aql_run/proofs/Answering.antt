@@ -14,7 +14,6 @@ use Rattle.aql_value.specs.Laws.Lists.{slice_get-append_left, slice_get-append_r
 use Rattle.aql_types.specs.Types.{Sort}
 use Rattle.aql_syntax.specs.Script.{Earlier, globals_of, outcome_after}
 use Rattle.aql_syntax.specs.Size.{IsWithinLimits, AreWithinLimits}
-use Rattle.aql_syntax.specs.Sound.{OutcomesTyped}
 use Rattle.aql_syntax.specs.Tree.{Declaration, val, mac, read, bare, declared, plain, signed, strided, records}
 use Rattle.aql_syntax.specs.View.{decls_of}
 use Rattle.aql_syntax.specs.declared.ast.Decl.{Decl}
@@ -27,7 +26,7 @@ use Rattle.aql_script.specs.Script.{positions, reads_records}
 use Rattle.aql_script.specs.declared.preparing.Prepared.{Prepared}
 use Rattle.aql_session.specs.Bound.{Bound, names, outcomes, AreBound, onto, earlier_of}
 use Rattle.aql_session.specs.Reading.{reading}
-use Rattle.aql_session.specs.Step.{ReadsNoRecords, IsAnswer, IsAnswerable, IsOutcome, IsCause, BindsPosition, ReadsNoFile}
+use Rattle.aql_session.specs.Step.{ReadsNoRecords, OutcomesFit, IsAnswer, IsAnswerable, IsOutcome, IsCause, BindsPosition, ReadsNoFile}
 use Rattle.aql_session.specs.declared.answer.StepFault.{StepFault}
 use Rattle.aql_session.specs.declared.answer.Answer.{Answer}
 use Rattle.aql_run.specs.Answered.{IsAnswered, AreAnswered, IsStopped}
@@ -121,27 +120,27 @@ next_there p n d k h is e =
 
 pub stepped : (p : Prepared) (o : Settings) (holds : Option Content) (answers : List Answer) (s s' : Bound) (a : Answer) (n : ℕ) (d : Declaration) → IsPrepared p →
     n ≡ prelude_count + 1 + length answers → Progress p o.budget holds answers s → slice_get (decls_of p.decls.items.items) (n - 1) ≡ Some d →
-    IsAnswer d (earlier_of (decls_of p.decls.items.items) (outcomes s)) (slice_get (sorts_in p) (n - 1)) a →
+    IsAnswer d (earlier_of (decls_of p.decls.items.items) (outcomes s)) o.budget (slice_get (sorts_in p) (n - 1)) a →
     IsAnswerable d (earlier_of (decls_of p.decls.items.items) (outcomes s)) o.budget holds →
     BindsPosition d (earlier_of (decls_of p.decls.items.items) (outcomes s)) holds s s' → HasStepped p o holds answers s s' a
 stepped p o holds answers s s' a n d h is so_far e answer answerable binds =
     let there = next_there p n d (length answers) h is e in
     let count = so_far.answered.many in
     let at : n - 1 ≡ prelude_count + length answers = omega (arith, is) in
-    let has : OutcomesTyped (earlier_of (positions (own p)) (outcomes s ++ binds.outcome ∷ [])) =
-    subst OutcomesTyped (sym (onto_next (positions (own p)) (outcomes s) [] d binds.outcome (ap (slice_get (positions (own p))) count ∙ there)))
-    (subst (λ (ds : List Declaration). OutcomesTyped ((d, binds.outcome) ∷ earlier_of ds (outcomes s))) h.all binds.typed) in
+    let has : OutcomesFit (earlier_of (positions (own p)) (outcomes s ++ binds.outcome ∷ [])) =
+    subst OutcomesFit (sym (onto_next (positions (own p)) (outcomes s) [] d binds.outcome (ap (slice_get (positions (own p))) count ∙ there)))
+    (subst (λ (ds : List Declaration). OutcomesFit ((d, binds.outcome) ∷ earlier_of ds (outcomes s))) h.all binds.typed) in
     let more : outcomes s' ≡ outcomes s ++ binds.outcome ∷ [] = ap outcomes binds.bound ∙ map-append (λ b. b.1) s ((declared d, binds.outcome) ∷ []) in
     record {
       outcome = binds.outcome;
       outcomes = more;
       progress = record {
         bound = named there;
-        types = subst (λ (V : Outcomes). OutcomesTyped (earlier_of (positions (own p)) V)) (sym more) has;
+        types = subst (λ (V : Outcomes). OutcomesFit (earlier_of (positions (own p)) V)) (sym more) has;
         answered = subst (λ (V : Outcomes). AreAnswered (own p) (sorts_in p) o.budget holds (answers ++ a ∷ []) V) (sym more)
             (answered_more (own p) (sorts_in p) o.budget holds answers (outcomes s) d a binds.outcome so_far.answered there (record {
-              answer = subst (λ (k : ℕ). IsAnswer d (earlier_of (positions (own p)) (outcomes s)) (slice_get (sorts_in p) k) a) at
-                  (subst (λ (ds : List Declaration). IsAnswer d (earlier_of ds (outcomes s)) (slice_get (sorts_in p) (n - 1)) a) h.all answer);
+              answer = subst (λ (k : ℕ). IsAnswer d (earlier_of (positions (own p)) (outcomes s)) o.budget (slice_get (sorts_in p) k) a) at
+                  (subst (λ (ds : List Declaration). IsAnswer d (earlier_of ds (outcomes s)) o.budget (slice_get (sorts_in p) (n - 1)) a) h.all answer);
               answerable = subst (λ (ds : List Declaration). IsAnswerable d (earlier_of ds (outcomes s)) o.budget holds) h.all answerable;
               outcome = subst (λ (ds : List Declaration). IsOutcome d (earlier_of ds (outcomes s)) holds binds.outcome) h.all binds.is;
               told = subst (λ (ds : List Declaration). ForSome holds (λ files. outcome_after (reading files) d (globals_of (earlier_of ds (outcomes s))) ≡ Some binds.outcome)) h.all binds.told;
@@ -223,7 +222,7 @@ outcome_last V o n k many is =
 
 pub has_stepped : (p : Prepared) (o : Settings) (holds : Option Content) (answers : List Answer) (s s' : Bound) (a : Answer) (n : ℕ) → IsPrepared p →
     n ≡ prelude_count + 1 + length answers → n ≤ length p.decls.items.items → Progress p o.budget holds answers s →
-    ((d : Declaration) → slice_get (decls_of p.decls.items.items) (n - 1) ≡ Some d → IsAnswer d (earlier_of (decls_of p.decls.items.items) (outcomes s)) (slice_get (sorts_in p) (n - 1)) a) →
+    ((d : Declaration) → slice_get (decls_of p.decls.items.items) (n - 1) ≡ Some d → IsAnswer d (earlier_of (decls_of p.decls.items.items) (outcomes s)) o.budget (slice_get (sorts_in p) (n - 1)) a) →
     ((d : Declaration) → slice_get (decls_of p.decls.items.items) (n - 1) ≡ Some d → IsAnswerable d (earlier_of (decls_of p.decls.items.items) (outcomes s)) o.budget holds) →
     ((d : Declaration) → slice_get (decls_of p.decls.items.items) (n - 1) ≡ Some d → BindsPosition d (earlier_of (decls_of p.decls.items.items) (outcomes s)) holds s s') →
     HasStepped p o holds answers s s' a

@@ -89,7 +89,7 @@ turns_are (bare e) earlier =
 
 no_cause : (d : Declaration) (earlier : Earlier) (budget : ℕ) (holds : Option Content) (before now : ℕ) (f : StepFault) → IsWithinBudget d earlier budget holds → (Rose before now → ⊥) →
     IsCause d earlier budget holds before now f → (f ≡ faults.Memory → ⊥) → ⊥
-no_cause d earlier budget holds before now (faults.Query start plan trace) h quiet (past, _, _, _) other =
+no_cause d earlier budget holds before now (faults.Query start plan trace) h quiet (_, _, past, _) other =
     let turns = h.turns in let same = turns_are d earlier in absurd (omega (arith, past, turns, same))
 no_cause d earlier budget holds before now (faults.Cells c) h quiet (within, a, e, (past, is)) other =
     let few = h.cells a e in absurd (omega (arith, past, few))

@@ -6,14 +6,13 @@ use Rattle.std.specs.Prelude.{Option, Some, None, replicate}
 use Rattle.aql_outside.specs.Contents.{Content}
 use Rattle.aql_value.specs.Datum.{Datum}
 use Rattle.aql_syntax.specs.Script.{Earlier}
-use Rattle.aql_syntax.specs.Sound.{OutcomesTyped}
 use Rattle.aql_syntax.specs.Tree.{Declaration, val, mac, read, bare, declared}
 use Rattle.aql_syntax.specs.View.{decls_of}
 use Rattle.aql_script.specs.Laws.Position.{length_positions}
 use Rattle.aql_script.specs.Script.{positions}
 use Rattle.aql_script.specs.declared.preparing.Prepared.{Prepared}
 use Rattle.aql_session.specs.Bound.{Bound, names, outcomes, AreBound, earlier_of}
-use Rattle.aql_session.specs.Step.{IsOutcome, BindsPosition, ReadsNoFile, ReadsNoRecords}
+use Rattle.aql_session.specs.Step.{IsOutcome, OutcomesFit, BindsPosition, ReadsNoFile, ReadsNoRecords}
 use Rattle.aql_prelude.specs.Prelude.{prelude_count}
 use Rattle.aql_run.specs.Answered.{AreAnswered}
 use Rattle.aql_run.specs.Laws.Answered.{is_macro, macro_at}
@@ -51,7 +50,7 @@ there_is p k h lt =
 -- nothing is bound at first
 pub none_declared : (p : Prepared) (s : Bound) → s ≡ [] → Declared p 0 s
 none_declared p s e =
-    subst (Declared p 0) (sym e) (record { bound = refl; none = refl; types = subst OutcomesTyped (sym (onto_none (positions (own p)) [])) tt })
+    subst (Declared p 0) (sym e) (record { bound = refl; none = refl; types = subst OutcomesFit (sym (onto_none (positions (own p)) [])) (tt, tt) })
 
 -- one position of the prelude more
 pub one_declared : (p : Prepared) (holds : Option Content) (s s' : Bound) (k : ℕ) → IsPrepared p → k < prelude_count → Declared p k s →
@@ -73,9 +72,9 @@ one_declared p holds s s' k h lt so_far binds = let x = there_is p k h lt in mad
               ∙ (ap (λ l. l ++ declared d ∷ []) (so_far.bound ∙ ap (λ i. map declared (take i (positions (own p)))) here)
               ∙ (sym (map_take_next declared (positions (own p)) k d there) ∙ ap (λ i. map declared (take i (positions (own p)))) (sym after))));
           none = more ∙ (ap (λ (V : List (Option Datum)). V ++ b.outcome ∷ []) so_far.none ∙ nones_last k b.outcome nothing);
-          types = subst (λ (V : List (Option Datum)). OutcomesTyped (earlier_of (positions (own p)) V)) (sym more)
-              (subst OutcomesTyped (sym (onto_next (positions (own p)) (outcomes s) [] d b.outcome (ap (slice_get (positions (own p))) count ∙ there)))
-              (subst (λ (ds : List Declaration). OutcomesTyped ((d, b.outcome) ∷ earlier_of ds (outcomes s))) h.all b.typed));
+          types = subst (λ (V : List (Option Datum)). OutcomesFit (earlier_of (positions (own p)) V)) (sym more)
+              (subst OutcomesFit (sym (onto_next (positions (own p)) (outcomes s) [] d b.outcome (ap (slice_get (positions (own p))) count ∙ there)))
+              (subst (λ (ds : List Declaration). OutcomesFit ((d, b.outcome) ∷ earlier_of ds (outcomes s))) h.all b.typed));
         }
 
 -- after the prelude no declaration of the script was answered
@@ -108,8 +107,8 @@ prelude_bound p n s h one so_far =
     subst (λ (ds : List Declaration). names s ≡ map declared (take (n - 1) ds)) (sym h.all)
     (so_far.bound ∙ ap (λ k. map declared (take k (positions (own p)))) same)
 
-pub prelude_types : (p : Prepared) (k : ℕ) (s : Bound) → IsPrepared p → Declared p k s → OutcomesTyped (earlier_of (decls_of p.decls.items.items) (outcomes s))
-prelude_types p k s h so_far = subst (λ (ds : List Declaration). OutcomesTyped (earlier_of ds (outcomes s))) (sym h.all) so_far.types
+pub prelude_types : (p : Prepared) (k : ℕ) (s : Bound) → IsPrepared p → Declared p k s → OutcomesFit (earlier_of (decls_of p.decls.items.items) (outcomes s))
+prelude_types p k s h so_far = subst (λ (ds : List Declaration). OutcomesFit (earlier_of ds (outcomes s))) (sym h.all) so_far.types
 
 macro_reads_none : (d : Declaration) → is_macro d ≡ true → ReadsNoRecords d
 macro_reads_none (val x e) m = absurd cc

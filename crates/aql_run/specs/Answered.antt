@@ -20,7 +20,7 @@ use Rattle.aql_script.specs.Script.{positions}
 -- the answer of a declaration after others, and its outcome: what it denotes or reads; where the files are told, the script's
 -- outcome over them
 pub record IsAnswered (d : Declaration) (earlier : Earlier) (sort : Option Sort) (budget : ℕ) (holds : Option Content) (a : Answer) (o : Option Datum) : Type 0 where
-  pub answer : IsAnswer d earlier sort a
+  pub answer : IsAnswer d earlier budget sort a
   pub answerable : IsAnswerable d earlier budget holds
   pub outcome : IsOutcome d earlier holds o
   pub told : ForSome holds (λ files. outcome_after (reading files) d (globals_of earlier) ≡ Some o)

@@ -6,7 +6,6 @@ use Rattle.aql_outside.specs.Contents.{Content}
 use Rattle.aql_value.specs.Datum.{Datum}
 use Rattle.aql_types.specs.Types.{Sort}
 use Rattle.aql_infer_steps.specs.Typed.{sorts_of}
-use Rattle.aql_syntax.specs.Sound.{OutcomesTyped}
 use Rattle.aql_syntax.specs.Size.{AreWithinLimits}
 use Rattle.aql_syntax.specs.Tree.{Declaration}
 use Rattle.aql_syntax.specs.View.{decls_of}
@@ -16,7 +15,7 @@ use Rattle.aql_script.specs.Script.{AreTyped, positions, NoneReadsRecords}
 use Rattle.aql_script.specs.declared.preparing.Prepared.{Prepared}
 use Rattle.aql_session.specs.Bound.{Bound, outcomes, AreBound, earlier_of}
 use Rattle.aql_session.specs.Device.{Device}
-use Rattle.aql_session.specs.Step.{IsOverTurns, ReadsNoFile}
+use Rattle.aql_session.specs.Step.{IsOverTurns, OutcomesFit, ReadsNoFile}
 use Rattle.aql_session.specs.declared.answer.Answer.{Answer}
 use Rattle.aql_session.specs.declared.answer.StepFault.TheVariants as faults
 use Rattle.aql_run.specs.Settings.{Settings}
@@ -43,7 +42,7 @@ pub record IsPrepared (p : Prepared) : Type 0 where
 -- the session has the prelude's positions and those of the declarations that have these answers
 pub record Progress (p : Prepared) (budget : ℕ) (holds : Option Content) (answers : List Answer) (s : Bound) : Type 0 where
   pub bound : AreBound (positions (own p)) (prelude_count + 1 + length answers) s
-  pub types : OutcomesTyped (earlier_of (positions (own p)) (outcomes s))
+  pub types : OutcomesFit (earlier_of (positions (own p)) (outcomes s))
   pub answered : AreAnswered (own p) (sorts_in p) budget holds answers (outcomes s)
 
 -- one answer more, and its lines
@@ -98,7 +97,7 @@ IsNoFault halts.Sink = Unit {0}
 pub record Declared (p : Prepared) (k : ℕ) (s : Bound) : Type 0 where
   pub bound : AreBound (positions (own p)) (suc k) s
   pub none : outcomes s ≡ replicate k None
-  pub types : OutcomesTyped (earlier_of (positions (own p)) (outcomes s))
+  pub types : OutcomesFit (earlier_of (positions (own p)) (outcomes s))
 
 -- The declarations so far were answered and their lines written; declaration n of the positions is next. Where none so far reads a file,
 -- the files are as before.

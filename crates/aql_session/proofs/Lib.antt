@@ -9,3 +9,5 @@ pub mod Requests
 pub mod Opening
 pub mod Obtaining
 pub mod Running
+pub mod Planning
+pub mod Knowing

@@ -1,5 +1,6 @@
 -- What was read by a reader's argument.
 use Rattle.std.proofs.Common.{◌≡◌, ℕ, ◌-◌, ◌^◌, ◌≤◌, min, Bool, true, false, List, [], ◌∷◌, length, Option, Some, None, refl, sym, ap, ◌∙◌, subst, arith, if◌then◌else◌}
+use Rattle.std.specs.Option.{ForSome}
 use Rattle.std.specs.Str.{IsUtf8}
 use Rattle.aql_outside.specs.Contents.{Content}
 use Rattle.aql_value.specs.Datum as datum
@@ -7,6 +8,7 @@ use Rattle.aql_value.specs.Datum.{Datum, Table, data_of}
 use Rattle.aql_value.specs.Indices.{product}
 use Rattle.aql_value.specs.Laws.Lists.{Every-impl}
 use Rattle.aql_value.specs.Partial.{if_some}
+use Rattle.aql_value.specs.Valid.{IsValue}
 use Rattle.aql_types.specs.Types as types
 use Rattle.aql_types.specs.Types.{Ty, IsWithin}
 use Rattle.aql_types.specs.ValueTypes.{HasType}
@@ -72,8 +74,8 @@ module _ (r : Reader) (v : Datum) (request : Request) (asked : IsRequestOf r v r
   few m p e l = omega (arith, e, l)
 
   pub read-by : budget ≤ most_budget → (x : Read) (t : Table) → IsReadOf (request_asked request) budget holds t → held_value x.value ≡ Some (table_datum t) → x.cells ≡ min (product request.count.items) (2 ^ 128 - 1) →
-      IsReadBy r (Some v) budget holds x
-  read-by b x t h e p = record {
+      ForSome (held_value x.value) IsValue → IsReadBy r (Some v) budget holds x
+  read-by b x t h e p valid = record {
     many = few (product request.count.items) x.cells p (omega (arith, h.within, b)) ∙ sym (ap (λ o. if_some o cells) asked.is);
     within = λ a q. subst (λ y. cells y ≤ budget) (asked-is a q) h.within;
     named = λ a q. subst (λ y. IsUtf8 y.file) (asked-is a q) h.slab.named;
@@ -91,6 +93,7 @@ module _ (r : Reader) (v : Datum) (request : Request) (asked : IsRequestOf r v r
         told = λ files l. (h.slab.told files l).1;
       },
     );
+    valid = valid;
   }
 
   pub argument-cause : (before now : ℕ) (f : StepFault) → IsReadCause (request_asked request) budget holds before now f → IsArgumentCause r (Some v) budget holds before now f

@@ -24,6 +24,7 @@ use Rattle.aql_syntax.specs.View.{decl_of, decls_of}
 use Rattle.aql_syntax.specs.declared.ast.Decl.{Decl}
 use Rattle.nrca_loops.specs.Scope.{held_value}
 use Rattle.nrca_term.specs.Laws.Equations.{term_of-Bottom}
+use Rattle.nrca_term.specs.View.{term_of}
 use Rattle.nrca_term.specs.Meaning.{Outcomes}
 use Rattle.nrca_term.specs.declared.term.Core.TheVariants as core
 use Rattle.cdf_slab.specs.Slab.{first_zero}
@@ -32,7 +33,7 @@ use Rattle.aql_session.specs.Asked.{Asked, cells}
 use Rattle.aql_session.specs.Bound.{Bound, AreBound, earlier_of, outcomes}
 use Rattle.aql_session.specs.Reading.{read_fault, read_value, reading}
 use Rattle.aql_session.specs.Runs.{IsReadyAt, IsValueDeclaration, IsSpentFault, IsEvaluated, IsReadBy, IsArgumentCause, IsRun, IsAnswerOf, asked_in, query_value}
-use Rattle.aql_session.specs.Step.{IsAnswer, IsOutcome, IsReadOutcome, BindsPosition, IsCause, IsOverTurns, ReadsNoFile, asks}
+use Rattle.aql_session.specs.Step.{HasPlan, IsAnswer, IsOutcome, IsReadOutcome, BindsPosition, IsCause, IsOverTurns, NoMacroHasValue, OutcomesFit, ReadsNoFile, asks, counted, start_of}
 use Rattle.aql_session.specs.declared.answer.Answer.{Answer}
 use Rattle.aql_session.specs.declared.answer.Ran.TheVariants as ran
 use Rattle.aql_session.specs.declared.answer.StepFault.{StepFault}
@@ -40,6 +41,7 @@ use Rattle.aql_session.specs.declared.answer.StepFault.TheVariants as faults
 use Rattle.aql_session.specs.declared.queries.Evaluated.{Evaluated}
 use Rattle.aql_session.specs.declared.readings.Read.{Read}
 use Rattle.aql_session.specs.declared.runs.Run.{Run}
+use Rattle.aql_session.proofs.Evaluating.{evaluated-may, evaluated-within}
 use Rattle.aql_session.proofs.Positions.{declarations-before, sort-at}
 
 -- the declaration at a place
@@ -51,38 +53,50 @@ declaration-at xs i x l e = go xs i ∙ ap (option_map decl_of) (slice_get-get_o
     go (x ∷ xs) zero = refl
     go (x ∷ xs) (suc i) = go xs i
 
+found-there : (ds : List Declaration) (i : ℕ) → i < length ds → (d : Declaration) × (slice_get ds i ≡ Some d)
+found-there [] i h = absurd (omega (arith, h))
+found-there (d ∷ ds) zero h = (d, refl)
+found-there (d ∷ ds) (suc i) h = found-there ds i (omega (arith, h))
+
+-- each number of a position has a declaration
+pub declaration-there : (ds : List Declaration) (n : ℕ) → 1 ≤ n → n ≤ length ds → (d : Declaration) × (slice_get ds (n - 1) ≡ Some d)
+declaration-there ds n h k = found-there ds (n - 1) (omega (arith, h, k))
+
 pub same-position : (p : Option Declaration) (c d : Declaration) → p ≡ Some c → p ≡ Some d → c ≡ d
 same-position p c d e f = let y = sym e ∙ f in cc
 
 -- a query that is evaluated and kept
 pub plain-run : (d : Declaration) (earlier : Earlier) (budget : ℕ) (holds : Option Content) (q : Evaluated) → IsValueDeclaration d → IsEvaluated d earlier budget q →
-    IsRun d earlier budget holds (record { start = q.start; by = ran.Plan; turns = q.turns; value = q.value })
+    IsRun d earlier budget holds (record { start = q.start; plan = q.plan; trace = q.trace; by = q.by; turns = q.turns; value = q.value })
 plain-run (val x e) earlier budget holds q p h = record {
   start = h.start;
-  by = refl;
-  turns = omega (arith, h.turns);
-  answerable = record { query = h.within; cells = λ a k. cc; named = λ a k. cc; strides = λ a k. cc; file = λ a k. cc };
+  planned = h.planned;
+  counts = h.counts;
+  answerable = record { cells = λ a k. cc; named = λ a k. cc; strides = λ a k. cc; file = λ a k. cc };
   outcome = h.value;
+  valid = h.valid;
 }
 plain-run (mac f p body) earlier budget holds q u h = absurd u
 plain-run (read x r e) earlier budget holds q u h = absurd u
 plain-run (bare e) earlier budget holds q p h = record {
   start = h.start;
-  by = refl;
-  turns = omega (arith, h.turns);
-  answerable = record { query = h.within; cells = λ a k. cc; named = λ a k. cc; strides = λ a k. cc; file = λ a k. cc };
+  planned = h.planned;
+  counts = h.counts;
+  answerable = record { cells = λ a k. cc; named = λ a k. cc; strides = λ a k. cc; file = λ a k. cc };
   outcome = h.value;
+  valid = h.valid;
 }
 
 -- a macro
 pub macro-run : (f : Name) (p : _) (body : Tree) (earlier : Earlier) (budget : ℕ) (holds : Option Content) →
-    IsRun (mac f p body) earlier budget holds (record { start = core.Bottom; by = ran.Declared; turns = 0; value = None })
+    IsRun (mac f p body) earlier budget holds (record { start = core.Bottom; plan = core.Bottom; trace = []; by = ran.Declared; turns = 0; value = None })
 macro-run f p body earlier budget holds = record {
   start = term_of-Bottom;
-  by = refl;
-  turns = refl;
-  answerable = record { query = omega arith; cells = λ a k. cc; named = λ a k. cc; strides = λ a k. cc; file = λ a k. cc };
+  planned = (term_of-Bottom, refl);
+  counts = refl;
+  answerable = record { cells = λ a k. cc; named = λ a k. cc; strides = λ a k. cc; file = λ a k. cc };
   outcome = refl;
+  valid = λ v k. cc;
 }
 
 pub spent-cause : (d : Declaration) (earlier : Earlier) (budget : ℕ) (holds : Option Content) (before now : ℕ) (f : StepFault) → IsSpentFault d earlier budget f → IsCause d earlier budget holds before now f
@@ -113,32 +127,35 @@ module _ (x : Name) (r : Reader) (e : Tree) (earlier : Earlier) (budget : ℕ) (
 
   -- a readval: its argument, and what it asks for
   pub readval-run : (holds : Option Content) (y : Read) → IsReadBy r (held_value q.value) budget holds y →
-      IsRun (read x r e) earlier budget holds (record { start = q.start; by = ran.Read; turns = q.turns + y.cells; value = y.value })
+      IsRun (read x r e) earlier budget holds
+      (record { start = q.start; plan = q.plan; trace = q.trace; by = ran.Read; turns = q.turns + y.cells; value = y.value })
   readval-run holds y k = record {
     start = h.start;
-    by = refl;
-    turns = (let n : y.cells ≡ if_some (asks (read x r e) earlier) cells = k.many ∙ ap (λ o. if_some o cells) asked-is in omega (arith, h.turns, n));
+    planned = h.planned;
+    counts =
+        ap (option_map (λ c. (ran.Read, c.1 + if_some (asks (read x r e) earlier) cells))) h.counts
+        ∙ ap (λ n. Some (ran.Read, q.turns + n)) (sym (k.many ∙ ap (λ o. if_some o cells) asked-is));
     answerable = record {
-      query = h.within;
       cells = subst (λ o. ForSome o (λ a. cells a ≤ budget)) asked-is k.within;
       named = subst (λ o. ForSome o (λ a. IsUtf8 a.file)) asked-is k.named;
       strides = subst (λ o. ForSome o (λ a. first_zero 1 a.stride ≡ None)) asked-is k.strides;
       file = subst (λ o. ForSome o (λ a. ForSome holds (λ files. read_fault files a ≡ None))) asked-is k.file;
     };
     outcome = subst (λ o. IsReadOutcome r o holds (held_value y.value)) argument-is k.outcome;
+    valid = k.valid;
   }
 
   -- the turns fit
   pub readval-fits : (holds : Option Content) (y : Read) → budget ≤ most_budget → IsReadBy r (held_value q.value) budget holds y → q.turns + y.cells < 2 ^ 128
   readval-fits holds y b k =
       let n = some-within (asked_in r (held_value q.value)) budget k.within in
-      omega (arith, h.turns, h.within, k.many, n, b)
+      omega (arith, evaluated-within (read x r e) earlier budget q h, k.many, n, b)
 
   pub readval-cause : (holds : Option Content) (before now : ℕ) (f : StepFault) → IsArgumentCause r (held_value q.value) budget holds before now f → IsCause (read x r e) earlier budget holds before now f
   readval-cause holds before now (faults.Query s p t) k = absurd k.2
-  readval-cause holds before now (faults.Cells c) k = (h.within, k.0, sym asked-is ∙ k.1, k.2)
-  readval-cause holds before now (faults.File f) k = (h.within, k.0, sym asked-is ∙ k.1, k.2)
-  readval-cause holds before now faults.Device k = (h.within, k.0, sym asked-is ∙ k.1, k.2)
+  readval-cause holds before now (faults.Cells c) k = (evaluated-may (read x r e) earlier budget q h, k.0, sym asked-is ∙ k.1, k.2)
+  readval-cause holds before now (faults.File f) k = (evaluated-may (read x r e) earlier budget q h, k.0, sym asked-is ∙ k.1, k.2)
+  readval-cause holds before now faults.Device k = (evaluated-may (read x r e) earlier budget q h, k.0, sym asked-is ∙ k.1, k.2)
   readval-cause holds before now faults.Memory k = tt
 
   -- where no file is read, the cells pass the budget
@@ -178,7 +195,7 @@ module _ (ds : List Declaration) (sorts : List Sort) (n : ℕ) (V : Outcomes) (s
 
   -- the answer of a run
   pub answer-is : (d : Declaration) → slice_get ds (n - 1) ≡ Some d → (budget : ℕ) (holds : Option Content) (r : Run) (a : Answer) → IsRun d (earlier_of ds V) budget holds r →
-      IsAnswerOf d (slice_get sorts (n - 1)) r a → IsAnswer d (earlier_of ds V) (slice_get sorts (n - 1)) a
+      IsAnswerOf d (slice_get sorts (n - 1)) r a → IsAnswer d (earlier_of ds V) budget (slice_get sorts (n - 1)) a
   answer-is d e budget holds r a h k =
       let s = sort-at ds sorts n d stands.checked e in
       let z : s.0 ≡ sort_of a.ty = (let y = sym s.1 ∙ k.found in cc) in
@@ -189,10 +206,13 @@ module _ (ds : List Declaration) (sorts : List Sort) (n : ℕ) (V : Outcomes) (s
             subst (λ l. IsPrincipal d (scope_of l) (sort_of a.ty)) (sym (declarations-before ds V n stands.many))
             (subst (IsPrincipal d (scope_of (before ds n))) z s.2.principal);
         start = k.start ∙ h.start;
-        plan = k.plan;
-        trace = k.trace;
-        by = k.by ∙ h.by;
-        turns = k.turns ∙ h.turns;
+        planned =
+            subst (λ t. HasPlan d (earlier_of ds V) t a.trace (term_of a.plan)) (sym (k.start ∙ h.start))
+            (subst (λ t. HasPlan d (earlier_of ds V) (start_of d (earlier_of ds V)) a.trace t) (sym k.plan)
+            (subst (λ s. HasPlan d (earlier_of ds V) (start_of d (earlier_of ds V)) s (term_of r.plan)) (sym k.trace) h.planned));
+        counts =
+            ap (counted d (earlier_of ds V) budget) k.plan ∙ h.counts
+            ∙ ap (λ b. Some (b, r.turns)) (sym k.by) ∙ ap (λ m. Some (a.by, m)) (sym k.turns);
       }
 
 no-reading : ReaderMeaning
@@ -215,6 +235,13 @@ outcome-typed (read x r e) earlier holds o h k = ((λ t v i m u. go (den e (glob
         let z : k.1 ≡ v = (let y = sym k.3 ∙ m in cc) in
         subst (λ X. HasType X v) (sym (ap (apply u) i ∙ apply-reader_type u r)) (subst (HasType (reader_type r)) z k.4.typed)
 
+-- a macro has no value
+outcome-bare : (d : Declaration) (earlier : Earlier) (holds : Option Content) (o : Option Datum) → NoMacroHasValue earlier → IsOutcome d earlier holds o → NoMacroHasValue ((d, o) ∷ earlier)
+outcome-bare (val x e) earlier holds o h k = h
+outcome-bare (mac f p body) earlier holds o h k = (k, h)
+outcome-bare (read x r e) earlier holds o h k = h
+outcome-bare (bare e) earlier holds o h k = h
+
 -- where the files are told, the outcome is the script's
 outcome-told : (d : Declaration) (earlier : Earlier) (holds : Option Content) (o : Option Datum) → IsOutcome d earlier holds o → ForSome holds (λ files. outcome_after (reading files) d (globals_of earlier) ≡ Some o)
 outcome-told (val x e) earlier holds o k files l = ap Some (sym k)
@@ -228,13 +255,13 @@ outcome-told (read x r e) earlier holds o k files l = go (den e (globals_of earl
         ap (λ w. option_map (λ y. Some y) (w >>= read_value files)) k.2 ∙ ap (option_map (λ y. Some y)) (k.4.told files l) ∙ ap Some (sym k.3)
 
 -- the position that a run binds
-pub binds-is : (d : Declaration) (earlier : Earlier) (budget : ℕ) (holds : Option Content) (r : Run) (old new : Bound) → OutcomesTyped earlier → IsRun d earlier budget holds r →
+pub binds-is : (d : Declaration) (earlier : Earlier) (budget : ℕ) (holds : Option Content) (r : Run) (old new : Bound) → OutcomesFit earlier → IsRun d earlier budget holds r →
     new ≡ old ++ (declared d, held_value r.value) ∷ [] → BindsPosition d earlier holds old new
 binds-is d earlier budget holds r old new t h e = record {
   outcome = held_value r.value;
   bound = e;
   is = h.outcome;
-  typed = outcome-typed d earlier holds (held_value r.value) t h.outcome;
+  typed = (outcome-typed d earlier holds (held_value r.value) t.0 h.outcome, outcome-bare d earlier holds (held_value r.value) t.1 h.outcome);
   told = outcome-told d earlier holds (held_value r.value) h.outcome;
 }
 

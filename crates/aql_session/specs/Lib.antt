@@ -4,6 +4,8 @@ pub mod LatestNames
 pub mod Asked
 pub mod Reading
 pub mod Step
+pub mod Known
+pub mod Planned
 pub mod Numbered
 pub mod Runs
 pub mod Laws

@@ -11,6 +11,7 @@ use Rattle.aql_value.specs.Meaning.{datum}
 use Rattle.aql_value.specs.declared.value.Value.{Value}
 use Rattle.aql_value.specs.Operations.{as_natural}
 use Rattle.aql_value.specs.Partial.{◌>>=◌, if_some}
+use Rattle.aql_value.specs.Valid.{IsValue}
 use Rattle.aql_types.specs.Types as types
 use Rattle.aql_types.specs.Types.{Ty, Sort}
 use Rattle.aql_types.specs.ValueTypes.{HasType}
@@ -30,6 +31,8 @@ use Rattle.nrca_loops.specs.Scope.{held_value}
 use Rattle.nrca_term.specs.Meaning.{Outcomes}
 use Rattle.nrca_term.specs.Term.{Term}
 use Rattle.nrca_term.specs.View.{term_of}
+use Rattle.nrca_normal.specs.Planned.{IsPlan}
+use Rattle.aql_desugar_spec.specs.Laws.{outcomes_of}
 use Rattle.aql_desugar_spec.specs.Start.{query}
 use Rattle.cdf_header.specs.Places.{variable_at}
 use Rattle.cdf_header.specs.declared.fault.CdfFault.{CdfFault}
@@ -40,7 +43,8 @@ use Rattle.aql_session.specs.Asked.{Asked, asked, asked_of, cells}
 use Rattle.aql_session.specs.Bound.{Bound, earlier_of}
 use Rattle.aql_session.specs.Numbered.{declarations, sorts, declaration_numbered, sort_numbered, so_far, IsCauseOf, UnlessRead}
 use Rattle.aql_session.specs.Reading.{opened, read_fault, read_value}
-use Rattle.aql_session.specs.Step.{IsAnswerable, IsOutcome, IsReadOutcome, IsRequestFault, query_turns, ran_of, start_of, start_term, turns_of}
+use Rattle.aql_session.specs.Planned.{IsQueryTerm}
+use Rattle.aql_session.specs.Step.{HasPlan, IsAnswerable, IsOutcome, IsReadOutcome, IsRequestFault, NoMacroHasValue, chosen, counted, query_turns, start_of, start_term, turns_in}
 use Rattle.aql_session.specs.declared.answer.Answer.{Answer}
 use Rattle.aql_session.specs.declared.answer.StepFault.{StepFault}
 use Rattle.aql_session.specs.declared.answer.StepFault.TheVariants as faults
@@ -58,33 +62,30 @@ pub record IsReadyAt (ds : List Declaration) (sorts : List Sort) (n : ℕ) (V : 
   pub many : length V ≡ n - 1
   pub checked : ArePrincipal [] ds sorts
   pub typed : OutcomesTyped (earlier_of ds V)
+  pub macros : NoMacroHasValue (earlier_of ds V)
   pub limits : AreWithinLimits ds n
 
 -- the position is no macro
 abbrev pub IsQuery : Option Declaration → Type 0
 IsQuery position = (d : Declaration) × (e : Tree) × (position ≡ Some d) × (query d ≡ Some e)
 
--- of a query of this start term the turns pass the budget, or memory was wanting
-abbrev pub TellsStart : Term → StepFault → Type 0
-TellsStart t (faults.Query start plan trace) = (term_of start ≡ t) × (term_of plan ≡ term_of start) × (trace ≡ [])
-TellsStart t faults.Memory = Unit {0}
-TellsStart t f = ⊥
-
 -- what the query of a declaration denotes
 abbrev pub query_value : Declaration → Earlier → Option Datum
 query_value d earlier = query d >>= λ e. den e (globals_of earlier) []
 
--- the query of a declaration was evaluated within the budget
+-- the query of a declaration was evaluated, by its plan or as it is translated; the value is one of the language
 pub record IsEvaluated (d : Declaration) (earlier : Earlier) (budget : ℕ) (q : Evaluated) : Type 0 where
   pub start : term_of q.start ≡ start_of d earlier
+  pub planned : IsPlan (outcomes_of earlier) (start_of d earlier) q.trace (term_of q.plan)
+  pub counts : chosen d earlier budget (term_of q.plan) ≡ Some (q.by, q.turns)
   pub value : held_value q.value ≡ query_value d earlier
-  pub turns : q.turns ≡ query_turns d earlier
-  pub within : query_turns d earlier ≤ budget
+  pub valid : ForSome (held_value q.value) IsValue
 
--- it was not evaluated: its turns pass the budget, or memory was wanting
+-- it was not evaluated: the turns of both terms pass the budget, or memory was wanting
 abbrev pub IsSpentFault : Declaration → Earlier → (budget : ℕ) → StepFault → Type 0
 IsSpentFault d earlier budget (faults.Query start plan trace) =
-    (budget < query_turns d earlier) × (term_of start ≡ start_of d earlier) × (term_of plan ≡ term_of start) × (trace ≡ [])
+    (term_of start ≡ start_of d earlier) × IsPlan (outcomes_of earlier) (start_of d earlier) trace (term_of plan)
+    × (budget < query_turns d earlier) × (budget < turns_in earlier (term_of plan))
 IsSpentFault d earlier budget faults.Memory = Unit {0}
 IsSpentFault d earlier budget f = ⊥
 
@@ -172,6 +173,7 @@ pub record IsReadBy (r : Reader) (argument : Option Datum) (budget : ℕ) (holds
   pub strides : ForSome (asked_in r argument) (λ a. first_zero 1 a.stride ≡ None)
   pub file : ForSome (asked_in r argument) (λ a. ForSome holds (λ files. read_fault files a ≡ None))
   pub outcome : IsReadOutcome r argument holds (held_value x.value)
+  pub valid : ForSome (held_value x.value) IsValue
 
 -- why nothing was read by the outcome of a reader's argument: what is asked for, and the cause
 abbrev pub IsArgumentCause : Reader → (argument : Option Datum) → (budget : ℕ) → Option Content → (before now : ℕ) → StepFault → Type 0
@@ -192,18 +194,19 @@ IsReadval position r = (x : Name) × (e : Tree) × (position ≡ Some (read x r 
 -- a declaration was run
 pub record IsRun (d : Declaration) (earlier : Earlier) (budget : ℕ) (holds : Option Content) (r : Run) : Type 0 where
   pub start : term_of r.start ≡ start_of d earlier
-  pub by : r.by ≡ ran_of d
-  pub turns : r.turns ≡ turns_of d earlier
+  pub planned : HasPlan d earlier (start_of d earlier) r.trace (term_of r.plan)
+  pub counts : counted d earlier budget (term_of r.plan) ≡ Some (r.by, r.turns)
   pub answerable : IsAnswerable d earlier budget holds
   pub outcome : IsOutcome d earlier holds (held_value r.value)
+  pub valid : ForSome (held_value r.value) IsValue
 
 -- the answer of a run
 pub record IsAnswerOf (d : Declaration) (sort : Option Sort) (r : Run) (a : Answer) : Type 0 where
   pub name : a.name ≡ declared d
   pub found : sort ≡ Some (sort_of a.ty)
   pub start : term_of a.start ≡ term_of r.start
-  pub plan : term_of a.plan ≡ term_of a.start
-  pub trace : a.trace ≡ []
+  pub plan : term_of a.plan ≡ term_of r.plan
+  pub trace : a.trace ≡ r.trace
   pub by : a.by ≡ r.by
   pub turns : a.turns ≡ r.turns
 
@@ -295,6 +298,10 @@ UnlessReadAt p V P = UnlessRead p.decls.now p.n V p.options.now P
 -- the start term of its query
 abbrev pub IsStartAt : Position → Term → Type 0
 IsStartAt p t = ForSome (declaration_of p) (λ d. t ≡ start_term (query d) (before (declarations_at p) p.n))
+
+-- over outcomes over which it stands that term has a type
+abbrev pub IsQueryTermAt : Position → Term → Type 0
+IsQueryTermAt p t = (V : Outcomes) → StandsAt p V → IsQueryTerm V t
 
 -- its query was evaluated within the budget
 abbrev pub IsEvaluatedAt : Position → Outcomes → Evaluated → Type 0

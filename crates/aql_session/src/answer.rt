@@ -17,17 +17,17 @@ pub struct Answer {
     pub ty: Scheme,
     /// The start term: of a readval that of its argument, of a macro `Bottom`.
     pub start: Core,
-    /// The plan, which is the start term.
+    /// The plan: a normal form of the start term.
     pub plan: Core,
-    /// The rewritings that lead to the plan: none.
+    /// The rewritings that lead from the start term to the plan.
     pub trace: Trace,
     pub by: Ran,
-    /// Loop turns, and of a readval besides the cells that were read.
+    /// Loop turns of the term that was evaluated, and of a readval besides the cells that were read.
     pub turns: u128,
 }
 
-/// What was evaluated: the plan or the start term of a query, a readval's argument and then its
-/// file, or nothing, for a macro.
+/// What was evaluated: the plan of a query, or its start term where the plan's turns alone pass the
+/// budget; a readval's argument, by the same choice, and then its file; or nothing, for a macro.
 #[derive(Clone, Copy, Debug, PartialEq, Eq)]
 pub enum Ran {
     Plan,
@@ -39,7 +39,8 @@ pub enum Ran {
 /// Why a declaration has no answer.
 #[derive(Drop)]
 pub enum StepFault {
-    /// The turns of the query, or of a readval's argument, pass the budget.
+    /// The turns of the query, or of a readval's argument, pass the budget: those of its start term
+    /// and those of its plan.
     Query {
         start: Core,
         plan: Core,

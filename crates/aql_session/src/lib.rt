@@ -3,10 +3,12 @@
 //! A contract sees a `Session` as the positions that are bound, each with its name and its outcome.
 //! `Session::step` answers the next declaration and binds it: a query to what it denotes, a readval
 //! to what its reader reads, a macro to no value. Or it answers a fault and leaves the session as
-//! it was.
+//! it was. A query is evaluated by its plan, a normal form of the term that it is translated to; where
+//! the turns of the plan pass the budget, that term is evaluated as it is.
 //!
 //! Read `specs/Bound`, `Asked`, `Reading`, `Step` and `Numbered`; then `answer`, `session`, `step`,
-//! `runs`, `queries`, `readings`.
+//! `runs`, `queries`, `readings`. What a session knows of its outcomes stands in `specs/Known` and
+//! `shapes`, what is said of a query's terms in `specs/Planned`.
 #![tactic(auto)]
 
 mod answer;
@@ -14,6 +16,7 @@ mod queries;
 mod readings;
 mod runs;
 mod session;
+mod shapes;
 mod step;
 
 pub use answer::{Answer, Ran, StepFault};

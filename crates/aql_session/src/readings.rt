@@ -23,7 +23,7 @@ use aql_value::made::both;
 use aql_value::{Index, Items, Memory, Str, Value, saturating_product};
 use cdf_header::{CdfFault, Header, read_header};
 use cdf_slab::read_slab;
-use nrca_array::{Flat, Held};
+use nrca_array::{Flat, Held, valid_held};
 use std::alloc::Global;
 
 /// What a readval asks for: as many numbers in each index as the variable has dimensions.
@@ -93,10 +93,14 @@ fn read_value<F: Files>(
 {
     let request = typed_request(alloc, reader, argument)?;
     match read_request(alloc, files, &request, budget) {
-        Ok(flat) => Ok(Read {
-            value: Some(Held::Flat(flat)),
-            cells: saturating_product(&request.count),
-        }),
+        Ok(flat) => {
+            let value = Held::Flat(flat);
+            valid_held(&value);
+            Ok(Read {
+                value: Some(value),
+                cells: saturating_product(&request.count),
+            })
+        }
         Err(fault) => Err(fault),
     }
 }

@@ -5,7 +5,9 @@ ghost use Rattle.std.specs.Option.{ForSome};
 ghost use Rattle.aql_outside.specs.Contents.{Content};
 ghost use Rattle.aql_syntax.specs.View.{decl_of, decls_of, reader_of};
 ghost use Rattle.aql_value.specs.Limits.{most_budget};
+ghost use Rattle.nrca_ranges.specs.Shapes.{shapes_in};
 ghost use Rattle.aql_session.specs.Device.{BlamesFiles};
+ghost use Rattle.aql_session.specs.Known.{Knows};
 ghost use Rattle.aql_session.specs.Numbered.{declarations, declaration_numbered};
 ghost use Rattle.aql_session.specs.Step.{ReadsNoRecords, IsOverTurns};
 ghost use Rattle.aql_session.specs.Runs.{StandsAt, HasWorkers, budget_of, declaration_of, IsQuery, IsValueDeclaration, IsReadval, RunsPosition, IsPositionCause, PositionFails, UnlessReadAt};
@@ -19,7 +21,8 @@ use aql_syntax::ast::{Decl, Decls, Reader};
 use aql_words::Options;
 use nrca_array::Held;
 use nrca_eval::Globals;
-use nrca_term::Core;
+use nrca_ranges::GlobalShapes;
+use nrca_term::{Core, Trace};
 use std::alloc::Global;
 use std::thread::Threads;
 
@@ -37,6 +40,8 @@ pub(crate) struct Position<'a> {
 #[derive(Drop)]
 pub(crate) struct Run {
     pub(crate) start: Core,
+    pub(crate) plan: Core,
+    pub(crate) trace: Trace,
     pub(crate) by: Ran,
     pub(crate) turns: u128,
     pub(crate) value: Option<Held>,
@@ -47,6 +52,7 @@ pub(crate) fn run_declaration<R: Threads + Sync, F: Files, G: Gate>(
     rt: &R,
     alloc: Global,
     globals: &Globals,
+    shapes: &mut GlobalShapes,
     at: &Position,
     files: &mut F,
     gate: &G,
@@ -55,6 +61,8 @@ pub(crate) fn run_declaration<R: Threads + Sync, F: Files, G: Gate>(
     requires arrays { ForSome (declaration_of at.now) ReadsNoRecords }
     requires workers { HasWorkers at.now }
     requires budget { budget_of at.now ≤ most_budget }
+    requires known { Knows (shapes_in shapes.old) globals.now }
+    ensures shapes { shapes_in shapes.new ≡ shapes_in shapes.old }
     ensures ran { IfOk result (RunsPosition at.now globals.now (F.holds files.old)) }
     ensures cause { IfErr result (PositionFails at.now globals.now F.Files files.old files.new) }
     ensures kept { F.holds files.new ≡ F.holds files.old }
@@ -63,13 +71,15 @@ pub(crate) fn run_declaration<R: Threads + Sync, F: Files, G: Gate>(
     ensures unread { IfErr result (λ f. IsOverTurns f → files.new ≡ files.old) }
 {
     match declaration(at.decls, at.n) {
-        Decl::Val { name: _, expr: _ } => run_plain(rt, alloc, globals, at, gate),
+        Decl::Val { name: _, expr: _ } => run_plain(rt, alloc, globals, shapes, at, gate),
         Decl::Macro {
             name: _,
             pattern: _,
             body: _,
         } => Ok(Run {
             start: Core::Bottom,
+            plan: Core::Bottom,
+            trace: Trace(Vec::new(alloc)),
             by: Ran::Declared,
             turns: 0,
             value: None,
@@ -78,8 +88,8 @@ pub(crate) fn run_declaration<R: Threads + Sync, F: Files, G: Gate>(
             name: _,
             reader,
             expr: _,
-        } => run_readval(rt, alloc, globals, at, reader, files, gate),
-        Decl::Bare { expr: _ } => run_plain(rt, alloc, globals, at, gate),
+        } => run_readval(rt, alloc, globals, shapes, at, reader, files, gate),
+        Decl::Bare { expr: _ } => run_plain(rt, alloc, globals, shapes, at, gate),
     }
 }
 
@@ -105,6 +115,7 @@ fn run_plain<R: Threads + Sync, G: Gate>(
     rt: &R,
     alloc: Global,
     globals: &Globals,
+    shapes: &mut GlobalShapes,
     at: &Position,
     gate: &G,
 ) -> Result<Run, StepFault>
@@ -113,20 +124,27 @@ fn run_plain<R: Threads + Sync, G: Gate>(
     requires plain { ForSome (declaration_of at.now) IsValueDeclaration }
     requires workers { HasWorkers at.now }
     requires budget { budget_of at.now ≤ most_budget }
+    requires known { Knows (shapes_in shapes.old) globals.now }
+    ensures shapes { shapes_in shapes.new ≡ shapes_in shapes.old }
     ensures ran { (holds : Option Content) → IfOk result (RunsPosition at.now globals.now holds) }
     ensures cause { (holds : Option Content) (before now : ℕ) →
         IfErr result (IsPositionCause at.now globals.now holds before now) }
 {
-    match run_query(rt, alloc, globals, at, gate) {
+    match run_query(rt, alloc, globals, shapes, at, gate) {
         Ok(
             Evaluated {
                 start,
+                plan,
+                trace,
+                by,
                 value,
                 turns,
             },
         ) => Ok(Run {
             start,
-            by: Ran::Plan,
+            plan,
+            trace,
+            by,
             turns,
             value,
         }),
@@ -139,6 +157,7 @@ fn run_readval<R: Threads + Sync, F: Files, G: Gate>(
     rt: &R,
     alloc: Global,
     globals: &Globals,
+    shapes: &mut GlobalShapes,
     at: &Position,
     reader: &Reader,
     files: &mut F,
@@ -149,6 +168,8 @@ fn run_readval<R: Threads + Sync, F: Files, G: Gate>(
     requires arrays { ForSome (declaration_of at.now) ReadsNoRecords }
     requires workers { HasWorkers at.now }
     requires budget { budget_of at.now ≤ most_budget }
+    requires known { Knows (shapes_in shapes.old) globals.now }
+    ensures shapes { shapes_in shapes.new ≡ shapes_in shapes.old }
     ensures ran { IfOk result (RunsPosition at.now globals.now (F.holds files.old)) }
     ensures cause { IfErr result (PositionFails at.now globals.now F.Files files.old files.new) }
     ensures kept { F.holds files.new ≡ F.holds files.old }
@@ -156,22 +177,29 @@ fn run_readval<R: Threads + Sync, F: Files, G: Gate>(
     ensures untouched { UnlessReadAt at.now globals.now (files.new ≡ files.old) }
     ensures unread { IfErr result (λ f. IsOverTurns f → files.new ≡ files.old) }
 {
-    match run_query(rt, alloc, globals, at, gate) {
+    match run_query(rt, alloc, globals, shapes, at, gate) {
         Ok(
             Evaluated {
                 start,
+                plan,
+                trace,
+                by: _,
                 value,
                 turns,
             },
         ) => match read_argument(alloc, files, reader, value, at.options.budget) {
             Ok(Read { value, cells }) => Ok(Run {
                 start,
+                plan,
+                trace,
                 by: Ran::Read,
                 turns: turns + cells,
                 value,
             }),
             Err(fault) => {
                 drop(start);
+                drop(plan);
+                drop(trace);
                 Err(fault)
             }
         },

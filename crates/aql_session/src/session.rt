@@ -5,13 +5,19 @@ ghost use Rattle.nrca_array.specs.Held.{held_datum};
 ghost use Rattle.nrca_loops.specs.Scope.{held_value};
 ghost use Rattle.nrca_term.specs.Meaning.{outcome};
 ghost use Rattle.aql_session.specs.Bound.{outcomes, latest_of};
+ghost use Rattle.std.specs.Option.{ForSome};
+ghost use Rattle.aql_value.specs.Valid.{IsValue};
+ghost use Rattle.nrca_ranges.specs.Shapes.{bounds_there, shapes_in, PushesShape};
+ghost use Rattle.aql_session.specs.Known.{HasShapeThere};
 ghost use Rattle.aql_session.specs.LatestNames.{GainsName, SameNames};
 
+use crate::shapes::shape_of_outcome;
 use aql_value::made::both;
 use aql_value::{Memory, Str};
 use indexmap::IndexMap;
 use nrca_array::Held;
 use nrca_eval::Globals;
+use nrca_ranges::{GlobalShapes, Shape};
 use std::alloc::Global;
 use std::marker::Model;
 
@@ -20,6 +26,8 @@ use std::marker::Model;
 pub struct Session {
     // The outcomes in order.
     pub(crate) globals: Globals,
+    // What is known of each of them.
+    pub(crate) shapes: GlobalShapes,
     // The names in order.
     names: Vec<Str>,
     // The last position, counted from 1, of each name, by its bytes.
@@ -36,11 +44,14 @@ impl Model for Session {
     ghost coded = { coded_list (coded× (coded_list coded_ℕ) (coded_option coded_datum)) };
 
     ghost use Rattle.std.specs.List.{zip};
+    ghost use Rattle.nrca_ranges.specs.Shapes.{shapes_in};
+    ghost use Rattle.aql_session.specs.Known.{Knows};
     ghost use Rattle.aql_session.specs.LatestNames.{AreKept};
 
     ghost view = { λ s. zip s.names.items s.globals };
 
-    ghost invariant = { λ s. AreKept s.names.items s.globals s.latest };
+    ghost invariant = { λ s. AreKept s.names.items s.globals s.latest
+        × Knows (shapes_in s.shapes) s.globals };
 }
 
 impl Session {
@@ -52,6 +63,7 @@ impl Session {
             globals: Globals {
                 list: Vec::new(alloc),
             },
+            shapes: GlobalShapes::new(alloc),
             names: Vec::new(alloc),
             latest: IndexMap::new(alloc),
         })
@@ -71,27 +83,48 @@ impl Session {
         self.latest.get(name.bytes.as_slice()).copied()
     }
 
-    /// Binds one position more. For want of memory nothing is bound.
+    /// Binds one position more, to a value of the language or to none. For want of memory nothing is
+    /// bound.
     pub(crate) fn bind(
         &mut self,
         alloc: Global,
         name: &Str,
         value: Option<Held>,
     ) -> Result<(), Memory>
+        requires valid { ForSome (held_value value) IsValue }
         ensures bound { OnOk result (self.new ≡ self.old ++ (name.now, held_value value) ∷ []) }
         ensures as_before { OnErr result (self.new ≡ self.old) }
     {
-        let copy = name.copy(alloc)?;
-        push_position(
+        let entry = entry_of(alloc, name, value)?;
+        push_entry(
             alloc,
             &mut self.globals,
+            &mut self.shapes,
             &mut self.names,
             &mut self.latest,
-            copy,
-            value,
+            entry,
         )?;
         Ok(())
     }
+}
+
+// What is bound at a position: its name, its outcome, and what is known of that.
+#[derive(Drop)]
+pub(crate) struct Entry {
+    name: Str,
+    value: Option<Held>,
+    shape: Option<Shape>,
+}
+
+// The entry of an outcome.
+fn entry_of(alloc: Global, name: &Str, value: Option<Held>) -> Result<Entry, Memory>
+    ensures name { IfOk result (λ e. e.name ≡ name.now) }
+    ensures value { IfOk result (λ e. held_value e.value ≡ held_value value) }
+    ensures shape { IfOk result (λ e. HasShapeThere (bounds_there e.shape) (held_value value)) }
+{
+    let parts = both(name.copy(alloc), shape_of_outcome(alloc, &value));
+    let (value, (name, shape)) = both(Ok(value), parts)?;
+    Ok(Entry { name, value, shape })
 }
 
 // The value of a position.
@@ -116,53 +149,74 @@ fn value_at(list: &[Option<Held>], n: u64) -> Option<&Held>
     }
 }
 
-// One outcome more.
-fn push_outcome(globals: &mut Globals, value: Option<Held>) -> Result<(), Memory>
+// One outcome more, and what is known of it.
+fn push_outcome(
+    globals: &mut Globals,
+    shapes: &mut GlobalShapes,
+    value: Option<Held>,
+    shape: Option<Shape>,
+) -> Result<(), Memory>
     ensures pushed { OnOk result (globals.new ≡ globals.old ++ held_value value ∷ []) }
-    ensures as_before { OnErr result (globals.new ≡ globals.old) }
+    ensures shaped { OnOk result (PushesShape shapes.old shape shapes.new) }
+    ensures same_outcomes { OnErr result (globals.new ≡ globals.old) }
+    ensures same_shapes { OnErr result (shapes_in shapes.new ≡ shapes_in shapes.old) }
 {
-    globals.list.push(value)?;
+    if shapes.push(shape).is_err() {
+        drop(value);
+        return Err(Memory);
+    }
+    if globals.list.push(value).is_err() {
+        shapes.pop();
+        return Err(Memory);
+    }
     Ok(())
 }
 
 // All outcomes but the last.
-fn pop_outcome(globals: &mut Globals)
-    ensures { globals.new ≡ take (length globals.old - 1) globals.old }
+fn pop_outcome(globals: &mut Globals, shapes: &mut GlobalShapes)
+    ensures outcomes { globals.new ≡ take (length globals.old - 1) globals.old }
+    ensures shapes { shapes_in shapes.new
+        ≡ take (length (shapes_in shapes.old) - 1) (shapes_in shapes.old) }
 {
+    shapes.pop();
     drop(globals.list.pop());
 }
 
 // One position more, its name the last of the names.
-fn push_position(
+fn push_entry(
     alloc: Global,
     globals: &mut Globals,
+    shapes: &mut GlobalShapes,
     names: &mut Vec<Str>,
     latest: &mut IndexMap<Vec<u8>, u64>,
-    name: Str,
-    value: Option<Held>,
+    entry: Entry,
 ) -> Result<(), Memory>
-    ensures pushed { OnOk result (globals.new ≡ globals.old ++ held_value value ∷ []) }
-    ensures named { OnOk result (names.new.items ≡ names.old.items ++ name ∷ []) }
-    ensures last { OnOk result (GainsName latest.old latest.new name (length names.old.items + 1)) }
+    ensures pushed { OnOk result (globals.new ≡ globals.old ++ held_value entry.value ∷ []) }
+    ensures shaped { OnOk result (PushesShape shapes.old entry.shape shapes.new) }
+    ensures named { OnOk result (names.new.items ≡ names.old.items ++ entry.name ∷ []) }
+    ensures last { OnOk result
+        (GainsName latest.old latest.new entry.name (length names.old.items + 1)) }
     ensures same_outcomes { OnErr result (globals.new ≡ globals.old) }
+    ensures same_shapes { OnErr result (shapes_in shapes.new ≡ shapes_in shapes.old) }
     ensures same_names { OnErr result (names.new.items ≡ names.old.items) }
     ensures same_last { OnErr result (SameNames latest.old latest.new) }
 {
-    let (key, value) = both(name.copy(alloc), Ok(value))?;
+    let key = entry.name.copy(alloc)?;
+    let Entry { name, value, shape } = entry;
     let n = names.len() as u64 + 1;
-    if names.push(name).is_err() {
-        drop(value);
+    if push_outcome(globals, shapes, value, shape).is_err() {
+        drop(name);
         drop(key);
         return Err(Memory);
     }
-    if push_outcome(globals, value).is_err() {
-        drop(names.pop());
+    if names.push(name).is_err() {
+        pop_outcome(globals, shapes);
         drop(key);
         return Err(Memory);
     }
     if set_latest(latest, key, n).is_err() {
         drop(names.pop());
-        pop_outcome(globals);
+        pop_outcome(globals, shapes);
         return Err(Memory);
     }
     Ok(())

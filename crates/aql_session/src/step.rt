@@ -4,18 +4,18 @@ ghost use Rattle.std.specs.List.{slice_get};
 ghost use Rattle.std.specs.Option.{ForSome};
 ghost use Rattle.aql_infer_steps.specs.Typed.{ArePrincipal, sorts_of};
 ghost use Rattle.aql_syntax.specs.Size.{AreWithinLimits};
-ghost use Rattle.aql_syntax.specs.Sound.{OutcomesTyped};
 ghost use Rattle.aql_types.specs.View.{sort_of};
 ghost use Rattle.aql_value.specs.Limits.{most_budget, most_workers};
+ghost use Rattle.aql_value.specs.Valid.{IsValue};
 ghost use Rattle.nrca_loops.specs.Scope.{held_value};
-ghost use Rattle.nrca_term.specs.View.{term_of};
 ghost use Rattle.aql_session.specs.Bound.{AreBound, outcomes};
 ghost use Rattle.aql_session.specs.Device.{BlamesFiles};
 ghost use Rattle.aql_session.specs.Numbered.{declarations, sorts, declaration_numbered, sort_numbered, so_far, IsAnswerTo, MayBeAnswered, BindsNext, StepFails, UnlessRead};
 ghost use Rattle.aql_session.specs.Runs.{StandsAt, HasWorkers, budget_of, declaration_of, declarations_at, sorts_at, RunsPosition, PositionFails, UnlessReadAt, AnswersRun, IsNameAt, BindsRun};
-ghost use Rattle.aql_session.specs.Step.{ReadsNoRecords, IsOverTurns};
+ghost use Rattle.aql_session.specs.Step.{OutcomesFit, ReadsNoRecords, IsOverTurns};
 
 use crate::answer::{Answer, StepFault};
+use crate::queries::Planned;
 use crate::runs::{Position, Run, declaration, run_declaration};
 use crate::session::Session;
 use aql_infer_steps::typed::Typed;
@@ -26,17 +26,17 @@ use aql_value::Memory;
 use aql_value::made::both;
 use aql_words::Options;
 use nrca_array::Held;
-use nrca_term::{Core, Trace};
 use std::alloc::Global;
 use std::thread::Threads;
 
 impl Session {
     /// Answers declaration n, counted from 1, and binds it under its name.
     ///
-    /// A query is evaluated within the budget. Of a readval first the argument is evaluated; where
-    /// it is undefined, so is the readval, and no call is made on the files. Faults come in this
-    /// order: `Query` (the argument of a readval, too), `Cells`, then those of the file. After a
-    /// fault the session is as before.
+    /// A query is evaluated by its plan where the turns of that are within the budget, and else as it
+    /// is translated, where those are. Of a readval first the argument is evaluated; where it is
+    /// undefined, so is the readval, and no call is made on the files. Faults come in this order:
+    /// `Query` (the argument of a readval, too), `Cells`, then those of the file. After a fault the
+    /// session is as before.
     pub fn step<R: Threads + Sync, F: Files, G: Gate>(
         &mut self,
         rt: &R,
@@ -53,14 +53,15 @@ impl Session {
         requires last { n ≤ length decls.now.items.items }
         requires bound { AreBound (declarations decls.now) n self.old }
         requires checked { ArePrincipal [] (declarations decls.now) (sorts typed.now) }
-        requires types { OutcomesTyped (so_far decls.now (outcomes self.old)) }
+        requires types { OutcomesFit (so_far decls.now (outcomes self.old)) }
         requires limits { AreWithinLimits (declarations decls.now) n }
         requires arrays { ForSome (declaration_numbered decls.now n) ReadsNoRecords }
         requires workers { (1 ≤ options.now.workers) × (options.now.workers ≤ most_workers) }
         requires budget { options.now.budget ≤ most_budget }
 
         // The answer, which comes only within the budget.
-        ensures answer { IfOk result (IsAnswerTo decls.now typed.now n (outcomes self.old)) }
+        ensures answer { IfOk result
+            (IsAnswerTo decls.now typed.now n (outcomes self.old) options.now) }
         ensures answerable { OnOk result
             (MayBeAnswered decls.now n (outcomes self.old) options.now (F.holds files.old)) }
         // The session has one position more, with the declaration's outcome.
@@ -93,26 +94,27 @@ impl Session {
 
     // Runs the next declaration over the outcomes so far, and binds nothing.
     fn run_next<R: Threads + Sync, F: Files, G: Gate>(
-        &self,
+        &mut self,
         rt: &R,
         alloc: Global,
         at: &Position,
         files: &mut F,
         gate: &G,
     ) -> Result<Run, StepFault>
-        requires stands { StandsAt at.now (outcomes self.now) }
+        requires stands { StandsAt at.now (outcomes self.old) }
         requires arrays { ForSome (declaration_of at.now) ReadsNoRecords }
         requires workers { HasWorkers at.now }
         requires budget { budget_of at.now ≤ most_budget }
-        ensures ran { IfOk result (RunsPosition at.now (outcomes self.now) (F.holds files.old)) }
+        ensures as_before { self.new ≡ self.old }
+        ensures ran { IfOk result (RunsPosition at.now (outcomes self.old) (F.holds files.old)) }
         ensures cause { IfErr result
-            (PositionFails at.now (outcomes self.now) F.Files files.old files.new) }
+            (PositionFails at.now (outcomes self.old) F.Files files.old files.new) }
         ensures kept { F.holds files.new ≡ F.holds files.old }
         ensures blamed { BlamesFiles F.Files files.old files.new (IsErrOf result StepFault.Device) }
-        ensures untouched { UnlessReadAt at.now (outcomes self.now) (files.new ≡ files.old) }
+        ensures untouched { UnlessReadAt at.now (outcomes self.old) (files.new ≡ files.old) }
         ensures unread { IfErr result (λ f. IsOverTurns f → files.new ≡ files.old) }
     {
-        run_declaration(rt, alloc, &self.globals, at, files, gate)
+        run_declaration(rt, alloc, &self.globals, &mut self.shapes, at, files, gate)
     }
 
     // The answer of a run, with the position bound.
@@ -120,6 +122,7 @@ impl Session {
         requires first { 1 ≤ at.now.n }
         requires last { at.now.n ≤ length (declarations_at at.now) }
         requires typed { length (sorts_at at.now) ≡ length (declarations_at at.now) }
+        requires valid { ForSome (held_value run.value) IsValue }
         ensures answer { IfOk result (AnswersRun at.now run) }
         ensures bound { OnOk result (BindsRun at.now run self.old self.new) }
         ensures as_before { OnErr result (self.new ≡ self.old) }
@@ -142,32 +145,27 @@ fn answer_of(alloc: Global, at: &Position, run: Run) -> Result<(Answer, Option<H
 {
     let Run {
         start,
+        plan,
+        trace,
         by,
         turns,
         value,
     } = run;
     let name = declaration(at.decls, at.n).name_copy(alloc);
     let head = both(name, scheme(at.typed, at.n).copy(alloc));
-    let parts = both(head, with_copy(alloc, start));
-    let (value, ((name, ty), (start, plan))) = both(Ok(value), parts)?;
+    let terms = Planned { start, plan, trace };
+    let (terms, (value, (name, ty))) = both(Ok(terms), both(Ok(value), head))?;
+    let Planned { start, plan, trace } = terms;
     let answer = Answer {
         name,
         ty,
         start,
         plan,
-        trace: Trace(Vec::new(alloc)),
+        trace,
         by,
         turns,
     };
     Ok((answer, value))
-}
-
-// A term and its copy.
-fn with_copy(alloc: Global, term: Core) -> Result<(Core, Core), Memory>
-    ensures { IfOk result (λ x. (x.0 ≡ term) × (term_of x.1 ≡ term_of term)) }
-{
-    let copy = term.copy(alloc);
-    both(Ok(term), copy)
 }
 
 // The scheme of declaration n.

@@ -1,4 +1,4 @@
-// Queries with their values and turns, for one worker and for several; and the plan, which is the start term.
+// Queries with their values and turns, for one worker and for several; plans; and which term counts.
 use crate::tests::running::{Ran, assert_ran, run_script};
 use aql_value::Memory;
 use std::process::Abort;
@@ -65,7 +65,7 @@ const QUERIES: [Query<'static>; 25] = [
     Query(
         "(1/0) + summap(fn \\x => x)!(gen!5);",
         "val it = undefined\n",
-        "turns it = 10\n",
+        "turns it = 0\n",
     ),
     Query(
         "let val \\s = gen!3 in {(x,y) | \\x <- s, \\y <- s, x < y} end;",
@@ -87,7 +87,7 @@ const QUERIES: [Query<'static>; 25] = [
     Query(
         "{x | \\x <- gen!2 union gen!3};",
         "val it = {0, 1, 2}\n",
-        "turns it = 8\n",
+        "turns it = 5\n",
     ),
     Query(
         "reverse!([[3; 1, 2, 3]]);",
@@ -157,23 +157,43 @@ fn holds(text: &[u8], part: &[u8]) -> bool {
 }
 
 #[test]
-fn a_plan_is_the_start_term(rt: HostRuntime) -> Result<(), Fail> {
+fn plans_are_normal_forms(rt: HostRuntime) -> Result<(), Fail> {
     let rows = [
         (
-            "[[(i,i) | \\i<10]][3];",
-            "typ it : nat * nat\nval it = (3, 3)\nplan it = sub([[(x0, x0) | x0<10]]; 3)\nrules it = none\nturns it = 10\n",
+            "len!([[i | \\i<1000000000000]]);",
+            "typ it : nat\nval it = 1000000000000\nplan it = 1000000000000\nrules it = A3\nturns it = 0\n",
         ),
         (
-            "macro \\f = fn \\x => x; f!1;",
-            "typ f : 'a -> 'a\nmac f\ntyp it : nat\nval it = 1\nplan it = (let x0 = 1 in (let x1 = x0 in x1))\nrules it = none\nturns it = 0\n",
+            "[[(i,i) | \\i<10]][3];",
+            "typ it : nat * nat\nval it = (3, 3)\nplan it = (3, 3)\nrules it = A1 L1 K1 I1\nturns it = 0\n",
+        ),
+        (
+            "summap(fn \\x => [[j | \\j<1000000000000]][x])!(gen!3);",
+            "typ it : nat\nval it = 3\nplan it = S{x0 | x0 in gen(3)}\nrules it = L1 A1 L1 C4 I1\nturns it = 6\n",
+        ),
+        (
+            "summap(fn \\x => x)!({y | \\y <- gen!3});",
+            "typ it : nat\nval it = 3\nplan it = S{x0 | x0 in gen(3)}\nrules it = L1 S6 L1\nturns it = 6\n",
+        ),
+        (
+            "len!([[10/i | \\i<3]]);",
+            "typ it : nat\nval it = undefined\nplan it = dim_1([[(10 / x0) | x0<3]])\nrules it = none\nturns it = 3\n",
+        ),
+        (
+            "len!([[i*i | \\i<18446744073709551616]]);",
+            "typ it : nat\nval it = 18446744073709551616\nplan it = 18446744073709551616\nrules it = A3\nturns it = 0\n",
         ),
         (
             "len!([[10/i | \\i<3]]) default 0;",
             "typ it : nat\nval it = 0\nplan it = (dim_1([[(10 / x0) | x0<3]]) default 0)\nrules it = none\nturns it = 3\n",
         ),
         (
-            "val \\a = 1; {x | \\x <- {a}};",
-            "typ a : nat\nval a = 1\nplan a = 1\nrules a = none\nturns a = 0\ntyp it : {nat}\nval it = {1}\nplan it = U{(let x1 = x0 in {x1}) | x0 in {@1}}\nrules it = none\nturns it = 1\n",
+            "1 default 1/0;",
+            "typ it : nat\nval it = 1\nplan it = 1\nrules it = N2\nturns it = 0\n",
+        ),
+        (
+            "let val \\x = 1/0 in x default 3 end;",
+            "typ it : nat\nval it = undefined\nplan it = undefined\nrules it = L2 K1 B1\nturns it = 0\n",
         ),
     ];
     for (script, output) in rows {
@@ -181,4 +201,37 @@ fn a_plan_is_the_start_term(rt: HostRuntime) -> Result<(), Fail> {
         assert_ran(&rt, ran, 0, output.as_bytes())?;
     }
     Ok(())
+}
+
+#[test]
+fn both_terms_are_held_against_the_budget(rt: HostRuntime) -> Result<(), Fail> {
+    // Neither has turns within it: the cells of the tabulation may have no value.
+    let ran = run_script(
+        &rt,
+        rt.alloc(),
+        &["--plan"],
+        b"len!([[i*i | \\i<18446744073709551617]]);",
+    );
+    assert_ran(&rt, ran, 12, b"fault budget in declaration 1\n")?;
+    // The plan has, and the term that was translated has not.
+    let ran = run_script(
+        &rt,
+        rt.alloc(),
+        &["--plan", "--budget", "6"],
+        b"summap(fn \\x => [[j | \\j<1000]][x])!(gen!3);",
+    );
+    assert_ran(
+        &rt,
+        ran,
+        0,
+        b"typ it : nat\nval it = 3\nplan it = S{x0 | x0 in gen(3)}\nrules it = L1 A1 L1 C4 I1\nturns it = 6\n",
+    )?;
+    // One turn less, and neither has.
+    let ran = run_script(
+        &rt,
+        rt.alloc(),
+        &["--budget", "5"],
+        b"summap(fn \\x => [[j | \\j<1000]][x])!(gen!3);",
+    );
+    assert_ran(&rt, ran, 12, b"fault budget in declaration 1\n")
 }

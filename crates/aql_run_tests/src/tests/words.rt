@@ -14,7 +14,7 @@ const SAMPLE: &str =
 const LARGE_SAMPLE: &str =
     "typ it : {nat}\nval it = {0, 1, 2, 3, 4}\ntyp it : nat\nval it = 499999500000\ntyp it : nat\nval it = 10\n";
 
-const ROWS: [Row<'static>; 12] = [
+const ROWS: [Row<'static>; 11] = [
     Row(
         &["--budget", "1000"],
         SUM,
@@ -26,12 +26,6 @@ const ROWS: [Row<'static>; 12] = [
         "1; gen!3;",
         12,
         "typ it : nat\nval it = 1\nfault budget in declaration 2\n",
-    ),
-    Row(
-        &["--plan"],
-        "len!([[i | \\i<1000000000000]]);",
-        12,
-        "fault budget in declaration 1\n",
     ),
     Row(&["--sample", "1000"], "not read", 0, SAMPLE),
     Row(&["--sample", "1000", "--workers", "8"], "", 0, SAMPLE),

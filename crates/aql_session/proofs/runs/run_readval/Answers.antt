@@ -48,7 +48,7 @@ returns-in-Ok-read_argument-clause-ran g c = λ d e.
     let z = same-position (declaration_of p) (read k.0 r k.1) d k.2 e in
     let run = readval-run k.0 r k.1 earlier (budget_of p) c.in-Ok.field-0 h (g.F.Files.holds c.args.files.now) c.in-Ok-read_argument.field-0 c.in-Ok-read_argument.ensures.read in
     subst (λ x. IsRun x earlier (budget_of p) (g.F.Files.holds c.args.files.now)
-    (record { start = c.in-Ok.field-0.start; by = ran.Read; turns = c.in-Ok.field-0.turns + c.in-Ok-read_argument.field-0.cells; value = c.in-Ok-read_argument.field-0.value })) z run
+    (record { start = c.in-Ok.field-0.start; plan = c.in-Ok.field-0.plan; trace = c.in-Ok.field-0.trace; by = ran.Read; turns = c.in-Ok.field-0.turns + c.in-Ok-read_argument.field-0.cells; value = c.in-Ok-read_argument.field-0.value })) z run
 
 pub returns-in-Ok-read_argument-clause-untouched : goal.returns-in-Ok-read_argument-clause-untouched
 returns-in-Ok-read_argument-clause-untouched g c = λ d e u.

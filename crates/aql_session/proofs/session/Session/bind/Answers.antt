@@ -1,22 +1,35 @@
-use Rattle.std.proofs.Common.{◌∙◌, ◌++◌, ◌∷◌, [], ap}
+use Rattle.std.proofs.Common.{◌∙◌, ◌++◌, ◌∷◌, [], ap, subst, sym}
+use Rattle.std.specs.Option.{ForSome}
+use Rattle.aql_value.specs.Valid.{IsValue}
 use Rattle.nrca_loops.specs.Scope.{held_value}
+use Rattle.nrca_ranges.specs.Shapes.{bounds_there, shapes_in}
+use Rattle.aql_session.specs.Known.{HasShapeThere}
 use Rattle.aql_session.proofs.Binding.{latest-push, lengths-push, view-push}
+use Rattle.aql_session.proofs.Knowing.{known-push}
 use Rattle.aql_session.proofs.session.Session.bind.Goals as goal
 
 pub invariant_of-self-2 : goal.invariant_of-self-2
 invariant_of-self-2 c =
-    let p = c.in_ok-push_position.ensures in
+    let p = c.in_ok-push_entry.ensures in
     let old = c.self.inside in
-    let new = c.push_position.new in (
-      lengths-push old.latest new.latest old.names.items new.names.items old.globals new.globals c.in_ok-copy.copy (held_value c.args.value) c.self.invariant.0 p.named p.pushed,
-      latest-push old.latest new.latest old.names.items new.names.items old.globals new.globals c.in_ok-copy.copy (held_value c.args.value) c.self.invariant.1 p.named p.last,
+    let new = c.push_entry.new in
+    let entry = c.in_ok-entry.entry in (
+      (
+        lengths-push old.latest new.latest old.names.items new.names.items old.globals new.globals entry.name (held_value entry.value) c.self.invariant.0.0 p.named p.pushed,
+        latest-push old.latest new.latest old.names.items new.names.items old.globals new.globals entry.name (held_value entry.value) c.self.invariant.0.1 p.named p.last,
+      ),
+      known-push (shapes_in old.shapes) (shapes_in new.shapes) old.globals new.globals (bounds_there entry.shape) (held_value entry.value) c.self.invariant.1 p.shaped p.pushed
+          (subst (HasShapeThere (bounds_there entry.shape)) (sym c.in_ok-entry.ensures.value) c.in_ok-entry.ensures.shape)
+          (subst (λ o. ForSome o IsValue) (sym c.in_ok-entry.ensures.value) c.requires.valid),
     )
 
 pub returns-clause-bound : goal.returns-clause-bound
 returns-clause-bound c =
-    let p = c.in_ok-push_position.ensures in
+    let p = c.in_ok-push_entry.ensures in
     let old = c.self.inside in
-    let new = c.push_position.new in
-    view-push old.latest new.latest old.names.items new.names.items old.globals new.globals c.in_ok-copy.copy (held_value c.args.value) c.self.invariant.0 p.named p.pushed
-    ∙ ap (λ b. b ++ (c.in_ok-copy.copy, held_value c.args.value) ∷ []) c.self.view_is
-    ∙ ap (λ x. c.args.self.now ++ (x, held_value c.args.value) ∷ []) c.in_ok-copy.ensures
+    let new = c.push_entry.new in
+    let entry = c.in_ok-entry.entry in
+    view-push old.latest new.latest old.names.items new.names.items old.globals new.globals entry.name (held_value entry.value) c.self.invariant.0.0 p.named p.pushed
+    ∙ ap (λ b. b ++ (entry.name, held_value entry.value) ∷ []) c.self.view_is
+    ∙ ap (λ x. c.args.self.now ++ (x, held_value entry.value) ∷ []) c.in_ok-entry.ensures.name
+    ∙ ap (λ o. c.args.self.now ++ (c.args.name.now, o) ∷ []) c.in_ok-entry.ensures.value

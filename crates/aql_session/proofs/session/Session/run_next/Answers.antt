@@ -9,21 +9,21 @@ use Rattle.aql_session.proofs.session.Session.run_next.Goals as goal
 
 pub run_declaration-requires-clause-stands : goal.run_declaration-requires-clause-stands
 run_declaration-requires-clause-stands g c κs within =
-    let z = sym (ap outcomes c.self.view_is) ∙ outcomes-zip c.self.inside.names.items c.self.inside.globals c.self.invariant.0 in
+    let z = sym (ap outcomes c.self.view_is) ∙ outcomes-zip c.self.inside.names.items c.self.inside.globals c.self.invariant.0.0 in
     subst (StandsAt c.args.at.now) z c.requires.stands
 
 pub returns-clause-ran : goal.returns-clause-ran
 returns-clause-ran g c =
-    let z = sym (outcomes-zip c.self.inside.names.items c.self.inside.globals c.self.invariant.0) ∙ ap outcomes c.self.view_is in
+    let z = sym (outcomes-zip c.self.inside.names.items c.self.inside.globals c.self.invariant.0.0) ∙ ap outcomes c.self.view_is in
     subst (λ V. IfOk c.run_declaration.result (RunsPosition c.args.at.now V (g.F.Files.holds c.args.files.now))) z c.run_declaration.ensures.ran
 
 pub returns-clause-cause : goal.returns-clause-cause
 returns-clause-cause g c =
-    let z = sym (outcomes-zip c.self.inside.names.items c.self.inside.globals c.self.invariant.0) ∙ ap outcomes c.self.view_is in
+    let z = sym (outcomes-zip c.self.inside.names.items c.self.inside.globals c.self.invariant.0.0) ∙ ap outcomes c.self.view_is in
     subst (λ V. IfErr c.run_declaration.result (PositionFails c.args.at.now V g.F.Files c.args.files.now c.run_declaration.new.files)) z
     c.run_declaration.ensures.cause
 
 pub returns-clause-untouched : goal.returns-clause-untouched
 returns-clause-untouched g c =
-    let z = sym (outcomes-zip c.self.inside.names.items c.self.inside.globals c.self.invariant.0) ∙ ap outcomes c.self.view_is in
+    let z = sym (outcomes-zip c.self.inside.names.items c.self.inside.globals c.self.invariant.0.0) ∙ ap outcomes c.self.view_is in
     λ d e u. c.run_declaration.ensures.untouched d e (subst (λ V. ReadsNoFile d (so_far c.args.at.now.decls.now V) (budget_of c.args.at.now)) (sym z) u)
