@@ -7,7 +7,7 @@ ghost use Rattle.nrca_term.specs.declared.trace.Rule.TheVariants.{B1};
 ghost use Rattle.nrca_setrules.specs.Strictly.{IsStrictBottom};
 ghost use Rattle.nrca_laws.specs.Fitting.{RuleFits, IsRight};
 
-use crate::strictness::strict;
+use nrca_subst::strict;
 use nrca_term::Core;
 
 /// Whether a strict part of the term is Bottom.

@@ -5,9 +5,8 @@ ghost use Rattle.nrca_term.specs.View.{term_of};
 ghost use Rattle.nrca_term.specs.declared.trace.Rule.TheVariants.{L1, L2, L3};
 ghost use Rattle.nrca_laws.specs.Fitting.{RuleFits, IsSmallPart, IsRight};
 
-use crate::strictness::count_strict;
 use aql_value::Memory;
-use nrca_subst::{subst, uses};
+use nrca_subst::{subst, uses, uses_strictly};
 use nrca_term::Core;
 use std::alloc::Global;
 
@@ -51,7 +50,7 @@ pub fn fits_l2(term: &Core) -> bool
     match term {
         Core::Let(_, body) => {
             let all = uses(body, 0);
-            let strictly = count_strict(body, 0);
+            let strictly = uses_strictly(body, 0);
             let once = both_one(all, strictly);
             once
         }

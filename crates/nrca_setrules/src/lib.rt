@@ -4,7 +4,7 @@
 //! (`IsRight`): it is the right side of the rule's relation, has every type of the left side, and wherever the rule's
 //! condition holds, its meaning. Whether the condition holds is for the caller to see. The terms that are shifted or
 //! substituted are small (`IsSmallPart`). Only L1, L2 and L3, which substitute, may want memory.
-//! Read `boxes`, `strictness`, `cells`; then `sets`, `tests`, `lets`, `tuples`, `bottoms`, `constants`.
+//! Read `boxes`, `cells`; then `sets`, `tests`, `lets`, `tuples`, `bottoms`, `constants`.
 #![tactic(auto)]
 
 mod bottoms;
@@ -13,7 +13,6 @@ mod cells;
 mod constants;
 mod lets;
 mod sets;
-mod strictness;
 mod tests;
 mod tuples;
 

@@ -2,5 +2,6 @@ pub mod Counts
 pub mod Deeper
 pub mod Equal
 pub mod Keeping
+pub mod StrictCounts
 pub mod SubstWalk
 pub mod Walking

@@ -12,7 +12,7 @@ pub fn place<'a>(term: &'a Core, path: &Path) -> Option<&'a Core>
 {
     let mut at = term;
     for i in &path.0 {
-        match at.part(*i) {
+        match at.part(u64::from(*i)) {
             Some(part) => at = part,
             None => return None,
         }

@@ -1,8 +1,14 @@
+ghost use Rattle.std.specs.Prelude.{◌≡◌, ◌<◌, ◌^◌, IfOk};
+ghost use Rattle.aql_value.specs.Lists.{Every};
+
+use aql_value::Memory;
+use std::alloc::Global;
 use std::marker::Model;
 
-/// A way down a term: at each node the number of a part, counted from 0 in the order written.
+/// A way down a term: at each node the number of a part, counted from 0 in the order written. The parts of a term that is
+/// rewritten are fewer than 2^32; a plan can have thousands of rewritings at thousands of levels, and keeps a path for each.
 #[derive(Drop)]
-pub struct Path(pub Vec<u64>);
+pub struct Path(pub Vec<u32>);
 
 impl Model for Path {
     ghost use Rattle.std.specs.Prelude.{List, ℕ};
@@ -10,6 +16,20 @@ impl Model for Path {
     ghost Value = { List ℕ };
 
     ghost view = { λ p. p.0.items };
+}
+
+impl Path {
+    /// The way with these numbers, in no more memory than they take.
+    pub fn from_numbers(alloc: Global, numbers: &[u64]) -> Result<Path, Memory>
+        requires small { Every (λ i. i < 2 ^ 32) numbers.now }
+        ensures { IfOk result (λ p. p ≡ numbers.now) }
+    {
+        let mut path = Vec::with_capacity(alloc, numbers.len())?;
+        for i in numbers {
+            path.push(*i as u32)?;
+        }
+        Ok(Path(path))
+    }
 }
 
 /// The rules of the rewriting.

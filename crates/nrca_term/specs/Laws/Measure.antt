@@ -2,6 +2,7 @@
 use Rattle.std.proofs.Common.{◌≡◌, ℕ, zero, suc, ◌+◌, ◌*◌, ◌<◌, ◌≤◌, Bool, true, false, List, [], ◌∷◌, Option, Some, None, refl, ap, arith, inl, inr}
 use Rattle.std.proofs.Math.Nat.{mul-add, mul_comm}
 use Rattle.std.proofs.lemmas.Nat.{mul-le}
+use Rattle.aql_value.specs.Lists.{Every}
 use Rattle.aql_value.specs.Partial.{◌>>=◌}
 use Rattle.aql_value.specs.Strict.{Strict}
 use Rattle.nrca_term.specs.Term.{Term, Parts, node, none, part, Form, parts_of, child_of, weight_of, parts_weight, form_weight}
@@ -157,3 +158,23 @@ form_weight-positive (Form.strict s) = strict_positive s
 
 pub weight_of-child : (t : Term) (i : ℕ) (u : Term) → child_of (parts_of t) i ≡ Some u → weight_of u < weight_of t
 weight_of-child (node f ps) i u e = omega (arith, parts_weight-child ps i u e, form_weight-positive f)
+
+-- every term weighs something
+weight_of-positive : (t : Term) → 1 ≤ weight_of t
+weight_of-positive (node f ps) = omega (arith, form_weight-positive f)
+
+-- a part's number is below the weight of all parts
+parts_weight-number : (ps : Parts) (i : ℕ) (u : Term) → child_of ps i ≡ Some u → i < parts_weight ps
+parts_weight-number none i u e = cc
+parts_weight-number (part k t ps) zero u e = omega (arith, weight_of-positive t)
+parts_weight-number (part k t ps) (suc i) u e = omega (arith, parts_weight-number ps i u e, weight_of-positive t)
+
+-- the numbers of a path in a term are below the term's weight
+pub path-below : (n : ℕ) (t : Term) (p : List ℕ) (s : Term) → weight_of t ≤ n → place_of t p ≡ Some s → Every (λ i. i < n) p
+path-below n t [] s l e = tt
+path-below n (node f ps) (i ∷ p) s l e = below (child_of ps i) refl e (λ u h. path-below n u p s (omega (arith, l, parts_weight-child ps i u h)))
+  where
+    below : (c : Option Term) → child_of ps i ≡ c → (c >>= λ u. place_of u p) ≡ Some s →
+        ((u : Term) → child_of ps i ≡ Some u → place_of u p ≡ Some s → Every (λ j. j < n) p) → Every (λ j. j < n) (i ∷ p)
+    below None h k more = cc
+    below (Some u) h k more = (omega (arith, l, parts_weight-number ps i u h), more u h k)

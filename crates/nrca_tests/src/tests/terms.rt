@@ -5,7 +5,7 @@ use std::alloc::Global;
 use std::test::Fail;
 
 // The part at the end of these steps: none where there is no such part, and else its variable, if it is one.
-fn variable_at(alloc: Global, term: &Core, steps: &[u64]) -> Result<Option<Option<u64>>, Memory> {
+fn variable_at(alloc: Global, term: &Core, steps: &[u32]) -> Result<Option<Option<u64>>, Memory> {
     let path = Path(Vec::from_slice(alloc, steps)?);
     let found = place(term, &path);
     drop(path);
@@ -39,7 +39,7 @@ fn weight_of_copy(alloc: Global, words: &str) -> Result<u128, Memory> {
 fn variable_in_copy(
     alloc: Global,
     words: &str,
-    steps: &[u64],
+    steps: &[u32],
 ) -> Result<Option<Option<u64>>, Memory> {
     let copied = copy_of(alloc, words)?;
     let found = variable_at(alloc, &copied, steps);

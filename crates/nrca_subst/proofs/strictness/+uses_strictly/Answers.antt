@@ -1,11 +1,11 @@
 use Rattle.std.proofs.Common.{rules, ◌-◌, ◌^◌, min, arith, ap, sym, subst, ◌∙◌}
 use Rattle.nrca_term.specs.Term.{parts_of, form_of}
 use Rattle.nrca_term.specs.View.{term_of}
-use Rattle.nrca_setrules.specs.Strictly.{CountsStrict}
-use Rattle.nrca_setrules.proofs.Counts.{first_strict-none, strict-counted, part-added, part-lazy, part-strict}
+use Rattle.nrca_subst.specs.Strictly.{CountsStrict}
+use Rattle.nrca_subst.proofs.StrictCounts.{first_strict-none, strict-counted, part-added, part-lazy, part-strict}
 use Rattle.nrca_term.specs.Laws.Measure.{weight_of-child}
 use Rattle.nrca_term.specs.Laws.Entering.{child-there}
-use Rattle.nrca_setrules.proofs.strictness.+count_strict.Goals as goal
+use Rattle.nrca_subst.proofs.strictness.+uses_strictly.Goals as goal
 
 pub strict_in_parts-loop-i-init : goal.strict_in_parts-loop-i-init
 strict_in_parts-loop-i-init t c n d = omega (arith, first_strict-none n (form_of (term_of c.args.term.now)) 0 (parts_of (term_of c.args.term.now)))

@@ -4,19 +4,19 @@ ghost use Rattle.std.specs.Prelude.{◌≡◌, ◌<◌, ◌^◌, ◌-◌, min, N
 ghost use Rattle.nrca_term.specs.View.{term_of};
 ghost use Rattle.nrca_term.specs.Subst.{is_strict, strict_uses};
 ghost use Rattle.nrca_term.specs.Term.{form_of, parts_of, count, variable_of};
-ghost use Rattle.nrca_setrules.specs.Strictly.{CountsStrict, CountsPart};
+ghost use Rattle.nrca_subst.specs.Strictly.{CountsStrict, CountsPart};
 
 use nrca_term::Core;
 
-// How often variable `at` is used under strict parts alone, or the greatest number of 64 bits.
-pub(crate) fn count_strict(term: &Core, at: u64) -> u64
+/// How often variable `at` is used under strict parts alone, or the greatest number of 64 bits where it is used so more often.
+pub fn uses_strictly(term: &Core, at: u64) -> u64
     ensures { result ≡ min (strict_uses at (term_of term.now)) (2 ^ 64 - 1) }
 {
     strict_under(term, at as u128)
 }
 
 // The same of a variable whose number may be past those of 64 bits.
-#[cycle(count_strict)]
+#[cycle(uses_strictly)]
 fn strict_under(term: &Core, at: u128) -> u64
     ensures { CountsStrict at (term_of term.now) result }
 {
@@ -27,7 +27,7 @@ fn strict_under(term: &Core, at: u128) -> u64
 }
 
 // In all parts of a node that is no variable.
-#[cycle(count_strict)]
+#[cycle(uses_strictly)]
 fn strict_in_parts(term: &Core, at: u128) -> u64
     requires { variable_of (form_of (term_of term.now)) ≡ None }
     ensures { CountsStrict at (term_of term.now) result }
@@ -40,7 +40,7 @@ fn strict_in_parts(term: &Core, at: u128) -> u64
 }
 
 // In part i of a node.
-#[cycle(count_strict)]
+#[cycle(uses_strictly)]
 fn strict_in_part(term: &Core, i: u64, at: u128) -> u64
     requires { i < count (parts_of (term_of term.now)) }
     ensures { CountsPart at (term_of term.now) i result }
@@ -58,9 +58,9 @@ fn strict_in_part(term: &Core, i: u64, at: u128) -> u64
     }
 }
 
-// Whether the form always evaluates its part i, and is undefined where that part is.
+/// Whether the form always evaluates its part i, and is undefined where that part is.
 #[tactic(auto, using(nrca_term::specs::Laws::Equations::list_forms))]
-pub(crate) fn strict(term: &Core, i: u64) -> bool
+pub fn strict(term: &Core, i: u64) -> bool
     ensures { result ≡ is_strict (form_of (term_of term.now)) i }
 {
     match term {

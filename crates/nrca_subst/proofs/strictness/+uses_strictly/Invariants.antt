@@ -2,8 +2,8 @@ use Rattle.std.proofs.Common.{◌≡◌, ◌*◌, ◌+◌, ◌-◌, ◌^◌, min
 use Rattle.nrca_term.specs.Term.{weight_of, parts_of, form_of}
 use Rattle.nrca_term.specs.View.{term_of}
 use Rattle.nrca_subst.specs.Depth.{IsDepth}
-use Rattle.nrca_setrules.proofs.Counts.{first_strict}
-use Rattle.nrca_setrules.proofs.strictness.+count_strict.Given as goal
+use Rattle.nrca_subst.proofs.StrictCounts.{first_strict}
+use Rattle.nrca_subst.proofs.strictness.+uses_strictly.Given as goal
 
 abbrev pub invariant-strict_in_parts-loop-i : goal.invariant-strict_in_parts-loop-i
 invariant-strict_in_parts-loop-i l = (n : ℕ) → IsDepth l.at n → l.total ≡ min (first_strict n (form_of (term_of l.term)) 0 l.i (parts_of (term_of l.term))) (2 ^ 64 - 1)
