@@ -1,1 +1,3 @@
+mod NodeParts
+mod Parts
 mod WaysSides

@@ -10,7 +10,7 @@ ghost use Rattle.nrca_ranges.specs.Context.{context_of, IsSmallTerm};
 ghost use Rattle.nrca_normal.specs.Conditions.{IsApplicable, IsMade, TellsRule, TellsChecks, TellsNode, IsUnknownAt, name_of};
 
 use crate::conditions::{all_defined, part_defined};
-use crate::order::rule_after;
+use crate::order::rules_for;
 use crate::ways::ways_of;
 use aql_value::Memory;
 use nrca_arrayrules::{
@@ -50,19 +50,18 @@ impl Firing {
 
 /// The first rule, in the order of the table, that may be applied at the node, where there is one: it fits, what it knows
 /// of the place is so, and all that it wants defined is sure to have a value.
+#[inline(never)]
 pub fn rule_at(alloc: Global, term: &Core, ctx: &mut Ctx) -> Result<Option<Firing>, Memory>
     requires inside { IsSmallTerm ctx.old.depth (term_of term.now) }
     ensures back { OnOk result (context_of ctx.new ≡ context_of ctx.old) }
     ensures globals { ctx.new.globals ≡ ctx.old.globals }
     ensures told { IfOk result (TellsNode ctx.old (term_of term.now)) }
 {
-    let mut next = Some(Rule::B1);
-    while let Some(rule) = next {
-        let found = fires(alloc, rule, term, ctx)?;
+    for rule in rules_for(term) {
+        let found = fires(alloc, *rule, term, ctx)?;
         if found {
-            return Ok(Some(Firing::Plain(rule)));
+            return Ok(Some(Firing::Plain(*rule)));
         }
-        next = rule_after(rule);
     }
     let found = check_at(alloc, term, ctx)?;
     Ok(found)

@@ -153,20 +153,11 @@ fn take_step(alloc: Global, progress: &mut Progress, site: Site) -> Result<(), M
     let mut path = site.way;
     path.reverse();
     rewrite(alloc, &mut progress.term, &path, 0, firing)?;
-    let copied = copy_numbers(alloc, &path)?;
+    let copied = Path::from_numbers(alloc, &path)?;
     progress.steps.push(Step {
         rule: firing.rule(),
-        path: Path(copied),
+        path: copied,
     })?;
     progress.from = path;
     Ok(())
-}
-
-// Equal numbers.
-fn copy_numbers(alloc: Global, numbers: &[u64]) -> Result<Vec<u64>, Memory>
-    ensures { IfOk result (λ v. v.items ≡ numbers.now) }
-{
-    let mut copied = Vec::new(alloc);
-    copied.extend_from_slice(numbers)?;
-    Ok(copied)
 }

@@ -1,7 +1,7 @@
 -- What is told of the ways of a rule makes that it may be applied, or that it is refused.
-use Rattle.std.proofs.Common.{◌≡◌, ◌≢◌, ℕ, ◌<◌, ◌⊎◌, Bool, true, false, List, [], ◌∷◌, ◌++◌, Option, Some, None, refl, sym, ap, subst, ◌∙◌, arith, inl, inr}
+use Rattle.std.proofs.Common.{◌≡◌, ◌≢◌, ℕ, Bool, true, false, List, [], ◌∷◌, Option, Some, None, refl, sym, ap, subst, ◌∙◌, arith, inl, inr}
 use Rattle.aql_value.specs.declared.ops.CompareOp.{CompareOp}
-use Rattle.aql_value.specs.Datum.{Datum, truth}
+use Rattle.aql_value.specs.Datum.{Datum}
 use Rattle.aql_value.specs.Lists.{Every}
 use Rattle.aql_value.specs.Laws.Lists.{Every-join, Every-impl}
 use Rattle.aql_value.specs.Partial.{◌>>=◌}
@@ -12,7 +12,7 @@ use Rattle.nrca_term.specs.declared.trace.Rule.{Rule}
 use Rattle.nrca_term.specs.declared.trace.Rule.TheVariants.{B1, K1, I1, I2, L1, L2, L3, P1, P2, S1, S2, S3, S4, S5, S6, S7, S8, S9, A1, A2, A3, A4, A5, A6, A7, C1, C2, C3, C4, N1, N2}
 use Rattle.nrca_term.specs.Term.{Term, WellFormed, child_of, parts_of}
 use Rattle.nrca_term.specs.Nodes.{truth_term, compare_term}
-use Rattle.nrca_term.specs.Meaning.{Outcomes, cden}
+use Rattle.nrca_term.specs.Meaning.{Outcomes}
 use Rattle.nrca_term.specs.Typing.{ctyped, instances, OutcomesHave}
 use Rattle.nrca_term.specs.Laws.TypedForm.{well_formed-typed}
 use Rattle.nrca_term.specs.Laws.TypedPlaces.{typed-place}
@@ -21,12 +21,11 @@ use Rattle.nrca_term.specs.Places.{place_of, reach}
 use Rattle.nrca_term.specs.Facts as facts
 use Rattle.nrca_term.specs.Facts.{Facts, Fact, SomeFact, IsFact, LiterallyKnown, Literally, truth_of, enter_facts, context_at, context_below, Stands}
 use Rattle.nrca_term.specs.Firm.{firm}
-use Rattle.nrca_term.specs.Rules.{Way, Redex, Side, DefinedAt, Decides, KnownAt, IsDefined, IsComparison}
-use Rattle.nrca_term.specs.Normal.{is_check, FirmAt, IsNormalAt}
+use Rattle.nrca_term.specs.Rules.{Way, DefinedAt, Decides, KnownAt, IsDefined, IsComparison}
+use Rattle.nrca_term.specs.Normal.{is_check, FirmAt}
 use Rattle.nrca_laws.specs.Fitting.{RuleFits}
 use Rattle.nrca_checks.specs.Knowing.{IsKnown}
 use Rattle.nrca_checks.specs.Deciding.{DecidesTruth, DecidesApart}
-use Rattle.nrca_ranges.specs.declared.context.Known.TheVariants as known
 use Rattle.nrca_ranges.specs.Bounds.{Bounds}
 use Rattle.nrca_ranges.specs.Entered.{is_shaped}
 use Rattle.nrca_ranges.specs.Shapes.{Tells, known_shapes}
@@ -38,8 +37,8 @@ use Rattle.nrca_normal.specs.Ways.{ways_in, AreWays}
 use Rattle.nrca_ranges.specs.declared.context.Ctx.{Ctx}
 use Rattle.nrca_ranges.specs.Context.{context_of, IsSmallTerm}
 use Rattle.nrca_ranges.specs.Laws.Entered.{inside-part}
-use Rattle.nrca_normal.specs.Conditions.{IsDefinedAlong, TellsAt, TellsAll, TellsWays, TellsRule, TellsChecks, TellsNode, Chooses, IsApplicable, HasCondition, MayFire, IsRefused, IsUnknown, IsUndecided, IsQuietAt}
-use Rattle.nrca_normal.specs.Laws.Order.{BeforeRule, before-end}
+use Rattle.nrca_normal.specs.Conditions.{IsDefinedAlong, TellsAt, TellsAll, TellsWays, TellsRule, TellsChecks, TellsNode, HasCondition, MayFire, IsRefused, IsUnknown, IsUndecided, IsQuietAt}
+use Rattle.nrca_normal.specs.Order.{EachPlain}
 
 -- the context and the term at the end of a way that begins with part i
 context-part : (c : Facts) (t : Term) (i : ℕ) (u : Term) (w : Way) → child_of (parts_of t) i ≡ Some u → context_at enter_facts c t (i ∷ w) ≡ context_at enter_facts (enter_facts c t i) u w
@@ -312,10 +311,10 @@ fires-decided gs c t b k d p q = record {
     same b n e = cc
 
 -- where every rule is refused and no check applies, the term is normal at its place
-pub quiet-here : (gs : List (Option Bounds)) (c : Facts) (t : Term) → BeforeRule (λ R. IsRefused gs c R t) None → IsUnknown c t → IsUndecided gs c t → IsQuietAt gs c t
-unfolding IsRefused IsUnknown IsUndecided
+pub quiet-here : (gs : List (Option Bounds)) (c : Facts) (t : Term) → EachPlain (λ R. IsRefused gs c R t) → IsUnknown c t → IsUndecided gs c t → IsQuietAt gs c t
+unfolding IsRefused IsUnknown IsUndecided EachPlain
 quiet-here gs c t h k l = record {
-  unfit = λ R r ws e x f. before-end (λ Q. IsRefused gs c Q t) h R e r ws x f;
+  unfit = λ R r ws e x f. h R e r ws x f;
   unknown = λ b m n. k b m n;
   undecided = λ op a b x y e f p q m. l op a b x y e f p q m;
 }
@@ -331,7 +330,7 @@ rule-told k l R t true g c h = subst (λ y. MayFire y (context_of k) t (Plain R)
 rule-told k l R t false g c h = subst (λ y. IsRefused y (context_of k) R t) g (subst (λ y. IsRefused (known_shapes l) y R t) c h)
 
 -- which rewriting may be done at a node at which every plain rule is refused
-pub node-told : (k l : Ctx) (t : Term) (o : Option Firing) → (known_shapes l) ≡ (known_shapes k) → context_of l ≡ context_of k → BeforeRule (λ R. IsRefused (known_shapes k) (context_of k) R t) None → TellsChecks l t o → TellsNode k t o
+pub node-told : (k l : Ctx) (t : Term) (o : Option Firing) → (known_shapes l) ≡ (known_shapes k) → context_of l ≡ context_of k → EachPlain (λ R. IsRefused (known_shapes k) (context_of k) R t) → TellsChecks l t o → TellsNode k t o
 node-told k l t (Some f) g c h x = subst (λ y. MayFire y (context_of k) t f) g (subst (λ y. MayFire (known_shapes l) y t f) c x)
 node-told k l t None g c h x =
     quiet-here (known_shapes k) (context_of k) t h (subst (λ y. IsUnknown y t) c x.0)

@@ -1,12 +1,12 @@
 -- The search: what is known before a place, at a node and in its parts, and where it goes on.
-use Rattle.std.proofs.Common.{◌≡◌, ℕ, zero, suc, ◌+◌, ◌<◌, ◌≤◌, ◌⊎◌, List, [], ◌∷◌, ◌++◌, length, reverse, drop, get_or, Option, Some, None, refl, sym, ap, subst, ◌∙◌, arith, inl, inr}
+use Rattle.std.proofs.Common.{◌≡◌, ℕ, suc, ◌+◌, ◌≤◌, List, [], ◌∷◌, ◌++◌, length, reverse, drop, get_or, Option, Some, None, refl, sym, ap, subst, ◌∙◌, arith, inl, inr}
 use mathlib.Core.List.{reverse_aux}
 use Rattle.aql_value.specs.Partial.{◌>>=◌}
 use Rattle.nrca_term.specs.Term.{Term, child_of, parts_of, count}
 use Rattle.nrca_term.specs.Places.{place_of}
 use Rattle.nrca_term.specs.Laws.Entering.{child-counted}
 use Rattle.nrca_term.specs.Facts.{Facts, enter_facts, context_at, context_below}
-use Rattle.nrca_laws.specs.Search.{AllPlaces, AllBefore, FirstParts}
+use Rattle.nrca_laws.specs.Search.{AllBefore, FirstParts}
 use Rattle.nrca_laws.specs.Laws.Search.{all-node, all-more, before-parts, before-child, before-node, before-root, before-kept}
 use Rattle.nrca_term.specs.Places.{put_at}
 use Rattle.nrca_ranges.specs.Bounds.{Bounds}

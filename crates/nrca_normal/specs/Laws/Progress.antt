@@ -1,15 +1,14 @@
 -- One rewriting more, and where the search ends.
-use Rattle.std.proofs.Common.{◌≡◌, ℕ, zero, suc, ◌+◌, ◌*◌, ◌<◌, ◌≤◌, ◌^◌, List, [], ◌∷◌, ◌++◌, length, reverse, Option, Some, refl, sym, ap, subst, ◌∙◌, arith}
+use Rattle.std.proofs.Common.{◌≡◌, ℕ, ◌+◌, ◌*◌, ◌<◌, ◌≤◌, ◌^◌, List, [], ◌∷◌, ◌++◌, length, reverse, Option, Some, refl, sym, ap, subst, ◌∙◌, arith}
 use Rattle.std.proofs.Math.Nat.{pow-zero, pow-succ'}
 use Rattle.std.proofs.lemmas.Nat.{mul-le}
 use Rattle.std.proofs.lemmas.List.{length-append}
 use Rattle.aql_value.specs.Lists.{Every}
 use Rattle.aql_value.specs.Laws.Lists.{Every-join}
-use Rattle.aql_value.specs.Partial.{◌>>=◌}
 use Rattle.aql_types.specs.Types.{Ty}
 use Rattle.aql_types.specs.ValueTypes.{HaveTypes}
 use Rattle.nrca_term.specs.declared.trace.Step.{Step}
-use Rattle.nrca_term.specs.Term.{Term, Closed, WellFormed, weight_of, child_of, parts_of, binders_of}
+use Rattle.nrca_term.specs.Term.{Term, WellFormed, weight_of, parts_of, binders_of}
 use Rattle.nrca_term.specs.View.{term_of}
 use Rattle.nrca_term.specs.Meaning.{Outcomes}
 use Rattle.nrca_term.specs.Typing.{IsTyped, ctyped, instances, OutcomesHave}
@@ -22,15 +21,13 @@ use Rattle.nrca_term.specs.Measure.{Below}
 use Rattle.nrca_term.specs.Normal.{IsNormal}
 use Rattle.aql_types.specs.Laws.Operation.{some-list}
 use Rattle.nrca_laws.specs.Search.{AllPlaces}
-use Rattle.nrca_term.specs.Laws.Measure.{through, below-put_at, below-weight, left-falls, left-bound, pairs-weight}
+use Rattle.nrca_term.specs.Laws.Measure.{through, below-put_at, below-weight, left-falls, left-bound, pairs-weight, path-below}
 use Rattle.nrca_term.specs.MeasureLaws.{left_of}
 use Rattle.nrca_term.specs.Places.{place_of, put_at, reach}
-use Rattle.nrca_term.specs.Facts.{Facts, no_facts, facts_at, Stands}
+use Rattle.nrca_term.specs.Facts.{no_facts, facts_at, Stands}
 use Rattle.nrca_term.specs.Rules as rules
 use Rattle.nrca_term.specs.Rules.{Side, Replay}
-use Rattle.nrca_laws.specs.Fitting.{IsSmallPart}
 use Rattle.nrca_laws.specs.Laws.Chains.{replay-append}
-use Rattle.nrca_laws.specs.Laws.Steps.{replay-few}
 use Rattle.nrca_laws.specs.Laws.Lowering.{lowers}
 use Rattle.nrca_laws.specs.Laws.Ways.{normal-in}
 use Rattle.nrca_ranges.specs.Bounds.{Bounds}
@@ -78,6 +75,11 @@ small-place [] n t l w h e = let z : t ≡ l = cc in (n, subst (IsSmallTerm n) z
 small-place (i ∷ path) n t l w h e =
     let r = through (parts_of t) i path l e in
     small-place path (n + binders_of (parts_of t) i) r.0 l (well_formed-child t i r.0 w r.1) (inside-part n t i r.0 w r.1 h) r.2
+
+-- the numbers of the way to a site have 32 bits: they are below the weight of a small term
+pub site-numbers : (p : Progress) (s : Site) → IsSiteOf p s → Every (λ i. i < 2 ^ 32) (reverse s.way.items)
+unfolding FiresAt
+site-numbers p s h = path-below (2 ^ 32) (term_of p.term) (reverse s.way.items) h.fires.0 (omega (arith, h.ready.small)) h.fires.1
 
 -- the rule of the site may be applied
 pub may-take : (p : Progress) (s : Site) → IsSiteOf p s → MayRewrite s.firing (term_of p.term) (reverse s.way.items)
@@ -218,7 +220,3 @@ end-plan gs t p q h e = record {
   few = end-few gs t p q h e;
   types = end-types gs t p q h e;
 }
-
--- nothing has been done of the term that is there
-pub begun-there : (gs : List (Option Bounds)) (t : Term) (p : Progress) → IsBegun gs t p → IsBegun (known_shapes p.ctx) (term_of p.term) p
-begun-there gs t p h = record { globals = refl; root = h.root; term = refl; steps = h.steps; from = h.from }

@@ -2,7 +2,7 @@
 use Rattle.std.proofs.Common.{◌≡◌, ℕ, zero, suc, ◌+◌, ◌<◌, ◌≤◌, List, [], ◌∷◌, length, drop, get_or, Option, Some, None, Result, Ok, Err, OnOk, refl, sym, ap, subst, ◌∙◌, arith, add-one, drop-cons}
 use Rattle.aql_value.specs.Partial.{◌>>=◌}
 use Rattle.aql_types.specs.Laws.Operation.{some-list}
-use Rattle.nrca_term.specs.Term.{Term, Parts, node, none, part, form_of, parts_of, child_of, set_child, with_part}
+use Rattle.nrca_term.specs.Term.{Term, Parts, node, none, part, parts_of, child_of, set_child, with_part}
 use Rattle.nrca_term.specs.Places.{place_of, put_at, on_child}
 use Rattle.nrca_laws.specs.Fitting.{IsSmallPart}
 use Rattle.nrca_normal.specs.declared.firing.Firing.{Firing}

@@ -1,5 +1,5 @@
 -- The ways of each rule.
-use Rattle.std.proofs.Common.{◌≡◌, ◌≢◌, ℕ, zero, suc, ◌+◌, ◌-◌, ◌<◌, ◌≤◌, ◌^◌, Bool, true, false, not, List, [], ◌∷◌, ◌++◌, length, map, filter, Option, Some, None, nat_eq, if◌then◌else◌, refl, sym, ap, subst, ◌∙◌, arith}
+use Rattle.std.proofs.Common.{◌≡◌, ◌≢◌, ℕ, zero, suc, ◌+◌, ◌-◌, ◌<◌, ◌≤◌, Bool, true, false, not, List, [], ◌∷◌, ◌++◌, length, map, filter, nat_eq, if◌then◌else◌, refl, sym, ap, subst, ◌∙◌, arith}
 use Rattle.std.proofs.Common.{◌⊎◌, inl, inr, eq-eqb}
 use Rattle.std.proofs.lemmas.Bool.{eqb-true, cases_Bool, cases_lt}
 use Rattle.std.proofs.lemmas.List.{length-map, map-append, append-nil}
@@ -9,15 +9,13 @@ use Rattle.nrca_term.specs.declared.trace.Rule.{Rule}
 use Rattle.nrca_term.specs.declared.trace.Rule.TheVariants.{B1, K1, I1, I2, L1, L2, L3, P1, P2, S1, S2, S3, S4, S5, S6, S7, S8, S9, A1, A2, A3, A4, A5, A6, A7, C1, C2, C3, C4, N1, N2}
 use Rattle.nrca_term.specs.Term.{Term, Form, node}
 use Rattle.nrca_term.specs.Nodes.{number, position, let_term, proj_term, sub_term, dim_term, tab_term, literal_term}
-use Rattle.nrca_term.specs.Rules.{Way, Redex, Atom, in_first, others, constant_literal}
+use Rattle.nrca_term.specs.Rules.{Way, Atom, in_first, others, constant_literal}
 use Rattle.aql_value.specs.Lists.{below, Every}
 use Rattle.aql_value.specs.Laws.Lists.{below-last, Every-append_parts}
-use Rattle.nrca_laws.specs.Fitting.{RuleFits}
-use Rattle.nrca_laws.specs.Laws.Unique.{ways-fixed}
 use Rattle.nrca_setrules.specs.Laws.Lists.{literal-parts}
 use Rattle.nrca_normal.specs.declared.ways.Ways.{Ways}
 use Rattle.nrca_normal.specs.declared.ways.Ways.TheVariants.{Free, First, Inner, Others}
-use Rattle.nrca_normal.specs.Ways.{ways_in, other_ways, AreWays, AreAtomWays, IsPosition}
+use Rattle.nrca_normal.specs.Ways.{other_ways, AreWays, AreAtomWays, IsPosition}
 
 -- the rules without a condition on parts of their left side
 abbrev pub is_free : Rule → Bool

@@ -1,6 +1,5 @@
-use Rattle.std.proofs.Common.{ap, refl, subst, Some, None}
+use Rattle.std.proofs.Common.{ap, refl, subst}
 use Rattle.nrca_term.specs.View.{term_of}
-use Rattle.nrca_term.specs.Facts.{no_facts}
 use Rattle.nrca_ranges.specs.Context.{context_of}
 use Rattle.nrca_normal.specs.Found.{TellsSite, QuietEverywhere}
 use Rattle.nrca_normal.specs.Laws.Found.{quiet-none}

@@ -1,4 +1,4 @@
-use Rattle.std.proofs.Common.{rules, ◌≡◌, ◌+◌, ◌<◌, ◌≤◌, length, drop, Some, None, refl, sym, ap, subst, ◌∙◌, arith}
+use Rattle.std.proofs.Common.{rules, ◌≡◌, drop, Some, None, refl, sym, ap, subst, ◌∙◌, arith}
 use Rattle.nrca_term.specs.Term.{parts_of}
 use Rattle.nrca_term.specs.View.{term_of}
 use Rattle.nrca_term.specs.Facts.{enter_facts}

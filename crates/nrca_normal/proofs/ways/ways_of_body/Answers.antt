@@ -1,4 +1,4 @@
-use Rattle.std.proofs.Common.{rules, length, sym, subst, ◌∙◌}
+use Rattle.std.proofs.Common.{rules, sym, subst, ◌∙◌}
 use Rattle.nrca_term.specs.View.{term_of, terms_of}
 use Rattle.nrca_term.specs.Laws.AsVariant.{as-Sub, as-Tab}
 use Rattle.nrca_term.specs.Laws.Equations.{length-terms_of}

@@ -1,4 +1,4 @@
-use Rattle.std.proofs.Common.{rules, length, arith, ◌<◌, ◌^◌, sym, subst, ◌∙◌, Some, None}
+use Rattle.std.proofs.Common.{rules, length, arith, ◌<◌, ◌^◌, sym, subst, ◌∙◌}
 use Rattle.nrca_term.specs.View.{term_of, terms_of}
 use Rattle.nrca_term.specs.Laws.AsVariant.{as-Sub, as-Literal}
 use Rattle.nrca_term.specs.Laws.Equations.{length-terms_of}
