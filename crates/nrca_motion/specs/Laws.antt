@@ -1,10 +1,17 @@
 -- What is claimed of the moves: of one move at a place, of chains of moves, and of the turns of a move.
 pub mod Bounds
 pub mod Counting
+pub mod Fitting
+pub mod Found
 pub mod LetMoves
 pub mod LetTurns
 pub mod LetTypes
 pub mod Lowering
+pub mod Making
+pub mod Moving
+pub mod Outside
+pub mod Places
+pub mod Progress
 pub mod Rotating
 pub mod Steps
 pub mod TestMoves

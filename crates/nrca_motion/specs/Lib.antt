@@ -2,3 +2,10 @@ pub mod Laws
 pub mod Moves
 pub mod Counting
 pub mod Lowering
+pub mod Outside
+pub mod Fitting
+pub mod Making
+pub mod Found
+pub mod Moving
+pub mod Moved
+pub mod Progress

@@ -111,12 +111,12 @@ child-few (part k t ps) zero u e = let same : t ≡ u = cc in omega (arith, ap (
 child-few (part k t ps) (suc i) u e = omega (arith, child-few ps i u e)
 
 -- a place has at most the nodes of the term
-place-few : (path : List ℕ) (t s : Term) → place_of t path ≡ Some s → number_of in_loops s ≤ number_of in_loops t
+pub place-few : (path : List ℕ) (t s : Term) → place_of t path ≡ Some s → number_of in_loops s ≤ number_of in_loops t
 place-few [] t s e = let same : t ≡ s = cc in omega (arith, ap (number_of in_loops) same)
 place-few (i ∷ path) (node f ps) s e = let r = through ps i path s e in omega (arith, child-few ps i r.0 r.1, place-few path r.0 s r.2)
 
 -- where a place is replaced that keeps its nodes and lowers its measure, the whole term lowers its measure
-falls-put_at : (N : ℕ) (path : List ℕ) (t s r : Term) → place_of t path ≡ Some s → number_of in_loops r ≡ number_of in_loops s → number_of lets_below r ≡ number_of lets_below s → measure_of N r < measure_of N s → measure_of N (put_at t path r) < measure_of N t
+pub falls-put_at : (N : ℕ) (path : List ℕ) (t s r : Term) → place_of t path ≡ Some s → number_of in_loops r ≡ number_of in_loops s → number_of lets_below r ≡ number_of lets_below s → measure_of N r < measure_of N s → measure_of N (put_at t path r) < measure_of N t
 falls-put_at N path t s r e n m l =
     let q = pairs-put_at in_loops path t s r e n in
     let p = pairs-put_at lets_below path t s r e m in
@@ -216,7 +216,7 @@ pub measure-bound : (t : Term) → measure_of (number_of in_loops t) t ≤ (weig
 measure-bound t = below-cube (number_of in_loops t) (weight_of t) (pairs_of in_loops t) (pairs_of lets_below t) (omega (arith, nodes-are t, nodes-weight t)) (pairs-few in_loops t) (pairs-few lets_below t)
 
 -- a third power
-third : (n : ℕ) → n ^ 3 ≡ n * (n * n)
+pub third : (n : ℕ) → n ^ 3 ≡ n * (n * n)
 third n = pow-succ' n 2 ∙ ap (λ m. n * m) (pow-succ' n 1 ∙ ap (λ m. n * m) (pow-succ' n 0 ∙ ap (λ m. n * m) (pow-zero n) ∙ omega arith))
 
 -- one move of a closed typed term keeps its number of nodes and lowers its measure

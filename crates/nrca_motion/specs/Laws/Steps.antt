@@ -59,7 +59,7 @@ moved-typed G M3 l r needs m env T c = subst (λ x. ctyped G env x T) (sym m.5) 
 moved-typed G M4 l r needs m env T c = subst (λ x. ctyped G env x T) (sym m.6) (strict_let-typed G env l m.0 m.1 m.2 T c m.5 (strict-bare G env l T m.0 (let_term m.1 m.2) c m.3 m.4 m.5))
 
 -- a loop's operand is a set
-loop-operand : (G : ℕ → Ty → Type 0) (env : List Ty) (f : Form) (z e b : Term) (T : Ty) → LoopOf f z → ctyped G env (loop_term f e b) T → (A : Ty) × ctyped G env e (types.set_of A)
+pub loop-operand : (G : ℕ → Ty → Type 0) (env : List Ty) (f : Form) (z e b : Term) (T : Ty) → LoopOf f z → ctyped G env (loop_term f e b) T → (A : Ty) × ctyped G env e (types.set_of A)
 loop-operand G env Form.big_union z e b T l d =
     (d.2.0, (two-parts G env e b (types.set_of d.2.0) d.2.0 (types.set_of d.2.1) (subst (parts_typed G env (part 0 e (part 1 b none))) d.2.2 d.3)).0)
 loop-operand G env Form.sum z e b T l d =
