@@ -1,8 +1,8 @@
 -- The pairs of indices and cells, as a loop makes them.
-use Rattle.std.proofs.Common.{◌≡◌, ℕ, ◌+◌, ◌<◌, ◌≤◌, take, List, [], ◌∷◌, ◌++◌, length, map, get_or, Bool, true, false, nat_lt, if◌then◌else◌, None, Some, Result, Ok, Err, IfOk, IsOkAnd, refl, ap, sym, ◌∙◌, arith}
+use Rattle.std.proofs.Common.{◌≡◌, ℕ, ◌+◌, ◌<◌, take, List, [], ◌∷◌, ◌++◌, length, map, get_or, Bool, true, false, nat_lt, if◌then◌else◌, None, Some, Result, Ok, Err, IfOk, IsOkAnd, refl, ap, sym, ◌∙◌, arith}
 use Rattle.std.specs.List.{slice_get}
 use Rattle.std.proofs.lemmas.List.{length-map, length-take-le, map-append, take_more}
-use Rattle.aql_value.specs.Datum.{Datum, tuple, array, data_of}
+use Rattle.aql_value.specs.Datum.{Datum, array, data_of}
 use Rattle.aql_value.specs.Indices.{indices}
 use Rattle.aql_value.specs.Meaning.{datum}
 use Rattle.aql_value.specs.declared.memory.Memory.{Memory}

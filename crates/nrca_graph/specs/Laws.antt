@@ -1,24 +1,31 @@
 -- What is claimed of encoding and of the array-free form.
 pub mod ArrayFreeTypes
+pub mod ArrayTurns
 pub mod Dimensions
 pub mod EncodedSets
 pub mod EncodedTypes
 pub mod EncodingOrder
 pub mod Filled
+pub mod FormTurns
 pub mod Greatest
 pub mod IndexNode
 pub mod IndexOrder
 pub mod KeptForms
 pub mod LiteralNode
+pub mod LoopCounts
 pub mod Means
 pub mod NestTurns
 pub mod Nests
 pub mod NoArrays
 pub mod Paired
+pub mod PartTurns
+pub mod QuietTerms
 pub mod StrictForms
 pub mod SubscriptNode
 pub mod Tabulated
 pub mod TabulationNode
+pub mod Tops
+pub mod Turns
 pub mod TranslatedParts
 pub mod TypedForms
 pub mod TypedTerms
@@ -33,6 +40,7 @@ use Rattle.nrca_term.specs.Typing.{ctyped, instances, OutcomesHave}
 use Rattle.nrca_graph.specs.Encoding.{encoding, encoded, encoding_type}
 use Rattle.nrca_graph.specs.EncodingOrder.{KeepsOrder}
 use Rattle.nrca_graph.specs.ArrayFree.{array_free}
+use Rattle.nrca_graph.specs.Kept.{KeepsSums, HasLoops, TurnsWithin}
 use Rattle.nrca_graph.specs.NoArrays.{HasNoArrays}
 
 -- two values of one type are in the order of their encodings
@@ -65,3 +73,16 @@ ArrayFreeHasNone = (t : Term) → HasNoArrays (array_free t)
 abbrev pub ArrayFreeTyped : Type 0
 ArrayFreeTyped = (Ts env : List Ty) (t : Term) (T : Ty) → ctyped (instances Ts) env t T →
     ctyped (instances (map encoding_type Ts)) (map encoding_type env) (array_free t) (encoding_type T)
+
+-- the array-free form of a typed term has as many sums as the term
+abbrev pub ArrayFreeKeepsSums : Type 0
+ArrayFreeKeepsSums = (t : Term) → KeepsSums t (array_free t)
+
+-- it has at least the big unions of the term, and one for each rank of a tabulation
+abbrev pub ArrayFreeHasLoops : Type 0
+ArrayFreeHasLoops = (t : Term) → HasLoops t (array_free t)
+
+-- The array-free form of a typed term takes, over encoded outcomes and variables, at most the turns of the bound. The term weighs less
+-- than 2^128.
+abbrev pub ArrayFreeTurns : Type 0
+ArrayFreeTurns = (t : Term) → weight_of t < 2 ^ 128 → TurnsWithin t (array_free t)

@@ -6,4 +6,7 @@ pub mod EncodingOrder
 pub mod StrictForms
 pub mod NoArrays
 pub mod Laws
+pub mod Counts
 pub mod Coded
+pub mod Kept
+pub mod Made

@@ -1,6 +1,7 @@
 //! What is proved of encoding and of the array-free form, each law the contract of a function that does nothing.
 
 ghost use Rattle.nrca_graph.specs.Laws.{EncodingKeepsOrder, EncodingKeepsTypes, EncodedTypesAreTypes, EncodingKeepsInstances, ArrayFreeMeans, ArrayFreeHasNone, ArrayFreeTyped};
+ghost use Rattle.nrca_graph.specs.Laws.{ArrayFreeKeepsSums, ArrayFreeHasLoops, ArrayFreeTurns};
 
 /// Encoding keeps the order of two values of one type.
 pub fn order()
@@ -28,4 +29,16 @@ pub fn forms()
 /// Each type of a term, encoded, is a type of its array-free form.
 pub fn typing()
     ensures { ArrayFreeTyped }
+{}
+
+/// The array-free form of a typed term has as many sums as the term, and at least its big unions and one more for each
+/// rank of its tabulations.
+pub fn counts()
+    ensures sums { ArrayFreeKeepsSums }
+    ensures loops { ArrayFreeHasLoops }
+{}
+
+/// The array-free form of a typed term that weighs less than 2^128 takes at most the turns of the bound.
+pub fn turns()
+    ensures { ArrayFreeTurns }
 {}

@@ -6,9 +6,18 @@
 //! and `specs/ArrayFree`, the definitions, then `laws`, what is proved of them, and `values` and `types`.
 #![tactic(auto)]
 
+mod indexing;
 pub mod laws;
+mod literals;
+mod nodes;
+mod room;
+mod subscripts;
+mod tables;
+mod terms;
 mod types;
 mod values;
 
+pub use room::greatest_variable;
+pub use terms::to_graph;
 pub use types::encode_type;
 pub use values::encode;

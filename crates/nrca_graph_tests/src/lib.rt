@@ -1,4 +1,4 @@
-//! Tests of values and types without arrays: printed encodings.
+//! Tests of values, types and terms without arrays: printed encodings and array-free forms.
 #![tactic(auto)]
 
 #[cfg(test)]

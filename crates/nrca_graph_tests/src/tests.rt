@@ -1,5 +1,7 @@
 ghost use Rattle.std.specs.Prelude.{◌≡◌, ◌≤◌, length, IfOk};
 
+mod terms;
+
 use aql_print::{print_scheme, print_value};
 use aql_types::ty::{Scheme, Ty};
 use aql_value::made::{both, make_box, make_pair_list};

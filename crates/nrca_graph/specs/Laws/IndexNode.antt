@@ -71,7 +71,7 @@ entry-of-type rank A m l h = of h.0 h.1 h.2
     of (x ∷ c ∷ d ∷ vs) e k = absurd k.1.1
 
 -- so are all members of a set of such pairs
-entries-of-type : (rank : ℕ) (A : Ty) (ms : List Datum) → 1 ≤ rank → Every (HasType (pair_type (index_type rank) A)) ms → (es : List (List ℕ × Datum)) × AreEntries rank A ms es
+pub entries-of-type : (rank : ℕ) (A : Ty) (ms : List Datum) → 1 ≤ rank → Every (HasType (pair_type (index_type rank) A)) ms → (es : List (List ℕ × Datum)) × AreEntries rank A ms es
 entries-of-type rank A [] l h = ([], record { listed = refl; ranks = tt; values = tt })
 entries-of-type rank A (m ∷ ms) l h =
     let e = entry-of-type rank A m l h.0 in
@@ -79,7 +79,7 @@ entries-of-type rank A (m ∷ ms) l h =
     (e.0 ∷ r.0, record { listed = (λ j. e.1 j ∷ r.1.listed j); ranks = (e.2, r.1.ranks); values = (e.3, r.1.values) })
 
 -- entries are read back
-entries-read : (rank : ℕ) (es : List (List ℕ × Datum)) → 1 ≤ rank → Every (λ e. length e.0 ≡ rank) es → each (as_indexed rank) (map entry es) ≡ Some es
+pub entries-read : (rank : ℕ) (es : List (List ℕ × Datum)) → 1 ≤ rank → Every (λ e. length e.0 ≡ rank) es → each (as_indexed rank) (map entry es) ≡ Some es
 entries-read rank [] l h = refl
 entries-read rank (e ∷ es) l h =
     ap (λ o. (o >>= λ at. Some (at, e.1)) >>= λ y. each (as_indexed rank) (map entry es) >>= λ ys. Some (y ∷ ys))
@@ -91,7 +91,7 @@ abbrev pub encoded_entry : List ℕ × Datum → List ℕ × Datum
 encoded_entry e = (e.0, encoding e.1)
 
 -- the members of the encoded set
-entries-encoded : (es : List (List ℕ × Datum)) → map encoding (map entry es) ≡ map entry (map encoded_entry es)
+pub entries-encoded : (es : List (List ℕ × Datum)) → map encoding (map entry es) ≡ map entry (map encoded_entry es)
 entries-encoded [] = refl
 entries-encoded (e ∷ es) = ap (λ x. pair x (encoding e.1) ∷ map encoding (map entry es)) (index-kept e.0) ∙ ap (λ l. entry (encoded_entry e) ∷ l) (entries-encoded es)
 
@@ -141,6 +141,37 @@ graph-made f (at ∷ ats) = ap (λ l. pair (index_value at) (encoding (f at)) �
 abbrev pub index_table : ℕ → Term
 index_table rank = lets 0 (map (λ j. dimension_above rank (suc j)) (below rank)) (table_term rank (paired_with (variable (2 * rank)) (sizes_term (index_variables rank))))
 
+-- the dimensions over the encoded set of entries
+pub dims-value : (W : Outcomes) (around : List Datum) (rank : ℕ) (es : List (List ℕ × Datum)) → Every (λ e. length e.0 ≡ rank) es →
+    (length (dims_above rank (indices_in es)) ≡ rank)
+    × (each (cden W (set (data_of (map entry (map encoded_entry es))) ∷ around)) (map (λ j. dimension_above rank (suc j)) (below rank))
+    ≡ (if all_in_range (dims_above rank (indices_in es)) then Some (map datum.natural (dims_above rank (indices_in es))) else None))
+dims-value W around rank es ls = (many, sizes)
+  where
+    fs : List (List ℕ × Datum)
+    fs = map encoded_entry es
+
+    env : List Datum
+    env = set (data_of (map entry fs)) ∷ around
+
+    ds : List ℕ
+    ds = dims_above rank (indices_in es)
+
+    columns : ds ≡ map (λ j. above (column j (indices_in fs))) (below rank)
+    columns = dims-columns rank (indices_in es) (Every-onto (λ at. length at ≡ rank) (λ e. e.0) es ls) ∙ ap (λ ats. map (λ j. above (column j ats)) (below rank)) (sym (indices-encoded es))
+
+    many : length ds ≡ rank
+    many = ap length columns ∙ length-map (below rank) (λ j. above (column j (indices_in fs))) ∙ length-below rank
+
+    sizes : each (cden W env) (map (λ j. dimension_above rank (suc j)) (below rank)) ≡ (if all_in_range ds then Some (map datum.natural ds) else None)
+    sizes =
+        each-map (cden W env) (λ j. dimension_above rank (suc j)) (below rank)
+        ∙ each-ext (λ j. cden W env (dimension_above rank (suc j))) (λ j. in_range (above (column j (indices_in fs)))) (below rank)
+        (Every-below (λ j. cden W env (dimension_above rank (suc j)) ≡ in_range (above (column j (indices_in fs)))) rank
+        (λ j l. dimension-value W around rank j fs (Every-onto (λ e. length e.0 ≡ rank) encoded_entry es ls) l))
+        ∙ each-in_range (λ j. above (column j (indices_in fs))) (below rank)
+        ∙ ap (λ ns. if all_in_range ns then Some (map datum.natural ns) else None) (sym columns)
+
 -- over the encoded set of entries it is the encoded array
 table-encoded : (W : Outcomes) (around : List Datum) (rank : ℕ) (A : Ty) (es : List (List ℕ × Datum)) → IsRank rank → Every (λ e. length e.0 ≡ rank) es → Every (λ e. HasType A e.1) es →
     cden W (set (data_of (map entry (map encoded_entry es))) ∷ around) (index_table rank) ≡ encoded (indexed (dims_above rank (indices_in es)) es)
@@ -170,20 +201,14 @@ table-encoded W around rank A es r ls hs =
     cells : List Datum
     cells = map F (indices ds)
 
-    columns : ds ≡ map (λ j. above (column j (indices_in fs))) (below rank)
-    columns = dims-columns rank (indices_in es) (Every-onto (λ at. length at ≡ rank) (λ e. e.0) es ls) ∙ ap (λ ats. map (λ j. above (column j ats)) (below rank)) (sym (indices-encoded es))
+    known : (length ds ≡ rank) × (each (cden W env) (map (λ j. dimension_above rank (suc j)) (below rank)) ≡ (if all_in_range ds then Some (map datum.natural ds) else None))
+    known = dims-value W around rank es ls
 
     many : length ds ≡ rank
-    many = ap length columns ∙ length-map (below rank) (λ j. above (column j (indices_in fs))) ∙ length-below rank
+    many = known.0
 
     sizes : each (cden W env) (map (λ j. dimension_above rank (suc j)) (below rank)) ≡ (if all_in_range ds then Some (map datum.natural ds) else None)
-    sizes =
-        each-map (cden W env) (λ j. dimension_above rank (suc j)) (below rank)
-        ∙ each-ext (λ j. cden W env (dimension_above rank (suc j))) (λ j. in_range (above (column j (indices_in fs)))) (below rank)
-        (Every-below (λ j. cden W env (dimension_above rank (suc j)) ≡ in_range (above (column j (indices_in fs)))) rank
-        (λ j l. dimension-value W around rank j fs (Every-onto (λ e. length e.0 ≡ rank) encoded_entry es ls) l))
-        ∙ each-in_range (λ j. above (column j (indices_in fs))) (below rank)
-        ∙ ap (λ ns. if all_in_range ns then Some (map datum.natural ns) else None) (sym columns)
+    sizes = known.1
 
     at_index : (at : List ℕ) → length at ≡ rank → pair_at W (walked ds env) selected at ≡ Some (pair (index_value at) (encoding (F at)))
     at_index at l =

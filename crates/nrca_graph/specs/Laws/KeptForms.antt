@@ -41,7 +41,7 @@ mirror-get (b ∷ args) (p ∷ ps) (q ∷ qs) zero a m e = let z : b ≡ a = cc 
 mirror-get (b ∷ args) (p ∷ ps) (q ∷ qs) (suc i) a m e = mirror-get args ps qs i a m.1 e
 
 -- an encoded value is the same truth value, or none as well
-truth-encoded : (v : Datum) → as_truth (encoding v) ≡ as_truth v
+pub truth-encoded : (v : Datum) → as_truth (encoding v) ≡ as_truth v
 truth-encoded (natural n) = refl
 truth-encoded (truth b) = refl
 truth-encoded (text s) = refl
@@ -75,7 +75,7 @@ outcome-encoded V (suc n) = at V n
     at (o ∷ V) (suc n) = at V n
 
 -- the numbers of encoded values
-numbers-encoded : (rs : List Datum) → each as_natural (map encoding rs) ≡ each as_natural rs
+pub numbers-encoded : (rs : List Datum) → each as_natural (map encoding rs) ≡ each as_natural rs
 numbers-encoded [] = refl
 numbers-encoded (r ∷ rs) = ap (λ o. o >>= λ y. each as_natural (map encoding rs) >>= λ ys. Some (y ∷ ys)) (natural-encoded r) ∙ ap (λ p. as_natural r >>= λ y. p >>= λ ys. Some (y ∷ ys)) (numbers-encoded rs)
 

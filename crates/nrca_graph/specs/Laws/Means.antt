@@ -28,7 +28,7 @@ use Rattle.nrca_graph.specs.StrictForms.{IsPlain}
 use Rattle.nrca_graph.specs.Laws.StrictForms.{strict-mirror}
 
 -- a kept form is kept
-kept-node : (f : Form) (ps : Parts) → IsKeptForm f → array_free_node f ps ≡ node f ps
+pub kept-node : (f : Form) (ps : Parts) → IsKeptForm f → array_free_node f ps ≡ node f ps
 kept-node (Form.var n) ps h = refl
 kept-node (Form.global n) ps h = refl
 kept-node Form.bind ps h = refl
@@ -150,7 +150,7 @@ mutual
       node-means G V env vals f t.1 T (part_values V vals ps) (array_free_parts ps) (omega (arith, s, length-terms ps, count-weight ps)) t.2 (parts-sound G V g ps env vals t.1 h t.3) (parts-mean G V g ps (omega (arith, s)) env vals t.1 h t.3)
       (typed-binders G env ps t.1 t.3)
 
-  parts-mean : (G : ℕ → Ty → Type 0) (V : Outcomes) → OutcomesHave G V → (ps : Parts) → parts_weight ps < 2 ^ 128 → (env : List Ty) (vals : List Datum) (args : List Arg) → HaveTypes env vals → parts_typed G env ps args →
+  pub parts-mean : (G : ℕ → Ty → Type 0) (V : Outcomes) → OutcomesHave G V → (ps : Parts) → parts_weight ps < 2 ^ 128 → (env : List Ty) (vals : List Datum) (args : List Arg) → HaveTypes env vals → parts_typed G env ps args →
       AllMirror args (part_values V vals ps) (part_values (map encoded V) (map encoding vals) (array_free_parts ps))
   parts-mean G V g none s env vals args h t = mirrors [] args [] [] (sym t) tt
   parts-mean G V g (part k u ps) s env vals args h t =
