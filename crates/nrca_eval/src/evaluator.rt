@@ -23,7 +23,7 @@ use nrca_loops::{
     to_box, truth_kept, variable, zeros,
 };
 use nrca_par::EvalFault;
-use nrca_quick::quick;
+use nrca_quick::{few, members_and_few, quick};
 use nrca_term::{Core, Terms};
 use std::alloc::Global;
 use std::thread::Threads;
@@ -591,6 +591,11 @@ fn members_run<R: Threads + Sync, G: Gate>(
         } = members.get(scope.alloc, i, sides)?;
         sides = after;
         let inner = Env::Bound(&member, &*env);
+        if let Some(set) = few(body, scope.globals, &inner) {
+            drop(member);
+            all = members_and_few(all, set)?;
+            continue;
+        }
         let done = node(scope, body, &inner, budget - turns);
         drop(member);
         let done = done?;

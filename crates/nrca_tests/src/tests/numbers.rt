@@ -1,11 +1,11 @@
-//! The terms that are found as numbers of 64 bits, and those that are not.
+//! The terms that are found as numbers of 64 bits or as sets of at most one of them, and those that are not.
 
 use crate::tests::words::{pushed, term, value};
 use aql_value::made::both;
 use aql_value::{Memory, Value};
 use nrca_array::{Flat, Held};
 use nrca_loops::{Env, Globals};
-use nrca_quick::quick;
+use nrca_quick::{AtMostOne, few, quick};
 use std::alloc::Global;
 use std::test::Fail;
 
@@ -89,6 +89,48 @@ const ROWS: [(&str, Option<u64>); 41] = [
 fn numbers_are_found(rt: HostRuntime) -> Result<(), Fail> {
     for row in &ROWS {
         assert_eq!(rt; found(rt.alloc(), row.0), Ok(row.1), "{}", row.0);
+    }
+    Ok(())
+}
+
+// The members of the set that is found of a term, with the same positions and variables.
+fn members(alloc: Global, words: &str) -> Result<Option<Option<u64>>, Memory> {
+    let (term, globals) = both(term(alloc, words), positions(alloc))?;
+    let nine = Held::Value(Value::Nat(9));
+    let outer = Env::Bound(&nine, &Env::Empty);
+    let set = few(&term, &globals, &Env::Indices(&[4], &outer));
+    drop(term);
+    drop(globals);
+    drop(nine);
+    Ok(match set {
+        Some(AtMostOne::Nothing) => Some(None),
+        Some(AtMostOne::One(number)) => Some(Some(number)),
+        None => None,
+    })
+}
+
+const SETS: [(&str, Option<Option<u64>>); 14] = [
+    ("{}", Some(None)),
+    ("v0 one", Some(Some(4))),
+    ("18446744073709551615 one", Some(Some(18446744073709551615))),
+    ("18446744073709551615 1 + one", None),
+    // undefined
+    ("17 0 / one", None),
+    ("v0 v1 < v0 one {} if", Some(Some(4))),
+    ("v1 v0 < v0 one {} if", Some(None)),
+    ("v1 0 / v0 < v0 one {} if", None),
+    ("v1 v0 < 17 0 / one {} if", Some(None)),
+    ("v0 1 + v0 one let", Some(Some(5))),
+    ("g2 v0 3 - sub1 v0 one let", Some(Some(6))),
+    ("g2 v0 1 sub1 one let", Some(Some(6))),
+    ("g3 one", None),
+    ("5 gen", None),
+];
+
+#[test]
+fn sets_of_at_most_one_are_found(rt: HostRuntime) -> Result<(), Fail> {
+    for row in &SETS {
+        assert_eq!(rt; members(rt.alloc(), row.0), Ok(row.1), "{}", row.0);
     }
     Ok(())
 }

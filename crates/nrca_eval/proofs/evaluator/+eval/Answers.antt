@@ -352,9 +352,26 @@ members_run-loop-i-preserved g t c =
     let inv = c.loop-i.invariant in
     let at = c.in_ok-member.ensures.0 in
     let done = c.in_ok-done.ensures in (
-      c.in_ok-all.ensures ∙ (λ k. members_with (inv.0 k) ((c.from_box.ensures ∙ done.0) k)) ∙ sym (all_members-with (run_values V vals b ms c.args.from c.loop-i.i) (f m)) ∙ ap all_members (sym (each-range_more f g ms c.args.from c.loop-i.i m (omega arith) at)),
+      c.in_ok-all-2.ensures ∙ (λ k. members_with (inv.0 k) ((c.from_box.ensures ∙ done.0) k)) ∙ sym (all_members-with (run_values V vals b ms c.args.from c.loop-i.i) (f m)) ∙ ap all_members (sym (each-range_more f g ms c.args.from c.loop-i.i m (omega arith) at)),
       omega (arith, total-range_more f g ms c.args.from c.loop-i.i m (omega arith) at, inv.1, done.1),
       omega (arith, inv.2, done.1, done.2),
+      c.in_ok-member.ensures.1,
+    )
+
+pub members_run-loop-i-preserved-in-Some : goal.members_run-loop-i-preserved-in-Some
+members_run-loop-i-preserved-in-Some g t c =
+    let V = c.args.scope.now.globals.now in
+    let vals = values c.args.env.now in
+    let b = term_of c.args.body.now in
+    let ms = member_list c.args.members.now in
+    let f = λ (m : Datum). cden V (m ∷ vals) b in
+    let g = λ (m : Datum). settle V (m ∷ vals) b in
+    let m = held_datum c.in_ok-member.field-0.member in
+    let inv = c.loop-i.invariant in
+    let at = c.in_ok-member.ensures.0 in (
+      c.in_ok-all.ensures ∙ (λ k. members_with (inv.0 k) ((sym c.in-Some.ensures.value) k)) ∙ sym (all_members-with (run_values V vals b ms c.args.from c.loop-i.i) (f m)) ∙ ap all_members (sym (each-range_more f g ms c.args.from c.loop-i.i m (omega arith) at)),
+      omega (arith, total-range_more f g ms c.args.from c.loop-i.i m (omega arith) at, inv.1, c.in-Some.ensures.turns),
+      omega (arith, inv.2),
       c.in_ok-member.ensures.1,
     )
 
