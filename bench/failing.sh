@@ -106,7 +106,7 @@ void _exit(int status) {
 }
 CALLS
 cc -O2 -shared -fPIC -o "$work/fail.so" "$work/fail.c" -ldl
-cp "$top/examples/sst.nc" "$work"
+cp "$top/examples/sst.nc" "$top/examples/stations.csv" "$work"
 cd "$work"
 python3 - "$program" <<'RUNS'
 import collections
@@ -121,6 +121,8 @@ scripts = {
     "macro": (r"macro \f = fn \a => {a+b | \b <- gen!2}; {x | \b <- gen!3, \x <- f!b};", []),
     "hyperslab": (r'readval \T using NETCDFZ3 at ("sst.nc","sst",(0,0,1),(2,3,2)); {h | [(\h,_,_):(false,_)] <- T};', []),
     "file fault": (r'readval \L using NETCDF1 at ("sst.nc","none",0,2);', []),
+    "table": (r'readval \S using CSVHSNN at "stations.csv"; {i | (_,\i,_) <- S};', []),
+    "record fault": (r'readval \S using CSVN at "stations.csv";', []),
     "spent": (r"summap(fn \x => x)!(gen!5000000);", ["--budget", "1000"]),
     "sum": (r"summap(fn \x => x)!(gen!5000000);", ["--budget", "10000000", "--workers", "1"]),
     "workers": (r"summap(fn \x => x)!(gen!5000000);", ["--budget", "10000000", "--workers", "8"]),

@@ -1,5 +1,5 @@
 -- One declaration more is answered.
-use Rattle.std.proofs.Common.{ℕ, zero, suc, ◌≡◌, ◌+◌, ◌-◌, ◌<◌, ◌≤◌, ◌⊎◌, inl, inr, List, [], ◌∷◌, ◌++◌, refl, sym, ap, ◌∙◌, subst, length, take, map, length-append, arith, false}
+use Rattle.std.proofs.Common.{ℕ, zero, suc, ◌≡◌, ◌+◌, ◌-◌, ◌<◌, ◌≤◌, ◌⊎◌, inl, inr, List, [], ◌∷◌, ◌++◌, refl, sym, ap, ◌∙◌, subst, length, take, map, length-append, arith}
 use Rattle.std.proofs.lemmas.Bool.{cases_lt}
 use Rattle.std.proofs.lemmas.List.{take-append-le, map-append}
 use Rattle.std.proofs.lemmas.Option.{slice_get_cases}
@@ -14,19 +14,20 @@ use Rattle.aql_value.specs.Laws.Lists.{slice_get-append_left, slice_get-append_r
 use Rattle.aql_types.specs.Types.{Sort}
 use Rattle.aql_syntax.specs.Script.{Earlier, globals_of, outcome_after}
 use Rattle.aql_syntax.specs.Size.{IsWithinLimits, AreWithinLimits}
-use Rattle.aql_syntax.specs.Tree.{Declaration, val, mac, read, bare, declared, plain, signed, strided, records}
+use Rattle.aql_syntax.specs.Tree.{Declaration, declared}
 use Rattle.aql_syntax.specs.View.{decls_of}
 use Rattle.aql_syntax.specs.declared.ast.Decl.{Decl}
 use Rattle.aql_run.specs.Settings.{Settings}
 use Rattle.aql_value.specs.Partial.{◌>>=◌}
 use Rattle.nrca_term.specs.Meaning.{Outcomes, outcome}
-use Rattle.aql_prelude.specs.Prelude.{prelude_decls, prelude_count}
-use Rattle.aql_script.specs.Laws.Position.{positions_are, length_positions, none_at}
-use Rattle.aql_script.specs.Script.{positions, reads_records}
+use Rattle.aql_prelude.specs.Prelude.{prelude_count}
+use Rattle.aql_script.specs.Laws.Position.{length_positions}
+use Rattle.aql_script.specs.Script.{positions}
 use Rattle.aql_script.specs.declared.preparing.Prepared.{Prepared}
 use Rattle.aql_session.specs.Bound.{Bound, names, outcomes, AreBound, onto, earlier_of}
 use Rattle.aql_session.specs.Reading.{reading}
-use Rattle.aql_session.specs.Step.{ReadsNoRecords, OutcomesFit, IsAnswer, IsAnswerable, IsOutcome, IsCause, BindsPosition, ReadsNoFile}
+use Rattle.nrca_term.specs.View.{term_of}
+use Rattle.aql_session.specs.Step.{OutcomesFit, IsAnswer, IsAnswerable, IsCounted, IsOutcome, IsCause, BindsPosition, ReadsNoFile}
 use Rattle.aql_session.specs.declared.answer.StepFault.{StepFault}
 use Rattle.aql_session.specs.declared.answer.Answer.{Answer}
 use Rattle.aql_run.specs.Answered.{IsAnswered, AreAnswered, IsStopped}
@@ -120,9 +121,9 @@ next_there p n d k h is e =
 
 pub stepped : (p : Prepared) (o : Settings) (holds : Option Content) (answers : List Answer) (s s' : Bound) (a : Answer) (n : ℕ) (d : Declaration) → IsPrepared p →
     n ≡ prelude_count + 1 + length answers → Progress p o.budget holds answers s → slice_get (decls_of p.decls.items.items) (n - 1) ≡ Some d →
-    IsAnswer d (earlier_of (decls_of p.decls.items.items) (outcomes s)) o.budget (slice_get (sorts_in p) (n - 1)) a →
+    IsAnswer d (earlier_of (decls_of p.decls.items.items) (outcomes s)) (slice_get (sorts_in p) (n - 1)) a →
     IsAnswerable d (earlier_of (decls_of p.decls.items.items) (outcomes s)) o.budget holds →
-    BindsPosition d (earlier_of (decls_of p.decls.items.items) (outcomes s)) holds s s' → HasStepped p o holds answers s s' a
+    BindsPosition d (earlier_of (decls_of p.decls.items.items) (outcomes s)) o.budget holds s s' a → HasStepped p o holds answers s s' a
 stepped p o holds answers s s' a n d h is so_far e answer answerable binds =
     let there = next_there p n d (length answers) h is e in
     let count = so_far.answered.many in
@@ -139,11 +140,12 @@ stepped p o holds answers s s' a n d h is so_far e answer answerable binds =
         types = subst (λ (V : Outcomes). OutcomesFit (earlier_of (positions (own p)) V)) (sym more) has;
         answered = subst (λ (V : Outcomes). AreAnswered (own p) (sorts_in p) o.budget holds (answers ++ a ∷ []) V) (sym more)
             (answered_more (own p) (sorts_in p) o.budget holds answers (outcomes s) d a binds.outcome so_far.answered there (record {
-              answer = subst (λ (k : ℕ). IsAnswer d (earlier_of (positions (own p)) (outcomes s)) o.budget (slice_get (sorts_in p) k) a) at
-                  (subst (λ (ds : List Declaration). IsAnswer d (earlier_of ds (outcomes s)) o.budget (slice_get (sorts_in p) (n - 1)) a) h.all answer);
+              answer = subst (λ (k : ℕ). IsAnswer d (earlier_of (positions (own p)) (outcomes s)) (slice_get (sorts_in p) k) a) at
+                  (subst (λ (ds : List Declaration). IsAnswer d (earlier_of ds (outcomes s)) (slice_get (sorts_in p) (n - 1)) a) h.all answer);
               answerable = subst (λ (ds : List Declaration). IsAnswerable d (earlier_of ds (outcomes s)) o.budget holds) h.all answerable;
               outcome = subst (λ (ds : List Declaration). IsOutcome d (earlier_of ds (outcomes s)) holds binds.outcome) h.all binds.is;
               told = subst (λ (ds : List Declaration). ForSome holds (λ files. outcome_after (reading files) d (globals_of (earlier_of ds (outcomes s))) ≡ Some binds.outcome)) h.all binds.told;
+              counts = subst (λ (ds : List Declaration). IsCounted d (earlier_of ds (outcomes s)) o.budget holds (term_of a.plan) binds.outcome (a.by, a.turns)) h.all binds.counts;
             }));
       };
     }
@@ -167,24 +169,6 @@ next_within p n h last m one le =
     let many = length_positions (own p) in
     let k = h.limits m one (omega (arith, le, last, count, all, many)) in
     subst (λ (ds : List Declaration). IsWithinLimits ds m) (sym h.all) k
-
-no_records : (d : Declaration) → reads_records d ≡ false → ReadsNoRecords d
-no_records (val x e) h = tt
-no_records (mac f p body) h = tt
-no_records (read x (plain k) e) h = tt
-no_records (read x (signed k) e) h = tt
-no_records (read x (strided k) e) h = tt
-no_records (read x (records header ks) e) h = absurd cc
-no_records (bare e) h = tt
-
--- the next declaration reads no records
-pub next_built : (p : Prepared) (n k : ℕ) (d : Declaration) → IsPrepared p → n ≡ prelude_count + 1 + k → slice_get (decls_of p.decls.items.items) (n - 1) ≡ Some d → ReadsNoRecords d
-next_built p n k d h is e =
-    let there = next_there p n d k h is e in
-    no_records d (none_at (own p) k d h.built (sym (slice_get-append_at k) ∙ (ap (λ (l : List Declaration). slice_get l (prelude_count + k)) (sym (positions_are (own p))) ∙ there)))
-  where
-    slice_get-append_at : (k : ℕ) → slice_get (prelude_decls ++ own p) (prelude_count + k) ≡ slice_get (own p) k
-    slice_get-append_at k = slice_get-append_right prelude_decls (own p) (prelude_count + k) (omega arith) ∙ ap (slice_get (own p)) (omega arith)
 
 -- there is a next declaration
 pub next_is : (p : Prepared) (n : ℕ) → 1 ≤ n → n ≤ length p.decls.items.items → (d : Declaration) × (slice_get (decls_of p.decls.items.items) (n - 1) ≡ Some d)
@@ -222,9 +206,9 @@ outcome_last V o n k many is =
 
 pub has_stepped : (p : Prepared) (o : Settings) (holds : Option Content) (answers : List Answer) (s s' : Bound) (a : Answer) (n : ℕ) → IsPrepared p →
     n ≡ prelude_count + 1 + length answers → n ≤ length p.decls.items.items → Progress p o.budget holds answers s →
-    ((d : Declaration) → slice_get (decls_of p.decls.items.items) (n - 1) ≡ Some d → IsAnswer d (earlier_of (decls_of p.decls.items.items) (outcomes s)) o.budget (slice_get (sorts_in p) (n - 1)) a) →
+    ((d : Declaration) → slice_get (decls_of p.decls.items.items) (n - 1) ≡ Some d → IsAnswer d (earlier_of (decls_of p.decls.items.items) (outcomes s)) (slice_get (sorts_in p) (n - 1)) a) →
     ((d : Declaration) → slice_get (decls_of p.decls.items.items) (n - 1) ≡ Some d → IsAnswerable d (earlier_of (decls_of p.decls.items.items) (outcomes s)) o.budget holds) →
-    ((d : Declaration) → slice_get (decls_of p.decls.items.items) (n - 1) ≡ Some d → BindsPosition d (earlier_of (decls_of p.decls.items.items) (outcomes s)) holds s s') →
+    ((d : Declaration) → slice_get (decls_of p.decls.items.items) (n - 1) ≡ Some d → BindsPosition d (earlier_of (decls_of p.decls.items.items) (outcomes s)) o.budget holds s s' a) →
     HasStepped p o holds answers s s' a
 has_stepped p o holds answers s s' a n h is le so_far answer answerable binds =
     let x = next_is p n (omega (arith, is)) le in

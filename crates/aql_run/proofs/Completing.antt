@@ -1,6 +1,6 @@
 -- A run that is given what it must be ends well.
 use Rattle.std.proofs.Common.{◌≡◌, ◌∙◌, ◌≤◌, ◌<◌, ◌+◌, ◌⊎◌, inl, inr, ℕ, zero, suc, List, [], ◌∷◌, refl, sym, ap, subst, length, arith, append-nil}
-use Rattle.std.specs.Prelude.{Option, Some, None}
+use Rattle.std.specs.Prelude.{Option, Some, None, option_map, if◌then◌else◌}
 use Rattle.std.specs.List.{slice_get}
 use Rattle.aql_outside.specs.Causes.{Rose}
 use Rattle.aql_outside.specs.Contents.{Content}
@@ -21,10 +21,14 @@ use Rattle.aql_desugar_spec.specs.Laws.{outcomes_of}
 use Rattle.aql_desugar_spec.specs.Laws.Positions.{start-turns}
 use Rattle.aql_desugar_spec.specs.Start.{start, knowns_of}
 use Rattle.aql_prelude.specs.Prelude.{prelude_count}
-use Rattle.aql_script.specs.Script.{IsTokenisedAs, IsParsedAs, positions, IsFirstLarge, NoneReadsRecords, IsFirstOfRecords}
+use Rattle.aql_script.specs.Script.{IsTokenisedAs, IsParsedAs, positions, IsFirstLarge}
 use Rattle.aql_session.specs.Bound.{earlier_of}
-use Rattle.aql_session.specs.Reading.{read_fault}
-use Rattle.aql_session.specs.Step.{query_turns, IsCause}
+use Rattle.std.proofs.lemmas.Str.{is_utf8-from_IsUtf8}
+use Rattle.aql_csv.specs.declared.fault.CsvFault.{CsvFault}
+use Rattle.cdf_header.specs.declared.fault.CdfFault.{CdfFault}
+use Rattle.aql_session.specs.Asked.{Asked, hyperslab, table}
+use Rattle.aql_session.specs.Reading.{IsFaultless, file_in}
+use Rattle.aql_session.specs.Step.{HasFileFault, HasTableFault, IsAffordable, IsCause, PassesBudget, query_turns}
 use Rattle.aql_session.specs.declared.answer.Answer.{Answer}
 use Rattle.aql_session.specs.declared.answer.StepFault.{StepFault}
 use Rattle.aql_session.specs.declared.answer.StepFault.TheVariants as faults
@@ -33,7 +37,7 @@ use Rattle.aql_run.specs.Settings.{settings_of}
 use Rattle.aql_run.specs.Answered.{AreAnswered, reached}
 use Rattle.aql_run.specs.Laws.Answered.{told_at}
 use Rattle.aql_run.specs.Complete.{work_of, AreOutcomes, HaveTypings, IsWithinBudget, IsSound, EndsWell, Tokenised}
-use Rattle.aql_run.specs.Outcome.{Told, IsScript, HasRun, EndsEarly, HasScriptFault, RunsWords, IsBudgetFault}
+use Rattle.aql_run.specs.Outcome.{Told, IsScript, HasRun, EndsEarly, HasScriptFault, RunsWords, IsBudgetFault, IsFileFault}
 use Rattle.aql_run.specs.Reading.{most_bytes}
 use Rattle.aql_run.specs.declared.report.Stop.{Stop}
 use Rattle.aql_run.specs.declared.status.Status.{Status}
@@ -59,11 +63,6 @@ typed_or_not earlier (d ∷ ds) zero h u = u
 typed_or_not earlier (d ∷ ds) (suc zero) ((s, has), more) u = u s has
 typed_or_not earlier (d ∷ ds) (suc (suc k)) h u = typed_or_not (d ∷ earlier) ds (suc k) h.1 u.1
 
-records_or_none : (k : ℕ) (ds : List Declaration) (n : ℕ) → NoneReadsRecords ds → IsFirstOfRecords k ds n → ⊥
-records_or_none k [] n h f = f
-records_or_none k (d ∷ ds) n h (inl (e, is)) = absurd cc
-records_or_none k (d ∷ ds) n h (inr (e, later)) = records_or_none (k + 1) ds n h.1 later
-
 within_or_large : (ds : List Declaration) (n : ℕ) → AreWithinLimits (positions ds) (prelude_count + length ds) → IsFirstLarge ds n → ⊥
 within_or_large ds n h f =
     let last = f.last in
@@ -87,19 +86,36 @@ turns_are (read x r e) earlier =
 turns_are (bare e) earlier =
     ap (λ V. settle V [] (start e (knowns_of (declarations_of earlier)) [])) (sym (append-nil (outcomes_of earlier))) ∙ start-turns earlier [] e
 
+-- what is affordable passes no budget, of files that have no fault
+no_passing : (budget c : ℕ) (holds : Option Content) (a : Asked) → IsAffordable budget holds a → ((files : Content) × (holds ≡ Some files) × IsFaultless files a) → PassesBudget budget holds c a → ⊥
+no_passing budget c holds (hyperslab h) few file (past, is) = absurd (omega (arith, few, past))
+no_passing budget c holds (table name header ks) few (files, is, _) (past, utf8, told) =
+    go (files name) (ap (λ b. if b then files name else None) (is_utf8-from_IsUtf8 name utf8)) (told files is)
+  where
+    go : (o : Option (List ℕ)) → file_in files name ≡ o → option_map length o ≡ Some c → ⊥
+    go None e t = absurd cc
+    go (Some bytes) e t =
+        let l : length bytes ≡ c = cc in
+        let w = few files is bytes e in
+        absurd (omega (arith, past, l, w))
+
+-- nor has it a fault
+no_file_fault : (budget : ℕ) (holds : Option Content) (f : CdfFault) (a : Asked) → ((files : Content) × (holds ≡ Some files) × IsFaultless files a) → HasFileFault budget holds f a → ⊥
+no_file_fault budget holds f (hyperslab h) (files, is, none) (few, own, told) = let some = sym none ∙ told files is in absurd cc
+no_file_fault budget holds f (table name header ks) file h = h
+
+no_table_fault : (budget : ℕ) (holds : Option Content) (f : CsvFault) (a : Asked) → ((files : Content) × (holds ≡ Some files) × IsFaultless files a) → HasTableFault budget holds f a → ⊥
+no_table_fault budget holds f (hyperslab h) file t = t
+no_table_fault budget holds f (table name header ks) (files, is, (w, ok)) (few, own, told) = let both = sym ok ∙ told files is in absurd cc
+
 no_cause : (d : Declaration) (earlier : Earlier) (budget : ℕ) (holds : Option Content) (before now : ℕ) (f : StepFault) → IsWithinBudget d earlier budget holds → (Rose before now → ⊥) →
     IsCause d earlier budget holds before now f → (f ≡ faults.Memory → ⊥) → ⊥
 no_cause d earlier budget holds before now (faults.Query start plan trace) h quiet (_, _, past, _) other =
     let turns = h.turns in let same = turns_are d earlier in absurd (omega (arith, past, turns, same))
-no_cause d earlier budget holds before now (faults.Cells c) h quiet (within, a, e, (past, is)) other =
-    let few = h.cells a e in absurd (omega (arith, past, few))
-no_cause d earlier budget holds before now (faults.File f) h quiet (within, a, e, (few, own, told)) other = read_none (h.file a e)
-  where
-    read_none : ((files : Content) × (holds ≡ Some files) × (read_fault files a ≡ None)) → ⊥
-    read_none (files, is, none) =
-        let some : read_fault files a ≡ Some f = told files is in
-        absurd (cc (some, none))
-no_cause d earlier budget holds before now faults.Device h quiet (within, a, e, (few, rose)) other = quiet rose
+no_cause d earlier budget holds before now (faults.Cells c) h quiet (within, a, e, past) other = no_passing budget c holds a (h.cells a e) (h.file a e) past
+no_cause d earlier budget holds before now (faults.File f) h quiet (within, a, e, fault) other = no_file_fault budget holds f a (h.file a e) fault
+no_cause d earlier budget holds before now (faults.Csv f) h quiet (within, a, e, fault) other = no_table_fault budget holds f a (h.file a e) fault
+no_cause d earlier budget holds before now faults.Device h quiet (within, a, e, (calls, rose)) other = quiet rose
 no_cause d earlier budget holds before now faults.Memory h quiet cause other = other refl
 
 -- the outcomes of the answers are those of the positions
@@ -142,8 +158,17 @@ spent_not_memory : (f : StepFault) → IsBudgetFault f → f ≡ faults.Memory �
 spent_not_memory (faults.Query start plan trace) h e = absurd cc
 spent_not_memory (faults.Cells c) h e = absurd cc
 spent_not_memory (faults.File f) h e = h
+spent_not_memory (faults.Csv f) h e = h
 spent_not_memory faults.Device h e = h
 spent_not_memory faults.Memory h e = h
+
+file_not_memory : (f : StepFault) → IsFileFault f → f ≡ faults.Memory → ⊥
+file_not_memory (faults.Query start plan trace) h e = h
+file_not_memory (faults.Cells c) h e = h
+file_not_memory (faults.File f) h e = absurd cc
+file_not_memory (faults.Csv f) h e = absurd cc
+file_not_memory faults.Device h e = h
+file_not_memory faults.Memory h e = h
 
 -- the end of a run over a sound script
 module _ (one : OneList) (text : TokensOrTextFault) (deep : ShallowOrDeep) (words : List (List ℕ)) (told : Told) (same sink : Type 0) (taken : List ℕ) (answers : List Answer) (stop : Stop)
@@ -168,14 +193,11 @@ module _ (one : OneList) (text : TokensOrTextFault) (deep : ShallowOrDeep) (word
   ends status.Large (_, (lines, line, (n, r), _)) whole =
       absurd (refuses_none words told same taken given answers stop lines line _ _ it h r
       (λ script are p. within_or_large h.ds n h.limits (subst (λ (l : List Declaration). IsFirstLarge l n) (sym (p.1.1 h.ds are)) p.3)))
-  ends status.Unbuilt (_, (lines, line, (n, r), _)) whole =
-      absurd (refuses_none words told same taken given answers stop lines line _ _ it h r
-      (λ script are p. records_or_none 1 h.ds n h.built (subst (λ (l : List Declaration). IsFirstOfRecords 1 l n) (sym (p.1.1 h.ds are)) p.4)))
   ends status.Long (_, (lines, line, (none, long, _), _)) whole =
       let few = short_script (options_of words).sample told.left taken given none it in absurd (omega (arith, long, few))
   ends status.Input (_, (lines, line, (none, few, rose, _), _)) whole = absurd (source rose)
-  ends status.File (_, (lines, line, (run, f, stops, _, _), _)) whole =
-      absurd (never_stops words told same (length answers + 1) taken lines given answers (faults.File f) it h quiet run stops (λ e. absurd cc))
+  ends status.File (_, (lines, line, (f, of_file, run, stops, _, _), _)) whole =
+      absurd (never_stops words told same (length answers + 1) taken lines given answers f it h quiet run stops (file_not_memory f of_file))
   ends status.Spent (_, (lines, line, (f, spent, run, stops, _, _), _)) whole =
       absurd (never_stops words told same (reached f (length answers)) taken lines given answers f it h quiet run stops (spent_not_memory f spent))
   ends status.Files (_, (lines, line, (run, stops, _, _), _)) whole =

@@ -14,7 +14,7 @@ use Rattle.aql_words.specs.declared.fault.WordFault.{WordFault}
 use Rattle.aql_words.specs.declared.fault.WordFault.TheVariants as wording
 use Rattle.aql_prelude.specs.Prelude.{prelude_count}
 use Rattle.aql_script.specs.Laws.Position.{drop_prelude}
-use Rattle.aql_script.specs.Script.{Prepares, ReadsAlone, AreTyped, positions, NoneReadsRecords}
+use Rattle.aql_script.specs.Script.{Prepares, ReadsAlone, AreTyped, positions}
 use Rattle.aql_script.specs.declared.preparing.Prepared.{Prepared}
 use Rattle.aql_script.specs.declared.fault.ScriptFault.{ScriptFault}
 use Rattle.aql_script.specs.declared.fault.ScriptFault.TheVariants as refused
@@ -51,13 +51,12 @@ use Rattle.aql_run.specs.declared.status.Status.TheVariants as status
 
 -- the script's own declarations stand behind those of the prelude
 prepared_is : (script : List ℕ) (p : Prepared) → Prepares script (Ok p) → IsPrepared p × ReadsAlone script (own p)
-prepared_is script p (ds, reads, all, typed, limits, built) =
+prepared_is script p (ds, reads, all, typed, limits) =
     let same : own p ≡ ds = ap (drop prelude_count) all ∙ drop_prelude ds in (
       record {
         all = all ∙ ap positions (sym same);
         typed = subst (λ (l : List Declaration). AreTyped l (sorts_in p)) (sym same) typed;
         limits = subst (λ (l : List Declaration). AreWithinLimits (positions l) (prelude_count + length l)) (sym same) limits;
-        built = subst NoneReadsRecords (sym same) built;
       },
       subst (ReadsAlone script) (sym same) reads,
     )
@@ -103,7 +102,6 @@ has_run p o told same begun taken script answers V h reads is answered untouched
   reads = reads;
   typed = h.typed;
   limits = h.limits;
-  built = h.built;
   answered = answered;
   script_values = are_values (own p) (sorts_in p) o.budget told.holds answers V answered;
   printed = refl;
@@ -202,7 +200,9 @@ fault_writes p o told same taken script answers V (faults.Query start plan trace
 fault_writes p o told same taken script answers V (faults.Cells cells) h reads is answered stopped untouched =
     inl (faults.Cells cells, tt, has_run p o told same (length answers + 1) taken script answers V h reads is answered untouched, stopped, refl, refl)
 fault_writes p o told same taken script answers V (faults.File f) h reads is answered stopped untouched =
-    inl (has_run p o told same (length answers + 1) taken script answers V h reads is answered untouched, f, stopped, refl, refl)
+    inl (faults.File f, tt, has_run p o told same (length answers + 1) taken script answers V h reads is answered untouched, stopped, refl, refl)
+fault_writes p o told same taken script answers V (faults.Csv f) h reads is answered stopped untouched =
+    inl (faults.Csv f, tt, has_run p o told same (length answers + 1) taken script answers V h reads is answered untouched, stopped, refl, refl)
 fault_writes p o told same taken script answers V faults.Device h reads is answered stopped untouched =
     inl (has_run p o told same (length answers + 1) taken script answers V h reads is answered untouched, stopped, refl, refl)
 fault_writes p o told same taken script answers V faults.Memory h reads is answered stopped untouched =
@@ -217,6 +217,8 @@ fault_serves (faults.Cells cells) o told same taken answers lines line (inl w) =
 fault_serves (faults.Cells cells) o told same taken answers lines line (inr (e, _, _)) = absurd cc
 fault_serves (faults.File f) o told same taken answers lines line (inl w) = (lines, line, w, refl)
 fault_serves (faults.File f) o told same taken answers lines line (inr (e, _, _)) = absurd cc
+fault_serves (faults.Csv f) o told same taken answers lines line (inl w) = (lines, line, w, refl)
+fault_serves (faults.Csv f) o told same taken answers lines line (inr (e, _, _)) = absurd cc
 fault_serves faults.Device o told same taken answers lines line (inl w) = (lines, line, w, refl)
 fault_serves faults.Device o told same taken answers lines line (inr (e, _, _)) = absurd cc
 fault_serves faults.Memory o told same taken answers lines line (inl w) = absurd w
@@ -227,6 +229,7 @@ no_line : (f : StepFault) (n : ℕ) → stop_status f ≡ status.Memory → stop
 no_line (faults.Query start plan trace) n m = absurd cc
 no_line (faults.Cells cells) n m = absurd cc
 no_line (faults.File f) n m = absurd cc
+no_line (faults.Csv f) n m = absurd cc
 no_line faults.Device n m = absurd cc
 no_line faults.Memory n m = refl
 
@@ -272,6 +275,7 @@ ends_fault p o answers f n first second sink files e joins h (V, answered, stopp
     all_reached (faults.Query start plan trace) h = λ i d lt. h i d (omega (arith, lt))
     all_reached (faults.Cells c) h = h
     all_reached (faults.File g) h = h
+    all_reached (faults.Csv g) h = h
     all_reached faults.Device h = h
     all_reached faults.Memory h = h
 
@@ -374,10 +378,6 @@ pub refused_large : (f : ScriptFault) (n : ℕ) (sink : Device (Option (List ℕ
 unfolding Refused
 refused_large f n sink s is h = subst (λ (x : ScriptFault). Refused x sink s) (sym is) h
 
-pub refused_unbuilt : (f : ScriptFault) (n : ℕ) (sink : Device (Option (List ℕ))) (s : Status) → f ≡ refused.Unbuilt n → EndsWith sink (in_declaration (codes "unbuilt") n) status.Unbuilt s → Refused f sink s
-unfolding Refused
-refused_unbuilt f n sink s is h = subst (λ (x : ScriptFault). Refused x sink s) (sym is) h
-
 pub refused_memory : (f : ScriptFault) (sink : Device (Option (List ℕ))) → f ≡ refused.Memory → Appends sink.before sink.after [] → Refused f sink status.Memory
 unfolding Refused
 refused_memory f sink is nothing = subst (λ (x : ScriptFault). Refused x sink status.Memory) (sym is) (refl, nothing)
@@ -417,9 +417,6 @@ ends_refused script o (refused.Type n) answers sink files s none there h ends =
     (λ told taken is. (n, (script, is, h, (none, refl, refl, refl, there)))) (λ told taken w x. x) ends
 ends_refused script o (refused.Large n) answers sink files s none there h ends =
     refuses_with script o answers sink files (refusal_line (refused.Large n)) status.Large s none there
-    (λ told taken is. (n, (script, is, h, (none, refl, refl, refl, there)))) (λ told taken w x. x) ends
-ends_refused script o (refused.Unbuilt n) answers sink files s none there h ends =
-    refuses_with script o answers sink files (refusal_line (refused.Unbuilt n)) status.Unbuilt s none there
     (λ told taken is. (n, (script, is, h, (none, refl, refl, refl, there)))) (λ told taken w x. x) ends
 ends_refused script o refused.Memory answers sink files s none there h (e, nothing) = (
   [],
@@ -531,7 +528,6 @@ runs status.Input words o told same taken answers stop written reads is h = (rea
 runs status.Output words o told same taken answers stop written reads is h = (reads, subst (λ (x : Settings). Serves status.Output x told same taken answers stop written) is h)
 runs status.Spent words o told same taken answers stop written reads is h = (reads, subst (λ (x : Settings). Serves status.Spent x told same taken answers stop written) is h)
 runs status.Files words o told same taken answers stop written reads is h = (reads, subst (λ (x : Settings). Serves status.Files x told same taken answers stop written) is h)
-runs status.Unbuilt words o told same taken answers stop written reads is h = (reads, subst (λ (x : Settings). Serves status.Unbuilt x told same taken answers stop written) is h)
 
 words_run : (words : List (List ℕ)) (o : Settings) (answers : List Answer) (d : Devices) (e : End) → HasReading words → o ≡ settings_of (options_of words) →
     Serving o answers d e → Running words answers d e

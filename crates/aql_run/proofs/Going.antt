@@ -146,6 +146,7 @@ cause_wider : (d : Declaration) (earlier : Earlier) (budget : ℕ) (holds : Opti
 cause_wider d earlier budget holds before now before' now' (faults.Query start plan trace) a b h = h
 cause_wider d earlier budget holds before now before' now' (faults.Cells c) a b h = h
 cause_wider d earlier budget holds before now before' now' (faults.File f) a b h = h
+cause_wider d earlier budget holds before now before' now' (faults.Csv f) a b h = h
 cause_wider d earlier budget holds before now before' now' faults.Device a b (within, asked, is, (few, rose)) =
     (within, asked, is, (few, rose_wider before now before' now' a b rose))
 cause_wider d earlier budget holds before now before' now' faults.Memory a b h = h
@@ -225,6 +226,7 @@ module _ (p : Prepared) (o : Settings) (holds : Option Content) (same same' : Ty
   came (faults.Query start plan trace) over reads = over (g.untouched reads) tt
   came (faults.Cells c) over reads = stayed (length answers + 1) (omega arith) reads
   came (faults.File f) over reads = stayed (length answers + 1) (omega arith) reads
+  came (faults.Csv f) over reads = stayed (length answers + 1) (omega arith) reads
   came faults.Device over reads = stayed (length answers + 1) (omega arith) reads
   came faults.Memory over reads = stayed (length answers + 1) (omega arith) reads
 

@@ -12,7 +12,8 @@ use Rattle.aql_script.specs.Laws.Position.{length_positions}
 use Rattle.aql_script.specs.Script.{positions}
 use Rattle.aql_script.specs.declared.preparing.Prepared.{Prepared}
 use Rattle.aql_session.specs.Bound.{Bound, names, outcomes, AreBound, earlier_of}
-use Rattle.aql_session.specs.Step.{IsOutcome, OutcomesFit, BindsPosition, ReadsNoFile, ReadsNoRecords}
+use Rattle.aql_session.specs.declared.answer.Answer.{Answer}
+use Rattle.aql_session.specs.Step.{IsOutcome, OutcomesFit, BindsPosition, ReadsNoFile}
 use Rattle.aql_prelude.specs.Prelude.{prelude_count}
 use Rattle.aql_run.specs.Answered.{AreAnswered}
 use Rattle.aql_run.specs.Laws.Answered.{is_macro, macro_at}
@@ -53,12 +54,12 @@ none_declared p s e =
     subst (Declared p 0) (sym e) (record { bound = refl; none = refl; types = subst OutcomesFit (sym (onto_none (positions (own p)) [])) (tt, tt) })
 
 -- one position of the prelude more
-pub one_declared : (p : Prepared) (holds : Option Content) (s s' : Bound) (k : ℕ) → IsPrepared p → k < prelude_count → Declared p k s →
-    ((d : Declaration) → slice_get (decls_of p.decls.items.items) k ≡ Some d → BindsPosition d (earlier_of (decls_of p.decls.items.items) (outcomes s)) holds s s') →
+pub one_declared : (p : Prepared) (budget : ℕ) (holds : Option Content) (s s' : Bound) (a : Answer) (k : ℕ) → IsPrepared p → k < prelude_count → Declared p k s →
+    ((d : Declaration) → slice_get (decls_of p.decls.items.items) k ≡ Some d → BindsPosition d (earlier_of (decls_of p.decls.items.items) (outcomes s)) budget holds s s' a) →
     Declared p (suc k) s'
-one_declared p holds s s' k h lt so_far binds = let x = there_is p k h lt in made x.0 x.1 (binds x.0 x.1)
+one_declared p budget holds s s' a k h lt so_far binds = let x = there_is p k h lt in made x.0 x.1 (binds x.0 x.1)
   where
-    made : (d : Declaration) → slice_get (decls_of p.decls.items.items) k ≡ Some d → BindsPosition d (earlier_of (decls_of p.decls.items.items) (outcomes s)) holds s s' → Declared p (suc k) s'
+    made : (d : Declaration) → slice_get (decls_of p.decls.items.items) k ≡ Some d → BindsPosition d (earlier_of (decls_of p.decls.items.items) (outcomes s)) budget holds s s' a → Declared p (suc k) s'
     made d e b =
         let there : slice_get (positions (own p)) k ≡ Some d = ap (λ (l : List Declaration). slice_get l k) (sym h.all) ∙ e in
         let here : suc k - 1 ≡ k = omega arith in
@@ -110,22 +111,13 @@ prelude_bound p n s h one so_far =
 pub prelude_types : (p : Prepared) (k : ℕ) (s : Bound) → IsPrepared p → Declared p k s → OutcomesFit (earlier_of (decls_of p.decls.items.items) (outcomes s))
 prelude_types p k s h so_far = subst (λ (ds : List Declaration). OutcomesFit (earlier_of ds (outcomes s))) (sym h.all) so_far.types
 
-macro_reads_none : (d : Declaration) → is_macro d ≡ true → ReadsNoRecords d
-macro_reads_none (val x e) m = absurd cc
-macro_reads_none (mac f p body) m = tt
-macro_reads_none (read x r e) m = absurd cc
-macro_reads_none (bare e) m = absurd cc
-
-pub prelude_arrays : (p : Prepared) (n : ℕ) (d : Declaration) → IsPrepared p → 1 ≤ n → n < prelude_count + 1 → slice_get (decls_of p.decls.items.items) (n - 1) ≡ Some d → ReadsNoRecords d
-prelude_arrays p n d h one lt e = macro_reads_none d (prelude_macro p (n - 1) d h (omega (arith, one, lt)) e)
-
 -- the next position was bound
-pub next_declared : (p : Prepared) (holds : Option Content) (s s' : Bound) (n : ℕ) → IsPrepared p → 1 ≤ n → n < prelude_count + 1 → Declared p (n - 1) s →
-    ((d : Declaration) → slice_get (decls_of p.decls.items.items) (n - 1) ≡ Some d → BindsPosition d (earlier_of (decls_of p.decls.items.items) (outcomes s)) holds s s') →
+pub next_declared : (p : Prepared) (budget : ℕ) (holds : Option Content) (s s' : Bound) (a : Answer) (n : ℕ) → IsPrepared p → 1 ≤ n → n < prelude_count + 1 → Declared p (n - 1) s →
+    ((d : Declaration) → slice_get (decls_of p.decls.items.items) (n - 1) ≡ Some d → BindsPosition d (earlier_of (decls_of p.decls.items.items) (outcomes s)) budget holds s s' a) →
     Declared p (n + 1 - 1) s'
-next_declared p holds s s' n h one lt so_far binds =
+next_declared p budget holds s s' a n h one lt so_far binds =
     let same : suc (n - 1) ≡ n + 1 - 1 = omega (arith, one) in
-    subst (λ k. Declared p k s') same (one_declared p holds s s' (n - 1) h (omega (arith, one, lt)) so_far binds)
+    subst (λ k. Declared p k s') same (one_declared p budget holds s s' a (n - 1) h (omega (arith, one, lt)) so_far binds)
 
 macro_unread : (d : Declaration) (earlier : Earlier) (budget : ℕ) → is_macro d ≡ true → ReadsNoFile d earlier budget
 macro_unread (val x e) earlier budget m = absurd cc

@@ -11,19 +11,21 @@ use Rattle.nrca_term.specs.Meaning.{Outcomes}
 use Rattle.aql_prelude.specs.Prelude.{prelude_count}
 use Rattle.aql_session.specs.Bound.{earlier_of}
 use Rattle.aql_session.specs.Reading.{reading}
-use Rattle.aql_session.specs.Step.{IsAnswer, IsAnswerable, IsOutcome, IsCause, ReadsNoFile}
+use Rattle.nrca_term.specs.View.{term_of}
+use Rattle.aql_session.specs.Step.{IsAnswer, IsAnswerable, IsCounted, IsOutcome, IsCause, ReadsNoFile}
 use Rattle.aql_session.specs.declared.answer.Answer.{Answer}
 use Rattle.aql_session.specs.declared.answer.StepFault.{StepFault}
 use Rattle.aql_session.specs.declared.answer.StepFault.TheVariants as faults
 use Rattle.aql_script.specs.Script.{positions}
 
 -- the answer of a declaration after others, and its outcome: what it denotes or reads; where the files are told, the script's
--- outcome over them
+-- outcome over them; and which term counts, with what it and reading the outcome took
 pub record IsAnswered (d : Declaration) (earlier : Earlier) (sort : Option Sort) (budget : ℕ) (holds : Option Content) (a : Answer) (o : Option Datum) : Type 0 where
-  pub answer : IsAnswer d earlier budget sort a
+  pub answer : IsAnswer d earlier sort a
   pub answerable : IsAnswerable d earlier budget holds
   pub outcome : IsOutcome d earlier holds o
   pub told : ForSome holds (λ files. outcome_after (reading files) d (globals_of earlier) ≡ Some o)
+  pub counts : IsCounted d earlier budget holds (term_of a.plan) o (a.by, a.turns)
 
 -- The first declarations of a script have these answers, one for each in order, and with the prelude's positions, which have
 -- none, these outcomes.
@@ -50,5 +52,6 @@ abbrev pub reached : StepFault → (answered : ℕ) → ℕ
 reached (faults.Query start plan trace) n = n
 reached (faults.Cells c) n = n + 1
 reached (faults.File f) n = n + 1
+reached (faults.Csv f) n = n + 1
 reached faults.Device n = n + 1
 reached faults.Memory n = n + 1

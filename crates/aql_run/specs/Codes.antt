@@ -19,4 +19,3 @@ code_of status.Input = 10
 code_of status.Output = 11
 code_of status.Spent = 12
 code_of status.Files = 13
-code_of status.Unbuilt = 14

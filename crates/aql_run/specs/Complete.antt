@@ -14,11 +14,11 @@ use Rattle.aql_syntax.specs.Work.{work}
 use Rattle.aql_lex.specs.Lexed.{OneList, TokensOrTextFault, ShallowOrDeep}
 use Rattle.nrca_term.specs.Meaning.{Outcomes}
 use Rattle.aql_prelude.specs.Prelude.{prelude_count}
-use Rattle.aql_script.specs.Script.{IsParsedAs, positions, NoneReadsRecords}
-use Rattle.aql_session.specs.Asked.{Asked, cells}
+use Rattle.aql_script.specs.Script.{IsParsedAs, positions}
+use Rattle.aql_session.specs.Asked.{Asked}
 use Rattle.aql_session.specs.Bound.{earlier_of}
-use Rattle.aql_session.specs.Reading.{reading, read_fault}
-use Rattle.aql_session.specs.Step.{IsOutcome, asks}
+use Rattle.aql_session.specs.Reading.{reading, IsFaultless}
+use Rattle.aql_session.specs.Step.{IsAffordable, IsOutcome, asks}
 use Rattle.aql_words.specs.Words.{HasReading, options_of}
 use Rattle.aql_run.specs.Outcome.{Told, IsScript}
 use Rattle.aql_run.specs.declared.status.Status.{Status}
@@ -39,11 +39,12 @@ pub record AreOutcomes (ds : List Declaration) (holds : Option Content) (V : Out
       IsOutcome d (earlier_of (positions ds) (take (prelude_count + i) V)) holds o
       × ForSome holds (λ files. outcome_after (reading files) d (globals_of (earlier_of (positions ds) (take (prelude_count + i) V))) ≡ Some o)
 
--- the turns and the cells of a declaration are within the budget, and what it reads of the files, which are told, has no fault
+-- the turns of a declaration are within the budget, and so are the cells that it reads, or the bytes of a file of records; and what it
+-- reads of the files, which are told, has no fault
 pub record IsWithinBudget (d : Declaration) (earlier : Earlier) (budget : ℕ) (holds : Option Content) : Type 0 where
   pub turns : work_of d earlier ≤ budget
-  pub cells : (a : Asked) → asks d earlier ≡ Some a → cells a ≤ budget
-  pub file : (a : Asked) → asks d earlier ≡ Some a → (files : Content) × (holds ≡ Some files) × (read_fault files a ≡ None)
+  pub cells : (a : Asked) → asks d earlier ≡ Some a → IsAffordable budget holds a
+  pub file : (a : Asked) → asks d earlier ≡ Some a → (files : Content) × (holds ≡ Some files) × IsFaultless files a
 
 -- each declaration has a typing over those before it, the latest first
 abbrev pub HaveTypings : (earlier ds : List Declaration) → Type 0
@@ -57,7 +58,6 @@ pub record IsSound (words : List (List ℕ)) (script : List ℕ) (holds : Option
   pub are : IsParsedAs script ds
   pub typed : HaveTypings [] (positions ds)
   pub limits : AreWithinLimits (positions ds) (prelude_count + length ds)
-  pub built : NoneReadsRecords ds
   pub within : (V : Outcomes) (d : Declaration) → AreOutcomes ds holds V → slice_get (positions ds) (length V) ≡ Some d →
       IsWithinBudget d (earlier_of (positions ds) V) (options_of words).budget holds
 

@@ -14,14 +14,14 @@ use Rattle.aql_script.specs.declared.preparing.Prepared.{Prepared}
 use Rattle.aql_script.specs.declared.fault.ScriptFault.{ScriptFault}
 use Rattle.aql_script.specs.declared.fault.ScriptFault.TheVariants as refused
 use Rattle.aql_script.specs.Script.{Prepares, ReadsAlone}
-use Rattle.aql_run.specs.Lines.{at_byte, in_declaration, of_file}
+use Rattle.aql_run.specs.Lines.{at_byte, in_declaration}
 use Rattle.aql_run.specs.Sample.{sample_text}
 use Rattle.aql_run.specs.Settings.{Settings}
 use Rattle.aql_run.specs.Steps.{own, IsPrepared, AnswersAll, EndsAt}
 use Rattle.aql_run.specs.declared.steps.Halt.{Halt}
 use Rattle.aql_run.specs.Codes.{code_of}
 use Rattle.aql_run.specs.Devices.{Devices, told_by, told_of}
-use Rattle.aql_run.specs.Outcome.{IsCut, IsScript, RunsWords, Serves, stop_of}
+use Rattle.aql_run.specs.Outcome.{IsCut, IsScript, RunsWords, Serves, file_line, stop_of}
 use Rattle.aql_run.specs.Reading.{most_bytes}
 use Rattle.aql_run.specs.declared.report.End.{End}
 use Rattle.aql_run.specs.declared.report.Report.{Report}
@@ -71,7 +71,6 @@ refusal_line (refused.Deep k) = at_byte (codes "deep") k
 refusal_line (refused.Syntax n) = in_declaration (codes "syntax") n
 refusal_line (refused.Type n) = in_declaration (codes "type") n
 refusal_line (refused.Large n) = in_declaration (codes "large") n
-refusal_line (refused.Unbuilt n) = in_declaration (codes "unbuilt") n
 refusal_line refused.Memory = []
 
 -- the line was written as far as that went, for the status of the fault; for want of memory nothing
@@ -81,7 +80,6 @@ Refused (refused.Deep k) sink result = EndsWith sink (refusal_line (refused.Deep
 Refused (refused.Syntax n) sink result = EndsWith sink (refusal_line (refused.Syntax n)) status.Syntax result
 Refused (refused.Type n) sink result = EndsWith sink (refusal_line (refused.Type n)) status.Type result
 Refused (refused.Large n) sink result = EndsWith sink (refusal_line (refused.Large n)) status.Large result
-Refused (refused.Unbuilt n) sink result = EndsWith sink (refusal_line (refused.Unbuilt n)) status.Unbuilt result
 Refused refused.Memory sink result = (result ≡ status.Memory) × Appends sink.before sink.after []
 
 -- the status of a declaration's fault
@@ -89,6 +87,7 @@ abbrev pub stop_status : StepFault → Status
 stop_status (faults.Query start plan trace) = status.Spent
 stop_status (faults.Cells cells) = status.Spent
 stop_status (faults.File f) = status.File
+stop_status (faults.Csv f) = status.File
 stop_status faults.Device = status.Files
 stop_status faults.Memory = status.Memory
 
@@ -96,7 +95,8 @@ stop_status faults.Memory = status.Memory
 abbrev pub stop_line : ℕ → StepFault → List ℕ
 stop_line n (faults.Query start plan trace) = in_declaration (codes "budget") n
 stop_line n (faults.Cells cells) = in_declaration (codes "budget") n
-stop_line n (faults.File f) = of_file n f
+stop_line n (faults.File f) = file_line n (faults.File f)
+stop_line n (faults.Csv f) = file_line n (faults.Csv f)
 stop_line n faults.Device = codes "fault files\n"
 stop_line n faults.Memory = []
 

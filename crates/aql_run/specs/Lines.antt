@@ -1,5 +1,7 @@
--- The line of a fault.
+-- The lines of faults.
 use Rattle.std.specs.Prelude.{ℕ, List, [], ◌++◌, codes, decimal}
+use Rattle.aql_csv.specs.declared.fault.CsvFault.{CsvFault}
+use Rattle.aql_csv.specs.declared.fault.CsvFault.TheVariants as csv
 use Rattle.cdf_header.specs.declared.fault.CdfFault.{CdfFault}
 use Rattle.cdf_header.specs.declared.fault.CdfFault.TheVariants as cdf
 
@@ -11,7 +13,7 @@ at_byte fault k = codes "fault " ++ (fault ++ (codes " at byte " ++ (decimal k +
 abbrev pub in_declaration : List ℕ → ℕ → List ℕ
 in_declaration fault n = codes "fault " ++ (fault ++ (codes " in declaration " ++ (decimal n ++ codes "\n")))
 
--- what is said of a fault of a file
+-- what is said of a fault of a netCDF file
 abbrev pub kind_text : CdfFault → List ℕ
 kind_text cdf.Absent = codes "absent"
 kind_text cdf.NotClassic = codes "not classic"
@@ -28,6 +30,24 @@ kind_text (cdf.Negative c) = codes "negative cell " ++ decimal c
 kind_text cdf.Device = []
 kind_text cdf.Memory = []
 
--- a fault of the file that declaration n reads
+-- what is said of a fault of a file of records
+abbrev pub table_text : CsvFault → List ℕ
+table_text csv.Absent = codes "absent"
+table_text (csv.Long n) = []
+table_text (csv.Cut k) = codes "cut at " ++ decimal k
+table_text (csv.Fields r n) = codes "fields " ++ (decimal n ++ (codes " in record " ++ decimal r))
+table_text (csv.Number r f) = codes "number in field " ++ (decimal f ++ (codes " of record " ++ decimal r))
+table_text csv.Device = []
+table_text csv.Memory = []
+
+-- a fault of which this is said, of the file that declaration n reads
+abbrev pub about_file : ℕ → List ℕ → List ℕ
+about_file n said = codes "fault file in declaration " ++ (decimal n ++ (codes ": " ++ (said ++ codes "\n")))
+
+-- a fault of the netCDF file that declaration n reads
 abbrev pub of_file : ℕ → CdfFault → List ℕ
-of_file n f = codes "fault file in declaration " ++ (decimal n ++ (codes ": " ++ (kind_text f ++ codes "\n")))
+of_file n f = about_file n (kind_text f)
+
+-- a fault of the file of records that declaration n reads
+abbrev pub of_table : ℕ → CsvFault → List ℕ
+of_table n f = about_file n (table_text f)

@@ -13,9 +13,8 @@ use Rattle.aql_syntax.specs.Tree.{Declaration}
 use Rattle.aql_infer.specs.Checked.{IsFirstUntyped}
 use Rattle.aql_lex.specs.Lexed.{IsDeepAt}
 use Rattle.nrca_term.specs.Meaning.{Outcomes}
-use Rattle.cdf_header.specs.declared.fault.CdfFault.{CdfFault}
 use Rattle.aql_prelude.specs.Prelude.{prelude_count}
-use Rattle.aql_script.specs.Script.{IsTokenisedAs, ReadsAlone, AreTyped, positions, IsFirstLarge, NoneReadsRecords, IsFirstOfRecords}
+use Rattle.aql_script.specs.Script.{IsTokenisedAs, ReadsAlone, AreTyped, positions, IsFirstLarge}
 use Rattle.aql_session.specs.Reading.{reading}
 use Rattle.aql_session.specs.declared.answer.Answer.{Answer}
 use Rattle.aql_session.specs.declared.answer.StepFault.{StepFault}
@@ -24,7 +23,7 @@ use Rattle.aql_words.specs.Words.{HasReading, options_of}
 use Rattle.aql_run.specs.Settings.{Settings, settings_of}
 use Rattle.aql_run.specs.Answered.{AreAnswered, IsStopped, ReadNoFile, reached}
 use Rattle.aql_run.specs.Entry.{entries}
-use Rattle.aql_run.specs.Lines.{at_byte, in_declaration, of_file}
+use Rattle.aql_run.specs.Lines.{at_byte, in_declaration, of_file, of_table}
 use Rattle.aql_run.specs.Sample.{sample_text}
 use Rattle.aql_run.specs.declared.status.Status.{Status}
 use Rattle.aql_run.specs.declared.status.Status.TheVariants as status
@@ -59,10 +58,9 @@ abbrev pub IsScript : (sample : Option ℕ) → (left : Option (List ℕ)) → (
 IsScript None left taken script = (script ≡ taken) × IsWhole taken left
 IsScript (Some n) left taken script = (taken ≡ []) × (script ≡ sample_text n)
 
--- The script was read, every position has its principal type and is within the limits, no declaration reads records, and the
--- first declarations have these answers, which print these lines. Where the files are told, the outcomes are the script's over
--- them, as far as the answers go. Where the declarations that were begun, so many, read no file, the files are as before, as
--- `same` says.
+-- The script was read, every position has its principal type and is within the limits, and the first declarations have these
+-- answers, which print these lines. Where the files are told, the outcomes are the script's over them, as far as the answers go.
+-- Where the declarations that were begun, so many, read no file, the files are as before, as `same` says.
 pub record HasRun (settings : Settings) (told : Told) (same : Type 0) (begun : ℕ) (taken : List ℕ) (answers : List Answer) (lines : List ℕ) : Type 0 where
   pub script : List ℕ
   pub ds : List Declaration
@@ -72,7 +70,6 @@ pub record HasRun (settings : Settings) (told : Told) (same : Type 0) (begun : �
   pub reads : ReadsAlone script ds
   pub typed : AreTyped ds sorts
   pub limits : AreWithinLimits (positions ds) (prelude_count + length ds)
-  pub built : NoneReadsRecords ds
   pub answered : AreAnswered ds sorts settings.budget told.holds answers outcomes
   pub script_values : ForSome told.holds (λ files. take (length outcomes) (values (reading files) (positions ds)) ≡ outcomes)
   pub printed : lines ≡ entries settings.plan answers (drop prelude_count outcomes)
@@ -89,6 +86,7 @@ abbrev pub stop_of : StepFault → Stop
 stop_of (faults.Query start plan trace) = stops.Query start plan trace
 stop_of (faults.Cells cells) = stops.Cells cells
 stop_of (faults.File fault) = stops.File fault
+stop_of (faults.Csv fault) = stops.Csv fault
 stop_of faults.Device = stops.Other
 stop_of faults.Memory = stops.Other
 
@@ -97,8 +95,21 @@ abbrev pub IsBudgetFault : StepFault → Type 0
 IsBudgetFault (faults.Query start plan trace) = Unit {0}
 IsBudgetFault (faults.Cells cells) = Unit {0}
 IsBudgetFault (faults.File fault) = ⊥
+IsBudgetFault (faults.Csv fault) = ⊥
 IsBudgetFault faults.Device = ⊥
 IsBudgetFault faults.Memory = ⊥
+
+-- a file cannot be read as it is asked for
+abbrev pub IsFileFault : StepFault → Type 0
+IsFileFault (faults.File fault) = Unit {0}
+IsFileFault (faults.Csv fault) = Unit {0}
+IsFileFault f = ⊥
+
+-- the line of such a fault of declaration n
+abbrev pub file_line : ℕ → StepFault → List ℕ
+file_line n (faults.File fault) = of_file n fault
+file_line n (faults.Csv fault) = of_table n fault
+file_line n f = []
 
 -- no declaration was begun, so that nothing was answered and the files are as before, and one line is all that is written
 abbrev pub BeginsNone : (same : Type 0) → List Answer → Stop → (lines line fault : List ℕ) → Type 0
@@ -126,17 +137,14 @@ Writes status.Type settings told same taken answers stop lines line =
 Writes status.Large settings told same taken answers stop lines line =
     (n : ℕ) × HasScriptFault settings told same taken answers stop lines line (in_declaration (codes "large") n)
     (λ script. (ds : List Declaration) × ReadsAlone script ds × ((sorts : List Sort) × AreTyped ds sorts) × IsFirstLarge ds n)
-Writes status.Unbuilt settings told same taken answers stop lines line =
-    (n : ℕ) × HasScriptFault settings told same taken answers stop lines line (in_declaration (codes "unbuilt") n)
-    (λ script. (ds : List Declaration) × ReadsAlone script ds × ((sorts : List Sort) × AreTyped ds sorts) × AreWithinLimits (positions ds) (prelude_count + length ds)
-    × IsFirstOfRecords 1 ds n)
 Writes status.Long settings told same taken answers stop lines line =
     (settings.sample ≡ None) × (most_bytes < length taken) × BeginsNone same answers stop lines line (codes "fault long\n")
 Writes status.Input settings told same taken answers stop lines line =
     (settings.sample ≡ None) × (length taken ≤ most_bytes) × Rose told.input_before told.input_now
     × BeginsNone same answers stop lines line (codes "fault input\n")
 Writes status.File settings told same taken answers stop lines line =
-    (run : HasRun settings told same (length answers + 1) taken answers lines) × (f : CdfFault) × EndsEarly run (faults.File f) × (stop ≡ stops.File f) × (line ≡ of_file (length answers + 1) f)
+    (f : StepFault) × IsFileFault f × (run : HasRun settings told same (length answers + 1) taken answers lines) × EndsEarly run f × (stop ≡ stop_of f)
+    × (line ≡ file_line (length answers + 1) f)
 Writes status.Spent settings told same taken answers stop lines line =
     (f : StepFault) × IsBudgetFault f × (run : HasRun settings told same (reached f (length answers)) taken answers lines) × EndsEarly run f × (stop ≡ stop_of f)
     × (line ≡ in_declaration (codes "budget") (length answers + 1))
@@ -181,7 +189,6 @@ Serves status.File settings told same taken answers stop written = WritesAll sta
 Serves status.Input settings told same taken answers stop written = WritesAll status.Input settings told same taken answers stop written
 Serves status.Spent settings told same taken answers stop written = WritesAll status.Spent settings told same taken answers stop written
 Serves status.Files settings told same taken answers stop written = WritesAll status.Files settings told same taken answers stop written
-Serves status.Unbuilt settings told same taken answers stop written = WritesAll status.Unbuilt settings told same taken answers stop written
 
 -- nothing was answered, taken or written, and the files are as before
 abbrev pub DoesNothing : (same : Type 0) → (taken : List ℕ) → List Answer → Stop → (written : List ℕ) → Type 0

@@ -11,7 +11,7 @@ use Rattle.aql_syntax.specs.Tree.{Declaration}
 use Rattle.aql_syntax.specs.View.{decls_of}
 use Rattle.nrca_term.specs.Meaning.{Outcomes}
 use Rattle.aql_prelude.specs.Prelude.{prelude_count}
-use Rattle.aql_script.specs.Script.{AreTyped, positions, NoneReadsRecords}
+use Rattle.aql_script.specs.Script.{AreTyped, positions}
 use Rattle.aql_script.specs.declared.preparing.Prepared.{Prepared}
 use Rattle.aql_session.specs.Bound.{Bound, outcomes, AreBound, earlier_of}
 use Rattle.aql_session.specs.Device.{Device}
@@ -32,12 +32,11 @@ own p = drop prelude_count (decls_of p.decls.items.items)
 abbrev pub sorts_in : Prepared → List Sort
 sorts_in p = sorts_of p.typed.items.items
 
--- the positions of a script with their principal sorts, within the limits, and no readval of records
+-- the positions of a script with their principal sorts, within the limits
 pub record IsPrepared (p : Prepared) : Type 0 where
   pub all : decls_of p.decls.items.items ≡ positions (own p)
   pub typed : AreTyped (own p) (sorts_in p)
   pub limits : AreWithinLimits (positions (own p)) (prelude_count + length (own p))
-  pub built : NoneReadsRecords (own p)
 
 -- the session has the prelude's positions and those of the declarations that have these answers
 pub record Progress (p : Prepared) (budget : ℕ) (holds : Option Content) (answers : List Answer) (s : Bound) : Type 0 where

@@ -42,9 +42,9 @@ use std::thread::Threads;
 /// Runs the script of the source, or the built-in one, and writes what its declarations print to
 /// the sink. The words are those of the command line, the program's name first.
 ///
-/// The order is: the words; reading the source; then the script's tokens, depth, grammar, types,
-/// sizes and readers; then the declarations, each of which is answered and its lines written before
-/// the next one starts.
+/// The order is: the words; reading the source; then the script's tokens, depth, grammar, types and
+/// sizes; then the declarations, each of which is answered and its lines written before the next one
+/// starts.
 pub fn run<R: Threads + Sync, S: Source, O: Sink, F: Files, G: Gate>(
     rt: &R,
     alloc: Global,

@@ -1,8 +1,9 @@
 //! The lines of faults.
 ghost use Rattle.std.specs.Prelude.{◌≡◌, ◌++◌, codes, decimal, IfOk, OnOk};
-ghost use Rattle.aql_run.specs.Lines.{at_byte, in_declaration, of_file, kind_text};
+ghost use Rattle.aql_run.specs.Lines.{at_byte, in_declaration, of_file, of_table, kind_text, table_text};
 
 use crate::sample::push_number;
+use aql_csv::CsvFault;
 use aql_value::Memory;
 use cdf_header::CdfFault;
 use itoa::Buffer;
@@ -44,6 +45,34 @@ pub fn file_line(alloc: Global, n: u64, fault: &CdfFault) -> Result<Vec<u8>, Mem
     Ok(line)
 }
 
+/// The same of a file of records.
+pub fn table_line(alloc: Global, n: u64, fault: &CsvFault) -> Result<Vec<u8>, Memory>
+    ensures { IfOk result (λ line. line.items ≡ of_table n fault.now) }
+{
+    let mut line = Vec::from_slice(alloc, b"fault file in declaration ")?;
+    push_number(n, &mut line)?;
+    line.extend_from_slice(b": ")?;
+    push_table_kind(fault, &mut line)?;
+    line.extend_from_slice(b"\n")?;
+    Ok(line)
+}
+
+fn push_table_kind(fault: &CsvFault, line: &mut Vec<u8>) -> Result<(), Memory>
+    ensures { OnOk result (line.new.items ≡ line.old.items ++ table_text fault.now) }
+{
+    match fault {
+        CsvFault::Absent => push_words(b"absent", line),
+        CsvFault::Long { bytes: _ } => Ok(()),
+        CsvFault::Cut { at } => push_numbered(b"cut at ", u128::from(*at), line),
+        CsvFault::Fields { row, found } => push_two(b"fields ", *found, b" in record ", *row, line),
+        CsvFault::Number { row, field } => {
+            push_two(b"number in field ", *field, b" of record ", *row, line)
+        }
+        CsvFault::Device => Ok(()),
+        CsvFault::Memory => Ok(()),
+    }
+}
+
 fn push_kind(fault: &CdfFault, line: &mut Vec<u8>) -> Result<(), Memory>
     ensures { OnOk result (line.new.items ≡ line.old.items ++ kind_text fault.now) }
 {
@@ -71,6 +100,17 @@ fn push_words(words: &[u8], line: &mut Vec<u8>) -> Result<(), Memory>
     ensures { OnOk result (line.new.items ≡ line.old.items ++ words.now) }
 {
     line.extend_from_slice(words)?;
+    Ok(())
+}
+
+fn push_two(words: &[u8], n: u64, between: &[u8], m: u64, line: &mut Vec<u8>) -> Result<(), Memory>
+    ensures { OnOk result (line.new.items ≡ line.old.items
+        ++ (words.now ++ (decimal n ++ (between.now ++ decimal m)))) }
+{
+    line.extend_from_slice(words)?;
+    push_number(n, line)?;
+    line.extend_from_slice(between)?;
+    push_number(m, line)?;
     Ok(())
 }
 

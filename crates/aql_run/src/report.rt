@@ -1,5 +1,6 @@
 //! What a run answers.
 use crate::status::Status;
+use aql_csv::CsvFault;
 use aql_session::Answer;
 use cdf_header::CdfFault;
 use nrca_term::{Core, Trace};
@@ -21,14 +22,18 @@ pub enum Stop {
         plan: Core,
         trace: Trace,
     },
-    /// The cells that a readval asks for passed the budget: their number, or 2^128-1 where it is
-    /// larger.
+    /// The cells that a readval asks for passed the budget, or the bytes of its file of records did:
+    /// their number, or 2^128-1 where it is larger.
     Cells {
         cells: u128,
     },
-    /// A file could not be read as it was asked for.
+    /// A netCDF file could not be read as it was asked for.
     File {
         fault: CdfFault,
+    },
+    /// A file of records could not be read as it was asked for.
+    Csv {
+        fault: CsvFault,
     },
     /// Any other end.
     Other,

@@ -9,7 +9,7 @@ ghost use Rattle.aql_run.specs.Devices.{NoticesFiles, NoticesInput};
 ghost use Rattle.aql_run.specs.Ending.{Answers, AsksSample, EndsWith, IsReady, Refused, Responds, Running, Samples, Serving, Stopped};
 
 use crate::closed::{Machine, answer_each, read_options, ready};
-use crate::lines::{byte_line, declaration_line, file_line};
+use crate::lines::{byte_line, declaration_line, file_line, table_line};
 use crate::reading::{ReadFault, read_script};
 use crate::report::{End, Stop};
 use crate::sample::sample_script;
@@ -250,6 +250,11 @@ fn stop_at<O: Sink>(alloc: Global, n: u64, fault: StepFault, output: &mut O) -> 
             let status = end_with_made(output, line, Status::File);
             kept(status, Status::File, Stop::File { fault })
         }
+        StepFault::Csv { fault } => {
+            let line = table_line(alloc, n, &fault);
+            let status = end_with_made(output, line, Status::File);
+            kept(status, Status::File, Stop::Csv { fault })
+        }
         StepFault::Device => End {
             status: end_with(output, b"fault files\n", Status::Files),
             stop: Stop::Other,
@@ -304,11 +309,6 @@ fn refuse<O: Sink>(alloc: Global, fault: ScriptFault, output: &mut O) -> Status
             output,
             declaration_line(alloc, b"large", declaration),
             Status::Large,
-        ),
-        ScriptFault::Unbuilt { declaration } => end_with_made(
-            output,
-            declaration_line(alloc, b"unbuilt", declaration),
-            Status::Unbuilt,
         ),
         ScriptFault::Memory => Status::Memory,
     }

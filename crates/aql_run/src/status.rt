@@ -32,8 +32,6 @@ pub enum Status {
     Spent,
     /// A call on the files failed.
     Files,
-    /// A declaration uses a reader that is not built.
-    Unbuilt,
 }
 
 impl Status {
@@ -58,7 +56,6 @@ impl Status {
             Status::Output => 11,
             Status::Spent => 12,
             Status::Files => 13,
-            Status::Unbuilt => 14,
         }
     }
 }

@@ -5,4 +5,5 @@ mod netcdf;
 mod plans;
 mod running;
 mod scripts;
+mod tables;
 mod words;

@@ -1,3 +1,2 @@
-mod Searching
 mod Positions
 pub mod Examples

@@ -1,9 +1,8 @@
 -- Why what is prepared is a script's one reading behind the prelude.
-use Rattle.std.proofs.Common.{ℕ, zero, suc, ◌≡◌, ◌+◌, ◌-◌, ◌<◌, ◌≤◌, ◌⊎◌, inl, inr, List, [], ◌∷◌, ◌++◌, refl, sym, ap, ◌∙◌, subst, length, take, drop, append_assoc, length-drop, arith, Bool, true}
-use Rattle.std.specs.Prelude.{◌&&◌, nat_le, Err}
+use Rattle.std.proofs.Common.{ℕ, zero, suc, ◌≡◌, ◌+◌, ◌-◌, ◌<◌, ◌≤◌, ◌⊎◌, inl, inr, List, [], ◌∷◌, ◌++◌, refl, sym, ap, ◌∙◌, subst, length, append_assoc, arith, Bool, true}
+use Rattle.std.specs.Prelude.{◌&&◌, nat_le, Err, Option, Some, None}
 use Rattle.std.specs.Cmp.{first_so, second_so}
 use Rattle.std.proofs.lemmas.Bool.{leb-true, cases_lt}
-use Rattle.std.proofs.lemmas.List.{take_all}
 use Rattle.aql_syntax.specs.declared.token.Token.{Token}
 use Rattle.aql_syntax.specs.Lexis.{Lexeme, AreTokens}
 use Rattle.aql_syntax.specs.Grammar.{ReadsScript, SyntaxFaultAt}
@@ -19,9 +18,9 @@ use Rattle.aql_infer.specs.declared.fault.TypeFault.TheVariants as type_faults
 use Rattle.aql_prelude.specs.Prelude.{prelude_decls, prelude_count}
 use Rattle.aql_prelude.specs.Typing.{HaveSorts}
 use Rattle.aql_prelude.specs.Laws.Typing.{prelude_typed}
-use Rattle.aql_script.specs.Laws.Position.{positions_are, length_positions, drop_prelude}
-use Rattle.aql_script.specs.Limits.{WithinBetween}
-use Rattle.aql_script.specs.Script.{IsTokenisedAs, ReadsAlone, positions, IsFirstLarge}
+use Rattle.aql_script.specs.Laws.Position.{positions_are, length_positions}
+use Rattle.aql_script.specs.Limits.{SearchesLarge, WithinBetween}
+use Rattle.aql_script.specs.Script.{IsTokenisedAs, ReadsAlone, positions, IsFirstLarge, IsFirstPast}
 
 -- what the parser reads of the tokens is the one reading of the bytes
 pub alone : OneList → OneReading → (bytes : List ℕ) (ts : List Token) (ds : List Declaration) → IsShallow bytes ts →
@@ -109,15 +108,6 @@ one_behind all d rest = ap (λ l. l ++ decls_of rest) (decls_last all d) ∙ app
 pub many : (all : List Decl) (ds : List Declaration) → decls_of all ≡ positions ds → length all ≡ prelude_count + length ds
 many all ds e = sym (decls_length all) ∙ (ap length e ∙ length_positions ds)
 
-decls_drop : (n : ℕ) (ds : List Decl) → decls_of (drop n ds) ≡ drop n (decls_of ds)
-decls_drop zero ds = refl
-decls_drop (suc n) [] = refl
-decls_drop (suc n) (d ∷ ds) = decls_drop n ds
-
--- the script's own declarations stand behind the prelude
-pub own : (all : List Decl) (ds : List Declaration) → decls_of all ≡ positions ds → decls_of (drop prelude_count all) ≡ ds
-own all ds e = decls_drop prelude_count all ∙ (ap (drop prelude_count) e ∙ drop_prelude ds)
-
 within_join : (all : List Declaration) (n m : ℕ) → AreWithinLimits all n → WithinBetween all n m → AreWithinLimits all m
 within_join all n m a b k one last = at (cases_lt n k)
   where
@@ -142,15 +132,14 @@ is_first_large all ds n e one last within_before large = record {
   large = subst (λ (l : List Declaration). IsLarge l (prelude_count + n)) e large;
 }
 
+-- what the search for a limit finds, of a script's own declarations
+pub first_past : (all : List Decl) (ds : List Declaration) (o : Option ℕ) → decls_of all ≡ positions ds → SearchesLarge all o → IsFirstPast ds o
+first_past all ds None e h = all_within all ds e h
+first_past all ds (Some n) e (one, last, before, large) = is_first_large all ds n e one last before large
+
 -- what inference answers of the positions
 pub first_untyped : (all ds : List Declaration) (f : TypeFault) (k : ℕ) → all ≡ ds → f ≡ type_faults.NoType k → IsChecked (Err f) all → IsFirstUntyped [] ds k
 first_untyped all ds f k e is h =
     subst (λ (l : List Declaration). IsFirstUntyped [] l k) e (subst (λ (g : TypeFault). IsChecked (Err g) all) is h)
 
--- the same of the slice behind the prelude
-pub own_slice : (all rest : List Decl) (ds : List Declaration) → rest ≡ all → decls_of all ≡ positions ds →
-    decls_of (take (length rest - prelude_count) (drop prelude_count rest)) ≡ ds
-own_slice all rest ds same e =
-    ap decls_of (take_all (length rest - prelude_count) (drop prelude_count rest) (omega (arith, length-drop prelude_count rest))) ∙ (ap (λ l. decls_of (drop prelude_count l)) same ∙ own all ds e)
-
-pub ruleset preparing = (one_behind, positions_are, many, own, all_within, is_first_large)
+pub ruleset preparing = (one_behind, positions_are)

@@ -1,11 +1,10 @@
--- The search for a declaration that passes a limit, or that reads records.
+-- The search for a declaration that passes a limit.
 use Rattle.std.specs.Prelude.{ℕ, ◌+◌, ◌-◌, ◌<◌, ◌≤◌, length, List, Option, Some, None}
 use Rattle.aql_syntax.specs.Tree.{Declaration}
 use Rattle.aql_syntax.specs.View.{decls_of}
 use Rattle.aql_syntax.specs.declared.ast.Decl.{Decl}
 use Rattle.aql_syntax.specs.Size.{IsWithinLimits, IsLarge}
 use Rattle.aql_prelude.specs.Prelude.{prelude_count}
-use Rattle.aql_script.specs.Script.{NoneReadsRecords, IsFirstOfRecords}
 
 -- each position behind a, up to b, is within the limits
 abbrev pub WithinBetween : List Declaration → ℕ → ℕ → Type 0
@@ -17,8 +16,3 @@ SearchesLarge all None = WithinBetween (decls_of all) prelude_count (length all)
 SearchesLarge all (Some n) =
     (1 ≤ n) × (prelude_count + n ≤ length all) × WithinBetween (decls_of all) prelude_count (prelude_count + n - 1)
     × IsLarge (decls_of all) (prelude_count + n)
-
--- the first declaration that reads records, counted from k
-abbrev pub SearchesRecords : ℕ → List Declaration → Option ℕ → Type 0
-SearchesRecords k ds None = NoneReadsRecords ds
-SearchesRecords k ds (Some n) = IsFirstOfRecords k ds n

@@ -1,12 +1,12 @@
 -- What the bytes of a script are, and what is answered for them.
-use Rattle.std.specs.Prelude.{ℕ, ◌≡◌, ◌≤◌, ◌+◌, ◌-◌, ◌⊎◌, Bool, true, false, List, [], ◌∷◌, ◌++◌, length, Option, Some, None, Result, Ok, Err}
+use Rattle.std.specs.Prelude.{ℕ, ◌≡◌, ◌≤◌, ◌+◌, ◌-◌, List, [], ◌++◌, length, Option, Some, None, Result, Ok, Err}
 use Rattle.aql_types.specs.Types.{Sort}
 use Rattle.aql_syntax.specs.declared.ast.Decls.{Decls}
 use Rattle.aql_syntax.specs.declared.token.Token.{Token}
 use Rattle.aql_syntax.specs.Lexis.{Lexeme, AreTokens, TextFaultAt}
 use Rattle.aql_syntax.specs.Scan.{first_deep, no_counters}
 use Rattle.aql_syntax.specs.Grammar.{ReadsScript, SyntaxFaultAt}
-use Rattle.aql_syntax.specs.Tree.{Declaration, val, mac, read, bare, plain, signed, strided, records}
+use Rattle.aql_syntax.specs.Tree.{Declaration}
 use Rattle.aql_syntax.specs.Size.{AreWithinLimits, IsLarge}
 use Rattle.aql_syntax.specs.View.{decls_of}
 use Rattle.aql_lex.specs.Lexed.{IsDeepAt}
@@ -46,40 +46,17 @@ pub record IsFirstLarge (ds : List Declaration) (n : ℕ) : Type 0 where
   pub before : AreWithinLimits (positions ds) (prelude_count + n - 1)
   pub large : IsLarge (positions ds) (prelude_count + n)
 
--- whether a declaration reads records
-abbrev pub reads_records : Declaration → Bool
-reads_records (val x e) = false
-reads_records (mac f p body) = false
-reads_records (read x (plain k) e) = false
-reads_records (read x (signed k) e) = false
-reads_records (read x (strided k) e) = false
-reads_records (read x (records header ks) e) = true
-reads_records (bare e) = false
-
--- no declaration reads records
-abbrev pub NoneReadsRecords : List Declaration → Type 0
-NoneReadsRecords [] = Unit {0}
-NoneReadsRecords (d ∷ ds) = (reads_records d ≡ false) × NoneReadsRecords ds
-
--- the first declaration that does, counted from k
-abbrev pub IsFirstOfRecords : ℕ → List Declaration → ℕ → Type 0
-IsFirstOfRecords k [] n = ⊥
-IsFirstOfRecords k (d ∷ ds) n = ((reads_records d ≡ true) × (n ≡ k)) ⊎ ((reads_records d ≡ false) × IsFirstOfRecords (k + 1) ds n)
-
 -- What is answered for the bytes of a script, in the order of the causes: its positions with their principal sorts, all
 -- within the limits; or the first fault.
 abbrev pub Prepares : List ℕ → Result Prepared ScriptFault → Type 0
 Prepares bytes (Ok p) =
     (ds : List Declaration) × ReadsAlone bytes ds × (decls_of p.decls.items.items ≡ positions ds) × AreTyped ds (sorts_of p.typed.items.items)
-    × AreWithinLimits (positions ds) (prelude_count + length ds) × NoneReadsRecords ds
+    × AreWithinLimits (positions ds) (prelude_count + length ds)
 Prepares bytes (Err (faults.Text at)) = TextFaultAt at bytes
 Prepares bytes (Err (faults.Deep at)) = IsDeepAt at bytes
 Prepares bytes (Err (faults.Syntax n)) = (ls : List Lexeme) × IsTokenisedAs bytes ls × SyntaxFaultAt n ls
 Prepares bytes (Err (faults.Type n)) = (ds : List Declaration) × ReadsAlone bytes ds × (1 ≤ n) × IsFirstUntyped [] (positions ds) (prelude_count + n)
 Prepares bytes (Err (faults.Large n)) = (ds : List Declaration) × ReadsAlone bytes ds × ((sorts : List Sort) × AreTyped ds sorts) × IsFirstLarge ds n
-Prepares bytes (Err (faults.Unbuilt n)) =
-    (ds : List Declaration) × ReadsAlone bytes ds × ((sorts : List Sort) × AreTyped ds sorts) × AreWithinLimits (positions ds) (prelude_count + length ds)
-    × IsFirstOfRecords 1 ds n
 Prepares bytes (Err faults.Memory) = Unit {0}
 
 -- what the bytes of a script declare, or why they declare nothing
@@ -90,7 +67,6 @@ Declares bytes (Err (faults.Deep at)) = IsDeepAt at bytes
 Declares bytes (Err (faults.Syntax n)) = (ls : List Lexeme) × IsTokenisedAs bytes ls × SyntaxFaultAt n ls
 Declares bytes (Err (faults.Type n)) = ⊥
 Declares bytes (Err (faults.Large n)) = ⊥
-Declares bytes (Err (faults.Unbuilt n)) = ⊥
 Declares bytes (Err faults.Memory) = Unit {0}
 
 -- the principal sorts of the positions, or the first declaration without a typing
@@ -101,30 +77,20 @@ Types ds (Err (faults.Deep at)) = ⊥
 Types ds (Err (faults.Syntax n)) = ⊥
 Types ds (Err (faults.Type n)) = (1 ≤ n) × IsFirstUntyped [] (positions ds) (prelude_count + n)
 Types ds (Err (faults.Large n)) = ⊥
-Types ds (Err (faults.Unbuilt n)) = ⊥
 Types ds (Err faults.Memory) = Unit {0}
 
--- no position passes a limit and none reads records, or the first that does
-abbrev pub IsFirstFault : List Declaration → Option ScriptFault → Type 0
-IsFirstFault ds None = AreWithinLimits (positions ds) (prelude_count + length ds) × NoneReadsRecords ds
-IsFirstFault ds (Some (faults.Text at)) = ⊥
-IsFirstFault ds (Some (faults.Deep at)) = ⊥
-IsFirstFault ds (Some (faults.Syntax n)) = ⊥
-IsFirstFault ds (Some (faults.Type n)) = ⊥
-IsFirstFault ds (Some (faults.Large n)) = IsFirstLarge ds n
-IsFirstFault ds (Some (faults.Unbuilt n)) = AreWithinLimits (positions ds) (prelude_count + length ds) × IsFirstOfRecords 1 ds n
-IsFirstFault ds (Some faults.Memory) = ⊥
+-- no position passes a limit, or this declaration is the first that does
+abbrev pub IsFirstPast : List Declaration → Option ℕ → Type 0
+IsFirstPast ds None = AreWithinLimits (positions ds) (prelude_count + length ds)
+IsFirstPast ds (Some n) = IsFirstLarge ds n
 
--- the positions of a script with these declarations, or the first fault of their types, sizes and readers
+-- the positions of a script with these declarations, or the first fault of their types and sizes
 abbrev pub IsPreparedAs : List Declaration → Result Prepared ScriptFault → Type 0
 IsPreparedAs ds (Ok p) =
     (decls_of p.decls.items.items ≡ positions ds) × AreTyped ds (sorts_of p.typed.items.items) × AreWithinLimits (positions ds) (prelude_count + length ds)
-    × NoneReadsRecords ds
 IsPreparedAs ds (Err (faults.Text at)) = ⊥
 IsPreparedAs ds (Err (faults.Deep at)) = ⊥
 IsPreparedAs ds (Err (faults.Syntax n)) = ⊥
 IsPreparedAs ds (Err (faults.Type n)) = (1 ≤ n) × IsFirstUntyped [] (positions ds) (prelude_count + n)
 IsPreparedAs ds (Err (faults.Large n)) = ((sorts : List Sort) × AreTyped ds sorts) × IsFirstLarge ds n
-IsPreparedAs ds (Err (faults.Unbuilt n)) =
-    ((sorts : List Sort) × AreTyped ds sorts) × AreWithinLimits (positions ds) (prelude_count + length ds) × IsFirstOfRecords 1 ds n
 IsPreparedAs ds (Err faults.Memory) = Unit {0}

@@ -19,8 +19,6 @@ pub enum ScriptFault {
     Type { declaration: u64 },
     /// The first declaration whose expanded size passes 20,000 or whose levels pass 1,000.
     Large { declaration: u64 },
-    /// The first declaration that reads records, which no reader here does.
-    Unbuilt { declaration: u64 },
     Memory,
 }
 

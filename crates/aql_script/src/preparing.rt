@@ -4,10 +4,10 @@ ghost use Rattle.std.specs.Prelude.{◌≡◌, ◌++◌, ◌+◌, ◌≤◌, Lis
 ghost use Rattle.aql_syntax.specs.Tree.{Declaration};
 ghost use Rattle.aql_syntax.specs.View.{decls_of};
 ghost use Rattle.aql_prelude.specs.Prelude.{prelude_decls};
-ghost use Rattle.aql_script.specs.Script.{Prepares, Declares, Types, IsFirstFault, IsPreparedAs, positions};
+ghost use Rattle.aql_script.specs.Script.{Prepares, Declares, Types, IsFirstPast, IsPreparedAs, positions};
 
 use crate::fault::ScriptFault;
-use crate::limits::{first_large, first_of_records};
+use crate::limits::first_large;
 use aql_infer::check::check;
 use aql_infer::fault::TypeFault;
 use aql_infer_steps::typed::Typed;
@@ -30,7 +30,7 @@ pub struct Prepared {
 
 /// The positions of a script.
 ///
-/// The faults are looked for in this order: `Text`, `Deep`, `Syntax`, `Type`, `Large`, `Unbuilt`.
+/// The faults are looked for in this order: `Text`, `Deep`, `Syntax`, `Type`, `Large`.
 pub fn prepare(alloc: Global, script: &[u8]) -> Result<Prepared, ScriptFault>
     ensures { Prepares script.now result }
 {
@@ -67,8 +67,8 @@ fn prepare_positions(alloc: Global, own: Decls) -> Result<Prepared, ScriptFault>
 {
     let decls = behind_prelude(alloc, own)?;
     match infer_types(alloc, &decls) {
-        Ok(typed) => match first_refusal(&decls) {
-            Some(fault) => Err(fault),
+        Ok(typed) => match first_past_limit(&decls) {
+            Some(declaration) => Err(ScriptFault::Large { declaration }),
             None => Ok(Prepared { decls, typed }),
         },
         Err(fault) => Err(fault),
@@ -102,18 +102,11 @@ fn infer_types(alloc: Global, decls: &Decls) -> Result<Typed, ScriptFault>
     }
 }
 
-// The first declaration that passes a limit, and else the first that reads records.
-#[tactic(auto, using(crate::proofs::Positions::preparing))]
-fn first_refusal(decls: &Decls) -> Option<ScriptFault>
+// The first declaration behind the prelude that passes a limit, counted from behind it.
+fn first_past_limit(decls: &Decls) -> Option<u64>
     requires { (ds : List Declaration) × (decls_of decls.now.items.items ≡ positions ds) }
     ensures { (ds : List Declaration) → decls_of decls.now.items.items ≡ positions ds
-        → IsFirstFault ds result }
+        → IsFirstPast ds result }
 {
-    if let Some(declaration) = first_large(decls) {
-        return Some(ScriptFault::Large { declaration });
-    }
-    match first_of_records(&decls.items[COUNT as usize..]) {
-        Some(declaration) => Some(ScriptFault::Unbuilt { declaration }),
-        None => None,
-    }
+    first_large(decls)
 }

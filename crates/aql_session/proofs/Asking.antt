@@ -1,24 +1,25 @@
 -- What the argument of a reader asks for: step by step, and where the argument has its type.
 use Rattle.std.proofs.Common.{◌≡◌, ℕ, zero, suc, ◌≤◌, Bool, true, false, List, [], ◌∷◌, ◌++◌, length, map, replicate, Option, Some, None, refl, sym, ap, ◌∙◌, arith, nat_eq, eq-eqb, if◌then◌else◌}
+use Rattle.std.specs.Prelude.{option_map}
 use Rattle.std.proofs.lemmas.List.{map-append, length-replicate}
 use Rattle.aql_value.specs.Datum as datum
 use Rattle.aql_value.specs.Datum.{Datum, data_of, list_of}
 use Rattle.aql_value.specs.Laws.Datum.{list_of-data_of}
 use Rattle.aql_value.specs.Meaning as meaning
-use Rattle.aql_value.specs.Operations.{as_natural, as_tuple, index_numbers}
+use Rattle.aql_value.specs.Operations.{as_natural, as_text, as_tuple, index_numbers}
 use Rattle.aql_value.specs.Partial.{◌>>=◌, each}
 use Rattle.aql_value.specs.Laws.Partial.{each-append}
 use Rattle.aql_value.specs.declared.value.Value.{Value}
 use Rattle.aql_types.specs.Types as types
-use Rattle.aql_types.specs.Types.{IsRank, IsWithin, index_type, tys_of}
+use Rattle.aql_types.specs.Types.{IsRank, IsType, IsWithin, index_type, tys_of}
 use Rattle.aql_types.specs.ValueTypes.{HasType, AllHaveTypes}
 use Rattle.aql_syntax.specs.Tree as tree
 use Rattle.aql_syntax.specs.Tree.{Reader}
-use Rattle.aql_syntax.specs.Typing.{reader_type, argument_type}
-use Rattle.aql_session.specs.Asked.{Asked, asked, asked_of, unstrided, with_strides}
+use Rattle.aql_syntax.specs.Typing.{reader_type, argument_type, record_type}
+use Rattle.aql_syntax.specs.declared.ast.Kind.{Kind}
+use Rattle.aql_session.specs.Asked.{Hyperslab, Asked, hyperslab, table, asked, asked_of, unstrided, with_strides}
 use Rattle.nrca_loops.specs.Parts.{numbers_with}
-use Rattle.aql_session.specs.Runs.{HasRank, cell_type}
-use Rattle.aql_session.specs.Step.{IsOfArrays}
+use Rattle.aql_session.specs.Runs.{HasRank, IsProper, asked_type, cell_type}
 
 -- the numbers of one value more
 pub numbers_push : (vs : List Value) (v : Value) → each as_natural (map meaning.datum (vs ++ v ∷ [])) ≡ numbers_with (each as_natural (map meaning.datum vs)) (meaning.datum v)
@@ -70,8 +71,8 @@ index-typed (suc (suc k)) v l h =
 pub record AsksFor (r : Reader) (v : Datum) : Type 0 where
   pub asked : Asked
   pub is : asked_of r v ≡ Some asked
-  pub rank : HasRank asked
-  pub type : reader_type r ≡ types.array_of (length asked.count) (cell_type asked.signed)
+  pub proper : IsProper asked
+  pub type : reader_type r ≡ asked_type asked
 
 same-parts : (k : ℕ) (sign : Bool) (f x s c : Datum) (stride : Option (List ℕ)) (file variable starts counts strides : List ℕ) → f ≡ datum.text file → x ≡ datum.text variable →
     index_numbers k s ≡ Some starts → index_numbers k c ≡ Some counts → stride ≡ Some strides →
@@ -79,7 +80,7 @@ same-parts : (k : ℕ) (sign : Bool) (f x s c : Datum) (stride : Option (List �
 same-parts k sign f x s c stride file variable starts counts strides e g h i j = rw (e, g, h, i, j) refl
 
 without : (k : ℕ) (sign : Bool) (v : Datum) → IsRank k → HasType (types.product (tys_of (types.text ∷ types.text ∷ index_type k ∷ index_type k ∷ []))) v →
-    (a : Asked) × ((as_tuple v >>= unstrided k sign) ≡ Some a) × HasRank a × (length a.count ≡ k) × (a.signed ≡ sign)
+    (a : Hyperslab) × ((as_tuple v >>= unstrided k sign) ≡ Some a) × HasRank a × (length a.count ≡ k) × (a.signed ≡ sign)
 without k sign v rank ([], e, h) = absurd h
 without k sign v rank (f ∷ [], e, h) = absurd h.1
 without k sign v rank (f ∷ x ∷ [], e, h) = absurd h.1.1
@@ -88,7 +89,7 @@ without k sign v rank (f ∷ x ∷ s ∷ c ∷ y ∷ vs, e, h) = absurd h.1.1.1.
 without k sign v rank (f ∷ x ∷ s ∷ c ∷ [], e, h) =
     let i = index-typed k s rank.0 h.1.1.0 in
     let j = index-typed k c rank.0 h.1.1.1.0 in
-    let a : Asked = record { file = h.0.0; variable = h.1.0.0; start = i.numbers; count = j.numbers; stride = replicate k 1; signed = sign } in (
+    let a : Hyperslab = record { file = h.0.0; variable = h.1.0.0; start = i.numbers; count = j.numbers; stride = replicate k 1; signed = sign } in (
       a,
       ap (λ w. as_tuple w >>= unstrided k sign) e ∙ same-parts k sign f x s c (Some (replicate k 1)) h.0.0 h.1.0.0 i.numbers j.numbers (replicate k 1) h.0.1 h.1.0.1 i.is j.is refl,
       record {
@@ -102,7 +103,7 @@ without k sign v rank (f ∷ x ∷ s ∷ c ∷ [], e, h) =
     )
 
 with : (k : ℕ) (v : Datum) → IsRank k → HasType (types.product (tys_of (types.text ∷ types.text ∷ index_type k ∷ index_type k ∷ index_type k ∷ []))) v →
-    (a : Asked) × ((as_tuple v >>= with_strides k) ≡ Some a) × HasRank a × (length a.count ≡ k) × (a.signed ≡ false)
+    (a : Hyperslab) × ((as_tuple v >>= with_strides k) ≡ Some a) × HasRank a × (length a.count ≡ k) × (a.signed ≡ false)
 with k v rank ([], e, h) = absurd h
 with k v rank (f ∷ [], e, h) = absurd h.1
 with k v rank (f ∷ x ∷ [], e, h) = absurd h.1.1
@@ -113,7 +114,7 @@ with k v rank (f ∷ x ∷ s ∷ c ∷ t ∷ [], e, h) =
     let i = index-typed k s rank.0 h.1.1.0 in
     let j = index-typed k c rank.0 h.1.1.1.0 in
     let l = index-typed k t rank.0 h.1.1.1.1.0 in
-    let a : Asked = record { file = h.0.0; variable = h.1.0.0; start = i.numbers; count = j.numbers; stride = l.numbers; signed = false } in (
+    let a : Hyperslab = record { file = h.0.0; variable = h.1.0.0; start = i.numbers; count = j.numbers; stride = l.numbers; signed = false } in (
       a,
       ap (λ w. as_tuple w >>= with_strides k) e ∙ same-parts k false f x s c (index_numbers k t) h.0.0 h.1.0.0 i.numbers j.numbers l.numbers h.0.1 h.1.0.1 i.is j.is l.is,
       record {
@@ -126,30 +127,41 @@ with k v rank (f ∷ x ∷ s ∷ c ∷ t ∷ [], e, h) =
       refl,
     )
 
+-- a record has a field, since its type is one of the language
+some-kind : (ks : List Kind) → IsType (record_type ks) → 1 ≤ length ks
+some-kind [] h = absurd (omega (arith, h.0))
+some-kind (k ∷ ks) h = omega arith
+
 -- the rank of a reader's arrays is 1 to 8, since its type is one of the language
-pub asks-typed : (r : Reader) (v : Datum) → IsOfArrays r → IsWithin (reader_type r) → HasType (argument_type r) v → AsksFor r v
-asks-typed (tree.plain k) v u w h =
+pub asks-typed : (r : Reader) (v : Datum) → IsWithin (reader_type r) → HasType (argument_type r) v → AsksFor r v
+asks-typed (tree.plain k) v w h =
     let r = without k false v w.2.0 h in
     record {
-      asked = r.0;
-      is = r.1;
-      rank = r.2;
+      asked = hyperslab r.0;
+      is = ap (option_map hyperslab) r.1;
+      proper = r.2;
       type = ap (λ n. types.array_of n types.natural) (sym r.3) ∙ ap (λ b. types.array_of (length r.0.count) (cell_type b)) (sym r.4);
     }
-asks-typed (tree.signed k) v u w h =
+asks-typed (tree.signed k) v w h =
     let r = without k true v w.2.0 h in
     record {
-      asked = r.0;
-      is = r.1;
-      rank = r.2;
+      asked = hyperslab r.0;
+      is = ap (option_map hyperslab) r.1;
+      proper = r.2;
       type = ap (λ n. types.array_of n (cell_type true)) (sym r.3) ∙ ap (λ b. types.array_of (length r.0.count) (cell_type b)) (sym r.4);
     }
-asks-typed (tree.strided k) v u w h =
+asks-typed (tree.strided k) v w h =
     let r = with k v w.2.0 h in
     record {
-      asked = r.0;
-      is = r.1;
-      rank = r.2;
+      asked = hyperslab r.0;
+      is = ap (option_map hyperslab) r.1;
+      proper = r.2;
       type = ap (λ n. types.array_of n types.natural) (sym r.3) ∙ ap (λ b. types.array_of (length r.0.count) (cell_type b)) (sym r.4);
     }
-asks-typed (tree.records header ks) v u w h = absurd u
+asks-typed (tree.records header ks) v w h =
+    record {
+      asked = table h.0 header ks;
+      is = ap (λ d. option_map (λ file. table file header ks) (as_text d)) h.1;
+      proper = some-kind ks w.2;
+      type = refl;
+    }

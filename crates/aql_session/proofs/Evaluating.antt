@@ -1,5 +1,5 @@
 -- The evaluation of a query's terms is that of the query.
-use Rattle.std.proofs.Common.{◌≡◌, ℕ, ◌-◌, ◌<◌, ◌≤◌, ◌⊎◌, nat_lt, Bool, true, false, List, [], ◌∷◌, length, Option, Some, None, refl, sym, ap, ◌∙◌, subst, arith, inl, inr, if◌then◌else◌}
+use Rattle.std.proofs.Common.{◌≡◌, ℕ, ◌-◌, ◌<◌, ◌≤◌, ◌⊎◌, nat_lt, false, List, [], ◌∷◌, length, Option, Some, None, refl, sym, ap, ◌∙◌, subst, arith, inl, inr, if◌then◌else◌}
 use Rattle.std.specs.Option.{ForSome}
 use Rattle.std.proofs.lemmas.Bool.{cases_lt, le-ltb, lt-ltb}
 use Rattle.aql_value.specs.Valid.{IsValue}
@@ -20,7 +20,7 @@ use Rattle.aql_desugar_spec.specs.Start.{query}
 use Rattle.aql_session.specs.Bound.{earlier_of}
 use Rattle.aql_session.specs.Planned.{IsPlanned, Evaluates, PassBoth}
 use Rattle.aql_session.specs.Runs.{IsQuery, IsEvaluated, IsSpentFault}
-use Rattle.aql_session.specs.Step.{choice, chosen, start_term, start_of, query_turns, turns_in, MayBeEvaluated}
+use Rattle.aql_session.specs.Step.{choice, start_term, start_of, query_turns, turns_in, MayBeEvaluated}
 use Rattle.aql_session.specs.declared.answer.Ran.{Ran}
 use Rattle.aql_session.specs.declared.answer.Ran.TheVariants as ran
 use Rattle.aql_session.specs.declared.answer.StepFault.{StepFault}
@@ -117,5 +117,6 @@ module _ (ds : List Declaration) (V : Outcomes) (n : ℕ) (many : length V ≡ n
   )
   spent-is budget r h (faults.Cells c) k = absurd k
   spent-is budget r h (faults.File e) k = absurd k
+  spent-is budget r h (faults.Csv e) k = absurd k
   spent-is budget r h faults.Device k = absurd k
   spent-is budget r h faults.Memory k = tt

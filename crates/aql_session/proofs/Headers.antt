@@ -1,7 +1,6 @@
 -- What the reader of headers answers, beside the header of the file's bytes.
-use Rattle.std.proofs.Common.{◌≡◌, List, ℕ, Result, Err, refl}
+use Rattle.std.proofs.Common.{◌≡◌, List, ℕ, Err, refl}
 use Rattle.cdf_header.specs.File.{IsAnswered, IsLost, header_of}
-use Rattle.cdf_header.specs.Header.{Head}
 use Rattle.cdf_header.specs.declared.fault.CdfFault.{CdfFault}
 use Rattle.cdf_header.specs.declared.fault.CdfFault.TheVariants as faults
 use Rattle.aql_session.specs.Step.{IsOfFile}

@@ -8,6 +8,7 @@ pub mod Headers
 pub mod Requests
 pub mod Opening
 pub mod Obtaining
+pub mod Tables
 pub mod Running
 pub mod Planning
 pub mod Knowing

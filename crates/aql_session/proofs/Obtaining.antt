@@ -1,13 +1,11 @@
 -- What was read by a reader's argument.
 use Rattle.std.proofs.Common.{◌≡◌, ℕ, ◌-◌, ◌^◌, ◌≤◌, min, Bool, true, false, List, [], ◌∷◌, length, Option, Some, None, refl, sym, ap, ◌∙◌, subst, arith, if◌then◌else◌}
 use Rattle.std.specs.Option.{ForSome}
-use Rattle.std.specs.Str.{IsUtf8}
 use Rattle.aql_outside.specs.Contents.{Content}
 use Rattle.aql_value.specs.Datum as datum
 use Rattle.aql_value.specs.Datum.{Datum, Table, data_of}
 use Rattle.aql_value.specs.Indices.{product}
 use Rattle.aql_value.specs.Laws.Lists.{Every-impl}
-use Rattle.aql_value.specs.Partial.{if_some}
 use Rattle.aql_value.specs.Valid.{IsValue}
 use Rattle.aql_types.specs.Types as types
 use Rattle.aql_types.specs.Types.{Ty, IsWithin}
@@ -15,14 +13,13 @@ use Rattle.aql_types.specs.ValueTypes.{HasType}
 use Rattle.aql_syntax.specs.Tree.{Reader}
 use Rattle.aql_syntax.specs.Typing.{reader_type, argument_type}
 use Rattle.cdf_slab.specs.Numbers.{IsCell}
-use Rattle.cdf_slab.specs.Slab.{IsShaped, first_zero}
+use Rattle.cdf_slab.specs.Slab.{IsShaped}
 use Rattle.nrca_array.specs.Held.{table_datum}
 use Rattle.nrca_loops.specs.Scope.{held_value}
 use Rattle.aql_value.specs.Limits.{most_budget}
-use Rattle.aql_session.specs.Asked.{Asked, asked_of, cells}
-use Rattle.aql_session.specs.Reading.{read_fault}
-use Rattle.aql_session.specs.Runs.{HasRank, IsReadBy, IsReadCause, IsReadOf, IsRequestOf, IsArgumentCause, cell_type, request_asked}
-use Rattle.aql_session.specs.Step.{IsOfArrays}
+use Rattle.aql_session.specs.Asked.{Hyperslab, Asked, hyperslab, asked_of, cells}
+use Rattle.aql_session.specs.Runs.{IsProper, IsReadBy, IsReadCause, IsReadOf, IsRequestOf, IsArgumentCause, IsSlabOf, asked_in, asked_type, cell_type, request_asked}
+use Rattle.aql_session.specs.Step.{CallsNoFile, IsCountOf, IsReadable}
 use Rattle.aql_session.specs.declared.answer.StepFault.{StepFault}
 use Rattle.aql_session.specs.declared.answer.StepFault.TheVariants as faults
 use Rattle.aql_session.specs.declared.readings.Read.{Read}
@@ -51,54 +48,61 @@ shaped-typed T count sign t e s =
       Every-impl (IsCell sign) (HasType (cell_type sign)) (cell-typed sign) t.cells s.kinds,
     )
 
--- a request that an argument asks for, where it has its type
-pub request-typed : (r : Reader) (v : Datum) (request : Request) → IsOfArrays r → IsWithin (reader_type r) → HasType (argument_type r) v → Some (request_asked request) ≡ asked_of r v → IsRequestOf r v request
-request-typed r v request u w h e =
-    let a = asks-typed r v u w h in
-    let z : a.asked ≡ request_asked request = (let y = sym a.is ∙ sym e in cc) in
+-- a hyperslab that was read
+pub slab-of : (a : Hyperslab) (budget : ℕ) (holds : Option Content) (x : Read) (t : Table) (p : ℕ) → budget ≤ most_budget → cells a ≤ budget → IsSlabOf a holds t →
+    held_value x.value ≡ Some (table_datum t) → x.turns ≡ p → p ≡ min (cells a) (2 ^ 128 - 1) → IsValue (table_datum t) → IsReadOf (hyperslab a) budget holds x
+slab-of a budget holds x t p b within h e q is valid =
+    let count : x.turns ≡ cells a = omega (arith, q, is, within, b) in
     record {
-      is = sym e;
-      rank = subst HasRank z a.rank;
-      type = a.type ∙ ap (λ x. types.array_of (length x.count) (cell_type x.signed)) z;
+      value = table_datum t;
+      is = e;
+      counts = count;
+      few = omega (arith, count, within);
+      readable = record { within = within; named = h.named; strides = h.strides; file = λ files l. (h.told files l).0 };
+      typed = shaped-typed (asked_type (hyperslab a)) a.count a.signed t refl h.shaped;
+      form = (t.cells, ap (λ ds. datum.array ds (data_of t.cells)) h.shaped.dims);
+      told = λ files l. (h.told files l).1;
+      valid = valid;
     }
 
+-- a request that an argument asks for, where it has its type
+pub request-typed : (r : Reader) (v : Datum) (request : Request) → IsWithin (reader_type r) → HasType (argument_type r) v → Some (request_asked request) ≡ asked_of r v → IsRequestOf r v request
+request-typed r v request w h e =
+    let a = asks-typed r v w h in
+    let z : a.asked ≡ request_asked request = (let y = sym a.is ∙ sym e in cc) in
+    record { is = sym e; proper = subst IsProper z a.proper; type = a.type ∙ ap asked_type z }
+
 -- an argument that has its type asks for something
-pub asks-some : (r : Reader) (v : Datum) → IsOfArrays r → IsWithin (reader_type r) → HasType (argument_type r) v → None ≡ asked_of r v → ⊥
-asks-some r v u w h e = let a = asks-typed r v u w h in (let y = e ∙ a.is in cc)
+pub asks-some : (r : Reader) (v : Datum) → IsWithin (reader_type r) → HasType (argument_type r) v → None ≡ asked_of r v → ⊥
+asks-some r v w h e = let a = asks-typed r v w h in (let y = e ∙ a.is in cc)
 
 module _ (r : Reader) (v : Datum) (request : Request) (asked : IsRequestOf r v request) (budget : ℕ) (holds : Option Content) where
   asked-is : (a : Asked) → asked_of r v ≡ Some a → request_asked request ≡ a
   asked-is a e = let y = sym asked.is ∙ e in cc
 
-  few : (m p : ℕ) → p ≡ min m (2 ^ 128 - 1) → m ≤ most_budget → p ≡ m
-  few m p e l = omega (arith, e, l)
-
-  pub read-by : budget ≤ most_budget → (x : Read) (t : Table) → IsReadOf (request_asked request) budget holds t → held_value x.value ≡ Some (table_datum t) → x.cells ≡ min (product request.count.items) (2 ^ 128 - 1) →
-      ForSome (held_value x.value) IsValue → IsReadBy r (Some v) budget holds x
-  read-by b x t h e p valid = record {
-    many = few (product request.count.items) x.cells p (omega (arith, h.within, b)) ∙ sym (ap (λ o. if_some o cells) asked.is);
-    within = λ a q. subst (λ y. cells y ≤ budget) (asked-is a q) h.within;
-    named = λ a q. subst (λ y. IsUtf8 y.file) (asked-is a q) h.slab.named;
-    strides = λ a q. subst (λ y. first_zero 1 y.stride ≡ None) (asked-is a q) h.slab.strides;
-    file = λ a q files l. subst (λ y. read_fault files y ≡ None) (asked-is a q) (h.slab.told files l).0;
+  pub read-by : (x : Read) → IsReadOf (request_asked request) budget holds x → IsReadBy r (Some v) budget holds x
+  read-by x h = record {
+    counts = subst (λ o. IsCountOf budget holds o (held_value x.value) x.turns) (sym asked.is) (h.value, h.is, h.counts);
+    few = h.few;
+    readable = λ a q. subst (IsReadable budget holds) (asked-is a q) h.readable;
     outcome = (
       request_asked request,
-      table_datum t,
+      h.value,
       asked.is,
-      e,
-      record {
-        typed = shaped-typed (reader_type r) request.count.items request.signed t asked.type h.slab.shaped;
-        content = t.cells;
-        shape = ap (λ ds. datum.array ds (data_of t.cells)) h.slab.shaped.dims;
-        told = λ files l. (h.slab.told files l).1;
-      },
+      h.is,
+      record { typed = subst (λ T. HasType T h.value) (sym asked.type) h.typed; form = h.form; told = h.told },
     );
-    valid = valid;
+    valid = λ w e. subst IsValue (let z : h.value ≡ w = (let y = sym h.is ∙ e in cc) in z) h.valid;
   }
 
   pub argument-cause : (before now : ℕ) (f : StepFault) → IsReadCause (request_asked request) budget holds before now f → IsArgumentCause r (Some v) budget holds before now f
   argument-cause before now (faults.Query s p t) h = absurd h
   argument-cause before now (faults.Cells c) h = (request_asked request, asked.is, h)
   argument-cause before now (faults.File f) h = (request_asked request, asked.is, h)
+  argument-cause before now (faults.Csv f) h = (request_asked request, asked.is, h)
   argument-cause before now faults.Device h = (request_asked request, asked.is, h)
   argument-cause before now faults.Memory h = tt
+
+  -- where no call is made for what the argument asks for, none is made for the request
+  pub unread : ForSome (asked_in r (Some v)) (CallsNoFile budget) → CallsNoFile budget (request_asked request)
+  unread h = h (request_asked request) asked.is

@@ -1,5 +1,5 @@
 -- Opening a file and reading a hyperslab of it, beside the definitions.
-use Rattle.std.proofs.Common.{◌≡◌, ℕ, ◌≤◌, Bool, true, false, List, length, Option, Some, None, Result, Ok, Err, refl, sym, ap, ◌∙◌, subst, arith, inl, inr, if◌then◌else◌}
+use Rattle.std.proofs.Common.{◌≡◌, ℕ, ◌≤◌, Bool, true, false, List, length, Option, Some, None, Result, Ok, Err, refl, sym, ap, ◌∙◌, subst, inl, inr, if◌then◌else◌}
 use Rattle.std.specs.Prelude.{option_map}
 use Rattle.std.specs.Option.{ForSome}
 use Rattle.std.specs.Str.{IsUtf8, is_utf8}
@@ -16,8 +16,8 @@ use Rattle.cdf_header.specs.declared.fault.CdfFault.{CdfFault}
 use Rattle.cdf_header.specs.declared.fault.CdfFault.TheVariants as file_faults
 use Rattle.cdf_slab.specs.Slab.{slab, slab_fault, IsSlabAnswer, IsOfRequest}
 use Rattle.nrca_array.specs.Held.{table_datum}
-use Rattle.aql_session.specs.Asked.{Asked, cells}
-use Rattle.aql_session.specs.Reading.{in_header, in_file, at_name, opened, fault_in, read_fault, value_in, unless, read_value}
+use Rattle.aql_session.specs.Asked.{Hyperslab, hyperslab, cells}
+use Rattle.aql_session.specs.Reading.{in_header, in_file, at_name, opened, fault_in, read_fault, value_in, unless, read_hyperslab}
 use Rattle.aql_session.specs.Runs.{handed_on, IsFileAt, IsFileCause, IsReadCause}
 use Rattle.aql_session.specs.Step.{IsOfFile, IsOfVersion}
 use Rattle.aql_session.specs.declared.answer.StepFault.{StepFault}
@@ -26,7 +26,7 @@ use Rattle.aql_session.specs.declared.readings.Found.{Found}
 use Rattle.aql_session.proofs.Headers.{header-failed, lost-is}
 
 -- what a reader of headers says of its answer, where these files are held
-pub record Says (a : Asked) (files : Content) (r : Result Head CdfFault) : Type 0 where
+pub record Says (a : Hyperslab) (files : Content) (r : Result Head CdfFault) : Type 0 where
   pub told : (bytes : List ℕ) → IsUtf8 a.file → files a.file ≡ Some bytes → IsAnswered (header_of bytes) r
   pub absent : files a.file ≡ None → (f : CdfFault) × (r ≡ Err f) × IsLost f
   pub unnamed : (IsUtf8 a.file → ⊥) → r ≡ Err file_faults.Absent
@@ -34,7 +34,7 @@ pub record Says (a : Asked) (files : Content) (r : Result Head CdfFault) : Type 
 err-is : (f g : CdfFault) → (let r : Result Head CdfFault = Err f in r) ≡ Err g → f ≡ g
 err-is f g e = cc
 
-module _ (a : Asked) (files : Content) where
+module _ (a : Hyperslab) (files : Content) where
   by-name : (b : Bool) → is_utf8 a.file ≡ b → opened files a ≡ at_name a (if b then files a.file else None)
   by-name b e = ap (λ t. at_name a (if t then files a.file else None)) e
 
@@ -136,7 +136,7 @@ module _ (a : Asked) (files : Content) where
   -- a hyperslab that is answered is the value of the read
   pub slab-read : (found : Found) (at : IsFileAt a files found) (t : Table) →
       IsSlabAnswer (slab_fault at.bytes found.header (variable_at found.header found.variable) a.start a.count a.stride a.signed) (slab at.bytes found.header (variable_at found.header found.variable) a.start a.count a.stride a.signed) (Ok t) →
-      (read_fault files a ≡ None) × (read_value files a ≡ Some (table_datum t))
+      (read_fault files a ≡ None) × (read_hyperslab files a ≡ Some (table_datum t))
   slab-read found at t s =
       let none : read_fault files a ≡ None = ap (fault_in a) at.is ∙ s.0 in
       (none, ap (λ o. unless o (value_in a (opened files a))) none ∙ ap (value_in a) at.is ∙ ap (option_map table_datum) s.1)
@@ -149,7 +149,7 @@ utf8-is name n = elim (cases_Bool (is_utf8 name)) [
 ]
 
 -- a fault that is handed on has its cause
-pub handed-cause : (a : Asked) (holds : Option Content) (before now : ℕ) (f : CdfFault) → (f ≡ file_faults.Device → Rose before now) →
+pub handed-cause : (a : Hyperslab) (holds : Option Content) (before now : ℕ) (f : CdfFault) → (f ≡ file_faults.Device → Rose before now) →
     ((IsUtf8 a.file → ⊥) → f ≡ file_faults.Absent) → IsOfVersion f → IsOfRequest a.start a.count a.stride a.signed f →
     (IsOfFile f → ForSome holds (λ files. read_fault files a ≡ Some f)) → IsFileCause a holds before now (handed_on f)
 handed-cause a holds before now file_faults.Absent r u v q t = (record { own = tt; unnamed = u; version = v; request = q }, t tt)
@@ -167,17 +167,18 @@ handed-cause a holds before now (file_faults.Negative n) r u v q t = (record { o
 handed-cause a holds before now file_faults.Device r u v q t = r refl
 handed-cause a holds before now file_faults.Memory r u v q t = tt
 
--- of a call that came after others on the files, and within the budget
-pub read-cause : (a : Asked) (budget : ℕ) (holds mid : Option Content) (before middle now : ℕ) (f : StepFault) → cells a ≤ budget → mid ≡ holds → before ≤ middle →
-    IsFileCause a mid middle now f → IsReadCause a budget holds before now f
-read-cause a budget holds mid before middle now (faults.Query s p t) w e l h = h
-read-cause a budget holds mid before middle now (faults.Cells c) w e l h = absurd h
-read-cause a budget holds mid before middle now (faults.File f) w e l h = (w, h.0, subst (λ o. ForSome o (λ files. read_fault files a ≡ Some f)) e h.1)
-read-cause a budget holds mid before middle now faults.Device w e l h = (w, omega (arith, l, h))
-read-cause a budget holds mid before middle now faults.Memory w e l h = tt
+-- a fault of the file of a hyperslab whose cells are within the budget
+pub read-cause : (a : Hyperslab) (budget : ℕ) (holds : Option Content) (before now : ℕ) (f : StepFault) → cells a ≤ budget → IsFileCause a holds before now f →
+    IsReadCause (hyperslab a) budget holds before now f
+read-cause a budget holds before now (faults.Query s p t) w h = absurd h
+read-cause a budget holds before now (faults.Cells c) w h = absurd h
+read-cause a budget holds before now (faults.File f) w h = (w, h.0, h.1)
+read-cause a budget holds before now (faults.Csv f) w h = absurd h
+read-cause a budget holds before now faults.Device w h = (w, h)
+read-cause a budget holds before now faults.Memory w h = tt
 
 -- what is said of the files at hand is said of those that are held
-pub says-of : (a : Asked) (holds : Option Content) (files : Content) (r : Result Head CdfFault) → holds ≡ Some files →
+pub says-of : (a : Hyperslab) (holds : Option Content) (files : Content) (r : Result Head CdfFault) → holds ≡ Some files →
     ((bytes : List ℕ) → IsUtf8 a.file → bytes_in holds a.file ≡ Some bytes → IsAnswered (header_of bytes) r) →
     (IsAbsent holds a.file → (f : CdfFault) × (r ≡ Err f) × IsLost f) → ((IsUtf8 a.file → ⊥) → r ≡ Err file_faults.Absent) → Says a files r
 says-of a holds files r e t b u = record {

@@ -1,10 +1,9 @@
 -- A query's term is typed, and its plan has its meaning.
-use Rattle.std.proofs.Common.{◌≡◌, ℕ, zero, suc, ◌-◌, ◌*◌, ◌+◌, ◌<◌, ◌≤◌, ◌^◌, List, [], ◌∷◌, ◌++◌, length, map, take, Option, Some, None, refl, sym, ap, ◌∙◌, subst, arith}
+use Rattle.std.proofs.Common.{◌≡◌, ℕ, zero, suc, ◌-◌, ◌+◌, ◌≤◌, ◌^◌, List, [], ◌∷◌, ◌++◌, length, map, take, Option, Some, refl, sym, ap, ◌∙◌, subst, arith}
 use Rattle.std.specs.Prelude.{slice_get}
 use Rattle.std.specs.Option.{ForSome}
 use Rattle.std.proofs.lemmas.List.{append-nil}
 use Rattle.aql_value.specs.Datum.{Datum}
-use Rattle.aql_value.specs.Lists.{Every}
 use Rattle.aql_value.specs.Partial.{◌>>=◌}
 use Rattle.aql_value.specs.Valid.{IsValue}
 use Rattle.aql_types.specs.Types as types
@@ -17,9 +16,9 @@ use Rattle.aql_syntax.specs.Tree.{Tree, Declaration, val, mac, read, bare}
 use Rattle.aql_syntax.specs.Typing.{Environment, Has, DeclHas, scope_of, argument_type}
 use Rattle.aql_infer_steps.specs.Typed.{ArePrincipal}
 use Rattle.nrca_term.specs.Laws.Valid.{cden-valid}
-use Rattle.nrca_term.specs.Meaning.{Outcomes, outcome, at_position, cden}
+use Rattle.nrca_term.specs.Meaning.{Outcomes, cden}
 use Rattle.nrca_term.specs.Term.{Term, weight_of, IsSmall}
-use Rattle.nrca_term.specs.Typing.{ctyped, instances, OutcomesHave}
+use Rattle.nrca_term.specs.Typing.{instances, OutcomesHave}
 use Rattle.nrca_term.specs.Rules.{Replay}
 use Rattle.nrca_term.specs.Valid.{HasConstants}
 use Rattle.nrca_term.specs.declared.trace.Step as code
@@ -29,7 +28,7 @@ use Rattle.nrca_normal.specs.Planned.{IsReplayed, IsNormalIn, IsPlan}
 use Rattle.aql_desugar_spec.specs.Laws.{value_type}
 use Rattle.aql_desugar_spec.specs.Start.{query}
 use Rattle.aql_desugar.specs.Translation.{IsTranslated, types_before, query_of, query_at}
-use Rattle.aql_session.specs.Bound.{onto, earlier_of}
+use Rattle.aql_session.specs.Bound.{onto}
 use Rattle.aql_session.specs.Known.{Knows}
 use Rattle.aql_session.specs.Planned.{IsQueryTerm}
 use Rattle.aql_session.specs.Runs.{IsReadyAt, IsQuery}

@@ -2,12 +2,11 @@
 use Rattle.std.proofs.Common.{◌≡◌, ℕ, zero, suc, ◌+◌, ◌-◌, ◌^◌, ◌<◌, ◌≤◌, List, [], ◌∷◌, ◌++◌, length, take, Option, Some, None, refl, sym, ap, ◌∙◌, subst, arith, length-take}
 use Rattle.std.specs.Prelude.{slice_get, get_or, option_map, Result, Err, IfErr}
 use Rattle.std.specs.Option.{ForSome}
-use Rattle.std.specs.Str.{IsUtf8}
 use Rattle.std.proofs.lemmas.Option.{slice_get-get_or}
 use Rattle.std.proofs.lemmas.List.{length-map}
 use Rattle.aql_outside.specs.Contents.{Content}
 use Rattle.aql_value.specs.Datum.{Datum}
-use Rattle.aql_value.specs.Partial.{◌>>=◌, if_some}
+use Rattle.aql_value.specs.Partial.{◌>>=◌}
 use Rattle.aql_types.specs.Types.{Ty, Sort, Subst, apply, value, macro, IsWithin}
 use Rattle.aql_types.specs.ValueTypes.{HasType}
 use Rattle.aql_types.specs.View.{sort_of}
@@ -27,13 +26,11 @@ use Rattle.nrca_term.specs.Laws.Equations.{term_of-Bottom}
 use Rattle.nrca_term.specs.View.{term_of}
 use Rattle.nrca_term.specs.Meaning.{Outcomes}
 use Rattle.nrca_term.specs.declared.term.Core.TheVariants as core
-use Rattle.cdf_slab.specs.Slab.{first_zero}
 use Rattle.aql_value.specs.Limits.{most_budget}
-use Rattle.aql_session.specs.Asked.{Asked, cells}
 use Rattle.aql_session.specs.Bound.{Bound, AreBound, earlier_of, outcomes}
-use Rattle.aql_session.specs.Reading.{read_fault, read_value, reading}
+use Rattle.aql_session.specs.Reading.{read_value, reading}
 use Rattle.aql_session.specs.Runs.{IsReadyAt, IsValueDeclaration, IsSpentFault, IsEvaluated, IsReadBy, IsArgumentCause, IsRun, IsAnswerOf, asked_in, query_value}
-use Rattle.aql_session.specs.Step.{HasPlan, IsAnswer, IsOutcome, IsReadOutcome, BindsPosition, IsCause, IsOverTurns, NoMacroHasValue, OutcomesFit, ReadsNoFile, asks, counted, start_of}
+use Rattle.aql_session.specs.Step.{CallsNoFile, HasPlan, IsAnswer, IsCounted, IsCountOf, IsOutcome, IsReadable, IsReadOutcome, BindsPosition, IsCause, IsOverTurns, NoMacroHasValue, OutcomesFit, ReadsNoFile, asks, start_of}
 use Rattle.aql_session.specs.declared.answer.Answer.{Answer}
 use Rattle.aql_session.specs.declared.answer.Ran.TheVariants as ran
 use Rattle.aql_session.specs.declared.answer.StepFault.{StepFault}
@@ -72,7 +69,7 @@ plain-run (val x e) earlier budget holds q p h = record {
   start = h.start;
   planned = h.planned;
   counts = h.counts;
-  answerable = record { cells = λ a k. cc; named = λ a k. cc; strides = λ a k. cc; file = λ a k. cc };
+  answerable = λ a k. cc;
   outcome = h.value;
   valid = h.valid;
 }
@@ -82,7 +79,7 @@ plain-run (bare e) earlier budget holds q p h = record {
   start = h.start;
   planned = h.planned;
   counts = h.counts;
-  answerable = record { cells = λ a k. cc; named = λ a k. cc; strides = λ a k. cc; file = λ a k. cc };
+  answerable = λ a k. cc;
   outcome = h.value;
   valid = h.valid;
 }
@@ -94,7 +91,7 @@ macro-run f p body earlier budget holds = record {
   start = term_of-Bottom;
   planned = (term_of-Bottom, refl);
   counts = refl;
-  answerable = record { cells = λ a k. cc; named = λ a k. cc; strides = λ a k. cc; file = λ a k. cc };
+  answerable = λ a k. cc;
   outcome = refl;
   valid = λ v k. cc;
 }
@@ -103,6 +100,7 @@ pub spent-cause : (d : Declaration) (earlier : Earlier) (budget : ℕ) (holds : 
 spent-cause d earlier budget holds before now (faults.Query s p t) h = h
 spent-cause d earlier budget holds before now (faults.Cells c) h = absurd h
 spent-cause d earlier budget holds before now (faults.File f) h = absurd h
+spent-cause d earlier budget holds before now (faults.Csv f) h = absurd h
 spent-cause d earlier budget holds before now faults.Device h = absurd h
 spent-cause d earlier budget holds before now faults.Memory h = tt
 
@@ -114,10 +112,6 @@ plain-device position d earlier budget r there cause device =
     subst (λ (x : Result Run StepFault). IfErr x (λ f. ForSome position (λ e. IsCause e earlier budget None 1 0 f))) device (cause None 1 0) in
     let rose = (h d there).3.1 in absurd (omega (arith, rose))
 
-some-within : (o : Option Asked) (budget : ℕ) → ForSome o (λ a. cells a ≤ budget) → if_some o cells ≤ budget
-some-within None budget h = omega arith
-some-within (Some a) budget h = h a refl
-
 module _ (x : Name) (r : Reader) (e : Tree) (earlier : Earlier) (budget : ℕ) (q : Evaluated) (h : IsEvaluated (read x r e) earlier budget q) where
   argument-is : held_value q.value ≡ den e (globals_of earlier) []
   argument-is = h.value
@@ -128,45 +122,38 @@ module _ (x : Name) (r : Reader) (e : Tree) (earlier : Earlier) (budget : ℕ) (
   -- a readval: its argument, and what it asks for
   pub readval-run : (holds : Option Content) (y : Read) → IsReadBy r (held_value q.value) budget holds y →
       IsRun (read x r e) earlier budget holds
-      (record { start = q.start; plan = q.plan; trace = q.trace; by = ran.Read; turns = q.turns + y.cells; value = y.value })
+      (record { start = q.start; plan = q.plan; trace = q.trace; by = ran.Read; turns = q.turns + y.turns; value = y.value })
   readval-run holds y k = record {
     start = h.start;
     planned = h.planned;
-    counts =
-        ap (option_map (λ c. (ran.Read, c.1 + if_some (asks (read x r e) earlier) cells))) h.counts
-        ∙ ap (λ n. Some (ran.Read, q.turns + n)) (sym (k.many ∙ ap (λ o. if_some o cells) asked-is));
-    answerable = record {
-      cells = subst (λ o. ForSome o (λ a. cells a ≤ budget)) asked-is k.within;
-      named = subst (λ o. ForSome o (λ a. IsUtf8 a.file)) asked-is k.named;
-      strides = subst (λ o. ForSome o (λ a. first_zero 1 a.stride ≡ None)) asked-is k.strides;
-      file = subst (λ o. ForSome o (λ a. ForSome holds (λ files. read_fault files a ≡ None))) asked-is k.file;
-    };
+    counts = ((q.by, q.turns), y.turns, h.counts, refl, subst (λ o. IsCountOf budget holds o (held_value y.value) y.turns) asked-is k.counts);
+    answerable = subst (λ o. ForSome o (IsReadable budget holds)) asked-is k.readable;
     outcome = subst (λ o. IsReadOutcome r o holds (held_value y.value)) argument-is k.outcome;
     valid = k.valid;
   }
 
   -- the turns fit
-  pub readval-fits : (holds : Option Content) (y : Read) → budget ≤ most_budget → IsReadBy r (held_value q.value) budget holds y → q.turns + y.cells < 2 ^ 128
-  readval-fits holds y b k =
-      let n = some-within (asked_in r (held_value q.value)) budget k.within in
-      omega (arith, evaluated-within (read x r e) earlier budget q h, k.many, n, b)
+  pub readval-fits : (holds : Option Content) (y : Read) → budget ≤ most_budget → IsReadBy r (held_value q.value) budget holds y → q.turns + y.turns < 2 ^ 128
+  readval-fits holds y b k = omega (arith, evaluated-within (read x r e) earlier budget q h, k.few, b)
 
   pub readval-cause : (holds : Option Content) (before now : ℕ) (f : StepFault) → IsArgumentCause r (held_value q.value) budget holds before now f → IsCause (read x r e) earlier budget holds before now f
   readval-cause holds before now (faults.Query s p t) k = absurd k.2
   readval-cause holds before now (faults.Cells c) k = (evaluated-may (read x r e) earlier budget q h, k.0, sym asked-is ∙ k.1, k.2)
   readval-cause holds before now (faults.File f) k = (evaluated-may (read x r e) earlier budget q h, k.0, sym asked-is ∙ k.1, k.2)
+  readval-cause holds before now (faults.Csv f) k = (evaluated-may (read x r e) earlier budget q h, k.0, sym asked-is ∙ k.1, k.2)
   readval-cause holds before now faults.Device k = (evaluated-may (read x r e) earlier budget q h, k.0, sym asked-is ∙ k.1, k.2)
   readval-cause holds before now faults.Memory k = tt
 
-  -- where no file is read, the cells pass the budget
-  pub readval-unread : ReadsNoFile (read x r e) earlier budget → ForSome (asked_in r (held_value q.value)) (λ a. budget < cells a)
-  readval-unread k = subst (λ o. ForSome o (λ a. budget < cells a)) (sym asked-is) k
+  -- where no file is read, no call is made for what is asked for
+  pub readval-unread : ReadsNoFile (read x r e) earlier budget → ForSome (asked_in r (held_value q.value)) (CallsNoFile budget)
+  readval-unread k = subst (λ o. ForSome o (CallsNoFile budget)) (sym asked-is) k
 
   -- a fault of the reading is none of the turns
   pub readval-turns : (holds : Option Content) (before now : ℕ) (f : StepFault) → IsArgumentCause r (held_value q.value) budget holds before now f → IsOverTurns f → ⊥
   readval-turns holds before now (faults.Query s p t) k over = k.2
   readval-turns holds before now (faults.Cells c) k over = over
   readval-turns holds before now (faults.File f) k over = over
+  readval-turns holds before now (faults.Csv f) k over = over
   readval-turns holds before now faults.Device k over = over
   readval-turns holds before now faults.Memory k over = over
 
@@ -195,7 +182,7 @@ module _ (ds : List Declaration) (sorts : List Sort) (n : ℕ) (V : Outcomes) (s
 
   -- the answer of a run
   pub answer-is : (d : Declaration) → slice_get ds (n - 1) ≡ Some d → (budget : ℕ) (holds : Option Content) (r : Run) (a : Answer) → IsRun d (earlier_of ds V) budget holds r →
-      IsAnswerOf d (slice_get sorts (n - 1)) r a → IsAnswer d (earlier_of ds V) budget (slice_get sorts (n - 1)) a
+      IsAnswerOf d (slice_get sorts (n - 1)) r a → IsAnswer d (earlier_of ds V) (slice_get sorts (n - 1)) a
   answer-is d e budget holds r a h k =
       let s = sort-at ds sorts n d stands.checked e in
       let z : s.0 ≡ sort_of a.ty = (let y = sym s.1 ∙ k.found in cc) in
@@ -210,9 +197,6 @@ module _ (ds : List Declaration) (sorts : List Sort) (n : ℕ) (V : Outcomes) (s
             subst (λ t. HasPlan d (earlier_of ds V) t a.trace (term_of a.plan)) (sym (k.start ∙ h.start))
             (subst (λ t. HasPlan d (earlier_of ds V) (start_of d (earlier_of ds V)) a.trace t) (sym k.plan)
             (subst (λ s. HasPlan d (earlier_of ds V) (start_of d (earlier_of ds V)) s (term_of r.plan)) (sym k.trace) h.planned));
-        counts =
-            ap (counted d (earlier_of ds V) budget) k.plan ∙ h.counts
-            ∙ ap (λ b. Some (b, r.turns)) (sym k.by) ∙ ap (λ m. Some (a.by, m)) (sym k.turns);
       }
 
 no-reading : ReaderMeaning
@@ -255,14 +239,18 @@ outcome-told (read x r e) earlier holds o k files l = go (den e (globals_of earl
         ap (λ w. option_map (λ y. Some y) (w >>= read_value files)) k.2 ∙ ap (option_map (λ y. Some y)) (k.4.told files l) ∙ ap Some (sym k.3)
 
 -- the position that a run binds
-pub binds-is : (d : Declaration) (earlier : Earlier) (budget : ℕ) (holds : Option Content) (r : Run) (old new : Bound) → OutcomesFit earlier → IsRun d earlier budget holds r →
-    new ≡ old ++ (declared d, held_value r.value) ∷ [] → BindsPosition d earlier holds old new
-binds-is d earlier budget holds r old new t h e = record {
+pub binds-is : (d : Declaration) (earlier : Earlier) (budget : ℕ) (holds : Option Content) (r : Run) (sort : Option Sort) (a : Answer) (old new : Bound) → OutcomesFit earlier →
+    IsRun d earlier budget holds r → IsAnswerOf d sort r a → new ≡ old ++ (declared d, held_value r.value) ∷ [] → BindsPosition d earlier budget holds old new a
+binds-is d earlier budget holds r sort a old new t h k e = record {
   outcome = held_value r.value;
   bound = e;
   is = h.outcome;
   typed = (outcome-typed d earlier holds (held_value r.value) t.0 h.outcome, outcome-bare d earlier holds (held_value r.value) t.1 h.outcome);
   told = outcome-told d earlier holds (held_value r.value) h.outcome;
+  counts =
+      subst (λ u. IsCounted d earlier budget holds u (held_value r.value) (a.by, a.turns)) (sym k.plan)
+      (subst (λ b. IsCounted d earlier budget holds (term_of r.plan) (held_value r.value) (b, a.turns)) (sym k.by)
+      (subst (λ m. IsCounted d earlier budget holds (term_of r.plan) (held_value r.value) (r.by, m)) (sym k.turns) h.counts));
 }
 
 -- as many outcomes as positions before n

@@ -39,17 +39,17 @@ abbrev pub so_far : Decls → Outcomes → Earlier
 so_far decls V = earlier_of (declarations decls) V
 
 -- this is the answer of declaration n over the outcomes of those before it
-abbrev pub IsAnswerTo : Decls → Typed → (n : ℕ) → Outcomes → Options → Answer → Type 0
-IsAnswerTo decls typed n V options a =
-    ForSome (declaration_numbered decls n) (λ d. IsAnswer d (so_far decls V) options.budget (sort_numbered typed n) a)
+abbrev pub IsAnswerTo : Decls → Typed → (n : ℕ) → Outcomes → Answer → Type 0
+IsAnswerTo decls typed n V a = ForSome (declaration_numbered decls n) (λ d. IsAnswer d (so_far decls V) (sort_numbered typed n) a)
 
 -- declaration n is answerable within the budget over files that hold this
 abbrev pub MayBeAnswered : Decls → (n : ℕ) → Outcomes → Options → Option Content → Type 0
 MayBeAnswered decls n V options holds = ForSome (declaration_numbered decls n) (λ d. IsAnswerable d (so_far decls V) options.budget holds)
 
--- declaration n is bound behind the positions before it, to its outcome over files that hold this
-abbrev pub BindsNext : Decls → (n : ℕ) → Option Content → (old new : Bound) → Type 0
-BindsNext decls n holds old new = ForSome (declaration_numbered decls n) (λ d. BindsPosition d (so_far decls (outcomes old)) holds old new)
+-- declaration n is bound behind the positions before it, to its outcome over files that hold this, and the answer says what that took
+abbrev pub BindsNext : Decls → (n : ℕ) → Options → Option Content → (old new : Bound) → Answer → Type 0
+BindsNext decls n options holds old new a =
+    ForSome (declaration_numbered decls n) (λ d. BindsPosition d (so_far decls (outcomes old)) options.budget holds old new a)
 
 -- why declaration n has no answer; the counts of faults are those of the files before and after
 abbrev pub IsCauseOf : Decls → (n : ℕ) → Outcomes → Options → Option Content → (before now : ℕ) → StepFault → Type 0

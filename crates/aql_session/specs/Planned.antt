@@ -64,5 +64,6 @@ PassBoth V budget p (faults.Query start plan trace) =
     × (budget < settle V [] (term_of p.plan)) × (budget < settle V [] (term_of p.start))
 PassBoth V budget p (faults.Cells c) = ⊥
 PassBoth V budget p (faults.File f) = ⊥
+PassBoth V budget p (faults.Csv f) = ⊥
 PassBoth V budget p faults.Device = ⊥
 PassBoth V budget p faults.Memory = Unit {0}

@@ -1,5 +1,5 @@
 -- What the functions within this crate say of one another's answers.
-use Rattle.std.specs.Prelude.{◌≡◌, ℕ, ◌-◌, ◌^◌, ◌<◌, ◌≤◌, min, Bool, List, [], ◌∷◌, ◌++◌, length, Option, Some, None, option_map, Ok, if◌then◌else◌}
+use Rattle.std.specs.Prelude.{◌≡◌, ℕ, ◌-◌, ◌<◌, ◌≤◌, Bool, List, [], ◌∷◌, ◌++◌, length, Option, Some, None, option_map, Ok, if◌then◌else◌}
 use Rattle.std.specs.Global.{Vec}
 use Rattle.std.specs.Option.{ForSome}
 use Rattle.std.specs.Str.{IsUtf8}
@@ -10,7 +10,7 @@ use Rattle.aql_value.specs.Datum.{Datum, Table}
 use Rattle.aql_value.specs.Meaning.{datum}
 use Rattle.aql_value.specs.declared.value.Value.{Value}
 use Rattle.aql_value.specs.Operations.{as_natural}
-use Rattle.aql_value.specs.Partial.{◌>>=◌, if_some}
+use Rattle.aql_value.specs.Partial.{◌>>=◌}
 use Rattle.aql_value.specs.Valid.{IsValue}
 use Rattle.aql_types.specs.Types as types
 use Rattle.aql_types.specs.Types.{Ty, Sort}
@@ -21,9 +21,12 @@ use Rattle.aql_syntax.specs.Script.{Earlier, globals_of}
 use Rattle.aql_syntax.specs.Size.{before, AreWithinLimits}
 use Rattle.aql_syntax.specs.Sound.{OutcomesTyped}
 use Rattle.aql_syntax.specs.Tree.{Name, Tree, Reader, Declaration, val, mac, read, bare, declared}
-use Rattle.aql_syntax.specs.Typing.{reader_type, argument_type}
+use Rattle.aql_syntax.specs.Typing.{reader_type, argument_type, record_type}
 use Rattle.aql_syntax.specs.View.{reader_of}
+use Rattle.aql_syntax.specs.declared.ast.CsvReader.{CsvReader}
 use Rattle.aql_syntax.specs.declared.ast.Reader as ast
+use Rattle.aql_csv.specs.declared.fault.CsvFault.{CsvFault}
+use Rattle.aql_csv.specs.declared.fault.CsvFault.TheVariants as csv_faults
 use Rattle.aql_infer_steps.specs.Typed.{ArePrincipal}
 use Rattle.nrca_array.specs.Held.{table_datum}
 use Rattle.nrca_array.specs.declared.held.Held.{Held}
@@ -39,12 +42,12 @@ use Rattle.cdf_header.specs.declared.fault.CdfFault.{CdfFault}
 use Rattle.cdf_header.specs.declared.fault.CdfFault.TheVariants as file_faults
 use Rattle.cdf_slab.specs.Slab.{IsShaped, first_zero}
 use Rattle.aql_value.specs.Limits.{most_workers}
-use Rattle.aql_session.specs.Asked.{Asked, asked, asked_of, cells}
+use Rattle.aql_session.specs.Asked.{Hyperslab, Asked, hyperslab, table, asked, asked_of}
 use Rattle.aql_session.specs.Bound.{Bound, earlier_of}
 use Rattle.aql_session.specs.Numbered.{declarations, sorts, declaration_numbered, sort_numbered, so_far, IsCauseOf, UnlessRead}
-use Rattle.aql_session.specs.Reading.{opened, read_fault, read_value}
+use Rattle.aql_session.specs.Reading.{opened, read_fault, read_hyperslab, read_value}
 use Rattle.aql_session.specs.Planned.{IsQueryTerm}
-use Rattle.aql_session.specs.Step.{HasPlan, IsAnswerable, IsOutcome, IsReadOutcome, IsRequestFault, NoMacroHasValue, chosen, counted, query_turns, start_of, start_term, turns_in}
+use Rattle.aql_session.specs.Step.{CallsFiles, CallsNoFile, HasFileFault, HasForm, HasPlan, HasTableFault, IsAnswerable, IsCount, IsCounted, IsCountOf, IsOutcome, IsReadable, IsReadOutcome, IsRequestFault, NoMacroHasValue, PassesBudget, chosen, query_turns, start_of, start_term, turns_in}
 use Rattle.aql_session.specs.declared.answer.Answer.{Answer}
 use Rattle.aql_session.specs.declared.answer.StepFault.{StepFault}
 use Rattle.aql_session.specs.declared.answer.StepFault.TheVariants as faults
@@ -52,6 +55,8 @@ use Rattle.aql_session.specs.declared.queries.Evaluated.{Evaluated}
 use Rattle.aql_session.specs.declared.readings.Found.{Found}
 use Rattle.aql_session.specs.declared.readings.Read.{Read}
 use Rattle.aql_session.specs.declared.readings.Request.{Request}
+use Rattle.aql_session.specs.declared.readings.Request.TheVariants as requests
+use Rattle.aql_session.specs.declared.readings.SlabRequest.{SlabRequest}
 use Rattle.aql_session.specs.declared.runs.Position.{Position}
 use Rattle.aql_session.specs.declared.runs.Run.{Run}
 
@@ -89,16 +94,25 @@ IsSpentFault d earlier budget (faults.Query start plan trace) =
 IsSpentFault d earlier budget faults.Memory = Unit {0}
 IsSpentFault d earlier budget f = ⊥
 
+-- the hyperslab that a request asks for
+abbrev pub slab_asked : SlabRequest → Hyperslab
+slab_asked r = record { file = r.file; variable = r.variable; start = r.start.items; count = r.count.items; stride = r.stride.items; signed = r.signed }
+
+-- the table that is asked for by a file's name and a reader
+abbrev pub table_asked : List ℕ → CsvReader → Asked
+table_asked file reader = table file reader.header reader.kinds.items.items
+
 -- what a request asks for
 abbrev pub request_asked : Request → Asked
-request_asked r = record { file = r.file; variable = r.variable; start = r.start.items; count = r.count.items; stride = r.stride.items; signed = r.signed }
+request_asked (requests.Slab r) = hyperslab (slab_asked r)
+request_asked (requests.Table file reader) = table_asked file reader.now
 
 -- the index of one number, where the value is one
 abbrev pub single_index : Datum → Option (List ℕ)
 single_index v = as_natural v >>= λ n. Some (n ∷ [])
 
 -- an index for each dimension, of 1 to 8
-pub record HasRank (a : Asked) : Type 0 where
+pub record HasRank (a : Hyperslab) : Type 0 where
   pub some : 1 ≤ length a.start
   pub few : length a.start ≤ 8
   pub counts : length a.count ≡ length a.start
@@ -108,14 +122,31 @@ pub record HasRank (a : Asked) : Type 0 where
 abbrev pub cell_type : (signed : Bool) → Ty
 cell_type signed = if signed then types.product (types.type types.truth (types.type types.natural types.no_type)) else types.natural
 
+-- the type of what is asked for
+abbrev pub asked_type : Asked → Ty
+asked_type (hyperslab h) = types.array_of (length h.count) (cell_type h.signed)
+asked_type (table file header ks) = types.set_of (record_type ks)
+
+-- it can be read: a hyperslab has an index for each dimension, a record at least one field
+abbrev pub IsProper : Asked → Type 0
+IsProper (hyperslab h) = HasRank h
+IsProper (table file header ks) = 1 ≤ length ks
+
 -- the fault of a step for one of a file
 abbrev pub handed_on : CdfFault → StepFault
 handed_on file_faults.Device = faults.Device
 handed_on file_faults.Memory = faults.Memory
 handed_on f = faults.File f
 
+-- the fault of a step for one of a file of records
+abbrev pub table_handed_on : CsvFault → StepFault
+table_handed_on (csv_faults.Long n) = faults.Cells n
+table_handed_on csv_faults.Device = faults.Device
+table_handed_on csv_faults.Memory = faults.Memory
+table_handed_on f = faults.Csv f
+
 -- the bytes of the file that these files hold, with what was found in it
-pub record IsFileAt (a : Asked) (files : Content) (found : Found) : Type 0 where
+pub record IsFileAt (a : Hyperslab) (files : Content) (found : Found) : Type 0 where
   pub bytes : List ℕ
   pub utf8 : IsUtf8 a.file
   pub there : files a.file ≡ Some bytes
@@ -123,55 +154,60 @@ pub record IsFileAt (a : Asked) (files : Content) (found : Found) : Type 0 where
   pub is : opened files a ≡ Ok (record { bytes = bytes; head = found.header; variable = variable_at found.header found.variable })
 
 -- what was found of what is asked for: the file's header and its variable, and where the files are told the ones of its bytes
-pub record IsOpened (a : Asked) (holds : Option Content) (found : Found) : Type 0 where
+pub record IsOpened (a : Hyperslab) (holds : Option Content) (found : Found) : Type 0 where
   pub variable : found.variable < length found.header.vars
   pub told : ForSome holds (λ files. IsFileAt a files found)
 
 -- what was read of what is asked for
-pub record IsSlabOf (a : Asked) (holds : Option Content) (t : Table) : Type 0 where
+pub record IsSlabOf (a : Hyperslab) (holds : Option Content) (t : Table) : Type 0 where
   pub shaped : IsShaped a.count a.signed t
   pub named : IsUtf8 a.file
   pub strides : first_zero 1 a.stride ≡ None
-  pub told : ForSome holds (λ files. (read_fault files a ≡ None) × (read_value files a ≡ Some (table_datum t)))
+  pub told : ForSome holds (λ files. (read_fault files a ≡ None) × (read_hyperslab files a ≡ Some (table_datum t)))
 
--- what was read of what is asked for, within the budget
-pub record IsReadOf (a : Asked) (budget : ℕ) (holds : Option Content) (t : Table) : Type 0 where
-  pub within : cells a ≤ budget
-  pub slab : IsSlabOf a holds t
+-- what was read of what is asked for
+pub record IsReadOf (a : Asked) (budget : ℕ) (holds : Option Content) (x : Read) : Type 0 where
+  pub value : Datum
+  pub is : held_value x.value ≡ Some value
+  pub counts : IsCount budget holds a value x.turns
+  pub few : x.turns ≤ budget
+  pub readable : IsReadable budget holds a
+  pub typed : HasType (asked_type a) value
+  pub form : HasForm holds a value
+  pub told : ForSome holds (λ files. read_value files a ≡ Some value)
+  pub valid : IsValue value
 
 -- why the file was not read
-abbrev pub IsFileCause : Asked → Option Content → (before now : ℕ) → StepFault → Type 0
-IsFileCause a holds before now (faults.Query start plan trace) = ⊥
-IsFileCause a holds before now (faults.Cells c) = ⊥
+abbrev pub IsFileCause : Hyperslab → Option Content → (before now : ℕ) → StepFault → Type 0
 IsFileCause a holds before now (faults.File f) = IsRequestFault a f × ForSome holds (λ files. read_fault files a ≡ Some f)
 IsFileCause a holds before now faults.Device = Rose before now
 IsFileCause a holds before now faults.Memory = Unit {0}
+IsFileCause a holds before now f = ⊥
 
--- why what is asked for was not read: the cells pass the budget, or the file has a fault
+-- why what is asked for was not read: it passes the budget, or the file has a fault
 abbrev pub IsReadCause : Asked → (budget : ℕ) → Option Content → (before now : ℕ) → StepFault → Type 0
 IsReadCause a budget holds before now (faults.Query start plan trace) = ⊥
-IsReadCause a budget holds before now (faults.Cells c) = (budget < cells a) × (c ≡ min (cells a) (2 ^ 128 - 1))
-IsReadCause a budget holds before now (faults.File f) = (cells a ≤ budget) × IsRequestFault a f × ForSome holds (λ files. read_fault files a ≡ Some f)
-IsReadCause a budget holds before now faults.Device = (cells a ≤ budget) × Rose before now
+IsReadCause a budget holds before now (faults.Cells c) = PassesBudget budget holds c a
+IsReadCause a budget holds before now (faults.File f) = HasFileFault budget holds f a
+IsReadCause a budget holds before now (faults.Csv f) = HasTableFault budget holds f a
+IsReadCause a budget holds before now faults.Device = CallsFiles budget a × Rose before now
 IsReadCause a budget holds before now faults.Memory = Unit {0}
 
 -- what the outcome of a reader's argument asks for
 abbrev pub asked_in : Reader → Option Datum → Option Asked
 asked_in r argument = argument >>= asked_of r
 
--- a request that the value of an argument asks for, where the reader's arrays have as many dimensions
+-- a request that the value of an argument asks for, of the reader's type
 pub record IsRequestOf (r : Reader) (v : Datum) (request : Request) : Type 0 where
   pub is : asked_of r v ≡ Some (request_asked request)
-  pub rank : HasRank (request_asked request)
-  pub type : reader_type r ≡ types.array_of (length request.count.items) (cell_type request.signed)
+  pub proper : IsProper (request_asked request)
+  pub type : reader_type r ≡ asked_type (request_asked request)
 
 -- what was read by the outcome of a reader's argument
 pub record IsReadBy (r : Reader) (argument : Option Datum) (budget : ℕ) (holds : Option Content) (x : Read) : Type 0 where
-  pub many : x.cells ≡ if_some (asked_in r argument) cells
-  pub within : ForSome (asked_in r argument) (λ a. cells a ≤ budget)
-  pub named : ForSome (asked_in r argument) (λ a. IsUtf8 a.file)
-  pub strides : ForSome (asked_in r argument) (λ a. first_zero 1 a.stride ≡ None)
-  pub file : ForSome (asked_in r argument) (λ a. ForSome holds (λ files. read_fault files a ≡ None))
+  pub counts : IsCountOf budget holds (asked_in r argument) (held_value x.value) x.turns
+  pub few : x.turns ≤ budget
+  pub readable : ForSome (asked_in r argument) (IsReadable budget holds)
   pub outcome : IsReadOutcome r argument holds (held_value x.value)
   pub valid : ForSome (held_value x.value) IsValue
 
@@ -195,7 +231,7 @@ IsReadval position r = (x : Name) × (e : Tree) × (position ≡ Some (read x r 
 pub record IsRun (d : Declaration) (earlier : Earlier) (budget : ℕ) (holds : Option Content) (r : Run) : Type 0 where
   pub start : term_of r.start ≡ start_of d earlier
   pub planned : HasPlan d earlier (start_of d earlier) r.trace (term_of r.plan)
-  pub counts : counted d earlier budget (term_of r.plan) ≡ Some (r.by, r.turns)
+  pub counts : IsCounted d earlier budget holds (term_of r.plan) (held_value r.value) (r.by, r.turns)
   pub answerable : IsAnswerable d earlier budget holds
   pub outcome : IsOutcome d earlier holds (held_value r.value)
   pub valid : ForSome (held_value r.value) IsValue
@@ -217,12 +253,16 @@ abbrev pub items_of : Option (Vec ℕ) → Option (List ℕ)
 items_of o = option_map (λ v. v.items) o
 
 -- what is asked for by four values and the stride
-abbrev pub asked_by : (rank : ℕ) → (signed : Bool) → (Value × Value × Value × Value) → (stride : Option (List ℕ)) → Option Asked
+abbrev pub asked_by : (rank : ℕ) → (signed : Bool) → (Value × Value × Value × Value) → (stride : Option (List ℕ)) → Option Hyperslab
 asked_by rank signed p stride = asked rank signed (datum p.0) (datum p.1) (datum p.2) (datum p.3) stride
 
 -- the request is one for this, where anything is asked for
 abbrev pub Requests : Option Asked → Option Request → Type 0
 Requests asks r = option_map request_asked r ≡ asks
+
+-- the same of a hyperslab
+abbrev pub RequestsSlab : Option Hyperslab → Option SlabRequest → Type 0
+RequestsSlab asks r = option_map slab_asked r ≡ asks
 
 -- what the outcome of a reader's argument asks for, as they are held
 abbrev pub asked_held : ast.Reader → Option Held → Option Asked
@@ -232,9 +272,9 @@ asked_held reader argument = asked_in (reader_of reader) (held_value argument)
 abbrev pub ArgumentFits : ast.Reader → Option Held → Type 0
 ArgumentFits reader argument = ForSome (held_value argument) (HasType (argument_type (reader_of reader)))
 
--- what a reader's argument asks for has more cells than the budget
-abbrev pub AsksTooMuch : ast.Reader → Option Held → (budget : ℕ) → Type 0
-AsksTooMuch reader argument budget = ForSome (asked_held reader argument) (λ a. budget < cells a)
+-- no call is made on the files for what a reader's argument asks for
+abbrev pub AsksNoFile : ast.Reader → Option Held → (budget : ℕ) → Type 0
+AsksNoFile reader argument budget = ForSome (asked_held reader argument) (CallsNoFile budget)
 
 -- what was read by a reader's argument
 abbrev pub ReadsBy : ast.Reader → Option Held → (budget : ℕ) → Option Content → Read → Type 0
@@ -245,13 +285,13 @@ abbrev pub ArgumentFails : {F : Type 0} → ast.Reader → Option Held → (budg
 ArgumentFails reader argument budget f old new fault =
     IsArgumentCause (reader_of reader) (held_value argument) budget (f.holds old) (f.faults old) (f.faults new) fault
 
--- why a request was not read over files as they were and are
-abbrev pub RequestFails : {F : Type 0} → Request → (budget : ℕ) → files.Ghosts F → (old new : F) → StepFault → Type 0
-RequestFails request budget f old new fault = IsReadCause (request_asked request) budget (f.holds old) (f.faults old) (f.faults new) fault
+-- why what is asked for was not read over files as they were and are
+abbrev pub ReadFails : {F : Type 0} → Asked → (budget : ℕ) → files.Ghosts F → (old new : F) → StepFault → Type 0
+ReadFails a budget f old new fault = IsReadCause a budget (f.holds old) (f.faults old) (f.faults new) fault
 
--- why its file was not read
-abbrev pub FileFails : {F : Type 0} → Request → files.Ghosts F → (old new : F) → StepFault → Type 0
-FileFails request f old new fault = IsFileCause (request_asked request) (f.holds old) (f.faults old) (f.faults new) fault
+-- why the file of a hyperslab was not read
+abbrev pub FileFails : {F : Type 0} → Hyperslab → files.Ghosts F → (old new : F) → StepFault → Type 0
+FileFails a f old new fault = IsFileCause a (f.holds old) (f.faults old) (f.faults new) fault
 
 -- Of a position: declaration n of a script that was checked, and how it is run.
 

@@ -1,19 +1,23 @@
 -- What `step` answers of a declaration, what it binds it to, and why it answers a fault.
-use Rattle.std.specs.Prelude.{◌≡◌, ◌⊎◌, ℕ, ◌+◌, ◌-◌, ◌^◌, ◌<◌, ◌≤◌, min, nat_lt, List, [], ◌∷◌, ◌++◌, Option, Some, None, option_map, if◌then◌else◌}
+use Rattle.std.specs.Prelude.{◌≡◌, ◌⊎◌, ℕ, ◌+◌, ◌-◌, ◌^◌, ◌<◌, ◌≤◌, min, nat_lt, Bool, List, [], ◌∷◌, ◌++◌, length, Option, Some, None, option_map, Ok, Err, if◌then◌else◌}
 use Rattle.std.specs.Option.{ForSome}
 use Rattle.std.specs.Str.{IsUtf8}
 use Rattle.aql_outside.specs.Causes.{Rose}
 use Rattle.aql_outside.specs.Contents.{Content}
 use Rattle.aql_value.specs.Datum.{Datum, array, data_of}
-use Rattle.aql_value.specs.Partial.{◌>>=◌, if_some}
+use Rattle.aql_value.specs.Partial.{◌>>=◌}
 use Rattle.aql_types.specs.Types.{Sort}
 use Rattle.aql_types.specs.ValueTypes.{HasType}
 use Rattle.aql_types.specs.View.{sort_of}
 use Rattle.aql_syntax.specs.Denotation.{den}
 use Rattle.aql_syntax.specs.Script.{Earlier, globals_of, outcome_after}
 use Rattle.aql_syntax.specs.Sound.{declarations_of, OutcomesTyped}
-use Rattle.aql_syntax.specs.Tree.{Tree, Reader, plain, signed, strided, records, Declaration, val, mac, read, bare, declared}
+use Rattle.aql_syntax.specs.Tree.{Tree, Reader, Declaration, val, mac, read, bare, declared}
 use Rattle.aql_syntax.specs.Typing.{reader_type, scope_of, IsPrincipal}
+use Rattle.aql_syntax.specs.declared.ast.Kind.{Kind}
+use Rattle.aql_csv.specs.File.{set_of}
+use Rattle.aql_csv.specs.declared.fault.CsvFault.{CsvFault}
+use Rattle.aql_csv.specs.declared.fault.CsvFault.TheVariants as csv_faults
 use Rattle.nrca_term.specs.Nodes.{bottom_term}
 use Rattle.nrca_term.specs.Term.{Term}
 use Rattle.nrca_term.specs.Turns.{settle}
@@ -26,9 +30,9 @@ use Rattle.cdf_header.specs.declared.fault.CdfFault.{CdfFault}
 use Rattle.cdf_header.specs.declared.fault.CdfFault.TheVariants as file_faults
 use Rattle.cdf_header.specs.File.{IsVersion}
 use Rattle.cdf_slab.specs.Slab.{IsOfRequest, first_zero}
-use Rattle.aql_session.specs.Asked.{Asked, asked_of, cells}
+use Rattle.aql_session.specs.Asked.{Hyperslab, Asked, hyperslab, table, asked_of, file_of, cells}
 use Rattle.aql_session.specs.Bound.{Bound}
-use Rattle.aql_session.specs.Reading.{read_fault, read_value, reading}
+use Rattle.aql_session.specs.Reading.{IsFaultless, file_in, read_fault, read_table, read_value, reading}
 use Rattle.aql_session.specs.declared.answer.Answer.{Answer}
 use Rattle.aql_session.specs.declared.answer.Ran.{Ran}
 use Rattle.aql_session.specs.declared.answer.Ran.TheVariants as ran
@@ -36,20 +40,6 @@ use Rattle.aql_session.specs.declared.answer.StepFault.{StepFault}
 use Rattle.aql_session.specs.declared.answer.StepFault.TheVariants as faults
 
 -- Conditions.
-
--- the reader is none of records
-abbrev pub IsOfArrays : Reader → Type 0
-IsOfArrays (plain k) = Unit {0}
-IsOfArrays (signed k) = Unit {0}
-IsOfArrays (strided k) = Unit {0}
-IsOfArrays (records header ks) = ⊥
-
--- the declaration is no readval of records
-abbrev pub ReadsNoRecords : Declaration → Type 0
-ReadsNoRecords (val x e) = Unit {0}
-ReadsNoRecords (mac f p body) = Unit {0}
-ReadsNoRecords (read x r e) = IsOfArrays r
-ReadsNoRecords (bare e) = Unit {0}
 
 -- no macro has a value
 abbrev pub NoMacroHasValue : Earlier → Type 0
@@ -97,13 +87,67 @@ choice budget plan start = if nat_lt budget plan then (if nat_lt budget start th
 abbrev pub chosen : Declaration → Earlier → (budget : ℕ) → (plan : Term) → Option (Ran × ℕ)
 chosen d earlier budget plan = choice budget (turns_in earlier plan) (query_turns d earlier)
 
--- what counts of a declaration, and what it took: of a readval the turns of its argument, by that choice, and the cells that are read
-abbrev pub counted : Declaration → Earlier → (budget : ℕ) → (plan : Term) → Option (Ran × ℕ)
-counted (val x e) earlier budget plan = chosen (val x e) earlier budget plan
-counted (mac f p body) earlier budget plan = Some (ran.Declared, 0)
-counted (read x r e) earlier budget plan =
-    option_map (λ c. (ran.Read, c.1 + if_some (asks (read x r e) earlier) cells)) (chosen (read x r e) earlier budget plan)
-counted (bare e) earlier budget plan = chosen (bare e) earlier budget plan
+-- What is asked for.
+
+-- these bytes give the table; where the files are told they are those of the file
+pub record GivesTable (file : List ℕ) (header : Bool) (ks : List Kind) (holds : Option Content) (w : Datum) (bytes : List ℕ) : Type 0 where
+  pub gives : set_of header ks bytes ≡ Ok w
+  pub told : ForSome holds (λ files. files file ≡ Some bytes)
+
+-- what was read is a value of this form: a hyperslab an array with the counts as dimensions, a table the one that some bytes give
+abbrev pub HasForm : Option Content → Asked → Datum → Type 0
+HasForm holds (hyperslab h) w = (content : List Datum) × (w ≡ array h.count (data_of content))
+HasForm holds (table file header ks) w = (bytes : List ℕ) × GivesTable file header ks holds w bytes
+
+-- what reading this value took: the cells of a hyperslab; of a table the bytes that give it, which are within the budget
+abbrev pub IsCount : (budget : ℕ) → Option Content → Asked → Datum → ℕ → Type 0
+IsCount budget holds (hyperslab h) w n = n ≡ cells h
+IsCount budget holds (table file header ks) w n = (bytes : List ℕ) × GivesTable file header ks holds w bytes × (n ≡ length bytes) × (n ≤ budget)
+
+-- the same of an outcome; nothing where nothing is asked for
+abbrev pub IsCountOf : (budget : ℕ) → Option Content → Option Asked → Option Datum → ℕ → Type 0
+IsCountOf budget holds None o n = n ≡ 0
+IsCountOf budget holds (Some a) o n = (w : Datum) × (o ≡ Some w) × IsCount budget holds a w n
+
+-- reading it takes no more than the budget: the cells of a hyperslab, the bytes of a file of records where the files are told
+abbrev pub IsAffordable : (budget : ℕ) → Option Content → Asked → Type 0
+IsAffordable budget holds (hyperslab h) = cells h ≤ budget
+IsAffordable budget holds (table file header ks) = ForSome holds (λ files. ForSome (file_in files file) (λ bytes. length bytes ≤ budget))
+
+-- calls are made on the files for it
+abbrev pub CallsFiles : (budget : ℕ) → Asked → Type 0
+CallsFiles budget (hyperslab h) = cells h ≤ budget
+CallsFiles budget (table file header ks) = IsUtf8 file
+
+-- no call is made on them: the cells of a hyperslab pass the budget, the name of a file of records is not UTF-8
+abbrev pub CallsNoFile : (budget : ℕ) → Asked → Type 0
+CallsNoFile budget (hyperslab h) = budget < cells h
+CallsNoFile budget (table file header ks) = IsUtf8 file → ⊥
+
+-- no stride is 0
+abbrev pub HasStrides : Asked → Type 0
+HasStrides (hyperslab h) = first_zero 1 h.stride ≡ None
+HasStrides (table file header ks) = Unit {0}
+
+-- it is read only where it takes no more than the budget, the file's name is UTF-8, no stride is 0, and the files, where they are told,
+-- have no fault
+pub record IsReadable (budget : ℕ) (holds : Option Content) (a : Asked) : Type 0 where
+  pub within : IsAffordable budget holds a
+  pub named : IsUtf8 (file_of a)
+  pub strides : HasStrides a
+  pub file : ForSome holds (λ files. IsFaultless files a)
+
+-- What a declaration took.
+
+-- which term counts, and what a declaration with this outcome took: the turns of its query, and of a readval, by that choice, those of its
+-- argument and what reading took
+abbrev pub IsCounted : Declaration → Earlier → (budget : ℕ) → Option Content → (plan : Term) → (outcome : Option Datum) → (took : Ran × ℕ) → Type 0
+IsCounted (val x e) earlier budget holds plan o took = chosen (val x e) earlier budget plan ≡ Some took
+IsCounted (mac f p body) earlier budget holds plan o took = took ≡ (ran.Declared, 0)
+IsCounted (read x r e) earlier budget holds plan o took =
+    (c : Ran × ℕ) × (n : ℕ) × (chosen (read x r e) earlier budget plan ≡ Some c) × (took ≡ (ran.Read, c.1 + n))
+    × IsCountOf budget holds (asks (read x r e) earlier) o n
+IsCounted (bare e) earlier budget holds plan o took = chosen (bare e) earlier budget plan ≡ Some took
 
 -- The answer.
 
@@ -114,33 +158,25 @@ HasPlan (mac f p body) earlier start trace plan = (plan ≡ bottom_term) × (tra
 HasPlan (read x r e) earlier start trace plan = IsPlan (outcomes_of earlier) start trace plan
 HasPlan (bare e) earlier start trace plan = IsPlan (outcomes_of earlier) start trace plan
 
--- the answer of a declaration: its name, its type, its start term, the plan with the rewritings that lead there, which term was evaluated,
--- and what it took
-pub record IsAnswer (d : Declaration) (earlier : Earlier) (budget : ℕ) (sort : Option Sort) (a : Answer) : Type 0 where
+-- the answer of a declaration: its name, its type, its start term, and the plan with the rewritings that lead there
+pub record IsAnswer (d : Declaration) (earlier : Earlier) (sort : Option Sort) (a : Answer) : Type 0 where
   pub name : a.name ≡ declared d
   -- its type is the one that was found, and principal
   pub found : sort ≡ Some (sort_of a.ty)
   pub principal : IsPrincipal d (scope_of (declarations_of earlier)) (sort_of a.ty)
   pub start : term_of a.start ≡ start_of d earlier
   pub planned : HasPlan d earlier (term_of a.start) a.trace (term_of a.plan)
-  -- the plan counts exactly where its turns are within the budget, the start term exactly where only its turns are
-  pub counts : counted d earlier budget (term_of a.plan) ≡ Some (a.by, a.turns)
 
--- it is answered only where the cells are within the budget, the file's name is UTF-8, no stride is 0, and the files, where they are
--- told, have no fault
-pub record IsAnswerable (d : Declaration) (earlier : Earlier) (budget : ℕ) (holds : Option Content) : Type 0 where
-  pub cells : ForSome (asks d earlier) (λ a. cells a ≤ budget)
-  pub named : ForSome (asks d earlier) (λ a. IsUtf8 a.file)
-  pub strides : ForSome (asks d earlier) (λ a. first_zero 1 a.stride ≡ None)
-  pub file : ForSome (asks d earlier) (λ a. ForSome holds (λ files. read_fault files a ≡ None))
+-- it is answered only where what it asks for is readable
+abbrev pub IsAnswerable : Declaration → Earlier → (budget : ℕ) → Option Content → Type 0
+IsAnswerable d earlier budget holds = ForSome (asks d earlier) (IsReadable budget holds)
 
 -- The outcome.
 
--- a value that was read: an array of the reader's type whose dimensions are the counts, and the one that the files tell
+-- a value that was read: of the reader's type and its form, and the one that the files tell
 pub record IsRead (r : Reader) (a : Asked) (holds : Option Content) (w : Datum) : Type 0 where
   pub typed : HasType (reader_type r) w
-  pub content : List Datum
-  pub shape : w ≡ array a.count (data_of content)
+  pub form : HasForm holds a w
   pub told : ForSome holds (λ files. read_value files a ≡ Some w)
 
 -- of a readval: undefined exactly where its argument is
@@ -155,8 +191,8 @@ IsOutcome (mac f p body) earlier holds o = o ≡ None
 IsOutcome (read x r e) earlier holds o = IsReadOutcome r (den e (globals_of earlier) []) holds o
 IsOutcome (bare e) earlier holds o = o ≡ den e (globals_of earlier) []
 
--- one position more is bound, under the declaration's name
-pub record BindsPosition (d : Declaration) (earlier : Earlier) (holds : Option Content) (old new : Bound) : Type 0 where
+-- one position more is bound, under the declaration's name, and the answer says what was evaluated and what that took
+pub record BindsPosition (d : Declaration) (earlier : Earlier) (budget : ℕ) (holds : Option Content) (old new : Bound) (a : Answer) : Type 0 where
   pub outcome : Option Datum
   pub bound : new ≡ old ++ (declared d, outcome) ∷ []
   pub is : IsOutcome d earlier holds outcome
@@ -164,6 +200,8 @@ pub record BindsPosition (d : Declaration) (earlier : Earlier) (holds : Option C
   pub typed : OutcomesFit ((d, outcome) ∷ earlier)
   -- where the files are told it is the script's outcome over them
   pub told : ForSome holds (λ files. outcome_after (reading files) d (globals_of earlier) ≡ Some outcome)
+  -- the plan counts exactly where its turns are within the budget, the start term exactly where only its turns are
+  pub counts : IsCounted d earlier budget holds (term_of a.plan) outcome (a.by, a.turns)
 
 -- The faults.
 
@@ -187,35 +225,74 @@ abbrev pub IsOfVersion : CdfFault → Type 0
 IsOfVersion (file_faults.Version v) = IsVersion v → ⊥
 IsOfVersion f = Unit {0}
 
--- a fault of what is asked for, whatever the files tell: where the name is not UTF-8 there is no such file, and what the fault says of
+-- a fault of a hyperslab, whatever the files tell: where the name is not UTF-8 there is no such file, and what the fault says of
 -- the version, the rank, the strides, the dimensions and the cells is so
-pub record IsRequestFault (a : Asked) (f : CdfFault) : Type 0 where
+pub record IsRequestFault (a : Hyperslab) (f : CdfFault) : Type 0 where
   pub own : IsOfFile f
   pub unnamed : (IsUtf8 a.file → ⊥) → f ≡ file_faults.Absent
   pub version : IsOfVersion f
   pub request : IsOfRequest a.start a.count a.stride a.signed f
 
+-- a fault of a file of records: neither the device nor memory, and no size that passes the budget
+abbrev pub IsOfTable : CsvFault → Type 0
+IsOfTable csv_faults.Absent = Unit {0}
+IsOfTable (csv_faults.Cut k) = Unit {0}
+IsOfTable (csv_faults.Fields r n) = Unit {0}
+IsOfTable (csv_faults.Number r f) = Unit {0}
+IsOfTable f = ⊥
+
+-- the fault of a record is that of some bytes within the budget, and so is the place of a missing byte
+abbrev pub IsOfBytes : (header : Bool) → List Kind → (budget : ℕ) → CsvFault → Type 0
+IsOfBytes header ks budget (csv_faults.Fields r n) = (bytes : List ℕ) × (length bytes ≤ budget) × (set_of header ks bytes ≡ Err (csv_faults.Fields r n))
+IsOfBytes header ks budget (csv_faults.Number r f) = (bytes : List ℕ) × (length bytes ≤ budget) × (set_of header ks bytes ≡ Err (csv_faults.Number r f))
+IsOfBytes header ks budget (csv_faults.Cut k) = k < budget
+IsOfBytes header ks budget f = Unit {0}
+
+-- a fault of a table, whatever the files tell: where the name is not UTF-8 there is no such file
+pub record IsTableFault (file : List ℕ) (header : Bool) (ks : List Kind) (budget : ℕ) (f : CsvFault) : Type 0 where
+  pub own : IsOfTable f
+  pub unnamed : (IsUtf8 file → ⊥) → f ≡ csv_faults.Absent
+  pub given : IsOfBytes header ks budget f
+
+-- reading it passes the budget: the cells of a hyperslab, of which so many are told; or a file of records is there and has so many bytes
+abbrev pub PassesBudget : (budget : ℕ) → Option Content → (c : ℕ) → Asked → Type 0
+PassesBudget budget holds c (hyperslab h) = (budget < cells h) × (c ≡ min (cells h) (2 ^ 128 - 1))
+PassesBudget budget holds c (table file header ks) = (budget < c) × IsUtf8 file × ForSome holds (λ files. option_map length (files file) ≡ Some c)
+
+-- the cells of a hyperslab are within the budget, and this is the first fault of its file
+abbrev pub HasFileFault : (budget : ℕ) → Option Content → CdfFault → Asked → Type 0
+HasFileFault budget holds f (hyperslab h) = (cells h ≤ budget) × IsRequestFault h f × ForSome holds (λ files. read_fault files h ≡ Some f)
+HasFileFault budget holds f (table file header ks) = ⊥
+
+-- a file of records is absent or its size is within the budget, and this is its first fault
+abbrev pub HasTableFault : (budget : ℕ) → Option Content → CsvFault → Asked → Type 0
+HasTableFault budget holds f (hyperslab h) = ⊥
+HasTableFault budget holds f (table file header ks) =
+    IsAffordable budget holds (table file header ks) × IsTableFault file header ks budget f
+    × ForSome holds (λ files. read_table files file header ks ≡ Err f)
+
 -- when each fault comes: Query exactly where the turns of the start term and of its plan both pass the budget, Cells exactly where then the
--- cells pass it, File only where they do not, and exactly the first fault that the files tell; Device only where the count of faults rose;
--- want of memory is free
+-- cells, or the bytes of a file of records, pass it, File and Csv only where they do not, and exactly the first fault that the files tell;
+-- Device only where the count of faults rose; want of memory is free
 abbrev pub IsCause : Declaration → Earlier → (budget : ℕ) → Option Content → (before now : ℕ) → StepFault → Type 0
 IsCause d earlier budget holds before now (faults.Query start plan trace) =
     (term_of start ≡ start_of d earlier) × IsPlan (outcomes_of earlier) (start_of d earlier) trace (term_of plan)
     × (budget < query_turns d earlier) × (budget < turns_in earlier (term_of plan))
-IsCause d earlier budget holds before now (faults.Cells c) = AsksFor d earlier budget (λ a. (budget < cells a) × (c ≡ min (cells a) (2 ^ 128 - 1)))
-IsCause d earlier budget holds before now (faults.File f) =
-    AsksFor d earlier budget (λ a. (cells a ≤ budget) × IsRequestFault a f × ForSome holds (λ files. read_fault files a ≡ Some f))
-IsCause d earlier budget holds before now faults.Device = AsksFor d earlier budget (λ a. (cells a ≤ budget) × Rose before now)
+IsCause d earlier budget holds before now (faults.Cells c) = AsksFor d earlier budget (PassesBudget budget holds c)
+IsCause d earlier budget holds before now (faults.File f) = AsksFor d earlier budget (HasFileFault budget holds f)
+IsCause d earlier budget holds before now (faults.Csv f) = AsksFor d earlier budget (HasTableFault budget holds f)
+IsCause d earlier budget holds before now faults.Device = AsksFor d earlier budget (λ a. CallsFiles budget a × Rose before now)
 IsCause d earlier budget holds before now faults.Memory = Unit {0}
 
--- no file is read: there is no argument, or it is undefined, or the cells that it asks for pass the budget
+-- no file is read: there is no argument, or it is undefined, or no call is made for what it asks for
 abbrev pub ReadsNoFile : Declaration → Earlier → (budget : ℕ) → Type 0
-ReadsNoFile d earlier budget = ForSome (asks d earlier) (λ a. budget < cells a)
+ReadsNoFile d earlier budget = ForSome (asks d earlier) (CallsNoFile budget)
 
 -- the turns passed the budget
 abbrev pub IsOverTurns : StepFault → Type 0
 IsOverTurns (faults.Query start plan trace) = Unit {0}
 IsOverTurns (faults.Cells c) = ⊥
 IsOverTurns (faults.File f) = ⊥
+IsOverTurns (faults.Csv f) = ⊥
 IsOverTurns faults.Device = ⊥
 IsOverTurns faults.Memory = ⊥

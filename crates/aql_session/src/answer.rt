@@ -2,6 +2,7 @@
 ghost use Rattle.std.specs.Prelude.{◌≡◌};
 ghost use Rattle.aql_session.specs.declared.answer.StepFault.TheVariants as faults;
 
+use aql_csv::CsvFault;
 use aql_types::ty::Scheme;
 use aql_value::{Memory, Str};
 use cdf_header::CdfFault;
@@ -22,7 +23,8 @@ pub struct Answer {
     /// The rewritings that lead from the start term to the plan.
     pub trace: Trace,
     pub by: Ran,
-    /// Loop turns of the term that was evaluated, and of a readval besides the cells that were read.
+    /// Loop turns of the term that was evaluated, and of a readval besides the cells that were read,
+    /// or the bytes of a file of records.
     pub turns: u128,
 }
 
@@ -46,13 +48,18 @@ pub enum StepFault {
         plan: Core,
         trace: Trace,
     },
-    /// The cells that are asked for pass the budget. Their number, or 2^128-1 where it is larger.
+    /// The cells that are asked for pass the budget, or the bytes of a file of records do. Their
+    /// number, or 2^128-1 where it is larger.
     Cells {
         cells: u128,
     },
-    /// The file cannot be read. It is neither `Device` nor `Memory`.
+    /// The netCDF file cannot be read. It is neither `Device` nor `Memory`.
     File {
         fault: CdfFault,
+    },
+    /// The file of records cannot be read: `Absent`, `Cut`, `Fields` or `Number`.
+    Csv {
+        fault: CsvFault,
     },
     /// A call on the files failed.
     Device,

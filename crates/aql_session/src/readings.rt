@@ -1,5 +1,5 @@
 //! Readvals: what a reader's argument asks for, and the reading of files.
-ghost use Rattle.std.specs.Prelude.{◌≡◌, ◌<◌, ◌≤◌, ◌∷◌, [], Some, map, vec_len, IfOk, IsOkAnd, IfErr, IsErrOf, replicate};
+ghost use Rattle.std.specs.Prelude.{◌≡◌, ◌<◌, ◌≤◌, ◌∷◌, [], Some, map, length, vec_len, IfOk, IsOkAnd, IfErr, IsErrOf, replicate};
 ghost use Rattle.std.specs.Option.{option_map};
 ghost use Rattle.aql_syntax.specs.Typing.{argument_type, reader_type};
 ghost use Rattle.aql_syntax.specs.View.{reader_of};
@@ -11,14 +11,15 @@ ghost use Rattle.aql_value.specs.Partial.{each};
 ghost use Rattle.aql_value.specs.Limits.{most_budget};
 ghost use Rattle.nrca_array.specs.Held.{held_datum};
 ghost use Rattle.nrca_loops.specs.Parts.{numbers_with};
-ghost use Rattle.aql_session.specs.Asked.{asked_of, unstrided, with_strides, cells};
+ghost use Rattle.aql_session.specs.Asked.{asked_of, hyperslab, unstrided_of, strided_of, cells};
 ghost use Rattle.aql_session.specs.Device.{BlamesFiles};
-ghost use Rattle.aql_session.specs.Runs.{request_asked, asked_by, items_of, single_index, handed_on, HasRank, IsRequestOf, IsOpened, IsSlabOf, IsReadOf, Requests, ArgumentFits, AsksTooMuch, ReadsBy, ArgumentFails, RequestFails, FileFails};
-ghost use Rattle.aql_session.specs.Step.{IsOfArrays};
+ghost use Rattle.aql_session.specs.Runs.{slab_asked, table_asked, request_asked, asked_by, items_of, single_index, handed_on, table_handed_on, HasRank, IsProper, IsRequestOf, IsOpened, IsSlabOf, IsReadOf, Requests, RequestsSlab, ArgumentFits, AsksNoFile, ReadsBy, ArgumentFails, ReadFails, FileFails};
+ghost use Rattle.aql_session.specs.Step.{CallsNoFile};
 
 use crate::answer::StepFault;
+use aql_csv::{Csv, CsvFault, read_csv};
 use aql_outside::Files;
-use aql_syntax::ast::Reader;
+use aql_syntax::ast::{CsvReader, Reader};
 use aql_value::made::both;
 use aql_value::{Index, Items, Memory, Str, Value, saturating_product};
 use cdf_header::{CdfFault, Header, read_header};
@@ -26,9 +27,18 @@ use cdf_slab::read_slab;
 use nrca_array::{Flat, Held, valid_held};
 use std::alloc::Global;
 
-/// What a readval asks for: as many numbers in each index as the variable has dimensions.
+/// What a readval asks for.
 #[derive(Drop)]
-pub(crate) struct Request {
+pub(crate) enum Request<'a> {
+    /// A hyperslab of a netCDF file.
+    Slab(SlabRequest),
+    /// The records of a file.
+    Table { file: Str, reader: &'a CsvReader },
+}
+
+/// A hyperslab: as many numbers in each index as the variable has dimensions.
+#[derive(Drop)]
+pub(crate) struct SlabRequest {
     pub(crate) file: Str,
     pub(crate) variable: Str,
     pub(crate) start: Index,
@@ -37,11 +47,11 @@ pub(crate) struct Request {
     pub(crate) signed: bool,
 }
 
-/// What a readval came to by its argument: its value, and the cells that were read.
+/// What a readval came to by its argument: its value, and the cells or bytes that were read.
 #[derive(Drop)]
 pub(crate) struct Read {
     pub(crate) value: Option<Held>,
-    pub(crate) cells: u128,
+    pub(crate) turns: u128,
 }
 
 /// Reads what the value of a reader's argument asks for; nothing where it is undefined.
@@ -52,7 +62,6 @@ pub(crate) fn read_argument<F: Files>(
     argument: Option<Held>,
     budget: u64,
 ) -> Result<Read, StepFault>
-    requires arrays { IsOfArrays (reader_of reader.now) }
     requires within { IsWithin (reader_type (reader_of reader.now)) }
     requires typed { ArgumentFits reader.now argument }
     requires budget { budget ≤ most_budget }
@@ -61,13 +70,13 @@ pub(crate) fn read_argument<F: Files>(
         (ArgumentFails reader.now argument budget F.Files files.old files.new) }
     ensures kept { F.holds files.new ≡ F.holds files.old }
     ensures blamed { BlamesFiles F.Files files.old files.new (IsErrOf result StepFault.Device) }
-    ensures untouched { AsksTooMuch reader.now argument budget → files.new ≡ files.old }
+    ensures untouched { AsksNoFile reader.now argument budget → files.new ≡ files.old }
 {
     match argument {
         Some(argument) => read_value(alloc, files, reader, argument, budget),
         None => Ok(Read {
             value: None,
-            cells: 0,
+            turns: 0,
         }),
     }
 }
@@ -80,7 +89,6 @@ fn read_value<F: Files>(
     argument: Held,
     budget: u64,
 ) -> Result<Read, StepFault>
-    requires arrays { IsOfArrays (reader_of reader.now) }
     requires within { IsWithin (reader_type (reader_of reader.now)) }
     requires typed { HasType (argument_type (reader_of reader.now)) (held_datum argument) }
     requires budget { budget ≤ most_budget }
@@ -89,25 +97,18 @@ fn read_value<F: Files>(
         (ArgumentFails reader.now (Some argument) budget F.Files files.old files.new) }
     ensures kept { F.holds files.new ≡ F.holds files.old }
     ensures blamed { BlamesFiles F.Files files.old files.new (IsErrOf result StepFault.Device) }
-    ensures untouched { AsksTooMuch reader.now (Some argument) budget → files.new ≡ files.old }
+    ensures untouched { AsksNoFile reader.now (Some argument) budget → files.new ≡ files.old }
 {
     let request = typed_request(alloc, reader, argument)?;
-    match read_request(alloc, files, &request, budget) {
-        Ok(flat) => {
-            let value = Held::Flat(flat);
-            valid_held(&value);
-            Ok(Read {
-                value: Some(value),
-                cells: saturating_product(&request.count),
-            })
-        }
-        Err(fault) => Err(fault),
-    }
+    read_request(alloc, files, &request, budget)
 }
 
 // What an argument that has its type asks for.
-fn typed_request(alloc: Global, reader: &Reader, argument: Held) -> Result<Request, Memory>
-    requires arrays { IsOfArrays (reader_of reader.now) }
+fn typed_request<'a>(
+    alloc: Global,
+    reader: &'a Reader,
+    argument: Held,
+) -> Result<Request<'a>, Memory>
     requires within { IsWithin (reader_type (reader_of reader.now)) }
     requires typed { HasType (argument_type (reader_of reader.now)) (held_datum argument) }
     ensures { IfOk result (IsRequestOf (reader_of reader.now) (held_datum argument)) }
@@ -118,30 +119,122 @@ fn typed_request(alloc: Global, reader: &Reader, argument: Held) -> Result<Reque
     }
 }
 
-/// Reads what is asked for, where its cells are within the budget.
-///
-/// The cells are counted before any call on the files. Then the header is read, the variable sought
-/// and the hyperslab read.
-pub(crate) fn read_request<F: Files>(
+// Reads what is asked for, where it takes no more than the budget.
+fn read_request<F: Files>(
     alloc: Global,
     files: &mut F,
     request: &Request,
     budget: u64,
-) -> Result<Flat, StepFault>
-    requires rank { HasRank (request_asked request.now) }
+) -> Result<Read, StepFault>
+    requires proper { IsProper (request_asked request.now) }
     requires budget { budget ≤ most_budget }
     ensures read { IfOk result (IsReadOf (request_asked request.now) budget (F.holds files.old)) }
-    ensures cause { IfErr result (RequestFails request.now budget F.Files files.old files.new) }
+    ensures cause { IfErr result
+        (ReadFails (request_asked request.now) budget F.Files files.old files.new) }
     ensures kept { F.holds files.new ≡ F.holds files.old }
     ensures blamed { BlamesFiles F.Files files.old files.new (IsErrOf result StepFault.Device) }
-    ensures untouched { budget < cells (request_asked request.now) → files.new ≡ files.old }
+    ensures untouched { CallsNoFile budget (request_asked request.now) → files.new ≡ files.old }
 {
-    let cells = saturating_product(&request.count);
+    match request {
+        Request::Slab(slab) => read_hyperslab(alloc, files, slab, budget),
+        Request::Table { file, reader } => read_table(alloc, files, file, reader, budget),
+    }
+}
+
+// Reads the records of a file, where its bytes are within the budget.
+fn read_table<F: Files>(
+    alloc: Global,
+    files: &mut F,
+    file: &Str,
+    reader: &CsvReader,
+    budget: u64,
+) -> Result<Read, StepFault>
+    requires some { 1 ≤ length reader.now.kinds.items.items }
+    ensures read { IfOk result
+        (IsReadOf (table_asked file.now reader.now) budget (F.holds files.old)) }
+    ensures cause { IfErr result
+        (ReadFails (table_asked file.now reader.now) budget F.Files files.old files.new) }
+    ensures kept { F.holds files.new ≡ F.holds files.old }
+    ensures blamed { BlamesFiles F.Files files.old files.new (IsErrOf result StepFault.Device) }
+    ensures untouched { CallsNoFile budget (table_asked file.now reader.now)
+        → files.new ≡ files.old }
+{
+    match read_csv(alloc, files, file, reader, budget) {
+        Ok(Csv { value, bytes }) => {
+            let value = Held::Value(value);
+            valid_held(&value);
+            Ok(Read {
+                value: Some(value),
+                turns: u128::from(bytes),
+            })
+        }
+        Err(fault) => Err(hand_on_table(fault)),
+    }
+}
+
+// The fault of a step for one of a file of records.
+fn hand_on_table(fault: CsvFault) -> StepFault
+    ensures { result ≡ table_handed_on fault }
+{
+    match fault {
+        CsvFault::Long { bytes } => StepFault::Cells {
+            cells: u128::from(bytes),
+        },
+        CsvFault::Device => StepFault::Device,
+        CsvFault::Memory => StepFault::Memory,
+        fault => StepFault::Csv { fault },
+    }
+}
+
+// Reads a hyperslab, where its cells are within the budget.
+//
+// The cells are counted before any call on the files. Then the header is read, the variable sought
+// and the hyperslab read.
+fn read_hyperslab<F: Files>(
+    alloc: Global,
+    files: &mut F,
+    slab: &SlabRequest,
+    budget: u64,
+) -> Result<Read, StepFault>
+    requires rank { HasRank (slab_asked slab.now) }
+    requires budget { budget ≤ most_budget }
+    ensures read { IfOk result
+        (IsReadOf (hyperslab (slab_asked slab.now)) budget (F.holds files.old)) }
+    ensures cause { IfErr result
+        (ReadFails (hyperslab (slab_asked slab.now)) budget F.Files files.old files.new) }
+    ensures kept { F.holds files.new ≡ F.holds files.old }
+    ensures blamed { BlamesFiles F.Files files.old files.new (IsErrOf result StepFault.Device) }
+    ensures untouched { budget < cells (slab_asked slab.now) → files.new ≡ files.old }
+{
+    let cells = saturating_product(&slab.count);
     if cells > u128::from(budget) {
         return Err(StepFault::Cells { cells });
     }
-    match open(alloc, files, request) {
-        Ok(found) => read_found(alloc, files, request, &found),
+    match read_flat(alloc, files, slab) {
+        Ok(flat) => {
+            let value = Held::Flat(flat);
+            valid_held(&value);
+            Ok(Read {
+                value: Some(value),
+                turns: cells,
+            })
+        }
+        Err(fault) => Err(fault),
+    }
+}
+
+// The cells of a hyperslab.
+fn read_flat<F: Files>(alloc: Global, files: &mut F, slab: &SlabRequest) -> Result<Flat, StepFault>
+    requires rank { HasRank (slab_asked slab.now) }
+    requires cells { cells (slab_asked slab.now) ≤ most_budget }
+    ensures read { IfOk result (IsSlabOf (slab_asked slab.now) (F.holds files.old)) }
+    ensures cause { IfErr result
+        (FileFails (slab_asked slab.now) F.Files files.old files.new) }
+    ensures kept { F.holds files.new ≡ F.holds files.old }
+    ensures blamed { BlamesFiles F.Files files.old files.new (IsErrOf result StepFault.Device) }
+{
+    match open(alloc, files, slab) {
+        Ok(found) => read_found(alloc, files, slab, &found),
         Err(fault) => Err(fault),
     }
 }
@@ -154,14 +247,15 @@ pub(crate) struct Found {
 }
 
 // The header of the file, and the variable of the name.
-fn open<F: Files>(alloc: Global, files: &mut F, request: &Request) -> Result<Found, StepFault>
-    ensures opened { IfOk result (IsOpened (request_asked request.now) (F.holds files.old)) }
-    ensures cause { IfErr result (FileFails request.now F.Files files.old files.new) }
+fn open<F: Files>(alloc: Global, files: &mut F, slab: &SlabRequest) -> Result<Found, StepFault>
+    ensures opened { IfOk result (IsOpened (slab_asked slab.now) (F.holds files.old)) }
+    ensures cause { IfErr result
+        (FileFails (slab_asked slab.now) F.Files files.old files.new) }
     ensures kept { F.holds files.new ≡ F.holds files.old }
     ensures blamed { BlamesFiles F.Files files.old files.new (IsErrOf result StepFault.Device) }
 {
-    match read_header(alloc, files, &request.file) {
-        Ok(header) => match header.find(&request.variable) {
+    match read_header(alloc, files, &slab.file) {
+        Ok(header) => match header.find(&slab.variable) {
             Some(variable) => Ok(Found { header, variable }),
             None => Err(StepFault::File {
                 fault: CdfFault::NoVariable,
@@ -175,27 +269,28 @@ fn open<F: Files>(alloc: Global, files: &mut F, request: &Request) -> Result<Fou
 fn read_found<F: Files>(
     alloc: Global,
     files: &mut F,
-    request: &Request,
+    slab: &SlabRequest,
     found: &Found,
 ) -> Result<Flat, StepFault>
-    requires rank { HasRank (request_asked request.now) }
-    requires cells { cells (request_asked request.now) ≤ most_budget }
-    requires opened { IsOpened (request_asked request.now) (F.holds files.old) found.now }
-    ensures read { IfOk result (IsSlabOf (request_asked request.now) (F.holds files.old)) }
-    ensures cause { IfErr result (FileFails request.now F.Files files.old files.new) }
+    requires rank { HasRank (slab_asked slab.now) }
+    requires cells { cells (slab_asked slab.now) ≤ most_budget }
+    requires opened { IsOpened (slab_asked slab.now) (F.holds files.old) found.now }
+    ensures read { IfOk result (IsSlabOf (slab_asked slab.now) (F.holds files.old)) }
+    ensures cause { IfErr result
+        (FileFails (slab_asked slab.now) F.Files files.old files.new) }
     ensures kept { F.holds files.new ≡ F.holds files.old }
     ensures blamed { BlamesFiles F.Files files.old files.new (IsErrOf result StepFault.Device) }
 {
     match read_slab(
         alloc,
         files,
-        &request.file,
+        &slab.file,
         &found.header,
         found.variable,
-        &request.start,
-        &request.count,
-        &request.stride,
-        request.signed,
+        &slab.start,
+        &slab.count,
+        &slab.stride,
+        slab.signed,
     ) {
         Ok(flat) => Ok(flat),
         Err(fault) => Err(hand_on(fault)),
@@ -213,22 +308,48 @@ fn hand_on(fault: CdfFault) -> StepFault
     }
 }
 
-/// What the argument of a reader of netCDF files asks for: nothing where it is no such tuple.
-pub(crate) fn request_of(
+// What the argument of a reader asks for: nothing where it is no such value.
+fn request_of<'a>(
     alloc: Global,
-    reader: &Reader,
+    reader: &'a Reader,
     argument: Held,
-) -> Result<Option<Request>, Memory>
+) -> Result<Option<Request<'a>>, Memory>
     ensures { IfOk result (Requests (asked_of (reader_of reader.now) (held_datum argument))) }
 {
-    let Some(parts) = parts_of(argument) else {
-        return Ok(None);
-    };
     match reader {
-        Reader::Plain { rank } => request_unstrided(alloc, *rank, false, parts),
-        Reader::Signed { rank } => request_unstrided(alloc, *rank, true, parts),
-        Reader::Strided { rank } => request_strided(alloc, *rank, parts),
-        Reader::Csv(_) => Ok(None),
+        Reader::Plain { rank } => {
+            let slab = request_unstrided(alloc, *rank, false, argument)?;
+            Ok(request_slab(slab))
+        }
+        Reader::Signed { rank } => {
+            let slab = request_unstrided(alloc, *rank, true, argument)?;
+            Ok(request_slab(slab))
+        }
+        Reader::Strided { rank } => {
+            let slab = request_strided(alloc, *rank, argument)?;
+            Ok(request_slab(slab))
+        }
+        Reader::Csv(reader) => Ok(request_table(reader, argument)),
+    }
+}
+
+// The request of a hyperslab, where there is one.
+fn request_slab<'a>(slab: Option<SlabRequest>) -> Option<Request<'a>>
+    ensures { Requests (option_map hyperslab (option_map slab_asked slab)) result }
+{
+    match slab {
+        Some(slab) => Some(Request::Slab(slab)),
+        None => None,
+    }
+}
+
+// The request of the records of a file, where the value is its name.
+fn request_table<'a>(reader: &'a CsvReader, name: Held) -> Option<Request<'a>>
+    ensures { Requests (asked_of (reader_of (Reader.Csv reader.now)) (held_datum name)) result }
+{
+    match name {
+        Held::Value(Value::Text(file)) => Some(Request::Table { file, reader }),
+        _ => None,
     }
 }
 
@@ -248,10 +369,14 @@ fn request_unstrided(
     alloc: Global,
     rank: u64,
     signed: bool,
-    parts: Items,
-) -> Result<Option<Request>, Memory>
-    ensures { IfOk result (Requests (unstrided rank signed parts)) }
+    argument: Held,
+) -> Result<Option<SlabRequest>, Memory>
+    ensures { IfOk result
+        (RequestsSlab (unstrided_of rank signed (held_datum argument))) }
 {
+    let Some(parts) = parts_of(argument) else {
+        return Ok(None);
+    };
     if parts.items.len() != 4 {
         return Ok(None);
     }
@@ -260,9 +385,12 @@ fn request_unstrided(
 }
 
 // What file, variable, start, count and stride ask for.
-fn request_strided(alloc: Global, rank: u64, parts: Items) -> Result<Option<Request>, Memory>
-    ensures { IfOk result (Requests (with_strides rank parts)) }
+fn request_strided(alloc: Global, rank: u64, argument: Held) -> Result<Option<SlabRequest>, Memory>
+    ensures { IfOk result (RequestsSlab (strided_of rank (held_datum argument))) }
 {
+    let Some(parts) = parts_of(argument) else {
+        return Ok(None);
+    };
     if parts.items.len() != 5 {
         return Ok(None);
     }
@@ -278,16 +406,16 @@ fn make_request(
     signed: bool,
     parts: (Value, Value, Value, Value),
     stride: Result<Option<Index>, Memory>,
-) -> Result<Option<Request>, Memory>
+) -> Result<Option<SlabRequest>, Memory>
     ensures { IfOk result (λ r. IsOkAnd stride (λ st.
-        Requests (asked_by rank signed parts (option_map (λ i. i.items) st)) r)) }
+        RequestsSlab (asked_by rank signed parts (option_map (λ i. i.items) st)) r)) }
 {
     let (file, variable, start, count) = parts;
     let names = text(file).zip(text(variable));
     let corner = both(index(alloc, rank, start), index(alloc, rank, count));
     let (names, ((start, count), stride)) = both(Ok(names), both(corner, stride))?;
     match names.zip(start.zip(count).zip(stride)) {
-        Some(((file, variable), ((start, count), stride))) => Ok(Some(Request {
+        Some(((file, variable), ((start, count), stride))) => Ok(Some(SlabRequest {
             file,
             variable,
             start,

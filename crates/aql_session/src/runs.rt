@@ -9,7 +9,7 @@ ghost use Rattle.nrca_ranges.specs.Shapes.{shapes_in};
 ghost use Rattle.aql_session.specs.Device.{BlamesFiles};
 ghost use Rattle.aql_session.specs.Known.{Knows};
 ghost use Rattle.aql_session.specs.Numbered.{declarations, declaration_numbered};
-ghost use Rattle.aql_session.specs.Step.{ReadsNoRecords, IsOverTurns};
+ghost use Rattle.aql_session.specs.Step.{IsOverTurns};
 ghost use Rattle.aql_session.specs.Runs.{StandsAt, HasWorkers, budget_of, declaration_of, IsQuery, IsValueDeclaration, IsReadval, RunsPosition, IsPositionCause, PositionFails, UnlessReadAt};
 
 use crate::answer::{Ran, StepFault};
@@ -58,7 +58,6 @@ pub(crate) fn run_declaration<R: Threads + Sync, F: Files, G: Gate>(
     gate: &G,
 ) -> Result<Run, StepFault>
     requires stands { StandsAt at.now globals.now }
-    requires arrays { ForSome (declaration_of at.now) ReadsNoRecords }
     requires workers { HasWorkers at.now }
     requires budget { budget_of at.now ≤ most_budget }
     requires known { Knows (shapes_in shapes.old) globals.now }
@@ -165,7 +164,6 @@ fn run_readval<R: Threads + Sync, F: Files, G: Gate>(
 ) -> Result<Run, StepFault>
     requires stands { StandsAt at.now globals.now }
     requires reads { IsReadval (declaration_of at.now) (reader_of reader.now) }
-    requires arrays { ForSome (declaration_of at.now) ReadsNoRecords }
     requires workers { HasWorkers at.now }
     requires budget { budget_of at.now ≤ most_budget }
     requires known { Knows (shapes_in shapes.old) globals.now }
@@ -188,12 +186,12 @@ fn run_readval<R: Threads + Sync, F: Files, G: Gate>(
                 turns,
             },
         ) => match read_argument(alloc, files, reader, value, at.options.budget) {
-            Ok(Read { value, cells }) => Ok(Run {
+            Ok(Read { value, turns: read }) => Ok(Run {
                 start,
                 plan,
                 trace,
                 by: Ran::Read,
-                turns: turns + cells,
+                turns: turns + read,
                 value,
             }),
             Err(fault) => {

@@ -12,7 +12,7 @@ ghost use Rattle.aql_session.specs.Bound.{AreBound, outcomes};
 ghost use Rattle.aql_session.specs.Device.{BlamesFiles};
 ghost use Rattle.aql_session.specs.Numbered.{declarations, sorts, declaration_numbered, sort_numbered, so_far, IsAnswerTo, MayBeAnswered, BindsNext, StepFails, UnlessRead};
 ghost use Rattle.aql_session.specs.Runs.{StandsAt, HasWorkers, budget_of, declaration_of, declarations_at, sorts_at, RunsPosition, PositionFails, UnlessReadAt, AnswersRun, IsNameAt, BindsRun};
-ghost use Rattle.aql_session.specs.Step.{OutcomesFit, ReadsNoRecords, IsOverTurns};
+ghost use Rattle.aql_session.specs.Step.{OutcomesFit, IsOverTurns};
 
 use crate::answer::{Answer, StepFault};
 use crate::queries::Planned;
@@ -35,8 +35,8 @@ impl Session {
     /// A query is evaluated by its plan where the turns of that are within the budget, and else as it
     /// is translated, where those are. Of a readval first the argument is evaluated; where it is
     /// undefined, so is the readval, and no call is made on the files. Faults come in this order:
-    /// `Query` (the argument of a readval, too), `Cells`, then those of the file. After a fault the
-    /// session is as before.
+    /// `Query` (the argument of a readval, too), `Cells`, then those of the file; of a file of
+    /// records `Csv` with `Absent`, `Cells`, then the others. After a fault the session is as before.
     pub fn step<R: Threads + Sync, F: Files, G: Gate>(
         &mut self,
         rt: &R,
@@ -55,17 +55,17 @@ impl Session {
         requires checked { ArePrincipal [] (declarations decls.now) (sorts typed.now) }
         requires types { OutcomesFit (so_far decls.now (outcomes self.old)) }
         requires limits { AreWithinLimits (declarations decls.now) n }
-        requires arrays { ForSome (declaration_numbered decls.now n) ReadsNoRecords }
         requires workers { (1 ≤ options.now.workers) × (options.now.workers ≤ most_workers) }
         requires budget { options.now.budget ≤ most_budget }
 
         // The answer, which comes only within the budget.
-        ensures answer { IfOk result
-            (IsAnswerTo decls.now typed.now n (outcomes self.old) options.now) }
+        ensures answer { IfOk result (IsAnswerTo decls.now typed.now n (outcomes self.old)) }
         ensures answerable { OnOk result
             (MayBeAnswered decls.now n (outcomes self.old) options.now (F.holds files.old)) }
-        // The session has one position more, with the declaration's outcome.
-        ensures binds { OnOk result (BindsNext decls.now n (F.holds files.old) self.old self.new) }
+        // The session has one position more, with the declaration's outcome; and the answer says
+        // what was evaluated, and what that and reading the outcome took.
+        ensures binds { IfOk result
+            (BindsNext decls.now n options.now (F.holds files.old) self.old self.new) }
 
         // Each fault has its cause, and leaves the session as it was.
         ensures cause { IfErr result
@@ -102,7 +102,6 @@ impl Session {
         gate: &G,
     ) -> Result<Run, StepFault>
         requires stands { StandsAt at.now (outcomes self.old) }
-        requires arrays { ForSome (declaration_of at.now) ReadsNoRecords }
         requires workers { HasWorkers at.now }
         requires budget { budget_of at.now ≤ most_budget }
         ensures as_before { self.new ≡ self.old }

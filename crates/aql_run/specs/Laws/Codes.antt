@@ -19,8 +19,7 @@ status_at (suc (suc (suc (suc (suc (suc (suc (suc (suc zero))))))))) = status.Fi
 status_at (suc (suc (suc (suc (suc (suc (suc (suc (suc (suc zero)))))))))) = status.Input
 status_at (suc (suc (suc (suc (suc (suc (suc (suc (suc (suc (suc zero))))))))))) = status.Output
 status_at (suc (suc (suc (suc (suc (suc (suc (suc (suc (suc (suc (suc zero)))))))))))) = status.Spent
-status_at (suc (suc (suc (suc (suc (suc (suc (suc (suc (suc (suc (suc (suc zero))))))))))))) = status.Files
-status_at (suc (suc (suc (suc (suc (suc (suc (suc (suc (suc (suc (suc (suc (suc n)))))))))))))) = status.Unbuilt
+status_at (suc (suc (suc (suc (suc (suc (suc (suc (suc (suc (suc (suc (suc n))))))))))))) = status.Files
 
 -- the status with the number of a status is that one
 back : (s : Status) → status_at (code_of s) ≡ s
@@ -38,7 +37,6 @@ back status.Input = refl
 back status.Output = refl
 back status.Spent = refl
 back status.Files = refl
-back status.Unbuilt = refl
 
 -- statuses with one number are one
 pub status_is : (s t : Status) (n : ℕ) → n ≡ code_of s → n ≡ code_of t → s ≡ t

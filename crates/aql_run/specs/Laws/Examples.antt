@@ -89,6 +89,5 @@ script_is_sound = record {
   are = sum_read;
   typed = all_typed;
   limits = sum_limits;
-  built = (refl, tt);
   within = within (options_of (codes "aql" ∷ [])).budget;
 }

@@ -1,6 +1,6 @@
 // Scripts of the folder of examples, with their files and what they print; `checks/run` runs all of them over the built program.
 use crate::tests::netcdf::{bytes_of, with_file};
-use crate::tests::running::{Folder, SURE, assert_ran, run_over};
+use crate::tests::running::{Folder, SURE, assert_ran, bytes, run_over};
 use aql_outside::FreeGate;
 use aql_value::Memory;
 use std::alloc::Global;
@@ -24,11 +24,15 @@ const ANOMALY: [u32; 35] = [
     0x80, 0x4fff4, 0xfffd, 0x7fffb,
 ];
 
+// Stations with their rows and columns.
+const STATIONS: &[u8] =
+    b"station,row,column\n\"Kelp Bay, inner\",0,0\nLighthouse,1,2\nReef,2,3\nReef,2,3\n\"Old \"\"Quay\"\"\",0,3\n";
+
 // A script, and what it prints.
 #[derive(Clone, Copy)]
 struct Example<'a>(&'a str, &'a str);
 
-const EXAMPLES: [Example<'static>; 6] = [
+const EXAMPLES: [Example<'static>; 7] = [
     Example(
         "(* Numbers, sums and products. Each declaration ends with a semicolon. *)\n1+2*3;\n6*7;\n(* The greatest natural number is 2^128-1. Past it a value is undefined. *)\n340282366920938463463374607431768211455;\n340282366920938463463374607431768211455+1;\n",
         "typ it : nat\nval it = 7\ntyp it : nat\nval it = 42\ntyp it : nat\nval it = 340282366920938463463374607431768211455\ntyp it : nat\nval it = undefined\n",
@@ -53,12 +57,17 @@ const EXAMPLES: [Example<'static>; 6] = [
         "(* A signed number is a pair: whether it is below 0, and how far from 0 it is. *)\nreadval \\change using NETCDFZ2 at (\"anomaly.nc\", \"anomaly\", (0,0), (2,3));\n(* The cells that are colder than usual. *)\n{(i,j) | [(\\i,\\j):(true,_)] <- change};\n(* The sum of the numbers from 0 on, and of those below 0. *)\nval \\above = summap(fn (_,_,\\m) => m)!({(i,j,m) | [(\\i,\\j):(false,\\m)] <- change});\nval \\below = summap(fn (_,_,\\m) => m)!({(i,j,m) | [(\\i,\\j):(true,\\m)] <- change});\n(* The sum of all as a signed number. With numbers from 0 on, 11-20 is 0. *)\n(above < below, if above < below then below-above else above-below);\nabove-below;\n",
         "typ change : [[bool * nat]]_2\nval change = [[2,3; (false, 4), (true, 12), (false, 0), (true, 3), (false, 7), (true, 5)]]\ntyp it : {nat * nat}\nval it = {(0, 1), (1, 0), (1, 2)}\ntyp above : nat\nval above = 11\ntyp below : nat\nval below = 20\ntyp it : bool * nat\nval it = (true, 9)\ntyp it : nat\nval it = 0\n",
     ),
+    Example(
+        "(* A list of stations with their rows and columns; the first record names the fields. *)\nreadval \\stations using CSVHSNN at \"stations.csv\";\n(* The grid: temperatures of the second day, and the mask. *)\nreadval \\temps using NETCDF3 at (\"sst.nc\", \"sst\", (1,0,0), (1,3,4));\nreadval \\sea using NETCDF2 at (\"sst.nc\", \"sea\", (0,0), (3,4));\n(* The temperature at each station that stands in the sea. *)\nval \\measured = {(name,temps[0,i,j]) | (\\name,\\i,\\j) <- stations, sea[i,j] = 1};\n(* The stations on land, and the warmest of the others. *)\n{name | (\\name,\\i,\\j) <- stations, sea[i,j] = 0};\n{name | (\\name,\\x) <- measured, x = greatest!({y | (_,\\y) <- measured})};\n",
+        "typ stations : {string * nat * nat}\nval stations = {(\"Kelp Bay, inner\", 0, 0), (\"Lighthouse\", 1, 2), (\"Old \\\"Quay\\\"\", 0, 3), (\"Reef\", 2, 3)}\ntyp temps : [[nat]]_3\nval temps = [[1,3,4; 187, 185, 178, 0, 181, 176, 173, 169, 0, 168, 164, 161]]\ntyp sea : [[nat]]_2\nval sea = [[3,4; 1, 1, 1, 0, 1, 1, 1, 1, 0, 1, 1, 1]]\ntyp measured : {string * nat}\nval measured = {(\"Kelp Bay, inner\", 187), (\"Lighthouse\", 173), (\"Reef\", 161)}\ntyp it : {string}\nval it = {\"Old \\\"Quay\\\"\"}\ntyp it : {string}\nval it = {\"Kelp Bay, inner\"}\n",
+    ),
 ];
 
 fn folder(alloc: Global) -> Result<Folder, Memory> {
     let none = Ok(BTreeMap::new(alloc));
     let one = with_file(alloc, none, "sst.nc", bytes_of(alloc, &SST));
-    with_file(alloc, one, "anomaly.nc", bytes_of(alloc, &ANOMALY))
+    let two = with_file(alloc, one, "anomaly.nc", bytes_of(alloc, &ANOMALY));
+    with_file(alloc, two, "stations.csv", bytes(alloc, STATIONS))
 }
 
 #[test]

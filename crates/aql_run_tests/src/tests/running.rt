@@ -1,5 +1,5 @@
 // A run of the program over devices in memory.
-use aql_outside::{FreeGate, Gate, MemFiles, MemSink, MemSource};
+use aql_outside::{Files, FreeGate, Gate, MemFiles, MemSink, MemSource};
 use aql_run::{Stop, run};
 use aql_value::Memory;
 use aql_value::made::both;
@@ -147,6 +147,46 @@ pub(crate) fn run_over<R: Threads + Sync, G: Gate>(
         status,
         output: written?,
         failures,
+        answered,
+        cells,
+    })
+}
+
+/// Runs a script over files that no call of `run_over` makes, and streams that never fail.
+pub(crate) fn run_files<R: Threads + Sync, F: Files + Drop>(
+    rt: &R,
+    alloc: Global,
+    script: &[u8],
+    files: F,
+) -> Result<Ran, Memory> {
+    let mut files = files;
+    let streams = both(source_of(alloc, script, &SURE), sink_of(alloc, &SURE));
+    let ((mut input, mut output), all) = both(streams, all_words(alloc, &[]))?;
+    let report = run(
+        rt,
+        alloc,
+        all.as_slice(),
+        &mut input,
+        &mut output,
+        &mut files,
+        &FreeGate,
+    );
+    let status = report.status;
+    let answered = report.answers.items.len();
+    let cells = cells_of(&report.stop);
+    drop(report);
+    drop(all);
+    let written = output.written().to_vec(alloc);
+    drop(input);
+    drop(output);
+    Ok(Ran {
+        status,
+        output: written?,
+        failures: Failures {
+            source: 0,
+            sink: 0,
+            files: 0,
+        },
         answered,
         cells,
     })

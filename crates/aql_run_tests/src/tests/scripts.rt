@@ -139,8 +139,8 @@ const NAMES: [Row<'static>; 10] = [
     ),
     Row(
         "readval \\r using CSVN at \"a\";",
-        14,
-        "fault unbuilt in declaration 1\n",
+        9,
+        "fault file in declaration 1: absent\n",
     ),
     Row(
         "val \\x = 2; (fn \\y => x+y)!3;",

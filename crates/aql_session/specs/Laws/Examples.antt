@@ -1,16 +1,18 @@
 -- What the definitions give on small cases, by computing.
-use Rattle.std.specs.Prelude.{take, List, ◌≡◌, ℕ, ◌-◌, ◌*◌, ◌^◌, true, false, [], ◌∷◌, Some, None, refl}
+use Rattle.std.specs.Prelude.{take, List, ◌≡◌, ℕ, ◌-◌, ◌*◌, ◌^◌, true, false, [], ◌∷◌, Some, None, Err, refl}
 use Rattle.aql_value.specs.Datum.{Datum, natural, text, tuple, array, data_of}
-use Rattle.aql_syntax.specs.Tree.{plain, signed, strided}
+use Rattle.aql_syntax.specs.Tree.{plain, signed, strided, records}
+use Rattle.aql_syntax.specs.declared.ast.Kind.TheVariants as kinds
 use Rattle.aql_syntax.specs.Script.{read_outcome}
 use Rattle.aql_outside.specs.Contents.{Content}
-use Rattle.aql_session.specs.Asked.{Asked, asked_of, cells}
+use Rattle.aql_csv.specs.declared.fault.CsvFault.TheVariants as csv_faults
+use Rattle.aql_session.specs.Asked.{Hyperslab, hyperslab, table, asked_of, cells}
 use Rattle.aql_session.specs.Bound.{latest_of}
 use Rattle.aql_value.specs.Indices.{indices}
 use Rattle.cdf_header.specs.Format as format
 use Rattle.cdf_header.specs.Format.{num, str, name, list, many, times, dimension, dims, skip, attribute, attributes, id, ids, vars, header}
 use Rattle.cdf_header.specs.declared.fault.CdfFault.TheVariants as faults
-use Rattle.aql_session.specs.Reading.{at_name, fault_in, reading, value_in}
+use Rattle.aql_session.specs.Reading.{at_name, fault_in, in_table, reading, value_in}
 
 -- `s.nc`
 file : Datum
@@ -26,19 +28,19 @@ pair m n = tuple (data_of (natural m ∷ natural n ∷ []))
 
 -- ("s.nc", "v", (0, 1), (2, 3)) by NETCDF2: each stride is 1
 plain-two : asked_of (plain 2) (tuple (data_of (file ∷ variable ∷ pair 0 1 ∷ pair 2 3 ∷ []))) ≡
-    Some (record { file = 115 ∷ 46 ∷ 110 ∷ 99 ∷ []; variable = 118 ∷ []; start = 0 ∷ 1 ∷ []; count = 2 ∷ 3 ∷ []; stride = 1 ∷ 1 ∷ []; signed = false })
+    Some (hyperslab (record { file = 115 ∷ 46 ∷ 110 ∷ 99 ∷ []; variable = 118 ∷ []; start = 0 ∷ 1 ∷ []; count = 2 ∷ 3 ∷ []; stride = 1 ∷ 1 ∷ []; signed = false }))
 unfolding file variable pair
 plain-two = refl
 
 -- ("s.nc", "v", 4, 5) by NETCDFZ1: one number is an index of rank 1
 signed-one : asked_of (signed 1) (tuple (data_of (file ∷ variable ∷ natural 4 ∷ natural 5 ∷ []))) ≡
-    Some (record { file = 115 ∷ 46 ∷ 110 ∷ 99 ∷ []; variable = 118 ∷ []; start = 4 ∷ []; count = 5 ∷ []; stride = 1 ∷ []; signed = true })
+    Some (hyperslab (record { file = 115 ∷ 46 ∷ 110 ∷ 99 ∷ []; variable = 118 ∷ []; start = 4 ∷ []; count = 5 ∷ []; stride = 1 ∷ []; signed = true }))
 unfolding file variable
 signed-one = refl
 
 -- ("s.nc", "v", (0, 1), (2, 3), (6, 7)) by NETCDFS2
 strided-two : asked_of (strided 2) (tuple (data_of (file ∷ variable ∷ pair 0 1 ∷ pair 2 3 ∷ pair 6 7 ∷ []))) ≡
-    Some (record { file = 115 ∷ 46 ∷ 110 ∷ 99 ∷ []; variable = 118 ∷ []; start = 0 ∷ 1 ∷ []; count = 2 ∷ 3 ∷ []; stride = 6 ∷ 7 ∷ []; signed = false })
+    Some (hyperslab (record { file = 115 ∷ 46 ∷ 110 ∷ 99 ∷ []; variable = 118 ∷ []; start = 0 ∷ 1 ∷ []; count = 2 ∷ 3 ∷ []; stride = 6 ∷ 7 ∷ []; signed = false }))
 unfolding file variable pair
 strided-two = refl
 
@@ -52,8 +54,21 @@ plain-strides : asked_of (plain 2) (tuple (data_of (file ∷ variable ∷ pair 0
 unfolding file variable pair
 plain-strides = refl
 
+-- "s.nc" by CSVHNS: the table of that file
+all-records : asked_of (records true (kinds.Number ∷ kinds.Bytes ∷ [])) file ≡ Some (table (115 ∷ 46 ∷ 110 ∷ 99 ∷ []) true (kinds.Number ∷ kinds.Bytes ∷ []))
+unfolding file
+all-records = refl
+
+-- a number names no file
+no-name : asked_of (records false (kinds.Number ∷ [])) (natural 1) ≡ None
+no-name = refl
+
+-- without a file
+no-file : in_table false (kinds.Number ∷ []) None ≡ Err csv_faults.Absent
+no-file = refl
+
 -- what asks for these counts
-counts : ℕ → ℕ → Asked
+counts : ℕ → ℕ → Hyperslab
 counts m n = record { file = []; variable = []; start = 0 ∷ 0 ∷ []; count = m ∷ n ∷ []; stride = 1 ∷ 1 ∷ []; signed = false }
 
 -- a 0 makes the number of cells 0, however large the other count
@@ -90,7 +105,7 @@ records_file =
     ∷ 0 ∷ 1 ∷ 0 ∷ 2 ∷ 0 ∷ 3 ∷ 0 ∷ 4 ∷ 0 ∷ 5 ∷ 0 ∷ 6 ∷ []
 
 -- what asks for the first cells of `v`
-wanted : ℕ → ℕ → Asked
+wanted : ℕ → ℕ → Hyperslab
 wanted m n = record { file = 115 ∷ 46 ∷ 110 ∷ 99 ∷ []; variable = 118 ∷ []; start = 0 ∷ 0 ∷ []; count = m ∷ n ∷ []; stride = 1 ∷ 1 ∷ []; signed = false }
 
 -- both records: the second slab stands right behind the first, unpadded, since there is one record variable

@@ -23,7 +23,6 @@ fn fault(alloc: Global, source: &[u8]) -> Result<String, AllocError> {
         Err(ScriptFault::Syntax { declaration }) => ("syntax", Some(declaration)),
         Err(ScriptFault::Type { declaration }) => ("type", Some(declaration)),
         Err(ScriptFault::Large { declaration }) => ("large", Some(declaration)),
-        Err(ScriptFault::Unbuilt { declaration }) => ("unbuilt", Some(declaration)),
         Err(ScriptFault::Memory) => ("memory", None),
     };
     match at {
@@ -295,7 +294,7 @@ fn types_of_scripts(rt: HostRuntime) -> Result<(), Memory> {
     Ok(())
 }
 
-// No reader of records is built, but each has its type.
+// The types of readers of records.
 #[test]
 fn types_of_records(rt: HostRuntime) -> Result<(), Memory> {
     let rows: [(&str, &str); 2] = [
@@ -344,10 +343,10 @@ let val \s = {} in (s union {1}, s union {true}) end; ~ type 1
 val \i = true; [[1 | \i<3, \j<i]]; ~ type 2
 readval \V using NETCDF1 at ("a","b",0,true); ~ type 1
 readval \V using NETCDF2 at ("a","b",0,1); ~ type 1
-readval \R using CSVN at "a"; ~ unbuilt 1
-1; readval \R using CSVHNS at "a"; readval \R using CSVS at "a"; ~ unbuilt 2
+readval \R using CSVN at "a"; ~ none
+1; readval \R using CSVHNS at "a"; readval \R using CSVS at "a"; ~ none
 readval \R using CSVN at 1; ~ type 1
-# of several faults the first in the order text, deep, syntax, type, large, unbuilt
+# of several faults the first in the order text, deep, syntax, type, large
 1; 2 $ ~ text 5
 1 = true; 2 ~ syntax 2
 readval \R using CSVN at "a"; 1 = true; ~ type 2

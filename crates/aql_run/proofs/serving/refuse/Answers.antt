@@ -2,7 +2,7 @@ use Rattle.std.proofs.KnownBytes.{Appends-nil}
 use Rattle.std.specs.Prelude.{codes}
 use Rattle.aql_session.specs.Device.{sink_of}
 use Rattle.aql_run.specs.Lines.{at_byte, in_declaration}
-use Rattle.aql_run.proofs.Endings.{refused_text, refused_deep, refused_syntax, refused_type, refused_large, refused_unbuilt, refused_memory}
+use Rattle.aql_run.proofs.Endings.{refused_text, refused_deep, refused_syntax, refused_type, refused_large, refused_memory}
 use Rattle.aql_run.proofs.serving.refuse.Goals as goal
 
 pub returns-in-Text-clause-written : goal.returns-in-Text-clause-written
@@ -29,11 +29,6 @@ pub returns-in-Large-clause-written : goal.returns-in-Large-clause-written
 returns-in-Large-clause-written g c =
     refused_large c.args.fault c.in-Large.declaration (sink_of g.O.Sink c.args.output.now c.end_with_made-in-Large.new.output) c.end_with_made-in-Large.result c.in-Large.is
     (c.end_with_made-in-Large.ensures.written (in_declaration (codes "large") c.in-Large.declaration) c.declaration_line-in-Large.ensures)
-
-pub returns-in-Unbuilt-clause-written : goal.returns-in-Unbuilt-clause-written
-returns-in-Unbuilt-clause-written g c =
-    refused_unbuilt c.args.fault c.in-Unbuilt.declaration (sink_of g.O.Sink c.args.output.now c.end_with_made-in-Unbuilt.new.output) c.end_with_made-in-Unbuilt.result c.in-Unbuilt.is
-    (c.end_with_made-in-Unbuilt.ensures.written (in_declaration (codes "unbuilt") c.in-Unbuilt.declaration) c.declaration_line-in-Unbuilt.ensures)
 
 pub returns-in-Memory-clause-written : goal.returns-in-Memory-clause-written
 returns-in-Memory-clause-written g c =

@@ -2,7 +2,7 @@ use Rattle.std.proofs.Common.{◌∙◌, refl, sym, ap, subst}
 use Rattle.std.proofs.KnownBytes.{Appends-nil}
 use Rattle.std.specs.Prelude.{codes}
 use Rattle.aql_session.specs.Device.{sink_of}
-use Rattle.aql_run.specs.Lines.{in_declaration, of_file}
+use Rattle.aql_run.specs.Lines.{in_declaration, of_file, of_table}
 use Rattle.aql_session.specs.declared.answer.StepFault.{StepFault}
 use Rattle.aql_run.specs.Outcome.{stop_of}
 use Rattle.aql_run.specs.Ending.{Stopped, stop_status, stop_line}
@@ -25,6 +25,11 @@ pub returns-in-File-clause-written : goal.returns-in-File-clause-written
 returns-in-File-clause-written g c = stopped_as c.args.n c.args.fault (sink_of g.O.Sink c.args.output.now c.end_with_made-status-in-File.new.output) (of_file c.args.n c.in-File.fault) status.File c.end_with_made-status-in-File.result c.kept-in-File.result
     (ap stop_status c.in-File.is) (ap (λ f. stop_line c.args.n f) c.in-File.is) (λ e. absurd cc) (λ e. absurd cc) (c.end_with_made-status-in-File.ensures.written (of_file c.args.n c.in-File.fault) c.file_line-line.ensures) c.kept-in-File.ensures.status
     (λ x. c.kept-in-File.ensures.kept x ∙ sym (ap stop_of c.in-File.is)) c.kept-in-File.ensures.other
+
+pub returns-in-Csv-clause-written : goal.returns-in-Csv-clause-written
+returns-in-Csv-clause-written g c = stopped_as c.args.n c.args.fault (sink_of g.O.Sink c.args.output.now c.end_with_made-status-in-Csv.new.output) (of_table c.args.n c.in-Csv.fault) status.File c.end_with_made-status-in-Csv.result c.kept-in-Csv.result
+    (ap stop_status c.in-Csv.is) (ap (λ f. stop_line c.args.n f) c.in-Csv.is) (λ e. absurd cc) (λ e. absurd cc) (c.end_with_made-status-in-Csv.ensures.written (of_table c.args.n c.in-Csv.fault) c.table_line-line.ensures) c.kept-in-Csv.ensures.status
+    (λ x. c.kept-in-Csv.ensures.kept x ∙ sym (ap stop_of c.in-Csv.is)) c.kept-in-Csv.ensures.other
 
 pub returns-in-Device-clause-written : goal.returns-in-Device-clause-written
 returns-in-Device-clause-written g c = stopped_as c.args.n c.args.fault (sink_of g.O.Sink c.args.output.now c.end_with.new.output) (codes "fault files\n") status.Files c.end_with.result

@@ -9,14 +9,11 @@ use Rattle.aql_run.specs.Entry.{entry}
 use Rattle.aql_run.specs.Writing.{WritesFront}
 use Rattle.aql_outside.specs.Laws.Causes.{blamed_as, none_blamed}
 use Rattle.aql_run.specs.Settings.{settings_of}
-use Rattle.aql_run.proofs.Answering.{next_within, next_built, has_stepped, stopped, wrote, halted, outcome_last, next_unread}
+use Rattle.aql_run.proofs.Answering.{next_within, has_stepped, stopped, wrote, halted, outcome_last, next_unread}
 use Rattle.aql_run.proofs.steps.answer_next.Goals as goal
 
 pub step-requires-clause-limits : goal.step-requires-clause-limits
 step-requires-clause-limits g c κs within = next_within c.args.script.now.prepared.now c.args.n c.requires.prepared c.requires.last
-
-pub step-requires-clause-arrays : goal.step-requires-clause-arrays
-step-requires-clause-arrays g c κs within = λ d e. next_built c.args.script.now.prepared.now c.args.n (length c.args.answers.now.items) d c.requires.prepared c.requires.next e
 
 pub returns-in-Ok-clause-goes : goal.returns-in-Ok-clause-goes
 returns-in-Ok-clause-goes g c =

@@ -1,9 +1,5 @@
-use Rattle.std.proofs.Common.{subst, sym, ◌∙◌, ap, arith}
-use Rattle.std.specs.Prelude.{ℕ, ◌≡◌, List, Err}
-use Rattle.aql_syntax.specs.Tree.{Declaration}
+use Rattle.std.proofs.Common.{arith}
 use Rattle.aql_syntax.specs.View.{decls_of}
-use Rattle.aql_infer.specs.Checked.{IsChecked, IsFirstUntyped}
-use Rattle.aql_infer.specs.declared.fault.TypeFault.{TypeFault}
 use Rattle.aql_script.specs.Script.{positions}
 use Rattle.aql_script.proofs.Positions.{behind_prelude, untyped_own, first_untyped}
 use Rattle.aql_script.proofs.preparing.infer_types.Goals as goal

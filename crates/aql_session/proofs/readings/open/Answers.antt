@@ -1,14 +1,14 @@
 use Rattle.std.proofs.Common.{◌≡◌, true, false, refl, sym, ap, subst}
 use Rattle.std.specs.Prelude.{Ok, Err}
 use Rattle.aql_session.specs.Reading.{fault_in}
-use Rattle.aql_session.specs.Runs.{request_asked, IsFileCause}
+use Rattle.aql_session.specs.Runs.{slab_asked, IsFileCause}
 use Rattle.aql_session.proofs.Opening.{says-of, nameless, file-at, failed, handed-cause}
 use Rattle.aql_session.proofs.Requests.{header-version, header-request}
 use Rattle.aql_session.proofs.readings.open.Goals as goal
 
 pub returns-in-Some-clause-opened : goal.returns-in-Some-clause-opened
 returns-in-Some-clause-opened g c =
-    let a = request_asked c.args.request.now in
+    let a = slab_asked c.args.slab.now in
     record {
       variable = c.in-Some.ensures.within;
       told = λ files e.
@@ -19,7 +19,7 @@ returns-in-Some-clause-opened g c =
 
 pub returns-in-None-clause-cause : goal.returns-in-None-clause-cause
 returns-in-None-clause-cause g c =
-    let a = request_asked c.args.request.now in (
+    let a = slab_asked c.args.slab.now in (
       record { own = tt; unnamed = λ n. (let z = c.in-Ok.ensures.unnamed n in cc); version = tt; request = tt },
       λ files e.
           nameless a files c.in-Ok.header
@@ -29,7 +29,7 @@ returns-in-None-clause-cause g c =
 
 pub returns-in-Err-clause-cause : goal.returns-in-Err-clause-cause
 returns-in-Err-clause-cause g c =
-    let a = request_asked c.args.request.now in
+    let a = slab_asked c.args.slab.now in
     let holds = g.F.Files.holds c.args.files.now in
     let before = g.F.Files.faults c.args.files.now in
     let now = g.F.Files.faults c.read_header.new.files in

@@ -2,14 +2,14 @@ use Rattle.std.proofs.Common.{sym, ap, subst, ◌∙◌}
 use Rattle.std.specs.Prelude.{Err}
 use Rattle.aql_outside.specs.Contents.{bytes_in}
 use Rattle.cdf_header.specs.Places.{variable_at}
-use Rattle.aql_session.specs.Runs.{request_asked, IsFileCause}
+use Rattle.aql_session.specs.Runs.{slab_asked, IsFileCause}
 use Rattle.aql_session.proofs.Opening.{slab-read, slab-failed, handed-cause, utf8-is}
 use Rattle.aql_session.proofs.Requests.{slab-version}
 use Rattle.aql_session.proofs.readings.read_found.Goals as goal
 
 pub returns-in-Ok-clause-read : goal.returns-in-Ok-clause-read
 returns-in-Ok-clause-read g c =
-    let a = request_asked c.args.request.now in
+    let a = slab_asked c.args.slab.now in
     record {
       shaped = c.in-Ok.ensures.shaped;
       named = utf8-is a.file (λ n. (let z = c.in-Ok.ensures.unnamed n in cc));
@@ -21,7 +21,7 @@ returns-in-Ok-clause-read g c =
 
 pub returns-in-Err-clause-cause : goal.returns-in-Err-clause-cause
 returns-in-Err-clause-cause g c =
-    let a = request_asked c.args.request.now in
+    let a = slab_asked c.args.slab.now in
     let holds = g.F.Files.holds c.args.files.now in
     let before = g.F.Files.faults c.args.files.now in
     let now = g.F.Files.faults c.read_slab.new.files in

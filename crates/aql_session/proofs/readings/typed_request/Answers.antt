@@ -8,10 +8,10 @@ use Rattle.aql_session.proofs.readings.typed_request.Goals as goal
 
 pub unreachable-requires : goal.unreachable-requires
 unreachable-requires c =
-    asks-some (reader_of c.args.reader.now) (held_datum c.args.argument) c.requires.arrays c.requires.within c.requires.typed
+    asks-some (reader_of c.args.reader.now) (held_datum c.args.argument) c.requires.within c.requires.typed
     (ap (option_map request_asked) (sym c.in-None.is) ∙ c.in_ok-request.ensures)
 
 pub returns : goal.returns
 returns c =
-    request-typed (reader_of c.args.reader.now) (held_datum c.args.argument) c.in-Some.request c.requires.arrays c.requires.within c.requires.typed
+    request-typed (reader_of c.args.reader.now) (held_datum c.args.argument) c.in-Some.request c.requires.within c.requires.typed
     (ap (option_map request_asked) (sym c.in-Some.is) ∙ c.in_ok-request.ensures)

@@ -9,11 +9,6 @@ use Rattle.aql_session.specs.declared.answer.Ran.TheVariants as ran
 use Rattle.aql_session.proofs.Running.{same-position, reader-within, argument-typed, readval-run, readval-fits, readval-cause, readval-unread}
 use Rattle.aql_session.proofs.runs.run_readval.Goals as goal
 
-pub read_argument-requires-clause-arrays : goal.read_argument-requires-clause-arrays
-read_argument-requires-clause-arrays g c =
-    let k = c.requires.reads in
-    c.requires.arrays (read k.0 (reader_of c.args.reader.now) k.1) k.2
-
 pub read_argument-requires-clause-within : goal.read_argument-requires-clause-within
 read_argument-requires-clause-within g c =
     let k = c.requires.reads in
@@ -33,7 +28,7 @@ overflow_add-result g c =
     let k = c.requires.reads in
     let p = c.args.at.now in
     let h = c.in-Ok.ensures.evaluated (read k.0 (reader_of c.args.reader.now) k.1) k.2 in
-    let l : c.in-Ok.field-0.turns + c.in-Ok-read_argument.field-0.cells < 2 ^ 128 =
+    let l : c.in-Ok.field-0.turns + c.in-Ok-read_argument.field-0.turns < 2 ^ 128 =
     readval-fits k.0 (reader_of c.args.reader.now) k.1 (so_far p.decls.now c.args.globals.now) (budget_of p) c.in-Ok.field-0 h
     (g.F.Files.holds c.args.files.now) c.in-Ok-read_argument.field-0 c.requires.budget c.in-Ok-read_argument.ensures.read in
     omega (arith, l)
@@ -48,7 +43,7 @@ returns-in-Ok-read_argument-clause-ran g c = λ d e.
     let z = same-position (declaration_of p) (read k.0 r k.1) d k.2 e in
     let run = readval-run k.0 r k.1 earlier (budget_of p) c.in-Ok.field-0 h (g.F.Files.holds c.args.files.now) c.in-Ok-read_argument.field-0 c.in-Ok-read_argument.ensures.read in
     subst (λ x. IsRun x earlier (budget_of p) (g.F.Files.holds c.args.files.now)
-    (record { start = c.in-Ok.field-0.start; plan = c.in-Ok.field-0.plan; trace = c.in-Ok.field-0.trace; by = ran.Read; turns = c.in-Ok.field-0.turns + c.in-Ok-read_argument.field-0.cells; value = c.in-Ok-read_argument.field-0.value })) z run
+    (record { start = c.in-Ok.field-0.start; plan = c.in-Ok.field-0.plan; trace = c.in-Ok.field-0.trace; by = ran.Read; turns = c.in-Ok.field-0.turns + c.in-Ok-read_argument.field-0.turns; value = c.in-Ok-read_argument.field-0.value })) z run
 
 pub returns-in-Ok-read_argument-clause-untouched : goal.returns-in-Ok-read_argument-clause-untouched
 returns-in-Ok-read_argument-clause-untouched g c = λ d e u.
