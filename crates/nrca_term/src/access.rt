@@ -145,6 +145,33 @@ fn swap_item(mut terms: Terms, i: u64, with: Core) -> (Terms, Core)
     (terms, old)
 }
 
+fn exchange_one(a: &mut Box<Core>, i: u64, with: &mut Core)
+    requires { i < 1 }
+    ensures now { SwapsOne a.old i with.old a.new }
+    ensures before { Some (term_of with.new) ≡ child_of (plain (term_of a.old.value ∷ []) none) i }
+{
+    match i {
+        0 => mem::swap(&mut **a, with),
+        _ => unreachable!(),
+    }
+}
+
+fn exchange_two(a: &mut Box<Core>, b: &mut Box<Core>, i: u64, with: &mut Core)
+    requires { i < 2 }
+    ensures now { SwapsTwo (a.old, b.old) i with.old (a.new, b.new) }
+    ensures before { Some (term_of with.new) ≡ part_of_two (a.old, b.old) i }
+{
+    match i {
+        0 => mem::swap(&mut **a, with),
+        _ => mem::swap(&mut **b, with),
+    }
+}
+
+// Says that what stands beside the parts stays as it was.
+fn leave<T>(_beside: &mut T)
+    ensures { _beside.new ≡ _beside.old }
+{}
+
 impl Core {
     /// The number of the variable that the term is. None where it is another form.
     pub fn variable(&self) -> Option<u64>
@@ -340,10 +367,8 @@ impl Core {
         whole
     }
 
-    /// Exchanges part i for another term, in place. What a recursion over the parts needs on the
-    /// stack is then one term for each level.
-    #[inline(never)]
-    pub fn exchange(&mut self, i: u64, with: &mut Core)
+    // Where the parts stand in vectors the node is taken apart.
+    fn exchange_apart(&mut self, i: u64, with: &mut Core)
         requires { i < count (parts_of (term_of self.old)) }
         ensures now { term_of self.new ≡ with_part (term_of self.old) i (term_of with.old) }
         ensures before { Some (term_of with.new) ≡ child_of (parts_of (term_of self.old)) i }
@@ -353,5 +378,42 @@ impl Core {
         let (whole, part) = whole.swap_part(i, other);
         *self = whole;
         *with = part;
+    }
+
+    /// Exchanges part i for another term, in place. What a recursion over the parts needs on the
+    /// stack is then one term for each level.
+    #[tactic(auto, using(crate::proofs::Swaps::swaps))]
+    #[inline(never)]
+    pub fn exchange(&mut self, i: u64, with: &mut Core)
+        requires { i < count (parts_of (term_of self.old)) }
+        ensures now { term_of self.new ≡ with_part (term_of self.old) i (term_of with.old) }
+        ensures before { Some (term_of with.new) ≡ child_of (parts_of (term_of self.old)) i }
+    {
+        match self {
+            Core::Let(a, b) => exchange_two(a, b, i, with),
+            Core::If(c, a, b) => {
+                if i < 1 {
+                    exchange_one(c, i, with)
+                } else {
+                    exchange_two(a, b, i - 1, with)
+                }
+            }
+            Core::Default(a, b) => exchange_two(a, b, i, with),
+            Core::Arith(op, a, b) => {
+                exchange_two(a, b, i, with);
+                leave(op);
+            }
+            Core::Compare(op, a, b) => {
+                exchange_two(a, b, i, with);
+                leave(op);
+            }
+            Core::Single(a) => exchange_one(a, i, with),
+            Core::Union(a, b) => exchange_two(a, b, i, with),
+            Core::BigUnion { over, body } => exchange_two(over, body, i, with),
+            Core::Sum { over, body } => exchange_two(over, body, i, with),
+            Core::Gen(a) => exchange_one(a, i, with),
+            Core::Get(a) => exchange_one(a, i, with),
+            _ => self.exchange_apart(i, with),
+        }
     }
 }
