@@ -1,3 +1,1 @@
-mod NodeParts
-mod Parts
 mod WaysSides

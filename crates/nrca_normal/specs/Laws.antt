@@ -2,6 +2,9 @@
 pub mod Ways
 pub mod Order
 pub mod Conditions
+pub mod Entering
 pub mod Rewriting
-pub mod Found
-pub mod Progress
+pub mod Typed
+pub mod Quiet
+pub mod Descent
+pub mod Planned

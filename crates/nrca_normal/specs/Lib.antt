@@ -1,8 +1,8 @@
 pub mod Ways
 pub mod Order
 pub mod Conditions
-pub mod Found
 pub mod Rewriting
+pub mod Quiet
+pub mod Descent
 pub mod Planned
-pub mod Progress
 pub mod Laws

@@ -5,16 +5,15 @@
 //! the shapes of the positions tell of the outcomes, and that it has at most (W + 1)^3 steps, W being the weight of the
 //! start; so the plan has each type and the meaning of the start.
 //! Read `ways` (which parts of a left side must have a value), `conditions` (whether they have one), `firing` (which rule
-//! may be applied at a node), `search` (the first such place, from the last one on), `rewriting`, `normal`; of the
-//! definitions `specs/Conditions` and `specs/Planned`.
+//! may be applied at a node), `descent` (a term rewritten until none may be applied at any of its places), `normal`; of the
+//! definitions `specs/Conditions`, `specs/Rewriting` and `specs/Planned`.
 #![tactic(auto)]
 
 mod conditions;
+mod descent;
 mod firing;
 mod normal;
 mod order;
-mod rewriting;
-mod search;
 mod ways;
 
 pub use normal::{Plan, normalise, normalise_over};

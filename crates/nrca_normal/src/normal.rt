@@ -1,18 +1,17 @@
 //! The plan of a term.
 
-ghost use Rattle.std.specs.Prelude.{◌≡◌, ◌≤◌, ◌<◌, ◌+◌, ◌^◌, IfOk, OnOk, length, true, false};
+ghost use Rattle.std.specs.Prelude.{◌≡◌, ◌≤◌, ◌<◌, ◌+◌, ◌^◌, IfOk, length};
 ghost use Rattle.nrca_term.specs.Term.{weight_of};
 ghost use Rattle.nrca_term.specs.Typing.{IsTyped};
 ghost use Rattle.nrca_term.specs.View.{term_of};
-ghost use Rattle.nrca_ranges.specs.Shapes.{shapes_in, known_shapes};
+ghost use Rattle.nrca_ranges.specs.Shapes.{shapes_in};
+ghost use Rattle.nrca_normal.specs.Descent.{IsAtRoot};
 ghost use Rattle.nrca_normal.specs.Planned.{IsReplayed, IsNormalIn, KeepsTypes, IsPlanOf};
-ghost use Rattle.nrca_normal.specs.Progress.{IsBegun, IsReady, IsSiteOf, HasGone, GoesOn};
 
-use crate::rewriting::rewrite;
-use crate::search::{Site, find};
+use crate::descent::{Descent, settle};
 use aql_value::Memory;
 use nrca_ranges::{Ctx, GlobalShapes};
-use nrca_term::{Core, Path, Step, Trace};
+use nrca_term::{Core, Trace};
 use std::alloc::Global;
 use std::mem;
 
@@ -21,15 +20,6 @@ use std::mem;
 pub struct Plan {
     pub term: Core,
     pub trace: Trace,
-}
-
-// The term so far, the rewritings that led to it, the place of the last one, and the context of the root.
-#[derive(Drop)]
-pub(crate) struct Progress {
-    pub term: Core,
-    pub steps: Vec<Step>,
-    pub from: Vec<u64>,
-    pub ctx: Ctx,
 }
 
 /// The plan of a closed typed term: it is normal wherever the shapes tell which positions have a value, and the trace
@@ -66,98 +56,60 @@ pub fn normalise_over(
 {
     let copied = start.copy(alloc)?;
     let shapes = mem::replace(globals, GlobalShapes::new(alloc));
-    let (plan, back) = normal_form(alloc, begin(alloc, copied, shapes));
+    let (plan, back) = normal_form(alloc, copied, shapes);
     *globals = back;
     plan
 }
 
-// Nothing done yet.
-fn begin(alloc: Global, term: Core, globals: GlobalShapes) -> Progress
-    ensures { IsBegun (shapes_in globals) (term_of term) result }
+// The plan of a term, and the shapes again.
+fn normal_form(
+    alloc: Global,
+    term: Core,
+    globals: GlobalShapes,
+) -> (Result<Plan, Memory>, GlobalShapes)
+    requires typed { IsTyped (term_of term) }
+    requires small { weight_of (term_of term) ≤ 1280000 }
+    ensures globals { shapes_in result.1 ≡ shapes_in globals }
+    ensures plan { IfOk result.0 (IsPlanOf (shapes_in globals) (term_of term)) }
 {
-    Progress {
-        term,
-        steps: Vec::new(alloc),
-        from: Vec::new(alloc),
-        ctx: Ctx::new(alloc, globals),
-    }
-}
-
-// Rewritings to the end, and the shapes again.
-fn normal_form(alloc: Global, begun: Progress) -> (Result<Plan, Memory>, GlobalShapes)
-    requires typed { IsTyped (term_of begun.term) }
-    requires small { weight_of (term_of begun.term) ≤ 1280000 }
-    requires begun { IsBegun (known_shapes begun.ctx) (term_of begun.term) begun }
-    ensures globals { shapes_in result.1 ≡ known_shapes begun.ctx }
-    ensures plan { IfOk result.0 (IsPlanOf (known_shapes begun.ctx) (term_of begun.term)) }
-{
-    let mut progress = begun;
-    loop {
-        match go_on(alloc, &mut progress) {
-            Ok(true) => (),
-            Ok(false) => {
-                let (plan, globals) = parts_of_end(progress);
-                return (Ok(plan), globals);
-            }
-            Err(Memory) => {
-                let (plan, globals) = parts_of_end(progress);
-                drop(plan);
-                return (Err(Memory), globals);
-            }
+    let mut settled = term;
+    let mut run = begin(alloc, globals);
+    let done = settle(alloc, &mut settled, &mut run);
+    let (trace, back) = end(run);
+    match done {
+        Ok(_) => {
+            let term = settled;
+            (Ok(Plan { term, trace }), back)
+        }
+        Err(Memory) => {
+            drop(settled);
+            drop(trace);
+            (Err(Memory), back)
         }
     }
 }
 
-// The term and the rewritings so far, and the shapes.
-fn parts_of_end(progress: Progress) -> (Plan, GlobalShapes)
-    ensures plan { result.0 ≡ record { term = progress.term; trace = progress.steps.items } }
-    ensures globals { result.1 ≡ progress.ctx.globals }
+// At the root, before any rewriting.
+fn begin(alloc: Global, globals: GlobalShapes) -> Descent
+    ensures { IsAtRoot (shapes_in globals) result }
 {
-    let Progress {
-        term,
-        steps,
-        from: _,
-        ctx,
-    } = progress;
+    Descent {
+        ctx: Ctx::new(alloc, globals),
+        way: Vec::new(alloc),
+        steps: Vec::new(alloc),
+    }
+}
+
+// The rewritings that were done, and the shapes again.
+fn end(run: Descent) -> (Trace, GlobalShapes)
+    ensures trace { result.0 ≡ run.steps.items }
+    ensures globals { result.1 ≡ run.ctx.globals }
+{
+    let Descent { ctx, way: _, steps } = run;
     let Ctx {
         facts: _,
         depth: _,
         globals,
     } = ctx;
-    let trace = Trace(steps);
-    (Plan { term, trace }, globals)
-}
-
-// One rewriting more, at the first place where one may be applied; false where there is none.
-fn go_on(alloc: Global, progress: &mut Progress) -> Result<bool, Memory>
-    requires { IsReady progress.old }
-    ensures more { IfOk result (GoesOn progress.old progress.new) }
-    ensures globals { known_shapes progress.new.ctx ≡ known_shapes progress.old.ctx }
-{
-    match find(alloc, &progress.term, &mut progress.ctx, &progress.from, 0)? {
-        Some(site) => {
-            take_step(alloc, progress, site)?;
-            Ok(true)
-        }
-        None => Ok(false),
-    }
-}
-
-// The rewriting of a site.
-fn take_step(alloc: Global, progress: &mut Progress, site: Site) -> Result<(), Memory>
-    requires { IsSiteOf progress.old site }
-    ensures gone { OnOk result (HasGone progress.old progress.new) }
-    ensures globals { known_shapes progress.new.ctx ≡ known_shapes progress.old.ctx }
-{
-    let firing = site.firing;
-    let mut path = site.way;
-    path.reverse();
-    rewrite(alloc, &mut progress.term, &path, 0, firing)?;
-    let copied = Path::from_numbers(alloc, &path)?;
-    progress.steps.push(Step {
-        rule: firing.rule(),
-        path: copied,
-    })?;
-    progress.from = path;
-    Ok(())
+    (Trace(steps), globals)
 }

@@ -1,67 +1,103 @@
--- A rewriting in a part is one of the node.
-use Rattle.std.proofs.Common.{◌≡◌, ℕ, zero, suc, ◌+◌, ◌<◌, ◌≤◌, List, [], ◌∷◌, length, drop, get_or, Option, Some, None, Result, Ok, Err, OnOk, refl, sym, ap, subst, ◌∙◌, arith, add-one, drop-cons}
+-- Rewritings after one another; those of a part are rewritings of its node.
+use Rattle.std.proofs.Common.{◌≡◌, ℕ, zero, suc, List, [], ◌∷◌, ◌++◌, map, Option, Some, refl, sym, ap, subst, ◌∙◌}
 use Rattle.aql_value.specs.Partial.{◌>>=◌}
-use Rattle.aql_types.specs.Laws.Operation.{some-list}
+use Rattle.nrca_term.specs.declared.trace.Step.{Step}
 use Rattle.nrca_term.specs.Term.{Term, Parts, node, none, part, parts_of, child_of, set_child, with_part}
 use Rattle.nrca_term.specs.Places.{place_of, put_at, on_child}
-use Rattle.nrca_laws.specs.Fitting.{IsSmallPart}
-use Rattle.nrca_normal.specs.declared.firing.Firing.{Firing}
-use Rattle.nrca_normal.specs.Conditions.{IsApplicable, IsMade}
-use Rattle.nrca_normal.specs.Rewriting.{MayRewrite, IsRewritten}
+use Rattle.nrca_term.specs.Facts.{Facts, enter_facts, context_at, context_below}
+use Rattle.nrca_ranges.specs.Bounds.{Bounds}
+use Rattle.nrca_normal.specs.Conditions.{MayFire}
+use Rattle.nrca_normal.specs.Rewriting.{IsRewriting, Leads, behind}
+use Rattle.nrca_normal.specs.Laws.Entering.{enter-same}
 
--- a path from its number n on
-pub path-next : (path : List ℕ) (n : ℕ) → n < length path → drop n path ≡ get_or path n 0 ∷ drop (n + 1) path
-path-next path n l = rw (add-one, drop-cons path n 0)
+-- what is done to a part that is there
+on-as : (ps : Parts) (i : ℕ) (p : Term) (g h : Term → Term) → child_of ps i ≡ Some p → g p ≡ h p → on_child ps i g ≡ on_child ps i h
+on-as none i p g h e k = refl
+on-as (part n t ps) zero p g h e k = let z : p ≡ t = cc in ap (λ x. part n x ps) (ap g (sym z) ∙ k ∙ ap h z)
+on-as (part n t ps) (suc i) p g h e k = ap (part n t) (on-as ps i p g h e k)
 
-pub path-end : (path : List ℕ) (n : ℕ) → n ≤ length path → length path ≤ n → drop n path ≡ []
-path-end path n l m = let z : n ≡ length path = omega (arith, l, m) in ap (λ k. drop k path) z ∙ all path
+on-self : (ps : Parts) (i : ℕ) (p : Term) → child_of ps i ≡ Some p → on_child ps i (λ s. p) ≡ ps
+on-self none i p e = refl
+on-self (part n t ps) zero p e = let z : p ≡ t = cc in ap (λ x. part n x ps) z
+on-self (part n t ps) (suc i) p e = ap (part n t) (on-self ps i p e)
+
+on-twice : (ps : Parts) (i : ℕ) (p q : Term) → on_child (on_child ps i (λ s. p)) i (λ s. q) ≡ on_child ps i (λ s. q)
+on-twice none i p q = refl
+on-twice (part n t ps) zero p q = refl
+on-twice (part n t ps) (suc i) p q = ap (part n t) (on-twice ps i p q)
+
+child-on : (ps : Parts) (i : ℕ) (p q : Term) → child_of ps i ≡ Some p → child_of (on_child ps i (λ s. q)) i ≡ Some q
+child-on none i p q e = cc
+child-on (part n t ps) zero p q e = refl
+child-on (part n t ps) (suc i) p q e = child-on ps i p q e
+
+set-on : (ps : Parts) (i : ℕ) (b q : Term) → set_child (set_child ps i b) i q ≡ on_child ps i (λ s. q)
+set-on none i b q = refl
+set-on (part n t ps) zero b q = refl
+set-on (part n t ps) (suc i) b q = ap (part n t) (set-on ps i b q)
+
+-- the same of a term: a part put in the place of another one
+pub put-self : (t : Term) (i : ℕ) (p : Term) → child_of (parts_of t) i ≡ Some p → t ≡ put_at t (i ∷ []) p
+put-self (node f ps) i p e = ap (node f) (sym (on-self ps i p e))
+
+pub put-child : (t : Term) (i : ℕ) (p q : Term) → child_of (parts_of t) i ≡ Some p → child_of (parts_of (put_at t (i ∷ []) q)) i ≡ Some q
+put-child (node f ps) i p q e = child-on ps i p q e
+
+put-twice : (t : Term) (i : ℕ) (p q : Term) → put_at (put_at t (i ∷ []) p) (i ∷ []) q ≡ put_at t (i ∷ []) q
+put-twice (node f ps) i p q = ap (node f) (on-twice ps i p q)
+
+put-below : (t : Term) (i : ℕ) (p q r : Term) (path : List ℕ) → child_of (parts_of t) i ≡ Some p → q ≡ put_at p path r → put_at t (i ∷ []) q ≡ put_at t (i ∷ path) r
+put-below (node f ps) i p q r path e k = ap (node f) (on-as ps i p (λ s. q) (λ s. put_at s path r) e k)
+
+pub enter-put : (c : Facts) (t : Term) (i : ℕ) (q : Term) → enter_facts c (put_at t (i ∷ []) q) i ≡ enter_facts c t i
+enter-put c (node f ps) i q = enter-same c f ps i (λ s. q)
+
+-- a part that was taken out for the while, another one standing in its place, and is put back
+pub put-back : (t x y : Term) (i : ℕ) (b q : Term) → x ≡ with_part t i b → y ≡ with_part x i q → y ≡ put_at t (i ∷ []) q
+put-back t x y i b q e k = k ∙ ap (λ z. with_part z i q) e ∙ twice t
   where
-    all : (path : List ℕ) → drop (length path) path ≡ []
-    all [] = refl
-    all (x ∷ path) = all path
+    twice : (t : Term) → with_part (with_part t i b) i q ≡ put_at t (i ∷ []) q
+    twice (node f ps) = ap (node f) (set-on ps i b q)
 
--- what follows where a call ends well
-pub on-ok : {A B P Q : Type 0} (r : Result A B) → (P → Q) → OnOk r P → OnOk r Q
-on-ok (Ok a) f h = f h
-on-ok (Err b) f h = h
+module _ (gs : List (Option Bounds)) where
+  -- one after the other
+  pub leads-append : (c : Facts) (xs ys : List Step) (t m u : Term) → Leads gs c t xs m → Leads gs c m ys u → Leads gs c t (xs ++ ys) u
+  unfolding Leads
+  leads-append c [] ys t m u h k = subst (λ x. Leads gs c x ys u) (sym h) k
+  leads-append c (s ∷ xs) ys t m u h k = (h.0, h.1, leads-append c xs ys h.0 m u h.2 k)
 
--- a part taken out and another one put in
-put-child : (ps : Parts) (i : ℕ) (s b u : Term) (g : Term → Term) → child_of ps i ≡ Some s → u ≡ g s → set_child (set_child ps i b) i u ≡ on_child ps i g
-put-child none i s b u g e h = refl
-put-child (part k t ps) zero s b u g e h = let z : s ≡ t = cc in ap (λ x. part k x ps) (h ∙ ap g z)
-put-child (part k t ps) (suc i) s b u g e h = ap (part k t) (put-child ps i s b u g e h)
+  pub leads-none : (c : Facts) (t : Term) → Leads gs c t [] t
+  unfolding Leads
+  leads-none c t = refl
 
-put-back : (t s b u r : Term) (i : ℕ) (p : List ℕ) → child_of (parts_of t) i ≡ Some s → u ≡ put_at s p r → with_part (with_part t i b) i u ≡ put_at t (i ∷ p) r
-put-back (node f ps) s b u r i p e h = ap (node f) (put-child ps i s b u (λ x. put_at x p r) e h)
+  pub leads-one : (c : Facts) (t u : Term) (s : Step) → IsRewriting gs c t s u → Leads gs c t (s ∷ []) u
+  unfolding Leads
+  leads-one c t u s h = (u, h, refl)
 
--- what may be rewritten in a part
-pub may-below : (f : Firing) (t s : Term) (i : ℕ) (p : List ℕ) → child_of (parts_of t) i ≡ Some s → MayRewrite f t (i ∷ p) → MayRewrite f s p
-unfolding MayRewrite
-may-below f t s i p e h = (h.0, sym (ap (λ o. o >>= λ r. place_of r p) e) ∙ h.1, h.2, h.3)
+  pub leads-same : (c : Facts) (t u : Term) → Leads gs c t [] u → t ≡ u
+  unfolding Leads
+  leads-same c t u h = h
 
--- and the part is there
-pub part-there : (f : Firing) (t : Term) (i : ℕ) (p : List ℕ) → MayRewrite f t (i ∷ p) → (s : Term) × (child_of (parts_of t) i ≡ Some s)
-unfolding MayRewrite
-part-there f t i p h = at (child_of (parts_of t) i) refl (h.1)
-  where
-    at : (o : Option Term) → child_of (parts_of t) i ≡ o → (o >>= λ r. place_of r p) ≡ Some h.0 → (s : Term) × (child_of (parts_of t) i ≡ Some s)
-    at None e k = cc
-    at (Some s) e k = (s, e)
+  -- a rewriting in a part is one of the node
+  rewriting-above : (c : Facts) (t p q : Term) (i : ℕ) (s : Step) → child_of (parts_of t) i ≡ Some p → IsRewriting gs (enter_facts c t i) p s q → IsRewriting gs c t (behind (i ∷ []) s) (put_at t (i ∷ []) q)
+  rewriting-above c t p q i s e h = record {
+    firing = h.firing;
+    from = h.from;
+    to = h.to;
+    rule = h.rule;
+    found = ap (λ o. o >>= λ r. place_of r s.path) e ∙ h.found;
+    fires = subst (λ d. MayFire gs d h.from h.firing) (sym (ap (λ o. context_below c o (λ r. context_at enter_facts (enter_facts c t i) r s.path)) e)) h.fires;
+    made = h.made;
+    put = put-below t i p q h.to s.path e h.put;
+  }
 
-pub rewritten-above : (f : Firing) (t s b u : Term) (i : ℕ) (p : List ℕ) → child_of (parts_of t) i ≡ Some s → IsRewritten f s p u → IsRewritten f t (i ∷ p) (with_part (with_part t i b) i u)
-unfolding IsRewritten
-rewritten-above f t s b u i p e h = (h.0, h.1, ap (λ o. o >>= λ r. place_of r p) e ∙ h.2, h.3, put-back t s b u h.1 i p e h.4)
-
--- at the root
-pub may-here : (f : Firing) (t : Term) → MayRewrite f t [] → IsApplicable f t × IsSmallPart t
-unfolding MayRewrite
-may-here f t h = let z : h.0 ≡ t = some-list h.0 t (sym h.1) in (subst (IsApplicable f) z h.2, subst IsSmallPart z h.3)
-
-pub made-here : (f : Firing) (t r : Term) → IsMade f t r → IsRewritten f t [] r
-unfolding IsRewritten
-made-here f t r h = (t, r, refl, h, refl)
-
--- the same of what the code has in hand: the part, what is put back, and the term after it
-pub rewritten-in_part : (f : Firing) (t s b u x y : Term) (i : ℕ) (p q : List ℕ) → q ≡ i ∷ p → child_of (parts_of t) i ≡ Some s → x ≡ with_part t i b → y ≡ with_part x i u → IsRewritten f s p u → IsRewritten f t q y
-rewritten-in_part f t s b u x y i p q e c h k w =
-    subst (IsRewritten f t q) (sym (k ∙ ap (λ z. with_part z i u) h)) (subst (λ l. IsRewritten f t l (with_part (with_part t i b) i u)) (sym e) (rewritten-above f t s b u i p c w))
+  -- and so are several
+  pub leads-above : (c : Facts) (t p q : Term) (i : ℕ) (steps : List Step) → child_of (parts_of t) i ≡ Some p → Leads gs (enter_facts c t i) p steps q → Leads gs c t (map (behind (i ∷ [])) steps) (put_at t (i ∷ []) q)
+  unfolding Leads
+  leads-above c t p q i [] e h = put-self t i p e ∙ ap (λ x. put_at t (i ∷ []) x) h
+  leads-above c t p q i (s ∷ steps) e h = (
+    put_at t (i ∷ []) h.0,
+    rewriting-above c t p h.0 i s e h.1,
+    subst (λ x. Leads gs c (put_at t (i ∷ []) h.0) (map (behind (i ∷ [])) steps) x) (put-twice t i h.0 q)
+        (leads-above c (put_at t (i ∷ []) h.0) h.0 q i steps (put-child t i p h.0 e) (subst (λ d. Leads gs d h.0 steps q) (sym (enter-put c t i h.0)) h.2)),
+  )
