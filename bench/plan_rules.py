@@ -1,6 +1,6 @@
 """The rules of the rewriting, the steps of core terms, and which terms are normal.
 
-For bench/random_plans.py. The rules are written from the table of rules, and share nothing with the
+For bench/random_plans.py and bench/random_motion.py. The rules are written from the table of rules, and share nothing with the
 program.
 """
 

@@ -175,11 +175,11 @@ def compare(count, script, starts, outcomes, turns, words, budget):
     return int(printed[-1]["turns"]) if printed and len(printed) == len(starts) else None
 
 
-def random_script():
+def random_script(counts=(1, 1, 1, 2, 3, 4)):
     """A script with its translated queries, their outcomes and their turns."""
     while True:
         try:
-            lines, wanted = queries.script(random.choice([1, 1, 1, 2, 3, 4]))
+            lines, wanted = queries.script(random.choice(counts))
             script = "\n".join(lines)
             starts = terms(script)
             outcomes, turns = outcomes_of(starts)

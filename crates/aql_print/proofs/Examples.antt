@@ -6,8 +6,10 @@ use Rattle.aql_value.specs.declared.ops.CompareOp.TheVariants as compares
 use Rattle.nrca_term.specs.Term.{Term}
 use Rattle.nrca_term.specs.Nodes.{variable, position, number, truth_term, text_term, bottom_term, let_term, if_term, default_term, tuple_term, proj_term, arith_term, compare_term, less_term, empty_term, single_term, union_term, big_union_term, sum_term, gen_term, get_term, tab_term, sub_term, dim_term, index_term, literal_term}
 use Rattle.nrca_term.specs.declared.trace.Rule.TheVariants as rules
+use Rattle.nrca_motion.specs.declared.moves.MoveRule.TheVariants as move_rules
 use Rattle.aql_print.specs.CoreText.{core_text}
 use Rattle.aql_print.specs.TraceText.{trace_text, rule_text}
+use Rattle.aql_print.specs.MovesText.{moves_text}
 
 abbrev shown : Term → List ℕ
 shown t = core_text 0 t
@@ -75,3 +77,10 @@ no_rule = refl
 
 name : rule_text rules.N2 ≡ codes "N2"
 name = refl
+
+no_move : moves_text [] ≡ codes "none"
+no_move = refl
+
+two_moves :
+    moves_text (record { rule = move_rules.M1; path = [] } ∷ record { rule = move_rules.M4; path = [] } ∷ []) ≡ codes "M1 M4"
+two_moves = refl

@@ -5,4 +5,5 @@ pub mod Appends
 pub mod TypeText
 pub mod CoreText
 pub mod TraceText
+pub mod MovesText
 pub mod Laws

@@ -67,11 +67,11 @@ behind xs x y i le e = at (i - length xs) (sym (slice_get-append_right xs (x ∷
     at (suc k) f h = absurd cc
 
 -- the answers with one more
-pub answered_more : (ds : List Declaration) (sorts : List Sort) (budget : ℕ) (holds : Option Content) (answers : List Answer) (V : Outcomes) (d : Declaration) (a : Answer) (o : Option Datum) →
-    AreAnswered ds sorts budget holds answers V → slice_get (positions ds) (prelude_count + length answers) ≡ Some d →
-    IsAnswered d (earlier_of (positions ds) V) (slice_get sorts (prelude_count + length answers)) budget holds a o →
-    AreAnswered ds sorts budget holds (answers ++ a ∷ []) (V ++ o ∷ [])
-answered_more ds sorts budget holds answers V d a o h there own = record {
+pub answered_more : (ds : List Declaration) (sorts : List Sort) (settings : Settings) (holds : Option Content) (answers : List Answer) (V : Outcomes) (d : Declaration) (a : Answer) (o : Option Datum) →
+    AreAnswered ds sorts settings holds answers V → slice_get (positions ds) (prelude_count + length answers) ≡ Some d →
+    IsAnswered d (earlier_of (positions ds) V) (slice_get sorts (prelude_count + length answers)) settings holds a o →
+    AreAnswered ds sorts settings holds (answers ++ a ∷ []) (V ++ o ∷ [])
+answered_more ds sorts settings holds answers V d a o h there own = record {
   few = omega (arith, inside (positions ds) (prelude_count + length answers) d there, length_positions ds, length-append answers (a ∷ []));
   many = length-append V (o ∷ []) ∙ (ap (λ n. n + 1) h.many ∙ (omega (arith, length-append answers (a ∷ []))));
   prelude = let n = h.many in take-append-le prelude_count V (o ∷ []) (omega (arith, n)) ∙ h.prelude;
@@ -79,7 +79,7 @@ answered_more ds sorts budget holds answers V d a o h there own = record {
 }
   where
     Answers : (i : ℕ) (e : Declaration) (b : Answer) (p : Option Datum) → Outcomes → Type 0
-    Answers i e b p W = IsAnswered e (earlier_of (positions ds) W) (slice_get sorts (prelude_count + i)) budget holds b p
+    Answers i e b p W = IsAnswered e (earlier_of (positions ds) W) (slice_get sorts (prelude_count + i)) settings holds b p
 
     last : (i : ℕ) (e : Declaration) (b : Answer) (p : Option Datum) → i ≡ length answers → a ≡ b → o ≡ p → d ≡ e → Answers i e b p (take (prelude_count + i) (V ++ o ∷ []))
     last i e b p is same result decl =
@@ -110,7 +110,7 @@ decls_length (d ∷ ds) = ap suc (decls_length ds)
 pub record HasStepped (p : Prepared) (o : Settings) (holds : Option Content) (answers : List Answer) (s s' : Bound) (a : Answer) : Type 0 where
   pub outcome : Option Datum
   pub outcomes : outcomes s' ≡ outcomes s ++ outcome ∷ []
-  pub progress : Progress p o.budget holds (answers ++ a ∷ []) s'
+  pub progress : Progress p o holds (answers ++ a ∷ []) s'
 
 -- declaration n of the positions
 pub next_there : (p : Prepared) (n : ℕ) (d : Declaration) (k : ℕ) → IsPrepared p → n ≡ prelude_count + 1 + k → slice_get (decls_of p.decls.items.items) (n - 1) ≡ Some d →
@@ -120,8 +120,8 @@ next_there p n d k h is e =
     ap (λ (l : List Declaration). slice_get l (prelude_count + k)) (sym h.all) ∙ (ap (slice_get (decls_of p.decls.items.items)) (sym at) ∙ e)
 
 pub stepped : (p : Prepared) (o : Settings) (holds : Option Content) (answers : List Answer) (s s' : Bound) (a : Answer) (n : ℕ) (d : Declaration) → IsPrepared p →
-    n ≡ prelude_count + 1 + length answers → Progress p o.budget holds answers s → slice_get (decls_of p.decls.items.items) (n - 1) ≡ Some d →
-    IsAnswer d (earlier_of (decls_of p.decls.items.items) (outcomes s)) (slice_get (sorts_in p) (n - 1)) a →
+    n ≡ prelude_count + 1 + length answers → Progress p o holds answers s → slice_get (decls_of p.decls.items.items) (n - 1) ≡ Some d →
+    IsAnswer d (earlier_of (decls_of p.decls.items.items) (outcomes s)) (slice_get (sorts_in p) (n - 1)) o.motion a →
     IsAnswerable d (earlier_of (decls_of p.decls.items.items) (outcomes s)) o.budget holds →
     BindsPosition d (earlier_of (decls_of p.decls.items.items) (outcomes s)) o.budget holds s s' a → HasStepped p o holds answers s s' a
 stepped p o holds answers s s' a n d h is so_far e answer answerable binds =
@@ -138,14 +138,14 @@ stepped p o holds answers s s' a n d h is so_far e answer answerable binds =
       progress = record {
         bound = named there;
         types = subst (λ (V : Outcomes). OutcomesFit (earlier_of (positions (own p)) V)) (sym more) has;
-        answered = subst (λ (V : Outcomes). AreAnswered (own p) (sorts_in p) o.budget holds (answers ++ a ∷ []) V) (sym more)
-            (answered_more (own p) (sorts_in p) o.budget holds answers (outcomes s) d a binds.outcome so_far.answered there (record {
-              answer = subst (λ (k : ℕ). IsAnswer d (earlier_of (positions (own p)) (outcomes s)) (slice_get (sorts_in p) k) a) at
-                  (subst (λ (ds : List Declaration). IsAnswer d (earlier_of ds (outcomes s)) (slice_get (sorts_in p) (n - 1)) a) h.all answer);
+        answered = subst (λ (V : Outcomes). AreAnswered (own p) (sorts_in p) o holds (answers ++ a ∷ []) V) (sym more)
+            (answered_more (own p) (sorts_in p) o holds answers (outcomes s) d a binds.outcome so_far.answered there (record {
+              answer = subst (λ (k : ℕ). IsAnswer d (earlier_of (positions (own p)) (outcomes s)) (slice_get (sorts_in p) k) o.motion a) at
+                  (subst (λ (ds : List Declaration). IsAnswer d (earlier_of ds (outcomes s)) (slice_get (sorts_in p) (n - 1)) o.motion a) h.all answer);
               answerable = subst (λ (ds : List Declaration). IsAnswerable d (earlier_of ds (outcomes s)) o.budget holds) h.all answerable;
               outcome = subst (λ (ds : List Declaration). IsOutcome d (earlier_of ds (outcomes s)) holds binds.outcome) h.all binds.is;
               told = subst (λ (ds : List Declaration). ForSome holds (λ files. outcome_after (reading files) d (globals_of (earlier_of ds (outcomes s))) ≡ Some binds.outcome)) h.all binds.told;
-              counts = subst (λ (ds : List Declaration). IsCounted d (earlier_of ds (outcomes s)) o.budget holds (term_of a.plan) binds.outcome (a.by, a.turns)) h.all binds.counts;
+              counts = subst (λ (ds : List Declaration). IsCounted d (earlier_of ds (outcomes s)) o.budget holds (term_of a.plan) a.moved binds.outcome (a.by, a.turns)) h.all binds.counts;
             }));
       };
     }
@@ -181,15 +181,15 @@ next_is p n one le = get (slice_get_cases (decls_of p.decls.items.items) (n - 1)
     get (inl (x, lt, e, f)) = (x, e)
     get (inr (past, e)) = let count = decls_length p.decls.items.items in absurd (omega (arith, one, le, past, count))
 
-pub stopped : (p : Prepared) (budget : ℕ) (holds : Option Content) (before now : ℕ) (answers : List Answer) (V : Outcomes) (n : ℕ) (f : StepFault) → IsPrepared p →
+pub stopped : (p : Prepared) (settings : Settings) (holds : Option Content) (before now : ℕ) (answers : List Answer) (V : Outcomes) (n : ℕ) (f : StepFault) → IsPrepared p →
     n ≡ prelude_count + 1 + length answers → n ≤ length p.decls.items.items →
-    ((d : Declaration) → slice_get (decls_of p.decls.items.items) (n - 1) ≡ Some d → IsCause d (earlier_of (decls_of p.decls.items.items) V) budget holds before now f) →
-    IsStopped (own p) budget holds before now (length answers) V f
-stopped p budget holds before now answers V n f h is le cause =
+    ((d : Declaration) → slice_get (decls_of p.decls.items.items) (n - 1) ≡ Some d → IsCause d (earlier_of (decls_of p.decls.items.items) V) settings.motion settings.budget holds before now f) →
+    IsStopped (own p) settings holds before now (length answers) V f
+stopped p settings holds before now answers V n f h is le cause =
     let x = next_is p n (omega (arith, is)) le in (
       x.0,
       next_there p n x.0 (length answers) h is x.1,
-      subst (λ (ds : List Declaration). IsCause x.0 (earlier_of ds V) budget holds before now f) h.all (cause x.0 x.1),
+      subst (λ (ds : List Declaration). IsCause x.0 (earlier_of ds V) settings.motion settings.budget holds before now f) h.all (cause x.0 x.1),
     )
 
 next : (V : Outcomes) (n k : ℕ) → length V ≡ prelude_count + k → n ≡ prelude_count + 1 + k → n ≡ suc (length V)
@@ -205,8 +205,8 @@ outcome_last V o n k many is =
     subst (λ m. outcome (V ++ o ∷ []) m ≡ o) (sym (next V n k many is)) (ap (λ (x : Option (Option Datum)). x >>= λ z. z) (last_is V o))
 
 pub has_stepped : (p : Prepared) (o : Settings) (holds : Option Content) (answers : List Answer) (s s' : Bound) (a : Answer) (n : ℕ) → IsPrepared p →
-    n ≡ prelude_count + 1 + length answers → n ≤ length p.decls.items.items → Progress p o.budget holds answers s →
-    ((d : Declaration) → slice_get (decls_of p.decls.items.items) (n - 1) ≡ Some d → IsAnswer d (earlier_of (decls_of p.decls.items.items) (outcomes s)) (slice_get (sorts_in p) (n - 1)) a) →
+    n ≡ prelude_count + 1 + length answers → n ≤ length p.decls.items.items → Progress p o holds answers s →
+    ((d : Declaration) → slice_get (decls_of p.decls.items.items) (n - 1) ≡ Some d → IsAnswer d (earlier_of (decls_of p.decls.items.items) (outcomes s)) (slice_get (sorts_in p) (n - 1)) o.motion a) →
     ((d : Declaration) → slice_get (decls_of p.decls.items.items) (n - 1) ≡ Some d → IsAnswerable d (earlier_of (decls_of p.decls.items.items) (outcomes s)) o.budget holds) →
     ((d : Declaration) → slice_get (decls_of p.decls.items.items) (n - 1) ≡ Some d → BindsPosition d (earlier_of (decls_of p.decls.items.items) (outcomes s)) o.budget holds s s' a) →
     HasStepped p o holds answers s s' a
@@ -223,7 +223,7 @@ module _ (p : Prepared) (o : Settings) (holds : Option Content) (answers answers
     outcome = h.outcome;
     longer = longer;
     outcomes = h.outcomes;
-    progress = subst (λ (l : List Answer). Progress p o.budget holds l s') (sym longer) h.progress;
+    progress = subst (λ (l : List Answer). Progress p o holds l s') (sym longer) h.progress;
     written = subst (λ (z : Option Datum). Appends old new (entry o.plan a z)) is (subst (Appends old new) all appended);
   }
   wrote (Err e) h longer is w = tt
@@ -234,8 +234,8 @@ module _ (p : Prepared) (o : Settings) (holds : Option Content) (answers answers
     answer = a;
     outcome = h.outcome;
     longer = longer;
-    answered = subst (λ (l : List Answer). AreAnswered (own p) (sorts_in p) o.budget holds l (outcomes s ++ h.outcome ∷ [])) (sym longer)
-        (subst (λ (V : Outcomes). AreAnswered (own p) (sorts_in p) o.budget holds (answers ++ a ∷ []) V) h.outcomes h.progress.answered);
+    answered = subst (λ (l : List Answer). AreAnswered (own p) (sorts_in p) o holds l (outcomes s ++ h.outcome ∷ [])) (sym longer)
+        (subst (λ (V : Outcomes). AreAnswered (own p) (sorts_in p) o holds (answers ++ a ∷ []) V) h.outcomes h.progress.answered);
     front = front;
     rest = rest;
     split = subst (λ (z : Option Datum). entry o.plan a z ≡ front ++ rest) is split;

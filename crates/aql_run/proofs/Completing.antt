@@ -1,6 +1,6 @@
 -- A run that is given what it must be ends well.
 use Rattle.std.proofs.Common.{◌≡◌, ◌∙◌, ◌≤◌, ◌<◌, ◌+◌, ◌⊎◌, inl, inr, ℕ, zero, suc, List, [], ◌∷◌, refl, sym, ap, subst, length, arith, append-nil}
-use Rattle.std.specs.Prelude.{Option, Some, None, option_map, if◌then◌else◌}
+use Rattle.std.specs.Prelude.{Bool, Option, Some, None, option_map, if◌then◌else◌}
 use Rattle.std.specs.List.{slice_get}
 use Rattle.aql_outside.specs.Causes.{Rose}
 use Rattle.aql_outside.specs.Contents.{Content}
@@ -33,7 +33,7 @@ use Rattle.aql_session.specs.declared.answer.Answer.{Answer}
 use Rattle.aql_session.specs.declared.answer.StepFault.{StepFault}
 use Rattle.aql_session.specs.declared.answer.StepFault.TheVariants as faults
 use Rattle.aql_words.specs.Words.{options_of}
-use Rattle.aql_run.specs.Settings.{settings_of}
+use Rattle.aql_run.specs.Settings.{Settings, settings_of}
 use Rattle.aql_run.specs.Answered.{AreAnswered, reached}
 use Rattle.aql_run.specs.Laws.Answered.{told_at}
 use Rattle.aql_run.specs.Complete.{work_of, AreOutcomes, HaveTypings, IsWithinBudget, IsSound, EndsWell, Tokenised}
@@ -108,22 +108,22 @@ no_table_fault : (budget : ℕ) (holds : Option Content) (f : CsvFault) (a : Ask
 no_table_fault budget holds f (hyperslab h) file t = t
 no_table_fault budget holds f (table name header ks) (files, is, (w, ok)) (few, own, told) = let both = sym ok ∙ told files is in absurd cc
 
-no_cause : (d : Declaration) (earlier : Earlier) (budget : ℕ) (holds : Option Content) (before now : ℕ) (f : StepFault) → IsWithinBudget d earlier budget holds → (Rose before now → ⊥) →
-    IsCause d earlier budget holds before now f → (f ≡ faults.Memory → ⊥) → ⊥
-no_cause d earlier budget holds before now (faults.Query start plan trace) h quiet (_, _, past, _) other =
+no_cause : (d : Declaration) (earlier : Earlier) (motion : Bool) (budget : ℕ) (holds : Option Content) (before now : ℕ) (f : StepFault) → IsWithinBudget d earlier budget holds → (Rose before now → ⊥) →
+    IsCause d earlier motion budget holds before now f → (f ≡ faults.Memory → ⊥) → ⊥
+no_cause d earlier motion budget holds before now (faults.Query start plan trace moved) h quiet (_, _, past, _, _, _) other =
     let turns = h.turns in let same = turns_are d earlier in absurd (omega (arith, past, turns, same))
-no_cause d earlier budget holds before now (faults.Cells c) h quiet (within, a, e, past) other = no_passing budget c holds a (h.cells a e) (h.file a e) past
-no_cause d earlier budget holds before now (faults.File f) h quiet (within, a, e, fault) other = no_file_fault budget holds f a (h.file a e) fault
-no_cause d earlier budget holds before now (faults.Csv f) h quiet (within, a, e, fault) other = no_table_fault budget holds f a (h.file a e) fault
-no_cause d earlier budget holds before now faults.Device h quiet (within, a, e, (calls, rose)) other = quiet rose
-no_cause d earlier budget holds before now faults.Memory h quiet cause other = other refl
+no_cause d earlier motion budget holds before now (faults.Cells c) h quiet (within, a, e, past) other = no_passing budget c holds a (h.cells a e) (h.file a e) past
+no_cause d earlier motion budget holds before now (faults.File f) h quiet (within, a, e, fault) other = no_file_fault budget holds f a (h.file a e) fault
+no_cause d earlier motion budget holds before now (faults.Csv f) h quiet (within, a, e, fault) other = no_table_fault budget holds f a (h.file a e) fault
+no_cause d earlier motion budget holds before now faults.Device h quiet (within, a, e, (calls, rose)) other = quiet rose
+no_cause d earlier motion budget holds before now faults.Memory h quiet cause other = other refl
 
 -- the outcomes of the answers are those of the positions
-are_outcomes : (ds : List Declaration) (sorts : List Sort) (budget : ℕ) (holds : Option Content) (answers : List Answer) (V : Outcomes) →
-    AreAnswered ds sorts budget holds answers V → AreOutcomes ds holds V
-are_outcomes ds sorts budget holds answers V h = record {
+are_outcomes : (ds : List Declaration) (sorts : List Sort) (settings : Settings) (holds : Option Content) (answers : List Answer) (V : Outcomes) →
+    AreAnswered ds sorts settings holds answers V → AreOutcomes ds holds V
+are_outcomes ds sorts settings holds answers V h = record {
   prelude = h.prelude;
-  each = λ i d o there is. told_at ds sorts budget holds answers V i d o h there is;
+  each = λ i d o there is. told_at ds sorts settings holds answers V i d o h there is;
 }
 
 -- no declaration of a sound script has a fault but want of memory
@@ -137,10 +137,10 @@ never_stops words told same begun taken lines given answers f it h quiet run (d,
     let at : slice_get (positions run.ds) (length run.outcomes) ≡ Some d = ap (slice_get (positions run.ds)) many ∙ there in
     let is : AreOutcomes h.ds told.holds run.outcomes =
     subst (λ (l : List Declaration). AreOutcomes l told.holds run.outcomes) (sym ds)
-    (are_outcomes run.ds run.sorts (options_of words).budget told.holds answers run.outcomes run.answered) in
+    (are_outcomes run.ds run.sorts (settings_of (options_of words)) told.holds answers run.outcomes run.answered) in
     let within : IsWithinBudget d (earlier_of (positions h.ds) run.outcomes) (options_of words).budget told.holds =
     h.within run.outcomes d is (ap (λ (l : List Declaration). slice_get (positions l) (length run.outcomes)) ds ∙ at) in
-    no_cause d (earlier_of (positions run.ds) run.outcomes) (options_of words).budget told.holds told.files_before told.files_now f
+    no_cause d (earlier_of (positions run.ds) run.outcomes) (options_of words).motion (options_of words).budget told.holds told.files_before told.files_now f
     (subst (λ (l : List Declaration). IsWithinBudget d (earlier_of (positions l) run.outcomes) (options_of words).budget told.holds) ds within) quiet cause other
 
 -- a script that is refused is the one of the run, with the reading that it has
@@ -155,7 +155,7 @@ spells_one : OneList → (script : List ℕ) (ls ms : List Lexeme) → IsTokenis
 spells_one one script ls ms (ts, a, _) (us, b, _) = (one script ts us ls ms a b).lexemes
 
 spent_not_memory : (f : StepFault) → IsBudgetFault f → f ≡ faults.Memory → ⊥
-spent_not_memory (faults.Query start plan trace) h e = absurd cc
+spent_not_memory (faults.Query start plan trace moved) h e = absurd cc
 spent_not_memory (faults.Cells c) h e = absurd cc
 spent_not_memory (faults.File f) h e = h
 spent_not_memory (faults.Csv f) h e = h
@@ -163,7 +163,7 @@ spent_not_memory faults.Device h e = h
 spent_not_memory faults.Memory h e = h
 
 file_not_memory : (f : StepFault) → IsFileFault f → f ≡ faults.Memory → ⊥
-file_not_memory (faults.Query start plan trace) h e = h
+file_not_memory (faults.Query start plan trace moved) h e = h
 file_not_memory (faults.Cells c) h e = h
 file_not_memory (faults.File f) h e = absurd cc
 file_not_memory (faults.Csv f) h e = absurd cc

@@ -91,7 +91,7 @@ entries_front plan (a ∷ answers) (o ∷ os) (suc k) =
 
 -- a run with these answers
 has_run : (p : Prepared) (o : Settings) (told : Told) (same : Type 0) (begun : ℕ) (taken script : List ℕ) (answers : List Answer) (V : Outcomes) → IsPrepared p →
-    ReadsAlone script (own p) → IsScript o.sample told.left taken script → AreAnswered (own p) (sorts_in p) o.budget told.holds answers V →
+    ReadsAlone script (own p) → IsScript o.sample told.left taken script → AreAnswered (own p) (sorts_in p) o told.holds answers V →
     (ReadNoFile (own p) o.budget V begun → same) → HasRun o told same begun taken answers (entries o.plan answers (drop prelude_count V))
 has_run p o told same begun taken script answers V h reads is answered untouched = record {
   script = script;
@@ -103,14 +103,14 @@ has_run p o told same begun taken script answers V h reads is answered untouched
   typed = h.typed;
   limits = h.limits;
   answered = answered;
-  script_values = are_values (own p) (sorts_in p) o.budget told.holds answers V answered;
+  script_values = are_values (own p) (sorts_in p) o told.holds answers V answered;
   printed = refl;
   untouched = untouched;
 }
 
 -- all the lines, and then a text of which nothing is a line
 cuts_behind : (p : Prepared) (o : Settings) (told : Told) (same : Type 0) (begun : ℕ) (taken script : List ℕ) (answers : List Answer) (V : Outcomes) (more : List ℕ) → IsPrepared p →
-    ReadsAlone script (own p) → IsScript o.sample told.left taken script → AreAnswered (own p) (sorts_in p) o.budget told.holds answers V →
+    ReadsAlone script (own p) → IsScript o.sample told.left taken script → AreAnswered (own p) (sorts_in p) o told.holds answers V →
     (ReadNoFile (own p) o.budget V begun → same) → IsPrefix more [] → CutsLast o told same begun taken answers (entries o.plan answers (drop prelude_count V) ++ more)
 unfolding has_run
 cuts_behind p o told same begun taken script answers V more h reads is answered untouched (none, e) =
@@ -191,12 +191,12 @@ FaultWrites f o told same taken answers lines line =
     ⊎ ((stop_status f ≡ status.Memory) × (stop_of f ≡ stops.Other) × CutsLast o told same (length answers + 1) taken answers (lines ++ line))
 
 fault_writes : (p : Prepared) (o : Settings) (told : Told) (same : Type 0) (taken script : List ℕ) (answers : List Answer) (V : Outcomes) (f : StepFault) → IsPrepared p →
-    ReadsAlone script (own p) → IsScript o.sample told.left taken script → AreAnswered (own p) (sorts_in p) o.budget told.holds answers V →
-    IsStopped (own p) o.budget told.holds told.files_before told.files_now (length answers) V f → (ReadNoFile (own p) o.budget V (reached f (length answers)) → same) →
+    ReadsAlone script (own p) → IsScript o.sample told.left taken script → AreAnswered (own p) (sorts_in p) o told.holds answers V →
+    IsStopped (own p) o told.holds told.files_before told.files_now (length answers) V f → (ReadNoFile (own p) o.budget V (reached f (length answers)) → same) →
     FaultWrites f o told same taken answers (entries o.plan answers (drop prelude_count V)) (stop_line (length answers + 1) f)
 unfolding has_run
-fault_writes p o told same taken script answers V (faults.Query start plan trace) h reads is answered stopped untouched =
-    inl (faults.Query start plan trace, tt, has_run p o told same (length answers) taken script answers V h reads is answered untouched, stopped, refl, refl)
+fault_writes p o told same taken script answers V (faults.Query start plan trace moved) h reads is answered stopped untouched =
+    inl (faults.Query start plan trace moved, tt, has_run p o told same (length answers) taken script answers V h reads is answered untouched, stopped, refl, refl)
 fault_writes p o told same taken script answers V (faults.Cells cells) h reads is answered stopped untouched =
     inl (faults.Cells cells, tt, has_run p o told same (length answers + 1) taken script answers V h reads is answered untouched, stopped, refl, refl)
 fault_writes p o told same taken script answers V (faults.File f) h reads is answered stopped untouched =
@@ -211,8 +211,8 @@ fault_writes p o told same taken script answers V faults.Memory h reads is answe
 -- the statuses of faults serve what they write
 fault_serves : (f : StepFault) (o : Settings) (told : Told) (same : Type 0) (taken : List ℕ) (answers : List Answer) (lines line : List ℕ) → FaultWrites f o told same taken answers lines line →
     Serves (stop_status f) o told same taken answers (stop_of f) (lines ++ line)
-fault_serves (faults.Query start plan trace) o told same taken answers lines line (inl w) = (lines, line, w, refl)
-fault_serves (faults.Query start plan trace) o told same taken answers lines line (inr (e, _, _)) = absurd cc
+fault_serves (faults.Query start plan trace moved) o told same taken answers lines line (inl w) = (lines, line, w, refl)
+fault_serves (faults.Query start plan trace moved) o told same taken answers lines line (inr (e, _, _)) = absurd cc
 fault_serves (faults.Cells cells) o told same taken answers lines line (inl w) = (lines, line, w, refl)
 fault_serves (faults.Cells cells) o told same taken answers lines line (inr (e, _, _)) = absurd cc
 fault_serves (faults.File f) o told same taken answers lines line (inl w) = (lines, line, w, refl)
@@ -226,7 +226,7 @@ fault_serves faults.Memory o told same taken answers lines line (inr (_, _, c)) 
 
 -- want of memory has no line
 no_line : (f : StepFault) (n : ℕ) → stop_status f ≡ status.Memory → stop_line n f ≡ []
-no_line (faults.Query start plan trace) n m = absurd cc
+no_line (faults.Query start plan trace moved) n m = absurd cc
 no_line (faults.Cells cells) n m = absurd cc
 no_line (faults.File f) n m = absurd cc
 no_line (faults.Csv f) n m = absurd cc
@@ -240,8 +240,8 @@ none_cut (x ∷ front) (rest, some, e) = cc
 
 -- the sink failed behind a front of what is written for it
 fault_cut : (f : StepFault) (p : Prepared) (o : Settings) (told : Told) (same : Type 0) (taken script : List ℕ) (answers : List Answer) (V : Outcomes) (front : List ℕ) → IsPrepared p →
-    ReadsAlone script (own p) → IsScript o.sample told.left taken script → AreAnswered (own p) (sorts_in p) o.budget told.holds answers V →
-    IsStopped (own p) o.budget told.holds told.files_before told.files_now (length answers) V f → (ReadNoFile (own p) o.budget V (reached f (length answers)) → same) →
+    ReadsAlone script (own p) → IsScript o.sample told.left taken script → AreAnswered (own p) (sorts_in p) o told.holds answers V →
+    IsStopped (own p) o told.holds told.files_before told.files_now (length answers) V f → (ReadNoFile (own p) o.budget V (reached f (length answers)) → same) →
     IsCut front (stop_line (length answers + 1) f) → Serves status.Output o told same taken answers stops.Other (entries o.plan answers (drop prelude_count V) ++ front)
 fault_cut f p o told same taken script answers V front h reads is answered stopped untouched split =
     by (fault_writes p o told same taken script answers V f h reads is answered stopped untouched)
@@ -272,7 +272,7 @@ ends_fault p o answers f n first second sink files e joins h (V, answered, stopp
     at = ap (λ k. stop_line k f) is
 
     all_reached : (f : StepFault) → ReadNoFile (own p) o.budget V (length answers + 1) → ReadNoFile (own p) o.budget V (reached f (length answers))
-    all_reached (faults.Query start plan trace) h = λ i d lt. h i d (omega (arith, lt))
+    all_reached (faults.Query start plan trace moved) h = λ i d lt. h i d (omega (arith, lt))
     all_reached (faults.Cells c) h = h
     all_reached (faults.File g) h = h
     all_reached (faults.Csv g) h = h

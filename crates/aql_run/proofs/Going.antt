@@ -98,7 +98,7 @@ pub going_first : (p : Prepared) (o : Settings) (holds : Option Content) (same :
     answers ≡ [] → same → Going p o holds same answers s (prelude_count + 1) old old
 going_first p o holds same answers s old h none there =
     subst (λ (l : List Answer). Going p o holds same l s (prelude_count + 1) old old) (sym none)
-    (record { progress = at_first p o.budget holds s h; next = refl; written = Appends-nil old; untouched = λ reads. there })
+    (record { progress = at_first p o holds s h; next = refl; written = Appends-nil old; untouched = λ reads. there })
 
 -- one answer more
 pub going_next : (p : Prepared) (o : Settings) (holds : Option Content) (same same' : Type 0) (answers answers' : List Answer) (s s' : Bound) (n : ℕ) (old mid new : Option (List ℕ)) →
@@ -141,19 +141,19 @@ all_answered p o holds same answers s n old new h g e =
 rose_wider : (before now before' now' : ℕ) → before' ≤ before → now ≤ now' → Rose before now → Rose before' now'
 rose_wider before now before' now' a b h = omega (arith, a, b, h)
 
-cause_wider : (d : Declaration) (earlier : Earlier) (budget : ℕ) (holds : Option Content) (before now before' now' : ℕ) (f : StepFault) → before' ≤ before → now ≤ now' →
-    IsCause d earlier budget holds before now f → IsCause d earlier budget holds before' now' f
-cause_wider d earlier budget holds before now before' now' (faults.Query start plan trace) a b h = h
-cause_wider d earlier budget holds before now before' now' (faults.Cells c) a b h = h
-cause_wider d earlier budget holds before now before' now' (faults.File f) a b h = h
-cause_wider d earlier budget holds before now before' now' (faults.Csv f) a b h = h
-cause_wider d earlier budget holds before now before' now' faults.Device a b (within, asked, is, (few, rose)) =
+cause_wider : (d : Declaration) (earlier : Earlier) (motion : Bool) (budget : ℕ) (holds : Option Content) (before now before' now' : ℕ) (f : StepFault) → before' ≤ before → now ≤ now' →
+    IsCause d earlier motion budget holds before now f → IsCause d earlier motion budget holds before' now' f
+cause_wider d earlier motion budget holds before now before' now' (faults.Query start plan trace moved) a b h = h
+cause_wider d earlier motion budget holds before now before' now' (faults.Cells c) a b h = h
+cause_wider d earlier motion budget holds before now before' now' (faults.File f) a b h = h
+cause_wider d earlier motion budget holds before now before' now' (faults.Csv f) a b h = h
+cause_wider d earlier motion budget holds before now before' now' faults.Device a b (within, asked, is, (few, rose)) =
     (within, asked, is, (few, rose_wider before now before' now' a b rose))
-cause_wider d earlier budget holds before now before' now' faults.Memory a b h = h
+cause_wider d earlier motion budget holds before now before' now' faults.Memory a b h = h
 
 -- the lines so far are those of the answers, all of them
 none_cut : (p : Prepared) (o : Settings) (holds : Option Content) (same : Type 0) (begun : ℕ) (answers : List Answer) (V : Outcomes) →
-    AreAnswered (own p) (sorts_in p) o.budget holds answers V → (ReadNoFile (own p) o.budget V begun → same) →
+    AreAnswered (own p) (sorts_in p) o holds answers V → (ReadNoFile (own p) o.budget V begun → same) →
     CutsLines p o holds same begun answers (entries o.plan answers (drop prelude_count V))
 none_cut p o holds same begun answers V h untouched =
     let x = entries_last o.plan answers (drop prelude_count V) in
@@ -161,7 +161,7 @@ none_cut p o holds same begun answers V h untouched =
 
 -- a front of the last answer's lines
 one_cut : (p : Prepared) (o : Settings) (holds : Option Content) (same : Type 0) (begun : ℕ) (answers answers' : List Answer) (V : Outcomes) (mid new : Option (List ℕ)) →
-    AreAnswered (own p) (sorts_in p) o.budget holds answers V → (c : CutsEntry p o holds answers answers' V mid new) → (ReadNoFile (own p) o.budget (V ++ c.outcome ∷ []) begun → same) →
+    AreAnswered (own p) (sorts_in p) o holds answers V → (c : CutsEntry p o holds answers answers' V mid new) → (ReadNoFile (own p) o.budget (V ++ c.outcome ∷ []) begun → same) →
     (d : CutsLines p o holds same begun answers' (entries o.plan answers (drop prelude_count V) ++ c.front)) × (d.back ≡ c.rest)
 one_cut p o holds same begun answers answers' V mid new h c untouched =
     let count = h.many in
@@ -223,7 +223,7 @@ module _ (p : Prepared) (o : Settings) (holds : Option Content) (same same' : Ty
   lines w = subst (Appends old new) (append-nil _) (Appends-trans old mid new (entries o.plan answers (drop prelude_count V)) [] g.written w)
 
   came : (f : StepFault) → (same → IsOver (halts.Fault f) → same') → ReadNoFile (own p) o.budget V (reached f (length answers)) → same'
-  came (faults.Query start plan trace) over reads = over (g.untouched reads) tt
+  came (faults.Query start plan trace moved) over reads = over (g.untouched reads) tt
   came (faults.Cells c) over reads = stayed (length answers + 1) (omega arith) reads
   came (faults.File f) over reads = stayed (length answers + 1) (omega arith) reads
   came (faults.Csv f) over reads = stayed (length answers + 1) (omega arith) reads
@@ -234,9 +234,9 @@ module _ (p : Prepared) (o : Settings) (holds : Option Content) (same same' : Ty
       Halts p o holds before now answers answers' V mid new halt → EndsEarly p o holds same' before' now' answers' old new halt
   ends_early before now before' now' (halts.Fault f) a b over (stays, (d, there, cause)) = (
     V,
-    subst (λ (l : List Answer). AreAnswered (own p) (sorts_in p) o.budget holds l V) (sym stays.same) g.progress.answered,
-    subst (λ (l : List Answer). IsStopped (own p) o.budget holds before' now' (length l) V f) (sym stays.same)
-        (d, there, cause_wider d _ o.budget holds before now before' now' f a b cause),
+    subst (λ (l : List Answer). AreAnswered (own p) (sorts_in p) o holds l V) (sym stays.same) g.progress.answered,
+    subst (λ (l : List Answer). IsStopped (own p) o holds before' now' (length l) V f) (sym stays.same)
+        (d, there, cause_wider d _ o.motion o.budget holds before now before' now' f a b cause),
     subst (λ (l : List Answer). Appends old new (entries o.plan l (drop prelude_count V))) (sym stays.same) (lines stays.written),
     subst (λ (l : List Answer). ReadNoFile (own p) o.budget V (reached f (length l)) → same') (sym stays.same) (came f over),
   )

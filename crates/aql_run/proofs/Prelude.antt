@@ -17,6 +17,7 @@ use Rattle.aql_session.specs.Step.{IsOutcome, OutcomesFit, BindsPosition, ReadsN
 use Rattle.aql_prelude.specs.Prelude.{prelude_count}
 use Rattle.aql_run.specs.Answered.{AreAnswered}
 use Rattle.aql_run.specs.Laws.Answered.{is_macro, macro_at}
+use Rattle.aql_run.specs.Settings.{Settings}
 use Rattle.aql_run.specs.Steps.{own, sorts_in, IsPrepared, Declared, Progress}
 use Rattle.aql_run.proofs.Answering.{map_take_next, onto_next, onto_none, next_is, decls_length}
 
@@ -79,11 +80,11 @@ one_declared p budget holds s s' a k h lt so_far binds = let x = there_is p k h 
         }
 
 -- after the prelude no declaration of the script was answered
-pub at_first : (p : Prepared) (budget : ℕ) (holds : Option Content) (s : Bound) → Declared p prelude_count s → Progress p budget holds [] s
-at_first p budget holds s h = record {
+pub at_first : (p : Prepared) (settings : Settings) (holds : Option Content) (s : Bound) → Declared p prelude_count s → Progress p settings holds [] s
+at_first p settings holds s h = record {
   bound = h.bound;
   types = h.types;
-  answered = subst (λ (V : List (Option Datum)). AreAnswered (own p) (sorts_in p) budget holds [] V) (sym h.none) (record {
+  answered = subst (λ (V : List (Option Datum)). AreAnswered (own p) (sorts_in p) settings holds [] V) (sym h.none) (record {
     few = omega arith;
     many = refl;
     prelude = refl;

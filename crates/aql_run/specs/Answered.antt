@@ -17,29 +17,30 @@ use Rattle.aql_session.specs.declared.answer.Answer.{Answer}
 use Rattle.aql_session.specs.declared.answer.StepFault.{StepFault}
 use Rattle.aql_session.specs.declared.answer.StepFault.TheVariants as faults
 use Rattle.aql_script.specs.Script.{positions}
+use Rattle.aql_run.specs.Settings.{Settings}
 
 -- the answer of a declaration after others, and its outcome: what it denotes or reads; where the files are told, the script's
 -- outcome over them; and which term counts, with what it and reading the outcome took
-pub record IsAnswered (d : Declaration) (earlier : Earlier) (sort : Option Sort) (budget : ℕ) (holds : Option Content) (a : Answer) (o : Option Datum) : Type 0 where
-  pub answer : IsAnswer d earlier sort a
-  pub answerable : IsAnswerable d earlier budget holds
+pub record IsAnswered (d : Declaration) (earlier : Earlier) (sort : Option Sort) (settings : Settings) (holds : Option Content) (a : Answer) (o : Option Datum) : Type 0 where
+  pub answer : IsAnswer d earlier sort settings.motion a
+  pub answerable : IsAnswerable d earlier settings.budget holds
   pub outcome : IsOutcome d earlier holds o
   pub told : ForSome holds (λ files. outcome_after (reading files) d (globals_of earlier) ≡ Some o)
-  pub counts : IsCounted d earlier budget holds (term_of a.plan) o (a.by, a.turns)
+  pub counts : IsCounted d earlier settings.budget holds (term_of a.plan) a.moved o (a.by, a.turns)
 
 -- The first declarations of a script have these answers, one for each in order, and with the prelude's positions, which have
 -- none, these outcomes.
-pub record AreAnswered (ds : List Declaration) (sorts : List Sort) (budget : ℕ) (holds : Option Content) (answers : List Answer) (V : Outcomes) : Type 0 where
+pub record AreAnswered (ds : List Declaration) (sorts : List Sort) (settings : Settings) (holds : Option Content) (answers : List Answer) (V : Outcomes) : Type 0 where
   pub few : length answers ≤ length ds
   pub many : length V ≡ prelude_count + length answers
   pub prelude : take prelude_count V ≡ replicate prelude_count None
   pub each : (i : ℕ) (d : Declaration) (a : Answer) (o : Option Datum) → slice_get (positions ds) (prelude_count + i) ≡ Some d → slice_get answers i ≡ Some a →
-      slice_get V (prelude_count + i) ≡ Some o → IsAnswered d (earlier_of (positions ds) (take (prelude_count + i) V)) (slice_get sorts (prelude_count + i)) budget holds a o
+      slice_get V (prelude_count + i) ≡ Some o → IsAnswered d (earlier_of (positions ds) (take (prelude_count + i) V)) (slice_get sorts (prelude_count + i)) settings holds a o
 
 -- the next declaration has none, and why; the counts of faults are those of the files before and after the run
-abbrev pub IsStopped : List Declaration → (budget : ℕ) → Option Content → (before now : ℕ) → (answered : ℕ) → Outcomes → StepFault → Type 0
-IsStopped ds budget holds before now answered V f =
-    (d : Declaration) × (slice_get (positions ds) (prelude_count + answered) ≡ Some d) × IsCause d (earlier_of (positions ds) V) budget holds before now f
+abbrev pub IsStopped : List Declaration → Settings → Option Content → (before now : ℕ) → (answered : ℕ) → Outcomes → StepFault → Type 0
+IsStopped ds settings holds before now answered V f =
+    (d : Declaration) × (slice_get (positions ds) (prelude_count + answered) ≡ Some d) × IsCause d (earlier_of (positions ds) V) settings.motion settings.budget holds before now f
 
 -- the first so many declarations of a script read no file
 abbrev pub ReadNoFile : List Declaration → (budget : ℕ) → Outcomes → (begun : ℕ) → Type 0
@@ -49,7 +50,7 @@ ReadNoFile ds budget V begun = (i : ℕ) (d : Declaration) → i < begun → sli
 -- how many declarations may have come to the files, where the one behind those that were answered has this fault: it did not where its
 -- turns passed the budget
 abbrev pub reached : StepFault → (answered : ℕ) → ℕ
-reached (faults.Query start plan trace) n = n
+reached (faults.Query start plan trace moved) n = n
 reached (faults.Cells c) n = n + 1
 reached (faults.File f) n = n + 1
 reached (faults.Csv f) n = n + 1

@@ -84,7 +84,7 @@ Refused refused.Memory sink result = (result ≡ status.Memory) × Appends sink.
 
 -- the status of a declaration's fault
 abbrev pub stop_status : StepFault → Status
-stop_status (faults.Query start plan trace) = status.Spent
+stop_status (faults.Query start plan trace moved) = status.Spent
 stop_status (faults.Cells cells) = status.Spent
 stop_status (faults.File f) = status.File
 stop_status (faults.Csv f) = status.File
@@ -93,7 +93,7 @@ stop_status faults.Memory = status.Memory
 
 -- its line in declaration n
 abbrev pub stop_line : ℕ → StepFault → List ℕ
-stop_line n (faults.Query start plan trace) = in_declaration (codes "budget") n
+stop_line n (faults.Query start plan trace moved) = in_declaration (codes "budget") n
 stop_line n (faults.Cells cells) = in_declaration (codes "budget") n
 stop_line n (faults.File f) = file_line n (faults.File f)
 stop_line n (faults.Csv f) = file_line n (faults.Csv f)

@@ -5,8 +5,10 @@ use Rattle.aql_value.specs.Datum.{Datum}
 use Rattle.aql_types.specs.View.{sort_of}
 use Rattle.nrca_array.specs.Held.{held_datum}
 use Rattle.nrca_array.specs.declared.held.Held.{Held}
+use Rattle.nrca_motion.specs.declared.still.Moved.{Moved}
 use Rattle.nrca_term.specs.View.{term_of}
 use Rattle.aql_print.specs.CoreText.{core_text}
+use Rattle.aql_print.specs.MovesText.{moves_text}
 use Rattle.aql_print.specs.TraceText.{trace_text}
 use Rattle.aql_print.specs.TypeText.{scheme_text}
 use Rattle.aql_print.specs.ValueText.{text}
@@ -36,6 +38,7 @@ abbrev pub value_line : Ran → (name : List ℕ) → Option Datum → List ℕ
 value_line ran.Declared name o = line (codes "mac ") name [] []
 value_line ran.Plan name o = line (codes "val ") name (codes " = ") (outcome_text o)
 value_line ran.Start name o = line (codes "val ") name (codes " = ") (outcome_text o)
+value_line ran.Moved name o = line (codes "val ") name (codes " = ") (outcome_text o)
 value_line ran.Read name o = line (codes "val ") name (codes " = ") (outcome_text o)
 
 -- the plan
@@ -50,12 +53,18 @@ rules_line a = line (codes "rules ") a.name (codes " = ") (trace_text a.trace)
 abbrev pub turns_line : Answer → List ℕ
 turns_line a = line (codes "turns ") a.name (codes " = ") (decimal a.turns)
 
--- these three; a macro has none
+-- what is moved in the plan, and the moves that lead there from it; without the word `--motion` nothing
+abbrev pub moved_lines : (name : List ℕ) → Option Moved → List ℕ
+moved_lines name None = []
+moved_lines name (Some m) =
+    line (codes "moved ") name (codes " = ") (core_text 0 (term_of m.term)) ++ line (codes "moves ") name (codes " = ") (moves_text m.moves)
+
+-- all of these; a macro has none
 abbrev pub plan_lines : Ran → Answer → List ℕ
 plan_lines ran.Declared a = []
-plan_lines _ a = plan_line a ++ (rules_line a ++ turns_line a)
+plan_lines _ a = plan_line a ++ (rules_line a ++ (turns_line a ++ moved_lines a.name a.moved))
 
--- the lines of a declaration with its outcome, and with the plan where it is asked for
+-- the lines of a declaration with its outcome, and with the plan and what is moved in it where that is asked for
 abbrev pub entry : (plan : Bool) → Answer → Option Datum → List ℕ
 entry plan a o = type_line a ++ (value_line a.by a.name o ++ (if plan then plan_lines a.by a else []))
 

@@ -70,7 +70,7 @@ pub record HasRun (settings : Settings) (told : Told) (same : Type 0) (begun : �
   pub reads : ReadsAlone script ds
   pub typed : AreTyped ds sorts
   pub limits : AreWithinLimits (positions ds) (prelude_count + length ds)
-  pub answered : AreAnswered ds sorts settings.budget told.holds answers outcomes
+  pub answered : AreAnswered ds sorts settings told.holds answers outcomes
   pub script_values : ForSome told.holds (λ files. take (length outcomes) (values (reading files) (positions ds)) ≡ outcomes)
   pub printed : lines ≡ entries settings.plan answers (drop prelude_count outcomes)
   pub untouched : ReadNoFile ds settings.budget outcomes begun → same
@@ -79,11 +79,11 @@ pub record HasRun (settings : Settings) (told : Told) (same : Type 0) (begun : �
 abbrev pub EndsEarly : {settings : Settings} {told : Told} {same : Type 0} {begun : ℕ} {taken lines : List ℕ} {answers : List Answer} →
     HasRun settings told same begun taken answers lines → StepFault → Type 0
 EndsEarly {settings} {told} {same} {begun} {taken} {lines} {answers} run f =
-    IsStopped run.ds settings.budget told.holds told.files_before told.files_now (length answers) run.outcomes f
+    IsStopped run.ds settings told.holds told.files_before told.files_now (length answers) run.outcomes f
 
 -- what is kept of a fault of a step
 abbrev pub stop_of : StepFault → Stop
-stop_of (faults.Query start plan trace) = stops.Query start plan trace
+stop_of (faults.Query start plan trace moved) = stops.Query start plan trace moved
 stop_of (faults.Cells cells) = stops.Cells cells
 stop_of (faults.File fault) = stops.File fault
 stop_of (faults.Csv fault) = stops.Csv fault
@@ -92,7 +92,7 @@ stop_of faults.Memory = stops.Other
 
 -- the budget was passed
 abbrev pub IsBudgetFault : StepFault → Type 0
-IsBudgetFault (faults.Query start plan trace) = Unit {0}
+IsBudgetFault (faults.Query start plan trace moved) = Unit {0}
 IsBudgetFault (faults.Cells cells) = Unit {0}
 IsBudgetFault (faults.File fault) = ⊥
 IsBudgetFault (faults.Csv fault) = ⊥

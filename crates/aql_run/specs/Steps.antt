@@ -39,10 +39,10 @@ pub record IsPrepared (p : Prepared) : Type 0 where
   pub limits : AreWithinLimits (positions (own p)) (prelude_count + length (own p))
 
 -- the session has the prelude's positions and those of the declarations that have these answers
-pub record Progress (p : Prepared) (budget : ℕ) (holds : Option Content) (answers : List Answer) (s : Bound) : Type 0 where
+pub record Progress (p : Prepared) (settings : Settings) (holds : Option Content) (answers : List Answer) (s : Bound) : Type 0 where
   pub bound : AreBound (positions (own p)) (prelude_count + 1 + length answers) s
   pub types : OutcomesFit (earlier_of (positions (own p)) (outcomes s))
-  pub answered : AreAnswered (own p) (sorts_in p) budget holds answers (outcomes s)
+  pub answered : AreAnswered (own p) (sorts_in p) settings holds answers (outcomes s)
 
 -- one answer more, and its lines
 pub record AnswersOne (p : Prepared) (settings : Settings) (holds : Option Content) (answers answers' : List Answer) (s s' : Bound) (old new : Option (List ℕ)) : Type 0 where
@@ -50,7 +50,7 @@ pub record AnswersOne (p : Prepared) (settings : Settings) (holds : Option Conte
   pub outcome : Option Datum
   pub longer : answers' ≡ answers ++ answer ∷ []
   pub outcomes : outcomes s' ≡ outcomes s ++ outcome ∷ []
-  pub progress : Progress p settings.budget holds answers' s'
+  pub progress : Progress p settings holds answers' s'
   pub written : Appends old new (entry settings.plan answer outcome)
 
 -- one answer more, and a front of its lines
@@ -58,7 +58,7 @@ pub record CutsEntry (p : Prepared) (settings : Settings) (holds : Option Conten
   pub answer : Answer
   pub outcome : Option Datum
   pub longer : answers' ≡ answers ++ answer ∷ []
-  pub answered : AreAnswered (own p) (sorts_in p) settings.budget holds answers' (V ++ outcome ∷ [])
+  pub answered : AreAnswered (own p) (sorts_in p) settings holds answers' (V ++ outcome ∷ [])
   pub front : List ℕ
   pub rest : List ℕ
   pub split : entry settings.plan answer outcome ≡ front ++ rest
@@ -76,7 +76,7 @@ pub record AnswersNone (answers answers' : List Answer) (old new : Option (List 
 -- the next declaration was not answered, or its lines were not all written
 abbrev pub Halts : Prepared → Settings → Option Content → (before now : ℕ) → (answers answers' : List Answer) → Outcomes → (old new : Option (List ℕ)) → Halt → Type 0
 Halts p settings holds before now answers answers' V old new (halts.Fault f) =
-    AnswersNone answers answers' old new × IsStopped (own p) settings.budget holds before now (length answers) V f
+    AnswersNone answers answers' old new × IsStopped (own p) settings holds before now (length answers) V f
 Halts p settings holds before now answers answers' V old new halts.Memory = AnswersNone answers answers' old new ⊎ CutsEntry p settings holds answers answers' V old new
 Halts p settings holds before now answers answers' V old new halts.Sink = (c : CutsEntry p settings holds answers answers' V old new) × (c.rest ≢ [])
 
@@ -101,7 +101,7 @@ pub record Declared (p : Prepared) (k : ℕ) (s : Bound) : Type 0 where
 -- The declarations so far were answered and their lines written; declaration n of the positions is next. Where none so far reads a file,
 -- the files are as before.
 pub record Going (p : Prepared) (o : Settings) (holds : Option Content) (same : Type 0) (answers : List Answer) (s : Bound) (n : ℕ) (old now : Option (List ℕ)) : Type 0 where
-  pub progress : Progress p o.budget holds answers s
+  pub progress : Progress p o holds answers s
   pub next : n ≡ prelude_count + 1 + length answers
   pub written : Appends old now (entries o.plan answers (drop prelude_count (outcomes s)))
   pub untouched : ReadNoFile (own p) o.budget (outcomes s) (length answers) → same
@@ -110,7 +110,7 @@ pub record Going (p : Prepared) (o : Settings) (holds : Option Content) (same : 
 -- says.
 pub record AllAnswered (p : Prepared) (o : Settings) (holds : Option Content) (same : Type 0) (answers : List Answer) (old new : Option (List ℕ)) : Type 0 where
   pub outcomes : Outcomes
-  pub answered : AreAnswered (own p) (sorts_in p) o.budget holds answers outcomes
+  pub answered : AreAnswered (own p) (sorts_in p) o holds answers outcomes
   pub all : length answers ≡ length (own p)
   pub untouched : ReadNoFile (own p) o.budget outcomes (length answers) → same
   pub written : Appends old new (entries o.plan answers (drop prelude_count outcomes))
@@ -119,7 +119,7 @@ pub record AllAnswered (p : Prepared) (o : Settings) (holds : Option Content) (s
 -- as before.
 pub record CutsLines (p : Prepared) (o : Settings) (holds : Option Content) (same : Type 0) (begun : ℕ) (answers : List Answer) (written : List ℕ) : Type 0 where
   pub outcomes : Outcomes
-  pub answered : AreAnswered (own p) (sorts_in p) o.budget holds answers outcomes
+  pub answered : AreAnswered (own p) (sorts_in p) o holds answers outcomes
   pub back : List ℕ
   pub front : entries o.plan answers (drop prelude_count outcomes) ≡ written ++ back
   pub last : List ℕ
@@ -129,7 +129,7 @@ pub record CutsLines (p : Prepared) (o : Settings) (holds : Option Content) (sam
 -- not all were answered, or not all lines written
 abbrev pub EndsEarly : Prepared → Settings → Option Content → (same : Type 0) → (before now : ℕ) → List Answer → (old new : Option (List ℕ)) → Halt → Type 0
 EndsEarly p o holds same before now answers old new (halts.Fault f) =
-    (V : Outcomes) × AreAnswered (own p) (sorts_in p) o.budget holds answers V × IsStopped (own p) o.budget holds before now (length answers) V f
+    (V : Outcomes) × AreAnswered (own p) (sorts_in p) o holds answers V × IsStopped (own p) o holds before now (length answers) V f
     × Appends old new (entries o.plan answers (drop prelude_count V)) × (ReadNoFile (own p) o.budget V (reached f (length answers)) → same)
 EndsEarly p o holds same before now answers old new halts.Memory = (written : List ℕ) × Appends old new written
     × (((answers ≡ []) × (written ≡ []) × same) ⊎ CutsLines p o holds same (length answers + 1) answers written)

@@ -1,16 +1,21 @@
 //! The lines of a declaration.
 ghost use Rattle.std.specs.Prelude.{◌≡◌, ◌++◌, codes, IfOk, OnOk};
-ghost use Rattle.aql_run.specs.Entry.{entry, lent, line, type_line, value_line, plan_line, plan_lines, rules_line, turns_line, outcome_text};
+ghost use Rattle.nrca_term.specs.View.{term_of};
+ghost use Rattle.aql_print.specs.CoreText.{core_text};
+ghost use Rattle.aql_print.specs.MovesText.{moves_text};
+ghost use Rattle.aql_run.specs.Entry.{entry, lent, line, type_line, value_line, plan_line, plan_lines, rules_line, turns_line, moved_lines, outcome_text};
 
-use aql_print::{print_core, print_held, print_scheme, print_trace};
+use aql_print::{print_core, print_held, print_moves, print_scheme, print_trace};
 use aql_session::{Answer, Ran};
 use aql_value::Memory;
 use itoa::Buffer;
 use nrca_array::Held;
+use nrca_motion::{Moved, Moves};
+use nrca_term::Core;
 use std::alloc::Global;
 
 /// The lines of a declaration: its type, its value or that it is a macro, and with `plan` its plan,
-/// the rules that made it and its turns.
+/// the rules that made it, its turns, and what is moved in the plan, where there is something.
 pub fn entry_text(
     alloc: Global,
     plan: bool,
@@ -56,6 +61,7 @@ fn push_value(
         }
         Ran::Plan => push_outcome(alloc, &answer.name.bytes, outcome, text)?,
         Ran::Start => push_outcome(alloc, &answer.name.bytes, outcome, text)?,
+        Ran::Moved => push_outcome(alloc, &answer.name.bytes, outcome, text)?,
         Ran::Read => push_outcome(alloc, &answer.name.bytes, outcome, text)?,
     }
     Ok(())
@@ -89,6 +95,7 @@ fn push_plan(alloc: Global, answer: &Answer, text: &mut Vec<u8>) -> Result<(), M
         Ran::Declared => Ok(()),
         Ran::Plan => push_plan_lines(alloc, answer, text),
         Ran::Start => push_plan_lines(alloc, answer, text),
+        Ran::Moved => push_plan_lines(alloc, answer, text),
         Ran::Read => push_plan_lines(alloc, answer, text),
     }
 }
@@ -98,7 +105,8 @@ fn push_plan_lines(alloc: Global, answer: &Answer, text: &mut Vec<u8>) -> Result
 {
     push_term(alloc, answer, text)?;
     push_rules(alloc, answer, text)?;
-    push_turns(answer, text)
+    push_turns(answer, text)?;
+    push_moved(alloc, &answer.name.bytes, &answer.moved, text)
 }
 
 fn push_term(alloc: Global, answer: &Answer, text: &mut Vec<u8>) -> Result<(), Memory>
@@ -131,6 +139,52 @@ fn push_turns(answer: &Answer, text: &mut Vec<u8>) -> Result<(), Memory>
     text.extend_from_slice(b" = ")?;
     let mut buffer = Buffer::new();
     text.extend_from_slice(buffer.format(answer.turns).as_bytes())?;
+    text.extend_from_slice(b"\n")?;
+    Ok(())
+}
+
+fn push_moved(
+    alloc: Global,
+    name: &[u8],
+    moved: &Option<Moved>,
+    text: &mut Vec<u8>,
+) -> Result<(), Memory>
+    ensures { OnOk result (text.new.items ≡ text.old.items ++ moved_lines name.now moved.now) }
+{
+    match moved {
+        Some(moved) => {
+            push_moved_term(alloc, name, &moved.term, text)?;
+            push_moves(alloc, name, &moved.moves, text)
+        }
+        None => Ok(()),
+    }
+}
+
+fn push_moved_term(
+    alloc: Global,
+    name: &[u8],
+    term: &Core,
+    text: &mut Vec<u8>,
+) -> Result<(), Memory>
+    ensures { OnOk result (text.new.items ≡ text.old.items
+        ++ line (codes "moved ") name.now (codes " = ") (core_text 0 (term_of term.now))) }
+{
+    text.extend_from_slice(b"moved ")?;
+    text.extend_from_slice(name)?;
+    text.extend_from_slice(b" = ")?;
+    print_core(alloc, term, text)?;
+    text.extend_from_slice(b"\n")?;
+    Ok(())
+}
+
+fn push_moves(alloc: Global, name: &[u8], moves: &Moves, text: &mut Vec<u8>) -> Result<(), Memory>
+    ensures { OnOk result (text.new.items ≡ text.old.items
+        ++ line (codes "moves ") name.now (codes " = ") (moves_text moves.now)) }
+{
+    text.extend_from_slice(b"moves ")?;
+    text.extend_from_slice(name)?;
+    text.extend_from_slice(b" = ")?;
+    print_moves(alloc, moves, text)?;
     text.extend_from_slice(b"\n")?;
     Ok(())
 }

@@ -3,6 +3,7 @@ use crate::status::Status;
 use aql_csv::CsvFault;
 use aql_session::Answer;
 use cdf_header::CdfFault;
+use nrca_motion::Moved;
 use nrca_term::{Core, Trace};
 
 /// The answers of a run's declarations, in order. The prelude has none.
@@ -16,11 +17,13 @@ pub struct Answers {
 pub enum Stop {
     /// Every declaration was answered.
     Done,
-    /// The turns of a query, or of a readval's argument, passed the budget.
+    /// The turns of a query, or of a readval's argument, passed the budget: those of its start term,
+    /// those of its plan, and with the word `--motion` those of what is moved in the plan.
     Query {
         start: Core,
         plan: Core,
         trace: Trace,
+        moved: Option<Moved>,
     },
     /// The cells that a readval asks for passed the budget, or the bytes of its file of records did:
     /// their number, or 2^128-1 where it is larger.

@@ -235,10 +235,21 @@ fn stop_at<O: Sink>(alloc: Global, n: u64, fault: StepFault, output: &mut O) -> 
     ensures output { BlamesSink O.Sink output.old output.new (result.status ≡ Status.Output) }
 {
     match fault {
-        StepFault::Query { start, plan, trace } => {
+        StepFault::Query {
+            start,
+            plan,
+            trace,
+            moved,
+        } => {
             let line = declaration_line(alloc, b"budget", n);
             let status = end_with_made(output, line, Status::Spent);
-            kept(status, Status::Spent, Stop::Query { start, plan, trace })
+            let stop = Stop::Query {
+                start,
+                plan,
+                trace,
+                moved,
+            };
+            kept(status, Status::Spent, stop)
         }
         StepFault::Cells { cells } => {
             let line = declaration_line(alloc, b"budget", n);

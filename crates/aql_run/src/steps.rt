@@ -152,7 +152,7 @@ fn answer_next<R: Threads + Sync, O: Sink, F: Files, G: Gate>(
     requires prepared { IsPrepared script.now.prepared.now }
     requires next { n ≡ prelude_count + 1 + length answers.old.items }
     requires last { n ≤ length script.now.prepared.now.decls.items.items }
-    requires so_far { Progress script.now.prepared.now script.now.options.now.budget
+    requires so_far { Progress script.now.prepared.now (settings_of script.now.options.now)
         (F.holds files.old) answers.old.items session.old }
     requires options { AreInRange script.now.options.now }
     ensures goes { OnOk result (AnswersOne script.now.prepared.now

@@ -1,7 +1,7 @@
 //! Whole runs of the program over devices in memory, as tests: no code of its own.
 //!
-//! `tests/running` runs a script; the other modules are tables, one a subject: `scripts`, `words`, `plans`, `netcdf`,
-//! `tables`, `devices`, `limits`, `examples`. What must come of each run was worked out by hand.
+//! `tests/running` runs a script; the other modules are tables, one a subject: `scripts`, `words`, `plans`, `motion`,
+//! `netcdf`, `tables`, `devices`, `limits`, `examples`. What must come of each run was worked out by hand.
 #![tactic(auto)]
 
 #[cfg(test)]

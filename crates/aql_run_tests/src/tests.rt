@@ -1,6 +1,7 @@
 mod devices;
 mod examples;
 mod limits;
+mod motion;
 mod netcdf;
 mod plans;
 mod running;

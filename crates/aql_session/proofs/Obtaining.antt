@@ -96,7 +96,7 @@ module _ (r : Reader) (v : Datum) (request : Request) (asked : IsRequestOf r v r
   }
 
   pub argument-cause : (before now : ℕ) (f : StepFault) → IsReadCause (request_asked request) budget holds before now f → IsArgumentCause r (Some v) budget holds before now f
-  argument-cause before now (faults.Query s p t) h = absurd h
+  argument-cause before now (faults.Query s p t m) h = absurd h
   argument-cause before now (faults.Cells c) h = (request_asked request, asked.is, h)
   argument-cause before now (faults.File f) h = (request_asked request, asked.is, h)
   argument-cause before now (faults.Csv f) h = (request_asked request, asked.is, h)

@@ -170,7 +170,7 @@ handed-cause a holds before now file_faults.Memory r u v q t = tt
 -- a fault of the file of a hyperslab whose cells are within the budget
 pub read-cause : (a : Hyperslab) (budget : ℕ) (holds : Option Content) (before now : ℕ) (f : StepFault) → cells a ≤ budget → IsFileCause a holds before now f →
     IsReadCause (hyperslab a) budget holds before now f
-read-cause a budget holds before now (faults.Query s p t) w h = absurd h
+read-cause a budget holds before now (faults.Query s p t m) w h = absurd h
 read-cause a budget holds before now (faults.Cells c) w h = absurd h
 read-cause a budget holds before now (faults.File f) w h = (w, h.0, h.1)
 read-cause a budget holds before now (faults.Csv f) w h = absurd h

@@ -1,5 +1,5 @@
 -- A query's term is typed, and its plan has its meaning.
-use Rattle.std.proofs.Common.{◌≡◌, ℕ, zero, suc, ◌-◌, ◌+◌, ◌≤◌, ◌^◌, List, [], ◌∷◌, ◌++◌, length, map, take, Option, Some, refl, sym, ap, ◌∙◌, subst, arith}
+use Rattle.std.proofs.Common.{◌≡◌, Bool, true, false, ℕ, zero, suc, ◌-◌, ◌+◌, ◌≤◌, ◌^◌, List, [], ◌∷◌, ◌++◌, length, map, take, Option, Some, None, refl, sym, ap, ◌∙◌, subst, arith}
 use Rattle.std.specs.Prelude.{slice_get}
 use Rattle.std.specs.Option.{ForSome}
 use Rattle.std.proofs.lemmas.List.{append-nil}
@@ -18,21 +18,26 @@ use Rattle.aql_infer_steps.specs.Typed.{ArePrincipal}
 use Rattle.nrca_term.specs.Laws.Valid.{cden-valid}
 use Rattle.nrca_term.specs.Meaning.{Outcomes, cden}
 use Rattle.nrca_term.specs.Term.{Term, weight_of, IsSmall}
-use Rattle.nrca_term.specs.Typing.{instances, OutcomesHave}
+use Rattle.nrca_term.specs.Typing.{ctyped, instances, OutcomesHave}
 use Rattle.nrca_term.specs.Rules.{Replay}
 use Rattle.nrca_term.specs.Valid.{HasConstants}
+use Rattle.nrca_term.specs.View.{term_of}
 use Rattle.nrca_term.specs.declared.trace.Step as code
-use Rattle.nrca_laws.specs.Laws.Steps.{replay-keeps}
+use Rattle.nrca_term.specs.Laws.Measure.{below-weight}
+use Rattle.nrca_laws.specs.Laws.Steps.{replay-keeps, replay-types, step-types, step-lowers}
 use Rattle.nrca_ranges.specs.Bounds.{Bounds}
 use Rattle.nrca_normal.specs.Planned.{IsReplayed, IsNormalIn, IsPlan}
+use Rattle.nrca_motion.specs.Moved.{IsChained, IsStillIn, KeepsMeaning}
+use Rattle.nrca_motion.specs.Moves.{MoveChain}
+use Rattle.nrca_motion.specs.declared.still.Moved.{Moved}
 use Rattle.aql_desugar_spec.specs.Laws.{value_type}
 use Rattle.aql_desugar_spec.specs.Start.{query}
 use Rattle.aql_desugar.specs.Translation.{IsTranslated, types_before, query_of, query_at}
 use Rattle.aql_session.specs.Bound.{onto}
 use Rattle.aql_session.specs.Known.{Knows}
-use Rattle.aql_session.specs.Planned.{IsQueryTerm}
+use Rattle.aql_session.specs.Planned.{IsQueryTerm, KeepsMoved}
 use Rattle.aql_session.specs.Runs.{IsReadyAt, IsQuery}
-use Rattle.aql_session.specs.Step.{NoMacroHasValue}
+use Rattle.aql_session.specs.Step.{IsMovedBy, NoMacroHasValue, moved_term, moves_of}
 use Rattle.aql_session.proofs.Positions.{sort-at}
 
 -- The types of the positions' outcomes.
@@ -123,3 +128,35 @@ module _ (V : Outcomes) (gs : List (Option Bounds)) (t u : Term) (trace : List c
 -- without a rewriting the plan is the term
 pub unchanged-plan : (V : Outcomes) (t u : Term) (trace : List code.Step) → IsPlan V t trace u → trace ≡ [] → u ≡ t
 unchanged-plan V t u trace p e = let r : Replay V [] t u = subst (λ s. Replay V s t u) e p.replayed in sym r
+
+-- a step makes no term heavier, and so does no chain
+replay-weight : (G : ℕ → Ty → Type 0) (V : Outcomes) (trace : List code.Step) (t u : Term) (T : Ty) → ctyped G [] t T → Replay V trace t u → weight_of u ≤ weight_of t
+replay-weight G V [] t u T ty h = omega (arith, ap weight_of h)
+replay-weight G V (s ∷ trace) t u T ty h =
+    omega (arith, replay-weight G V trace h.0 u T (step-types G V s.rule s.path t h.0 [] T ty h.1) h.2, below-weight h.0 t (step-lowers G V s.rule s.path t h.0 T ty h.1))
+
+-- a plan is a term of its query's type too
+pub plan-query : (V : Outcomes) (t u : Term) (trace : List code.Step) → IsQueryTerm V t → IsPlan V t trace u → IsQueryTerm V u
+plan-query V t u trace q p = record {
+  given = q.given;
+  type = q.type;
+  typed = replay-types (instances q.given) V trace t u q.type q.typed p.replayed;
+  have = q.have;
+  small = omega (arith, q.small, replay-weight (instances q.given) V trace t u q.type q.typed p.replayed);
+}
+
+-- what is moved in a plan is, and has its meaning
+module _ (V : Outcomes) (gs : List (Option Bounds)) (t : Term) (m : Moved) (q : IsQueryTerm V t) (k : Knows gs V) where
+  pub motion-made : IsChained gs t m.moves (term_of m.term) → IsStillIn gs (term_of m.term) → length m.moves ≤ (weight_of t + 1) ^ 3 → IsMovedBy true V t (Some m)
+  unfolding IsChained IsStillIn
+  motion-made c s few = record { chained = c q.given q.type V q.typed q.have k.tells; still = s V k.tells; few = few }
+
+  pub motion-keeps : KeepsMeaning gs t (term_of m.term) → KeepsMoved V t (Some m)
+  unfolding KeepsMeaning
+  motion-keeps h = h q.given q.type V q.typed q.have k.tells
+
+-- without a move what is moved is the plan
+pub unmoved-plan : (motion : Bool) (V : Outcomes) (plan : Term) (moved : Option Moved) → IsMovedBy motion V plan moved → moves_of moved ≡ [] → moved_term plan moved ≡ plan
+unmoved-plan true V plan (Some m) h e = let c : MoveChain V [] plan (term_of m.term) = subst (λ s. MoveChain V s plan (term_of m.term)) e h.chained in sym c
+unmoved-plan true V plan None h e = absurd h
+unmoved-plan false V plan moved h e = ap (moved_term plan) h

@@ -1,5 +1,5 @@
 -- The run of a declaration, beside what `step` says of it.
-use Rattle.std.proofs.Common.{◌≡◌, ℕ, zero, suc, ◌+◌, ◌-◌, ◌^◌, ◌<◌, ◌≤◌, List, [], ◌∷◌, ◌++◌, length, take, Option, Some, None, refl, sym, ap, ◌∙◌, subst, arith, length-take}
+use Rattle.std.proofs.Common.{◌≡◌, Bool, ℕ, zero, suc, ◌+◌, ◌-◌, ◌^◌, ◌<◌, ◌≤◌, List, [], ◌∷◌, ◌++◌, length, take, Option, Some, None, refl, sym, ap, ◌∙◌, subst, arith, length-take}
 use Rattle.std.specs.Prelude.{slice_get, get_or, option_map, Result, Err, IfErr}
 use Rattle.std.specs.Option.{ForSome}
 use Rattle.std.proofs.lemmas.Option.{slice_get-get_or}
@@ -30,7 +30,7 @@ use Rattle.aql_value.specs.Limits.{most_budget}
 use Rattle.aql_session.specs.Bound.{Bound, AreBound, earlier_of, outcomes}
 use Rattle.aql_session.specs.Reading.{read_value, reading}
 use Rattle.aql_session.specs.Runs.{IsReadyAt, IsValueDeclaration, IsSpentFault, IsEvaluated, IsReadBy, IsArgumentCause, IsRun, IsAnswerOf, asked_in, query_value}
-use Rattle.aql_session.specs.Step.{CallsNoFile, HasPlan, IsAnswer, IsCounted, IsCountOf, IsOutcome, IsReadable, IsReadOutcome, BindsPosition, IsCause, IsOverTurns, NoMacroHasValue, OutcomesFit, ReadsNoFile, asks, start_of}
+use Rattle.aql_session.specs.Step.{CallsNoFile, HasMotion, HasPlan, IsAnswer, IsCounted, IsCountOf, IsOutcome, IsReadable, IsReadOutcome, BindsPosition, IsCause, IsOverTurns, NoMacroHasValue, OutcomesFit, ReadsNoFile, asks, start_of}
 use Rattle.aql_session.specs.declared.answer.Answer.{Answer}
 use Rattle.aql_session.specs.declared.answer.Ran.TheVariants as ran
 use Rattle.aql_session.specs.declared.answer.StepFault.{StepFault}
@@ -63,21 +63,23 @@ pub same-position : (p : Option Declaration) (c d : Declaration) → p ≡ Some 
 same-position p c d e f = let y = sym e ∙ f in cc
 
 -- a query that is evaluated and kept
-pub plain-run : (d : Declaration) (earlier : Earlier) (budget : ℕ) (holds : Option Content) (q : Evaluated) → IsValueDeclaration d → IsEvaluated d earlier budget q →
-    IsRun d earlier budget holds (record { start = q.start; plan = q.plan; trace = q.trace; by = q.by; turns = q.turns; value = q.value })
-plain-run (val x e) earlier budget holds q p h = record {
+pub plain-run : (d : Declaration) (earlier : Earlier) (motion : Bool) (budget : ℕ) (holds : Option Content) (q : Evaluated) → IsValueDeclaration d → IsEvaluated d earlier motion budget q →
+    IsRun d earlier motion budget holds (record { start = q.start; plan = q.plan; trace = q.trace; moved = q.moved; by = q.by; turns = q.turns; value = q.value })
+plain-run (val x e) earlier motion budget holds q p h = record {
   start = h.start;
   planned = h.planned;
+  moved = h.moved;
   counts = h.counts;
   answerable = λ a k. cc;
   outcome = h.value;
   valid = h.valid;
 }
-plain-run (mac f p body) earlier budget holds q u h = absurd u
-plain-run (read x r e) earlier budget holds q u h = absurd u
-plain-run (bare e) earlier budget holds q p h = record {
+plain-run (mac f p body) earlier motion budget holds q u h = absurd u
+plain-run (read x r e) earlier motion budget holds q u h = absurd u
+plain-run (bare e) earlier motion budget holds q p h = record {
   start = h.start;
   planned = h.planned;
+  moved = h.moved;
   counts = h.counts;
   answerable = λ a k. cc;
   outcome = h.value;
@@ -85,34 +87,36 @@ plain-run (bare e) earlier budget holds q p h = record {
 }
 
 -- a macro
-pub macro-run : (f : Name) (p : _) (body : Tree) (earlier : Earlier) (budget : ℕ) (holds : Option Content) →
-    IsRun (mac f p body) earlier budget holds (record { start = core.Bottom; plan = core.Bottom; trace = []; by = ran.Declared; turns = 0; value = None })
-macro-run f p body earlier budget holds = record {
+pub macro-run : (f : Name) (p : _) (body : Tree) (earlier : Earlier) (motion : Bool) (budget : ℕ) (holds : Option Content) →
+    IsRun (mac f p body) earlier motion budget holds (record { start = core.Bottom; plan = core.Bottom; trace = []; moved = None; by = ran.Declared; turns = 0; value = None })
+macro-run f p body earlier motion budget holds = record {
   start = term_of-Bottom;
   planned = (term_of-Bottom, refl);
+  moved = refl;
   counts = refl;
   answerable = λ a k. cc;
   outcome = refl;
   valid = λ v k. cc;
 }
 
-pub spent-cause : (d : Declaration) (earlier : Earlier) (budget : ℕ) (holds : Option Content) (before now : ℕ) (f : StepFault) → IsSpentFault d earlier budget f → IsCause d earlier budget holds before now f
-spent-cause d earlier budget holds before now (faults.Query s p t) h = h
-spent-cause d earlier budget holds before now (faults.Cells c) h = absurd h
-spent-cause d earlier budget holds before now (faults.File f) h = absurd h
-spent-cause d earlier budget holds before now (faults.Csv f) h = absurd h
-spent-cause d earlier budget holds before now faults.Device h = absurd h
-spent-cause d earlier budget holds before now faults.Memory h = tt
+pub spent-cause : (d : Declaration) (earlier : Earlier) (motion : Bool) (budget : ℕ) (holds : Option Content) (before now : ℕ) (f : StepFault) → IsSpentFault d earlier motion budget f →
+    IsCause d earlier motion budget holds before now f
+spent-cause d earlier motion budget holds before now (faults.Query s p t m) h = h
+spent-cause d earlier motion budget holds before now (faults.Cells c) h = absurd h
+spent-cause d earlier motion budget holds before now (faults.File f) h = absurd h
+spent-cause d earlier motion budget holds before now (faults.Csv f) h = absurd h
+spent-cause d earlier motion budget holds before now faults.Device h = absurd h
+spent-cause d earlier motion budget holds before now faults.Memory h = tt
 
 -- a query that is no readval's argument does not blame the files
-pub plain-device : (position : Option Declaration) (d : Declaration) (earlier : Earlier) (budget : ℕ) (r : Result Run StepFault) → position ≡ Some d →
-    ((holds : Option Content) (before now : ℕ) → IfErr r (λ f. ForSome position (λ e. IsCause e earlier budget holds before now f))) → r ≡ Err faults.Device → ⊥
-plain-device position d earlier budget r there cause device =
-    let h : IfErr (let x : Result Run StepFault = Err faults.Device in x) (λ f. ForSome position (λ e. IsCause e earlier budget None 1 0 f)) =
-    subst (λ (x : Result Run StepFault). IfErr x (λ f. ForSome position (λ e. IsCause e earlier budget None 1 0 f))) device (cause None 1 0) in
+pub plain-device : (position : Option Declaration) (d : Declaration) (earlier : Earlier) (motion : Bool) (budget : ℕ) (r : Result Run StepFault) → position ≡ Some d →
+    ((holds : Option Content) (before now : ℕ) → IfErr r (λ f. ForSome position (λ e. IsCause e earlier motion budget holds before now f))) → r ≡ Err faults.Device → ⊥
+plain-device position d earlier motion budget r there cause device =
+    let h : IfErr (let x : Result Run StepFault = Err faults.Device in x) (λ f. ForSome position (λ e. IsCause e earlier motion budget None 1 0 f)) =
+    subst (λ (x : Result Run StepFault). IfErr x (λ f. ForSome position (λ e. IsCause e earlier motion budget None 1 0 f))) device (cause None 1 0) in
     let rose = (h d there).3.1 in absurd (omega (arith, rose))
 
-module _ (x : Name) (r : Reader) (e : Tree) (earlier : Earlier) (budget : ℕ) (q : Evaluated) (h : IsEvaluated (read x r e) earlier budget q) where
+module _ (x : Name) (r : Reader) (e : Tree) (earlier : Earlier) (motion : Bool) (budget : ℕ) (q : Evaluated) (h : IsEvaluated (read x r e) earlier motion budget q) where
   argument-is : held_value q.value ≡ den e (globals_of earlier) []
   argument-is = h.value
 
@@ -121,11 +125,12 @@ module _ (x : Name) (r : Reader) (e : Tree) (earlier : Earlier) (budget : ℕ) (
 
   -- a readval: its argument, and what it asks for
   pub readval-run : (holds : Option Content) (y : Read) → IsReadBy r (held_value q.value) budget holds y →
-      IsRun (read x r e) earlier budget holds
-      (record { start = q.start; plan = q.plan; trace = q.trace; by = ran.Read; turns = q.turns + y.turns; value = y.value })
+      IsRun (read x r e) earlier motion budget holds
+      (record { start = q.start; plan = q.plan; trace = q.trace; moved = q.moved; by = ran.Read; turns = q.turns + y.turns; value = y.value })
   readval-run holds y k = record {
     start = h.start;
     planned = h.planned;
+    moved = h.moved;
     counts = ((q.by, q.turns), y.turns, h.counts, refl, subst (λ o. IsCountOf budget holds o (held_value y.value) y.turns) asked-is k.counts);
     answerable = subst (λ o. ForSome o (IsReadable budget holds)) asked-is k.readable;
     outcome = subst (λ o. IsReadOutcome r o holds (held_value y.value)) argument-is k.outcome;
@@ -134,14 +139,14 @@ module _ (x : Name) (r : Reader) (e : Tree) (earlier : Earlier) (budget : ℕ) (
 
   -- the turns fit
   pub readval-fits : (holds : Option Content) (y : Read) → budget ≤ most_budget → IsReadBy r (held_value q.value) budget holds y → q.turns + y.turns < 2 ^ 128
-  readval-fits holds y b k = omega (arith, evaluated-within (read x r e) earlier budget q h, k.few, b)
+  readval-fits holds y b k = omega (arith, evaluated-within (read x r e) earlier motion budget q h, k.few, b)
 
-  pub readval-cause : (holds : Option Content) (before now : ℕ) (f : StepFault) → IsArgumentCause r (held_value q.value) budget holds before now f → IsCause (read x r e) earlier budget holds before now f
-  readval-cause holds before now (faults.Query s p t) k = absurd k.2
-  readval-cause holds before now (faults.Cells c) k = (evaluated-may (read x r e) earlier budget q h, k.0, sym asked-is ∙ k.1, k.2)
-  readval-cause holds before now (faults.File f) k = (evaluated-may (read x r e) earlier budget q h, k.0, sym asked-is ∙ k.1, k.2)
-  readval-cause holds before now (faults.Csv f) k = (evaluated-may (read x r e) earlier budget q h, k.0, sym asked-is ∙ k.1, k.2)
-  readval-cause holds before now faults.Device k = (evaluated-may (read x r e) earlier budget q h, k.0, sym asked-is ∙ k.1, k.2)
+  pub readval-cause : (holds : Option Content) (before now : ℕ) (f : StepFault) → IsArgumentCause r (held_value q.value) budget holds before now f → IsCause (read x r e) earlier motion budget holds before now f
+  readval-cause holds before now (faults.Query s p t m) k = absurd k.2
+  readval-cause holds before now (faults.Cells c) k = (evaluated-may (read x r e) earlier motion budget q h, k.0, sym asked-is ∙ k.1, k.2)
+  readval-cause holds before now (faults.File f) k = (evaluated-may (read x r e) earlier motion budget q h, k.0, sym asked-is ∙ k.1, k.2)
+  readval-cause holds before now (faults.Csv f) k = (evaluated-may (read x r e) earlier motion budget q h, k.0, sym asked-is ∙ k.1, k.2)
+  readval-cause holds before now faults.Device k = (evaluated-may (read x r e) earlier motion budget q h, k.0, sym asked-is ∙ k.1, k.2)
   readval-cause holds before now faults.Memory k = tt
 
   -- where no file is read, no call is made for what is asked for
@@ -150,7 +155,7 @@ module _ (x : Name) (r : Reader) (e : Tree) (earlier : Earlier) (budget : ℕ) (
 
   -- a fault of the reading is none of the turns
   pub readval-turns : (holds : Option Content) (before now : ℕ) (f : StepFault) → IsArgumentCause r (held_value q.value) budget holds before now f → IsOverTurns f → ⊥
-  readval-turns holds before now (faults.Query s p t) k over = k.2
+  readval-turns holds before now (faults.Query s p t m) k over = k.2
   readval-turns holds before now (faults.Cells c) k over = over
   readval-turns holds before now (faults.File f) k over = over
   readval-turns holds before now (faults.Csv f) k over = over
@@ -181,9 +186,9 @@ module _ (ds : List Declaration) (sorts : List Sort) (n : ℕ) (V : Outcomes) (s
         (subst (λ l. Has e (scope_of l) [] (argument_type r)) (sym (declarations-before ds V n stands.many)) read-has.has) (sym q ∙ k)
 
   -- the answer of a run
-  pub answer-is : (d : Declaration) → slice_get ds (n - 1) ≡ Some d → (budget : ℕ) (holds : Option Content) (r : Run) (a : Answer) → IsRun d (earlier_of ds V) budget holds r →
-      IsAnswerOf d (slice_get sorts (n - 1)) r a → IsAnswer d (earlier_of ds V) (slice_get sorts (n - 1)) a
-  answer-is d e budget holds r a h k =
+  pub answer-is : (d : Declaration) → slice_get ds (n - 1) ≡ Some d → (motion : Bool) (budget : ℕ) (holds : Option Content) (r : Run) (a : Answer) → IsRun d (earlier_of ds V) motion budget holds r →
+      IsAnswerOf d (slice_get sorts (n - 1)) r a → IsAnswer d (earlier_of ds V) (slice_get sorts (n - 1)) motion a
+  answer-is d e motion budget holds r a h k =
       let s = sort-at ds sorts n d stands.checked e in
       let z : s.0 ≡ sort_of a.ty = (let y = sym s.1 ∙ k.found in cc) in
       record {
@@ -197,6 +202,7 @@ module _ (ds : List Declaration) (sorts : List Sort) (n : ℕ) (V : Outcomes) (s
             subst (λ t. HasPlan d (earlier_of ds V) t a.trace (term_of a.plan)) (sym (k.start ∙ h.start))
             (subst (λ t. HasPlan d (earlier_of ds V) (start_of d (earlier_of ds V)) a.trace t) (sym k.plan)
             (subst (λ s. HasPlan d (earlier_of ds V) (start_of d (earlier_of ds V)) s (term_of r.plan)) (sym k.trace) h.planned));
+        moved = subst (λ t. HasMotion d (earlier_of ds V) motion t a.moved) (sym k.plan) (subst (HasMotion d (earlier_of ds V) motion (term_of r.plan)) (sym k.moved) h.moved);
       }
 
 no-reading : ReaderMeaning
@@ -239,18 +245,19 @@ outcome-told (read x r e) earlier holds o k files l = go (den e (globals_of earl
         ap (λ w. option_map (λ y. Some y) (w >>= read_value files)) k.2 ∙ ap (option_map (λ y. Some y)) (k.4.told files l) ∙ ap Some (sym k.3)
 
 -- the position that a run binds
-pub binds-is : (d : Declaration) (earlier : Earlier) (budget : ℕ) (holds : Option Content) (r : Run) (sort : Option Sort) (a : Answer) (old new : Bound) → OutcomesFit earlier →
-    IsRun d earlier budget holds r → IsAnswerOf d sort r a → new ≡ old ++ (declared d, held_value r.value) ∷ [] → BindsPosition d earlier budget holds old new a
-binds-is d earlier budget holds r sort a old new t h k e = record {
+pub binds-is : (d : Declaration) (earlier : Earlier) (motion : Bool) (budget : ℕ) (holds : Option Content) (r : Run) (sort : Option Sort) (a : Answer) (old new : Bound) → OutcomesFit earlier →
+    IsRun d earlier motion budget holds r → IsAnswerOf d sort r a → new ≡ old ++ (declared d, held_value r.value) ∷ [] → BindsPosition d earlier budget holds old new a
+binds-is d earlier motion budget holds r sort a old new t h k e = record {
   outcome = held_value r.value;
   bound = e;
   is = h.outcome;
   typed = (outcome-typed d earlier holds (held_value r.value) t.0 h.outcome, outcome-bare d earlier holds (held_value r.value) t.1 h.outcome);
   told = outcome-told d earlier holds (held_value r.value) h.outcome;
   counts =
-      subst (λ u. IsCounted d earlier budget holds u (held_value r.value) (a.by, a.turns)) (sym k.plan)
-      (subst (λ b. IsCounted d earlier budget holds (term_of r.plan) (held_value r.value) (b, a.turns)) (sym k.by)
-      (subst (λ m. IsCounted d earlier budget holds (term_of r.plan) (held_value r.value) (r.by, m)) (sym k.turns) h.counts));
+      subst (λ u. IsCounted d earlier budget holds u a.moved (held_value r.value) (a.by, a.turns)) (sym k.plan)
+      (subst (λ m. IsCounted d earlier budget holds (term_of r.plan) m (held_value r.value) (a.by, a.turns)) (sym k.moved)
+      (subst (λ b. IsCounted d earlier budget holds (term_of r.plan) r.moved (held_value r.value) (b, a.turns)) (sym k.by)
+      (subst (λ n. IsCounted d earlier budget holds (term_of r.plan) r.moved (held_value r.value) (r.by, n)) (sym k.turns) h.counts)));
 }
 
 -- as many outcomes as positions before n

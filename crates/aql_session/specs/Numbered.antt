@@ -39,8 +39,9 @@ abbrev pub so_far : Decls → Outcomes → Earlier
 so_far decls V = earlier_of (declarations decls) V
 
 -- this is the answer of declaration n over the outcomes of those before it
-abbrev pub IsAnswerTo : Decls → Typed → (n : ℕ) → Outcomes → Answer → Type 0
-IsAnswerTo decls typed n V a = ForSome (declaration_numbered decls n) (λ d. IsAnswer d (so_far decls V) (sort_numbered typed n) a)
+abbrev pub IsAnswerTo : Decls → Typed → (n : ℕ) → Outcomes → Options → Answer → Type 0
+IsAnswerTo decls typed n V options a =
+    ForSome (declaration_numbered decls n) (λ d. IsAnswer d (so_far decls V) (sort_numbered typed n) options.motion a)
 
 -- declaration n is answerable within the budget over files that hold this
 abbrev pub MayBeAnswered : Decls → (n : ℕ) → Outcomes → Options → Option Content → Type 0
@@ -53,7 +54,8 @@ BindsNext decls n options holds old new a =
 
 -- why declaration n has no answer; the counts of faults are those of the files before and after
 abbrev pub IsCauseOf : Decls → (n : ℕ) → Outcomes → Options → Option Content → (before now : ℕ) → StepFault → Type 0
-IsCauseOf decls n V options holds before now f = ForSome (declaration_numbered decls n) (λ d. IsCause d (so_far decls V) options.budget holds before now f)
+IsCauseOf decls n V options holds before now f =
+    ForSome (declaration_numbered decls n) (λ d. IsCause d (so_far decls V) options.motion options.budget holds before now f)
 
 -- why it has none over files as they were and are
 abbrev pub StepFails : {F : Type 0} → Decls → (n : ℕ) → Outcomes → Options → files.Ghosts F → (old new : F) → StepFault → Type 0

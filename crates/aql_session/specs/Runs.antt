@@ -47,7 +47,7 @@ use Rattle.aql_session.specs.Bound.{Bound, earlier_of}
 use Rattle.aql_session.specs.Numbered.{declarations, sorts, declaration_numbered, sort_numbered, so_far, IsCauseOf, UnlessRead}
 use Rattle.aql_session.specs.Reading.{opened, read_fault, read_hyperslab, read_value}
 use Rattle.aql_session.specs.Planned.{IsQueryTerm}
-use Rattle.aql_session.specs.Step.{CallsFiles, CallsNoFile, HasFileFault, HasForm, HasPlan, HasTableFault, IsAnswerable, IsCount, IsCounted, IsCountOf, IsOutcome, IsReadable, IsReadOutcome, IsRequestFault, NoMacroHasValue, PassesBudget, chosen, query_turns, start_of, start_term, turns_in}
+use Rattle.aql_session.specs.Step.{CallsFiles, CallsNoFile, HasFileFault, HasForm, HasPlan, HasTableFault, HasMotion, IsAnswerable, IsCount, IsCounted, IsCountOf, IsMovedBy, IsOutcome, IsReadable, IsReadOutcome, IsRequestFault, IsSpent, NoMacroHasValue, PassesBudget, chosen, start_of, start_term}
 use Rattle.aql_session.specs.declared.answer.Answer.{Answer}
 use Rattle.aql_session.specs.declared.answer.StepFault.{StepFault}
 use Rattle.aql_session.specs.declared.answer.StepFault.TheVariants as faults
@@ -78,21 +78,21 @@ IsQuery position = (d : Declaration) × (e : Tree) × (position ≡ Some d) × (
 abbrev pub query_value : Declaration → Earlier → Option Datum
 query_value d earlier = query d >>= λ e. den e (globals_of earlier) []
 
--- the query of a declaration was evaluated, by its plan or as it is translated; the value is one of the language
-pub record IsEvaluated (d : Declaration) (earlier : Earlier) (budget : ℕ) (q : Evaluated) : Type 0 where
+-- the query of a declaration was evaluated, by its plan, as it is translated, or by what is moved in the plan; the value is one of the language
+pub record IsEvaluated (d : Declaration) (earlier : Earlier) (motion : Bool) (budget : ℕ) (q : Evaluated) : Type 0 where
   pub start : term_of q.start ≡ start_of d earlier
   pub planned : IsPlan (outcomes_of earlier) (start_of d earlier) q.trace (term_of q.plan)
-  pub counts : chosen d earlier budget (term_of q.plan) ≡ Some (q.by, q.turns)
+  pub moved : IsMovedBy motion (outcomes_of earlier) (term_of q.plan) q.moved
+  pub counts : chosen d earlier budget (term_of q.plan) q.moved ≡ Some (q.by, q.turns)
   pub value : held_value q.value ≡ query_value d earlier
   pub valid : ForSome (held_value q.value) IsValue
 
--- it was not evaluated: the turns of both terms pass the budget, or memory was wanting
-abbrev pub IsSpentFault : Declaration → Earlier → (budget : ℕ) → StepFault → Type 0
-IsSpentFault d earlier budget (faults.Query start plan trace) =
-    (term_of start ≡ start_of d earlier) × IsPlan (outcomes_of earlier) (start_of d earlier) trace (term_of plan)
-    × (budget < query_turns d earlier) × (budget < turns_in earlier (term_of plan))
-IsSpentFault d earlier budget faults.Memory = Unit {0}
-IsSpentFault d earlier budget f = ⊥
+-- it was not evaluated: the turns of all its terms pass the budget, or memory was wanting
+abbrev pub IsSpentFault : Declaration → Earlier → (motion : Bool) → (budget : ℕ) → StepFault → Type 0
+IsSpentFault d earlier motion budget (faults.Query start plan trace moved) =
+    IsSpent d earlier motion budget (term_of start) trace (term_of plan) moved
+IsSpentFault d earlier motion budget faults.Memory = Unit {0}
+IsSpentFault d earlier motion budget f = ⊥
 
 -- the hyperslab that a request asks for
 abbrev pub slab_asked : SlabRequest → Hyperslab
@@ -186,7 +186,7 @@ IsFileCause a holds before now f = ⊥
 
 -- why what is asked for was not read: it passes the budget, or the file has a fault
 abbrev pub IsReadCause : Asked → (budget : ℕ) → Option Content → (before now : ℕ) → StepFault → Type 0
-IsReadCause a budget holds before now (faults.Query start plan trace) = ⊥
+IsReadCause a budget holds before now (faults.Query start plan trace moved) = ⊥
 IsReadCause a budget holds before now (faults.Cells c) = PassesBudget budget holds c a
 IsReadCause a budget holds before now (faults.File f) = HasFileFault budget holds f a
 IsReadCause a budget holds before now (faults.Csv f) = HasTableFault budget holds f a
@@ -228,10 +228,11 @@ abbrev pub IsReadval : Option Declaration → Reader → Type 0
 IsReadval position r = (x : Name) × (e : Tree) × (position ≡ Some (read x r e))
 
 -- a declaration was run
-pub record IsRun (d : Declaration) (earlier : Earlier) (budget : ℕ) (holds : Option Content) (r : Run) : Type 0 where
+pub record IsRun (d : Declaration) (earlier : Earlier) (motion : Bool) (budget : ℕ) (holds : Option Content) (r : Run) : Type 0 where
   pub start : term_of r.start ≡ start_of d earlier
   pub planned : HasPlan d earlier (start_of d earlier) r.trace (term_of r.plan)
-  pub counts : IsCounted d earlier budget holds (term_of r.plan) (held_value r.value) (r.by, r.turns)
+  pub moved : HasMotion d earlier motion (term_of r.plan) r.moved
+  pub counts : IsCounted d earlier budget holds (term_of r.plan) r.moved (held_value r.value) (r.by, r.turns)
   pub answerable : IsAnswerable d earlier budget holds
   pub outcome : IsOutcome d earlier holds (held_value r.value)
   pub valid : ForSome (held_value r.value) IsValue
@@ -243,6 +244,7 @@ pub record IsAnswerOf (d : Declaration) (sort : Option Sort) (r : Run) (a : Answ
   pub start : term_of a.start ≡ term_of r.start
   pub plan : term_of a.plan ≡ term_of r.plan
   pub trace : a.trace ≡ r.trace
+  pub moved : a.moved ≡ r.moved
   pub by : a.by ≡ r.by
   pub turns : a.turns ≡ r.turns
 
@@ -311,6 +313,10 @@ declaration_of p = declaration_numbered p.decls.now p.n
 abbrev pub budget_of : Position → ℕ
 budget_of p = p.options.now.budget
 
+-- whether it is run with the word `--motion`
+abbrev pub motion_of : Position → Bool
+motion_of p = p.options.now.motion
+
 -- the number of workers is one that evaluation takes
 abbrev pub HasWorkers : Position → Type 0
 HasWorkers p = (1 ≤ p.options.now.workers) × (p.options.now.workers ≤ most_workers)
@@ -321,7 +327,7 @@ StandsAt p V = IsReadyAt (declarations_at p) (sorts_at p) p.n V
 
 -- its declaration was run
 abbrev pub RunsPosition : Position → Outcomes → Option Content → Run → Type 0
-RunsPosition p V holds r = ForSome (declaration_of p) (λ d. IsRun d (so_far p.decls.now V) (budget_of p) holds r)
+RunsPosition p V holds r = ForSome (declaration_of p) (λ d. IsRun d (so_far p.decls.now V) (motion_of p) (budget_of p) holds r)
 
 -- why its declaration has no answer; the counts of faults are those of the files before and after
 abbrev pub IsPositionCause : Position → Outcomes → Option Content → (before now : ℕ) → StepFault → Type 0
@@ -345,11 +351,11 @@ IsQueryTermAt p t = (V : Outcomes) → StandsAt p V → IsQueryTerm V t
 
 -- its query was evaluated within the budget
 abbrev pub IsEvaluatedAt : Position → Outcomes → Evaluated → Type 0
-IsEvaluatedAt p V q = ForSome (declaration_of p) (λ d. IsEvaluated d (so_far p.decls.now V) (budget_of p) q)
+IsEvaluatedAt p V q = ForSome (declaration_of p) (λ d. IsEvaluated d (so_far p.decls.now V) (motion_of p) (budget_of p) q)
 
 -- or it was not
 abbrev pub IsSpentAt : Position → Outcomes → StepFault → Type 0
-IsSpentAt p V f = ForSome (declaration_of p) (λ d. IsSpentFault d (so_far p.decls.now V) (budget_of p) f)
+IsSpentAt p V f = ForSome (declaration_of p) (λ d. IsSpentFault d (so_far p.decls.now V) (motion_of p) (budget_of p) f)
 
 -- the answer of a run of it
 abbrev pub AnswersRun : Position → Run → Answer → Type 0

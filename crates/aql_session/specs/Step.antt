@@ -1,5 +1,5 @@
 -- What `step` answers of a declaration, what it binds it to, and why it answers a fault.
-use Rattle.std.specs.Prelude.{◌≡◌, ◌⊎◌, ℕ, ◌+◌, ◌-◌, ◌^◌, ◌<◌, ◌≤◌, min, nat_lt, Bool, List, [], ◌∷◌, ◌++◌, length, Option, Some, None, option_map, Ok, Err, if◌then◌else◌}
+use Rattle.std.specs.Prelude.{◌≡◌, ℕ, ◌+◌, ◌-◌, ◌^◌, ◌<◌, ◌≤◌, min, nat_lt, Bool, List, [], ◌∷◌, ◌++◌, length, Option, Some, None, option_map, true, false, Ok, Err, if◌then◌else◌}
 use Rattle.std.specs.Option.{ForSome}
 use Rattle.std.specs.Str.{IsUtf8}
 use Rattle.aql_outside.specs.Causes.{Rose}
@@ -18,12 +18,16 @@ use Rattle.aql_syntax.specs.declared.ast.Kind.{Kind}
 use Rattle.aql_csv.specs.File.{set_of}
 use Rattle.aql_csv.specs.declared.fault.CsvFault.{CsvFault}
 use Rattle.aql_csv.specs.declared.fault.CsvFault.TheVariants as csv_faults
+use Rattle.nrca_term.specs.Meaning.{Outcomes}
 use Rattle.nrca_term.specs.Nodes.{bottom_term}
 use Rattle.nrca_term.specs.Term.{Term}
 use Rattle.nrca_term.specs.Turns.{settle}
 use Rattle.nrca_term.specs.declared.trace.Step as code
 use Rattle.nrca_term.specs.View.{term_of}
 use Rattle.nrca_normal.specs.Planned.{IsPlan}
+use Rattle.nrca_motion.specs.Moved.{IsMotion}
+use Rattle.nrca_motion.specs.declared.moves.Move as motion_code
+use Rattle.nrca_motion.specs.declared.still.Moved.{Moved}
 use Rattle.aql_desugar_spec.specs.Laws.{outcomes_of}
 use Rattle.aql_desugar_spec.specs.Start.{start, knowns_of, query}
 use Rattle.cdf_header.specs.declared.fault.CdfFault.{CdfFault}
@@ -79,13 +83,47 @@ asks (mac f p body) earlier = None
 asks (read x r e) earlier = den e (globals_of earlier) [] >>= asked_of r
 asks (bare e) earlier = None
 
--- which of two terms counts, and its turns: the plan where its turns are within the budget, the start term where its turns alone are
-abbrev pub choice : (budget plan start : ℕ) → Option (Ran × ℕ)
-choice budget plan start = if nat_lt budget plan then (if nat_lt budget start then None else Some (ran.Start, start)) else Some (ran.Plan, plan)
+-- Of what code motion makes of a plan: None where it was not asked for, and then the plan stands for it.
 
--- the same of a declaration's query and this plan of it
-abbrev pub chosen : Declaration → Earlier → (budget : ℕ) → (plan : Term) → Option (Ran × ℕ)
-chosen d earlier budget plan = choice budget (turns_in earlier plan) (query_turns d earlier)
+-- the moved term
+abbrev pub moved_term : (plan : Term) → Option Moved → Term
+moved_term plan None = plan
+moved_term plan (Some m) = term_of m.term
+
+-- the moves that lead there from the plan
+abbrev pub moves_of : Option Moved → List motion_code.Move
+moves_of None = []
+moves_of (Some m) = m.moves
+
+-- the turns of the moved term over these outcomes, where there is one
+abbrev pub moved_turns : Outcomes → Option Moved → Option ℕ
+moved_turns V None = None
+moved_turns V (Some m) = Some (settle V [] (term_of m.term))
+
+-- with the word, moves lead from the plan to the moved term, in which no move is left, and they are few; without it there is none
+abbrev pub IsMovedBy : (motion : Bool) → Outcomes → (plan : Term) → Option Moved → Type 0
+IsMovedBy true V plan (Some m) = IsMotion V plan m.moves (term_of m.term)
+IsMovedBy true V plan None = ⊥
+IsMovedBy false V plan moved = moved ≡ None
+
+-- the first of these turns that are within the budget, with what was evaluated
+abbrev pub first_within : (budget : ℕ) → List (Ran × ℕ) → Option (Ran × ℕ)
+first_within budget [] = None
+first_within budget (c ∷ cs) = if nat_lt budget c.1 then first_within budget cs else Some c
+
+-- the moved term as what may be evaluated, where there is one
+abbrev pub by_moved : Option ℕ → List (Ran × ℕ)
+by_moved None = []
+by_moved (Some moved) = (ran.Moved, moved) ∷ []
+
+-- which term counts, and its turns: the plan where its turns are within the budget, else the start term where its turns are, else the moved
+-- term where there is one and its turns are
+abbrev pub choice : (budget plan start : ℕ) → (moved : Option ℕ) → Option (Ran × ℕ)
+choice budget plan start moved = first_within budget ((ran.Plan, plan) ∷ (ran.Start, start) ∷ by_moved moved)
+
+-- the same of a declaration's query, this plan of it, and what was moved
+abbrev pub chosen : Declaration → Earlier → (budget : ℕ) → (plan : Term) → Option Moved → Option (Ran × ℕ)
+chosen d earlier budget plan moved = choice budget (turns_in earlier plan) (query_turns d earlier) (moved_turns (outcomes_of earlier) moved)
 
 -- What is asked for.
 
@@ -141,13 +179,14 @@ pub record IsReadable (budget : ℕ) (holds : Option Content) (a : Asked) : Type
 
 -- which term counts, and what a declaration with this outcome took: the turns of its query, and of a readval, by that choice, those of its
 -- argument and what reading took
-abbrev pub IsCounted : Declaration → Earlier → (budget : ℕ) → Option Content → (plan : Term) → (outcome : Option Datum) → (took : Ran × ℕ) → Type 0
-IsCounted (val x e) earlier budget holds plan o took = chosen (val x e) earlier budget plan ≡ Some took
-IsCounted (mac f p body) earlier budget holds plan o took = took ≡ (ran.Declared, 0)
-IsCounted (read x r e) earlier budget holds plan o took =
-    (c : Ran × ℕ) × (n : ℕ) × (chosen (read x r e) earlier budget plan ≡ Some c) × (took ≡ (ran.Read, c.1 + n))
+abbrev pub IsCounted : Declaration → Earlier → (budget : ℕ) → Option Content → (plan : Term) → (moved : Option Moved) → (outcome : Option Datum) →
+    (took : Ran × ℕ) → Type 0
+IsCounted (val x e) earlier budget holds plan moved o took = chosen (val x e) earlier budget plan moved ≡ Some took
+IsCounted (mac f p body) earlier budget holds plan moved o took = took ≡ (ran.Declared, 0)
+IsCounted (read x r e) earlier budget holds plan moved o took =
+    (c : Ran × ℕ) × (n : ℕ) × (chosen (read x r e) earlier budget plan moved ≡ Some c) × (took ≡ (ran.Read, c.1 + n))
     × IsCountOf budget holds (asks (read x r e) earlier) o n
-IsCounted (bare e) earlier budget holds plan o took = chosen (bare e) earlier budget plan ≡ Some took
+IsCounted (bare e) earlier budget holds plan moved o took = chosen (bare e) earlier budget plan moved ≡ Some took
 
 -- The answer.
 
@@ -158,14 +197,23 @@ HasPlan (mac f p body) earlier start trace plan = (plan ≡ bottom_term) × (tra
 HasPlan (read x r e) earlier start trace plan = IsPlan (outcomes_of earlier) start trace plan
 HasPlan (bare e) earlier start trace plan = IsPlan (outcomes_of earlier) start trace plan
 
--- the answer of a declaration: its name, its type, its start term, and the plan with the rewritings that lead there
-pub record IsAnswer (d : Declaration) (earlier : Earlier) (sort : Option Sort) (a : Answer) : Type 0 where
+-- with the word there is a moved term of the plan, of a readval of that of its argument; without it, and of a macro, there is none
+abbrev pub HasMotion : Declaration → Earlier → (motion : Bool) → (plan : Term) → (moved : Option Moved) → Type 0
+HasMotion (val x e) earlier motion plan moved = IsMovedBy motion (outcomes_of earlier) plan moved
+HasMotion (mac f p body) earlier motion plan moved = moved ≡ None
+HasMotion (read x r e) earlier motion plan moved = IsMovedBy motion (outcomes_of earlier) plan moved
+HasMotion (bare e) earlier motion plan moved = IsMovedBy motion (outcomes_of earlier) plan moved
+
+-- the answer of a declaration: its name, its type, its start term, the plan with the rewritings that lead there, and with the word
+-- `--motion` what is moved in the plan
+pub record IsAnswer (d : Declaration) (earlier : Earlier) (sort : Option Sort) (motion : Bool) (a : Answer) : Type 0 where
   pub name : a.name ≡ declared d
   -- its type is the one that was found, and principal
   pub found : sort ≡ Some (sort_of a.ty)
   pub principal : IsPrincipal d (scope_of (declarations_of earlier)) (sort_of a.ty)
   pub start : term_of a.start ≡ start_of d earlier
   pub planned : HasPlan d earlier (term_of a.start) a.trace (term_of a.plan)
+  pub moved : HasMotion d earlier motion (term_of a.plan) a.moved
 
 -- it is answered only where what it asks for is readable
 abbrev pub IsAnswerable : Declaration → Earlier → (budget : ℕ) → Option Content → Type 0
@@ -200,19 +248,21 @@ pub record BindsPosition (d : Declaration) (earlier : Earlier) (budget : ℕ) (h
   pub typed : OutcomesFit ((d, outcome) ∷ earlier)
   -- where the files are told it is the script's outcome over them
   pub told : ForSome holds (λ files. outcome_after (reading files) d (globals_of earlier) ≡ Some outcome)
-  -- the plan counts exactly where its turns are within the budget, the start term exactly where only its turns are
-  pub counts : IsCounted d earlier budget holds (term_of a.plan) outcome (a.by, a.turns)
+  -- the plan counts exactly where its turns are within the budget, the start term exactly where those of the plan are not and its own are,
+  -- the moved term exactly where neither are and its own are
+  pub counts : IsCounted d earlier budget holds (term_of a.plan) a.moved outcome (a.by, a.turns)
 
 -- The faults.
 
--- the turns of the start term, or those of some plan of it, are within the budget
-abbrev pub MayBeEvaluated : Declaration → Earlier → (budget : ℕ) → Type 0
-MayBeEvaluated d earlier budget = (query_turns d earlier ≤ budget)
-    ⊎ ((trace : List code.Step) × (plan : Term) × IsPlan (outcomes_of earlier) (start_of d earlier) trace plan × (turns_in earlier plan ≤ budget))
+-- with some plan of the query, and what is moved in it, one of the terms counts: its turns are within the budget
+abbrev pub MayBeEvaluated : Declaration → Earlier → (motion : Bool) → (budget : ℕ) → Type 0
+MayBeEvaluated d earlier motion budget =
+    (trace : List code.Step) × (plan : Term) × (moved : Option Moved) × (c : Ran × ℕ) × IsPlan (outcomes_of earlier) (start_of d earlier) trace plan
+    × IsMovedBy motion (outcomes_of earlier) plan moved × (chosen d earlier budget plan moved ≡ Some c)
 
 -- the argument of a readval has a value and was evaluated within the budget, and what it asks for is such
-abbrev pub AsksFor : Declaration → Earlier → (budget : ℕ) → (Asked → Type 0) → Type 0
-AsksFor d earlier budget P = MayBeEvaluated d earlier budget × (a : Asked) × (asks d earlier ≡ Some a) × P a
+abbrev pub AsksFor : Declaration → Earlier → (motion : Bool) → (budget : ℕ) → (Asked → Type 0) → Type 0
+AsksFor d earlier motion budget P = MayBeEvaluated d earlier motion budget × (a : Asked) × (asks d earlier ≡ Some a) × P a
 
 -- neither the device nor memory
 abbrev pub IsOfFile : CdfFault → Type 0
@@ -271,18 +321,24 @@ HasTableFault budget holds f (table file header ks) =
     IsAffordable budget holds (table file header ks) × IsTableFault file header ks budget f
     × ForSome holds (λ files. read_table files file header ks ≡ Err f)
 
--- when each fault comes: Query exactly where the turns of the start term and of its plan both pass the budget, Cells exactly where then the
--- cells, or the bytes of a file of records, pass it, File and Csv only where they do not, and exactly the first fault that the files tell;
--- Device only where the count of faults rose; want of memory is free
-abbrev pub IsCause : Declaration → Earlier → (budget : ℕ) → Option Content → (before now : ℕ) → StepFault → Type 0
-IsCause d earlier budget holds before now (faults.Query start plan trace) =
-    (term_of start ≡ start_of d earlier) × IsPlan (outcomes_of earlier) (start_of d earlier) trace (term_of plan)
-    × (budget < query_turns d earlier) × (budget < turns_in earlier (term_of plan))
-IsCause d earlier budget holds before now (faults.Cells c) = AsksFor d earlier budget (PassesBudget budget holds c)
-IsCause d earlier budget holds before now (faults.File f) = AsksFor d earlier budget (HasFileFault budget holds f)
-IsCause d earlier budget holds before now (faults.Csv f) = AsksFor d earlier budget (HasTableFault budget holds f)
-IsCause d earlier budget holds before now faults.Device = AsksFor d earlier budget (λ a. CallsFiles budget a × Rose before now)
-IsCause d earlier budget holds before now faults.Memory = Unit {0}
+-- a query's start term, a plan of it and what is moved in it; the turns of all three terms pass the budget
+abbrev pub IsSpent : Declaration → Earlier → (motion : Bool) → (budget : ℕ) → (start : Term) → List code.Step → (plan : Term) → (moved : Option Moved) → Type 0
+IsSpent d earlier motion budget start trace plan moved =
+    (start ≡ start_of d earlier) × IsPlan (outcomes_of earlier) (start_of d earlier) trace plan
+    × (budget < query_turns d earlier) × (budget < turns_in earlier plan)
+    × IsMovedBy motion (outcomes_of earlier) plan moved × (budget < turns_in earlier (moved_term plan moved))
+
+-- when each fault comes: Query exactly where the turns of the start term, of its plan and of what is moved in it all pass the budget, Cells
+-- exactly where then the cells, or the bytes of a file of records, pass it, File and Csv only where they do not, and exactly the first fault
+-- that the files tell; Device only where the count of faults rose; want of memory is free
+abbrev pub IsCause : Declaration → Earlier → (motion : Bool) → (budget : ℕ) → Option Content → (before now : ℕ) → StepFault → Type 0
+IsCause d earlier motion budget holds before now (faults.Query start plan trace moved) =
+    IsSpent d earlier motion budget (term_of start) trace (term_of plan) moved
+IsCause d earlier motion budget holds before now (faults.Cells c) = AsksFor d earlier motion budget (PassesBudget budget holds c)
+IsCause d earlier motion budget holds before now (faults.File f) = AsksFor d earlier motion budget (HasFileFault budget holds f)
+IsCause d earlier motion budget holds before now (faults.Csv f) = AsksFor d earlier motion budget (HasTableFault budget holds f)
+IsCause d earlier motion budget holds before now faults.Device = AsksFor d earlier motion budget (λ a. CallsFiles budget a × Rose before now)
+IsCause d earlier motion budget holds before now faults.Memory = Unit {0}
 
 -- no file is read: there is no argument, or it is undefined, or no call is made for what it asks for
 abbrev pub ReadsNoFile : Declaration → Earlier → (budget : ℕ) → Type 0
@@ -290,7 +346,7 @@ ReadsNoFile d earlier budget = ForSome (asks d earlier) (CallsNoFile budget)
 
 -- the turns passed the budget
 abbrev pub IsOverTurns : StepFault → Type 0
-IsOverTurns (faults.Query start plan trace) = Unit {0}
+IsOverTurns (faults.Query start plan trace moved) = Unit {0}
 IsOverTurns (faults.Cells c) = ⊥
 IsOverTurns (faults.File f) = ⊥
 IsOverTurns (faults.Csv f) = ⊥

@@ -6,6 +6,7 @@ use aql_csv::CsvFault;
 use aql_types::ty::Scheme;
 use aql_value::{Memory, Str};
 use cdf_header::CdfFault;
+use nrca_motion::Moved;
 use nrca_term::{Core, Trace};
 use std::alloc::{AllocError, AllocFailed};
 
@@ -22,18 +23,23 @@ pub struct Answer {
     pub plan: Core,
     /// The rewritings that lead from the start term to the plan.
     pub trace: Trace,
+    /// With the word `--motion` what is moved in the plan, and the moves that lead from the plan to
+    /// it. None without the word, and of a macro: the plan stands for it, and there is no move.
+    pub moved: Option<Moved>,
     pub by: Ran,
     /// Loop turns of the term that was evaluated, and of a readval besides the cells that were read,
     /// or the bytes of a file of records.
     pub turns: u128,
 }
 
-/// What was evaluated: the plan of a query, or its start term where the plan's turns alone pass the
-/// budget; a readval's argument, by the same choice, and then its file; or nothing, for a macro.
+/// What was evaluated: the plan of a query, its start term where the plan's turns pass the budget, or
+/// what is moved in the plan where those of both do; a readval's argument, by the same choice, and
+/// then its file; or nothing, for a macro.
 #[derive(Clone, Copy, Debug, PartialEq, Eq)]
 pub enum Ran {
     Plan,
     Start,
+    Moved,
     Read,
     Declared,
 }
@@ -41,12 +47,13 @@ pub enum Ran {
 /// Why a declaration has no answer.
 #[derive(Drop)]
 pub enum StepFault {
-    /// The turns of the query, or of a readval's argument, pass the budget: those of its start term
-    /// and those of its plan.
+    /// The turns of the query, or of a readval's argument, pass the budget: those of its start term,
+    /// those of its plan, and with the word `--motion` those of what is moved in the plan.
     Query {
         start: Core,
         plan: Core,
         trace: Trace,
+        moved: Option<Moved>,
     },
     /// The cells that are asked for pass the budget, or the bytes of a file of records do. Their
     /// number, or 2^128-1 where it is larger.

@@ -4,7 +4,8 @@
 //! `Session::step` answers the next declaration and binds it: a query to what it denotes, a readval
 //! to what its reader reads, a macro to no value. Or it answers a fault and leaves the session as
 //! it was. A query is evaluated by its plan, a normal form of the term that it is translated to; where
-//! the turns of the plan pass the budget, that term is evaluated as it is.
+//! the turns of the plan pass the budget, that term is evaluated as it is; and where those of both do,
+//! with the word `--motion`, the plan with what could be moved out of loops.
 //!
 //! Read `specs/Bound`, `Asked`, `Reading`, `Step` and `Numbered`; then `answer`, `session`, `step`,
 //! `runs`, `queries`, `readings`. What a session knows of its outcomes stands in `specs/Known` and

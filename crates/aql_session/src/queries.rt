@@ -1,15 +1,17 @@
-//! The plans of queries, and their evaluation.
+//! The plans of queries, what is moved in them, and their evaluation.
 ghost use Rattle.std.specs.Prelude.{◌≡◌, ◌≤◌, ◌<◌, [], length, IfOk, IfErr};
 ghost use Rattle.aql_infer_steps.specs.Typed.{ArePrincipal};
 ghost use Rattle.aql_syntax.specs.Size.{AreWithinLimits};
 ghost use Rattle.aql_value.specs.Limits.{most_budget, most_workers};
+ghost use Rattle.nrca_loops.specs.Evaluates.{EvaluatesClosed};
 ghost use Rattle.nrca_ranges.specs.Shapes.{shapes_in};
 ghost use Rattle.nrca_term.specs.Term.{weight_of};
 ghost use Rattle.nrca_term.specs.Turns.{settle};
 ghost use Rattle.nrca_term.specs.View.{term_of};
 ghost use Rattle.aql_session.specs.Known.{Knows};
-ghost use Rattle.aql_session.specs.Planned.{IsQueryTerm, IsPlanned, KeepsValue, IsUnchanged, KeepsTerms, IsChosen, PassBoth, Evaluates};
+ghost use Rattle.aql_session.specs.Planned.{IsQueryTerm, IsPlanned, KeepsMoved, KeepsValue, IsUnchanged, IsUnmoved, KeepsTerms, IsChosen, PassAll, Evaluates, moved_of};
 ghost use Rattle.aql_session.specs.Runs.{StandsAt, HasWorkers, budget_of, declaration_of, declarations_at, sorts_at, IsQuery, IsStartAt, IsEvaluatedAt, IsSpentAt, IsQueryTermAt};
+ghost use Rattle.aql_session.specs.Step.{IsMovedBy};
 
 use crate::answer::{Ran, StepFault};
 use crate::runs::Position;
@@ -20,6 +22,7 @@ use aql_value::Memory;
 use aql_words::Options;
 use nrca_array::Held;
 use nrca_eval::{Done, Globals, evaluate};
+use nrca_motion::{Moved, motion_over};
 use nrca_normal::{Plan, normalise_over};
 use nrca_par::EvalFault;
 use nrca_ranges::GlobalShapes;
@@ -27,12 +30,14 @@ use nrca_term::{Core, Trace, constants};
 use std::alloc::Global;
 use std::thread::Threads;
 
-/// The start term of a query, its plan, and the rewritings that lead from the one to the other.
+/// The start term of a query, its plan, the rewritings that lead from the one to the other, and with
+/// the word `--motion` what is moved in the plan.
 #[derive(Drop)]
 pub(crate) struct Planned {
     pub(crate) start: Core,
     pub(crate) plan: Core,
     pub(crate) trace: Trace,
+    pub(crate) moved: Option<Moved>,
 }
 
 /// The terms of a query, which of them was evaluated, what it was worth and the turns that it took.
@@ -41,14 +46,15 @@ pub(crate) struct Evaluated {
     pub(crate) start: Core,
     pub(crate) plan: Core,
     pub(crate) trace: Trace,
+    pub(crate) moved: Option<Moved>,
     pub(crate) by: Ran,
     pub(crate) value: Option<Held>,
     pub(crate) turns: u128,
 }
 
 /// Evaluates the query of a position, of a readval its argument, over the outcomes of the positions
-/// before it, by its plan or else as it is translated, where the turns of either are within the
-/// budget.
+/// before it: by its plan, else as it is translated, else by what is moved in the plan, where the
+/// turns of one of these are within the budget.
 pub(crate) fn run_query<R: Threads + Sync, G: Gate>(
     rt: &R,
     alloc: Global,
@@ -67,7 +73,7 @@ pub(crate) fn run_query<R: Threads + Sync, G: Gate>(
     ensures spent { IfErr result (IsSpentAt at.now globals.now) }
 {
     let start = start_of_query(alloc, at)?;
-    match plan_of(alloc, globals, shapes, start) {
+    match plan_of(alloc, globals, shapes, start, at.options) {
         Ok(planned) => run_planned(rt, alloc, globals, planned, at.options, gate),
         Err(Memory) => Err(StepFault::Memory),
     }
@@ -90,25 +96,36 @@ fn start_of_query(alloc: Global, at: &Position) -> Result<Core, Memory>
     }
 }
 
-// The plan of a query's term: it has the term's meaning, and their value is one of the language.
+// The plan of a query's term, and with the word `--motion` what is moved in it: both have the term's
+// meaning, and their value is one of the language.
 fn plan_of(
     alloc: Global,
     globals: &Globals,
     shapes: &mut GlobalShapes,
     start: Core,
+    options: &Options,
 ) -> Result<Planned, Memory>
     requires query { IsQueryTerm globals.now (term_of start) }
     requires known { Knows (shapes_in shapes.old) globals.now }
     ensures shapes { shapes_in shapes.new ≡ shapes_in shapes.old }
-    ensures planned { IfOk result (IsPlanned globals.now (term_of start)) }
+    ensures planned { IfOk result (IsPlanned options.now.motion globals.now (term_of start)) }
 {
     constants(&start);
     match normalise_over(alloc, &start, shapes) {
-        Ok(Plan { term, trace }) => Ok(Planned {
-            start,
-            plan: term,
-            trace,
-        }),
+        Ok(Plan { term, trace }) => match move_out(alloc, globals, shapes, &term, options) {
+            Ok(moved) => Ok(Planned {
+                start,
+                plan: term,
+                trace,
+                moved,
+            }),
+            Err(Memory) => {
+                drop(start);
+                drop(term);
+                drop(trace);
+                Err(Memory)
+            }
+        },
         Err(Memory) => {
             drop(start);
             Err(Memory)
@@ -116,8 +133,31 @@ fn plan_of(
     }
 }
 
-// The plan is evaluated where its turns are within the budget, and else the start term, where it is
-// another.
+// With the word `--motion` what is moved in a plan.
+fn move_out(
+    alloc: Global,
+    globals: &Globals,
+    shapes: &mut GlobalShapes,
+    plan: &Core,
+    options: &Options,
+) -> Result<Option<Moved>, Memory>
+    requires query { IsQueryTerm globals.now (term_of plan.now) }
+    requires known { Knows (shapes_in shapes.old) globals.now }
+    ensures shapes { shapes_in shapes.new ≡ shapes_in shapes.old }
+    ensures moved { IfOk result (IsMovedBy options.now.motion globals.now (term_of plan.now)) }
+    ensures keeps { IfOk result (KeepsMoved globals.now (term_of plan.now)) }
+{
+    if options.motion {
+        match motion_over(alloc, plan, shapes) {
+            Ok(moved) => Ok(Some(moved)),
+            Err(Memory) => Err(Memory),
+        }
+    } else {
+        Ok(None)
+    }
+}
+
+// The plan is evaluated where its turns are within the budget, and else the other terms.
 fn run_planned<R: Threads + Sync, G: Gate>(
     rt: &R,
     alloc: Global,
@@ -128,28 +168,15 @@ fn run_planned<R: Threads + Sync, G: Gate>(
 ) -> Result<Evaluated, StepFault>
     requires same { KeepsValue globals.now planned }
     requires unchanged { IsUnchanged planned }
+    requires unmoved { IsUnmoved planned }
     requires workers { (1 ≤ options.now.workers) × (options.now.workers ≤ most_workers) }
     requires budget { options.now.budget ≤ most_budget }
     ensures evaluated { IfOk result (Evaluates globals.now options.now.budget planned) }
-    ensures spent { IfErr result (PassBoth globals.now options.now.budget planned) }
+    ensures spent { IfErr result (PassAll globals.now options.now.budget planned) }
 {
-    match evaluate(
-        rt,
-        alloc,
-        &planned.plan,
-        globals,
-        options.budget,
-        options.workers,
-        gate,
-    ) {
+    match evaluate_term(rt, alloc, &planned.plan, globals, options, gate) {
         Ok(done) => Ok(with_terms(planned, Ran::Plan, done)),
-        Err(EvalFault::Spent) => {
-            if planned.trace.0.is_empty() {
-                Err(passes_budget(planned))
-            } else {
-                run_start(rt, alloc, globals, planned, options, gate)
-            }
-        }
+        Err(EvalFault::Spent) => run_start(rt, alloc, globals, planned, options, gate),
         Err(EvalFault::Memory) => {
             drop(planned);
             Err(StepFault::Memory)
@@ -157,7 +184,7 @@ fn run_planned<R: Threads + Sync, G: Gate>(
     }
 }
 
-// The start term, where the turns of the plan pass the budget.
+// The start term, where the turns of the plan pass the budget, and else what is moved.
 fn run_start<R: Threads + Sync, G: Gate>(
     rt: &R,
     alloc: Global,
@@ -167,21 +194,44 @@ fn run_start<R: Threads + Sync, G: Gate>(
     gate: &G,
 ) -> Result<Evaluated, StepFault>
     requires spent { options.now.budget < settle globals.now [] (term_of planned.plan) }
+    requires same { KeepsValue globals.now planned }
+    requires unchanged { IsUnchanged planned }
+    requires unmoved { IsUnmoved planned }
     requires workers { (1 ≤ options.now.workers) × (options.now.workers ≤ most_workers) }
     requires budget { options.now.budget ≤ most_budget }
     ensures evaluated { IfOk result (Evaluates globals.now options.now.budget planned) }
-    ensures spent { IfErr result (PassBoth globals.now options.now.budget planned) }
+    ensures spent { IfErr result (PassAll globals.now options.now.budget planned) }
 {
-    match evaluate(
-        rt,
-        alloc,
-        &planned.start,
-        globals,
-        options.budget,
-        options.workers,
-        gate,
-    ) {
+    match evaluate_start(rt, alloc, &planned, globals, options, gate) {
         Ok(done) => Ok(with_terms(planned, Ran::Start, done)),
+        Err(EvalFault::Spent) => run_moved(rt, alloc, globals, planned, options, gate),
+        Err(EvalFault::Memory) => {
+            drop(planned);
+            Err(StepFault::Memory)
+        }
+    }
+}
+
+// What is moved in the plan, where the turns of the plan and of the start term pass the budget.
+fn run_moved<R: Threads + Sync, G: Gate>(
+    rt: &R,
+    alloc: Global,
+    globals: &Globals,
+    planned: Planned,
+    options: &Options,
+    gate: &G,
+) -> Result<Evaluated, StepFault>
+    requires spent { options.now.budget < settle globals.now [] (term_of planned.plan) }
+    requires spent_start { options.now.budget < settle globals.now [] (term_of planned.start) }
+    requires same { KeepsValue globals.now planned }
+    requires unmoved { IsUnmoved planned }
+    requires workers { (1 ≤ options.now.workers) × (options.now.workers ≤ most_workers) }
+    requires budget { options.now.budget ≤ most_budget }
+    ensures evaluated { IfOk result (Evaluates globals.now options.now.budget planned) }
+    ensures spent { IfErr result (PassAll globals.now options.now.budget planned) }
+{
+    match evaluate_moved(rt, alloc, &planned, globals, options, gate) {
+        Ok(done) => Ok(with_terms(planned, Ran::Moved, done)),
         Err(EvalFault::Spent) => Err(passes_budget(planned)),
         Err(EvalFault::Memory) => {
             drop(planned);
@@ -190,24 +240,113 @@ fn run_start<R: Threads + Sync, G: Gate>(
     }
 }
 
-// That the turns of both terms pass the budget, with the terms.
+// The start term. Without a rewriting it is the plan, whose turns pass the budget.
+fn evaluate_start<R: Threads + Sync, G: Gate>(
+    rt: &R,
+    alloc: Global,
+    planned: &Planned,
+    globals: &Globals,
+    options: &Options,
+    gate: &G,
+) -> Result<Done, EvalFault>
+    requires spent { options.now.budget < settle globals.now [] (term_of planned.now.plan) }
+    requires unchanged { IsUnchanged planned.now }
+    requires workers { (1 ≤ options.now.workers) × (options.now.workers ≤ most_workers) }
+    requires budget { options.now.budget ≤ most_budget }
+    ensures { EvaluatesClosed options.now.budget globals.now (term_of planned.now.start) result }
+{
+    if planned.trace.0.is_empty() {
+        Err(EvalFault::Spent)
+    } else {
+        evaluate_term(rt, alloc, &planned.start, globals, options, gate)
+    }
+}
+
+// What is moved in the plan. Without a move it is the plan, whose turns pass the budget.
+fn evaluate_moved<R: Threads + Sync, G: Gate>(
+    rt: &R,
+    alloc: Global,
+    planned: &Planned,
+    globals: &Globals,
+    options: &Options,
+    gate: &G,
+) -> Result<Done, EvalFault>
+    requires spent { options.now.budget < settle globals.now [] (term_of planned.now.plan) }
+    requires unmoved { IsUnmoved planned.now }
+    requires workers { (1 ≤ options.now.workers) × (options.now.workers ≤ most_workers) }
+    requires budget { options.now.budget ≤ most_budget }
+    ensures { EvaluatesClosed options.now.budget globals.now (moved_of planned.now) result }
+{
+    match &planned.moved {
+        Some(moved) => {
+            if moved.moves.0.is_empty() {
+                Err(EvalFault::Spent)
+            } else {
+                evaluate_term(rt, alloc, &moved.term, globals, options, gate)
+            }
+        }
+        None => Err(EvalFault::Spent),
+    }
+}
+
+// A closed term within the budget.
+fn evaluate_term<R: Threads + Sync, G: Gate>(
+    rt: &R,
+    alloc: Global,
+    term: &Core,
+    globals: &Globals,
+    options: &Options,
+    gate: &G,
+) -> Result<Done, EvalFault>
+    requires workers { (1 ≤ options.now.workers) × (options.now.workers ≤ most_workers) }
+    requires budget { options.now.budget ≤ most_budget }
+    ensures { EvaluatesClosed options.now.budget globals.now (term_of term.now) result }
+{
+    evaluate(
+        rt,
+        alloc,
+        term,
+        globals,
+        options.budget,
+        options.workers,
+        gate,
+    )
+}
+
+// That the turns of all terms pass the budget, with the terms.
 fn passes_budget(planned: Planned) -> StepFault
     ensures { KeepsTerms planned result }
 {
-    let Planned { start, plan, trace } = planned;
-    StepFault::Query { start, plan, trace }
+    let Planned {
+        start,
+        plan,
+        trace,
+        moved,
+    } = planned;
+    StepFault::Query {
+        start,
+        plan,
+        trace,
+        moved,
+    }
 }
 
 // The terms beside what the evaluation of one of them came to.
 fn with_terms(planned: Planned, by: Ran, done: Done) -> Evaluated
     ensures { IsChosen planned by done result }
 {
-    let Planned { start, plan, trace } = planned;
+    let Planned {
+        start,
+        plan,
+        trace,
+        moved,
+    } = planned;
     let Done { value, turns } = done;
     Evaluated {
         start,
         plan,
         trace,
+        moved,
         by,
         value,
         turns,

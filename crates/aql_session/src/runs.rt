@@ -21,6 +21,7 @@ use aql_syntax::ast::{Decl, Decls, Reader};
 use aql_words::Options;
 use nrca_array::Held;
 use nrca_eval::Globals;
+use nrca_motion::Moved;
 use nrca_ranges::GlobalShapes;
 use nrca_term::{Core, Trace};
 use std::alloc::Global;
@@ -42,6 +43,7 @@ pub(crate) struct Run {
     pub(crate) start: Core,
     pub(crate) plan: Core,
     pub(crate) trace: Trace,
+    pub(crate) moved: Option<Moved>,
     pub(crate) by: Ran,
     pub(crate) turns: u128,
     pub(crate) value: Option<Held>,
@@ -79,6 +81,7 @@ pub(crate) fn run_declaration<R: Threads + Sync, F: Files, G: Gate>(
             start: Core::Bottom,
             plan: Core::Bottom,
             trace: Trace(Vec::new(alloc)),
+            moved: None,
             by: Ran::Declared,
             turns: 0,
             value: None,
@@ -135,6 +138,7 @@ fn run_plain<R: Threads + Sync, G: Gate>(
                 start,
                 plan,
                 trace,
+                moved,
                 by,
                 value,
                 turns,
@@ -143,6 +147,7 @@ fn run_plain<R: Threads + Sync, G: Gate>(
             start,
             plan,
             trace,
+            moved,
             by,
             turns,
             value,
@@ -181,6 +186,7 @@ fn run_readval<R: Threads + Sync, F: Files, G: Gate>(
                 start,
                 plan,
                 trace,
+                moved,
                 by: _,
                 value,
                 turns,
@@ -190,6 +196,7 @@ fn run_readval<R: Threads + Sync, F: Files, G: Gate>(
                 start,
                 plan,
                 trace,
+                moved,
                 by: Ran::Read,
                 turns: turns + read,
                 value,
@@ -198,6 +205,7 @@ fn run_readval<R: Threads + Sync, F: Files, G: Gate>(
                 drop(start);
                 drop(plan);
                 drop(trace);
+                drop(moved);
                 Err(fault)
             }
         },

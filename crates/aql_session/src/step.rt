@@ -32,9 +32,11 @@ use std::thread::Threads;
 impl Session {
     /// Answers declaration n, counted from 1, and binds it under its name.
     ///
-    /// A query is evaluated by its plan where the turns of that are within the budget, and else as it
-    /// is translated, where those are. Of a readval first the argument is evaluated; where it is
-    /// undefined, so is the readval, and no call is made on the files. Faults come in this order:
+    /// A query is evaluated by its plan where the turns of that are within the budget, else as it is
+    /// translated, where those are; else, with the word `--motion`, by what is moved in the plan, where
+    /// those are. With the word the plan is moved in every case, before anything is evaluated.
+    /// Of a readval first the argument is evaluated; where it is undefined, so is the readval, and no
+    /// call is made on the files. Faults come in this order:
     /// `Query` (the argument of a readval, too), `Cells`, then those of the file; of a file of
     /// records `Csv` with `Absent`, `Cells`, then the others. After a fault the session is as before.
     pub fn step<R: Threads + Sync, F: Files, G: Gate>(
@@ -59,7 +61,8 @@ impl Session {
         requires budget { options.now.budget ≤ most_budget }
 
         // The answer, which comes only within the budget.
-        ensures answer { IfOk result (IsAnswerTo decls.now typed.now n (outcomes self.old)) }
+        ensures answer { IfOk result
+            (IsAnswerTo decls.now typed.now n (outcomes self.old) options.now) }
         ensures answerable { OnOk result
             (MayBeAnswered decls.now n (outcomes self.old) options.now (F.holds files.old)) }
         // The session has one position more, with the declaration's outcome; and the answer says
@@ -146,21 +149,33 @@ fn answer_of(alloc: Global, at: &Position, run: Run) -> Result<(Answer, Option<H
         start,
         plan,
         trace,
+        moved,
         by,
         turns,
         value,
     } = run;
     let name = declaration(at.decls, at.n).name_copy(alloc);
     let head = both(name, scheme(at.typed, at.n).copy(alloc));
-    let terms = Planned { start, plan, trace };
+    let terms = Planned {
+        start,
+        plan,
+        trace,
+        moved,
+    };
     let (terms, (value, (name, ty))) = both(Ok(terms), both(Ok(value), head))?;
-    let Planned { start, plan, trace } = terms;
+    let Planned {
+        start,
+        plan,
+        trace,
+        moved,
+    } = terms;
     let answer = Answer {
         name,
         ty,
         start,
         plan,
         trace,
+        moved,
         by,
         turns,
     };

@@ -10,8 +10,14 @@ use Rattle.aql_words.specs.Words.{HasReading, aql, options_of}
 abbrev line : Text → Text → List Text
 line first second = codes "aql" ∷ first ∷ second ∷ []
 
-abbrev options : ℕ → ℕ → Bool → Option ℕ → Options
-options workers budget plan sample = record { workers = workers; budget = budget; plan = plan; sample = sample }
+abbrev options : ℕ → ℕ → Bool → Option ℕ → Bool → Options
+options workers budget plan sample motion = record {
+  workers = workers;
+  budget = budget;
+  plan = plan;
+  sample = sample;
+  motion = motion;
+}
 
 abbrev fault : List Text → Kinds
 fault words = fault_of aql words
@@ -20,7 +26,7 @@ none_read : HasReading (codes "aql" ∷ [])
 unfolding clap_on_literals
 none_read = refl
 
-none : options_of (codes "aql" ∷ []) ≡ options 1 10000000 false None
+none : options_of (codes "aql" ∷ []) ≡ options 1 10000000 false None false
 unfolding clap_on_literals
 none = refl
 
@@ -28,7 +34,7 @@ workers_read : HasReading (line (codes "--workers") (codes "64"))
 unfolding clap_on_literals
 workers_read = refl
 
-workers : options_of (line (codes "--workers") (codes "64")) ≡ options 64 10000000 false None
+workers : options_of (line (codes "--workers") (codes "64")) ≡ options 64 10000000 false None false
 unfolding clap_on_literals
 workers = refl
 
@@ -36,9 +42,17 @@ joined_read : HasReading (line (codes "--plan") (codes "--sample=12"))
 unfolding clap_on_literals
 joined_read = refl
 
-joined : options_of (line (codes "--plan") (codes "--sample=12")) ≡ options 1 10000000 true (Some 12)
+joined : options_of (line (codes "--plan") (codes "--sample=12")) ≡ options 1 10000000 true (Some 12) false
 unfolding clap_on_literals
 joined = refl
+
+motion_read : HasReading (line (codes "--motion") (codes "--plan"))
+unfolding clap_on_literals
+motion_read = refl
+
+motion : options_of (line (codes "--motion") (codes "--plan")) ≡ options 1 10000000 true None true
+unfolding clap_on_literals
+motion = refl
 
 too_many : fault (line (codes "--workers") (codes "65")) ≡ kinds.ValueValidation ∷ []
 unfolding clap_on_literals
@@ -51,6 +65,10 @@ too_few = refl
 twice : fault (line (codes "--plan") (codes "--plan")) ≡ kinds.ArgumentConflict ∷ []
 unfolding clap_on_literals
 twice = refl
+
+motion_twice : fault (line (codes "--motion") (codes "--motion")) ≡ kinds.ArgumentConflict ∷ []
+unfolding clap_on_literals
+motion_twice = refl
 
 help : fault (codes "aql" ∷ codes "--help" ∷ []) ≡ kinds.DisplayHelp ∷ []
 unfolding clap_on_literals

@@ -12,13 +12,15 @@ use clap::{ArgMatches, Error};
 use std::alloc::Global;
 
 /// What a run was asked for: its threads (1 to 64), the turns that each declaration may take (1 to 50,000,000),
-/// whether plans are printed, and the size of the sample script (1 to 1,000,000) that stands for the input.
+/// whether plans are printed, the size of the sample script (1 to 1,000,000) that stands for the input, and whether
+/// lets and tests are moved out of the loops of plans.
 #[derive(Clone, Copy, Debug, PartialEq, Eq)]
 pub struct Options {
     pub workers: u64,
     pub budget: u64,
     pub plan: bool,
     pub sample: Option<u64>,
+    pub motion: bool,
 }
 
 /// The options that the words of a command line ask for, the first word being the program's name.
@@ -55,11 +57,13 @@ fn asked_for<'a>(matches: &ArgMatches<'a>) -> Options
     let budget = number(matches, "budget", MOST_BUDGET).unwrap_or(10_000_000);
     let plan = flag(matches, "plan");
     let sample = number(matches, "sample", MOST_SAMPLE);
+    let motion = flag(matches, "motion");
     Options {
         workers,
         budget,
         plan,
         sample,
+        motion,
     }
 }
 

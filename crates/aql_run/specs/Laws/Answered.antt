@@ -20,6 +20,7 @@ use Rattle.aql_session.specs.Reading.{reading}
 use Rattle.aql_session.specs.Step.{IsOutcome}
 use Rattle.aql_session.specs.declared.answer.Answer.{Answer}
 use Rattle.aql_run.specs.Answered.{AreAnswered}
+use Rattle.aql_run.specs.Settings.{Settings}
 
 -- ---- lists
 
@@ -82,11 +83,11 @@ macro_outcome r (bare e) globals m = absurd cc
 -- ---- the answers
 
 -- the outcome of an answered declaration, counted from 0
-pub told_at : (ds : List Declaration) (sorts : List Sort) (budget : ℕ) (holds : Option Content) (answers : List Answer) (V : Outcomes) (i : ℕ) (d : Declaration) (o : Option Datum) →
-    AreAnswered ds sorts budget holds answers V → slice_get (positions ds) (prelude_count + i) ≡ Some d → slice_get V (prelude_count + i) ≡ Some o →
+pub told_at : (ds : List Declaration) (sorts : List Sort) (settings : Settings) (holds : Option Content) (answers : List Answer) (V : Outcomes) (i : ℕ) (d : Declaration) (o : Option Datum) →
+    AreAnswered ds sorts settings holds answers V → slice_get (positions ds) (prelude_count + i) ≡ Some d → slice_get V (prelude_count + i) ≡ Some o →
     IsOutcome d (earlier_of (positions ds) (take (prelude_count + i) V)) holds o
     × ForSome holds (λ files. outcome_after (reading files) d (globals_of (earlier_of (positions ds) (take (prelude_count + i) V))) ≡ Some o)
-told_at ds sorts budget holds answers V i d o h there is =
+told_at ds sorts settings holds answers V i d o h there is =
     let lt = inside V (prelude_count + i) o is in
     let many = h.many in
     let (a, e) = there_is answers i (omega (arith, lt, many)) in
@@ -103,9 +104,9 @@ front_of r (d ∷ ds) (o ∷ V) earlier few each =
     ∙ ap (λ l. o ∷ l) (front_of r ds V ((d, o) ∷ earlier) (omega (arith, few)) (λ i e p there is. each (suc i) e p there is))
 
 -- the outcomes over files that are told
-values_over : (ds : List Declaration) (sorts : List Sort) (budget : ℕ) (holds : Option Content) (answers : List Answer) (V : Outcomes) (files : Content) → holds ≡ Some files →
-    AreAnswered ds sorts budget holds answers V → take (length V) (values (reading files) (positions ds)) ≡ V
-values_over ds sorts budget holds answers V files told h =
+values_over : (ds : List Declaration) (sorts : List Sort) (settings : Settings) (holds : Option Content) (answers : List Answer) (V : Outcomes) (files : Content) → holds ≡ Some files →
+    AreAnswered ds sorts settings holds answers V → take (length V) (values (reading files) (positions ds)) ≡ V
+values_over ds sorts settings holds answers V files told h =
     let few = h.few in
     let many = h.many in
     front_of (reading files) (positions ds) V [] (omega (arith, few, many, length_positions ds)) (λ i d o there is. at i d o there is (cases_lt i prelude_count))
@@ -114,7 +115,7 @@ values_over ds sorts budget holds answers V files told h =
     Told i d o = outcome_after (reading files) d (globals_of (earlier_of (positions ds) (take i V))) ≡ Some o
 
     behind : (i : ℕ) (d : Declaration) (o : Option Datum) → slice_get (positions ds) (prelude_count + i) ≡ Some d → slice_get V (prelude_count + i) ≡ Some o → Told (prelude_count + i) d o
-    behind i d o there is = (told_at ds sorts budget holds answers V i d o h there is).1 files told
+    behind i d o there is = (told_at ds sorts settings holds answers V i d o h there is).1 files told
 
     at : (i : ℕ) (d : Declaration) (o : Option Datum) → slice_get (positions ds) i ≡ Some d → slice_get V i ≡ Some o → (i < prelude_count) ⊎ (prelude_count ≤ i) → Told i d o
     at i d o there is (inl lt) =
@@ -125,6 +126,6 @@ values_over ds sorts budget holds answers V files told h =
         subst (λ k. Told k d o) (sym same) (behind (i - prelude_count) d o (ap (slice_get (positions ds)) (sym same) ∙ there) (ap (slice_get V) (sym same) ∙ is))
 
 -- where the files are told, the outcomes are those of the script over them, as far as the answers go
-pub are_values : (ds : List Declaration) (sorts : List Sort) (budget : ℕ) (holds : Option Content) (answers : List Answer) (V : Outcomes) →
-    AreAnswered ds sorts budget holds answers V → ForSome holds (λ files. take (length V) (values (reading files) (positions ds)) ≡ V)
-are_values ds sorts budget holds answers V h = λ files told. values_over ds sorts budget holds answers V files told h
+pub are_values : (ds : List Declaration) (sorts : List Sort) (settings : Settings) (holds : Option Content) (answers : List Answer) (V : Outcomes) →
+    AreAnswered ds sorts settings holds answers V → ForSome holds (λ files. take (length V) (values (reading files) (positions ds)) ≡ V)
+are_values ds sorts settings holds answers V h = λ files told. values_over ds sorts settings holds answers V files told h

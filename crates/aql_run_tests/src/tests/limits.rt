@@ -198,5 +198,9 @@ fn lets(alloc: Global) -> Result<Vec<u8>, Memory> {
 fn nested_lets_run_on_the_ordinary_stack(rt: HostRuntime) -> Result<(), Fail> {
     let alloc = rt.alloc();
     let output = "typ x0 : nat\nval x0 = 0\ntyp it : nat\nval it = 9750\n";
-    assert_script(&rt, alloc, lets(alloc), 0, output)
+    assert_script(&rt, alloc, lets(alloc), 0, output)?;
+    let script = lets(alloc)?;
+    let ran = run_script(&rt, alloc, &["--motion"], &script);
+    drop(script);
+    assert_ran(&rt, ran, 0, output.as_bytes())
 }

@@ -12,7 +12,7 @@ use std::thread::Threads;
 const PAIRS: &[u8] = b"1,ab\n2,\"c,d\"\n1,ab\n";
 
 // The files that the tables read, beside those with arrays.
-fn folder(alloc: Global) -> Result<Folder, Memory> {
+pub(crate) fn folder(alloc: Global) -> Result<Folder, Memory> {
     let all = with_file(alloc, grids(alloc), "a.csv", bytes(alloc, PAIRS));
     let all = with_file(alloc, all, "empty.csv", bytes(alloc, b""));
     let all = with_file(alloc, all, "plus.csv", bytes(alloc, b"1\n+1\n2,3\n"));

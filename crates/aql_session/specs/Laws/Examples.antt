@@ -13,6 +13,8 @@ use Rattle.cdf_header.specs.Format as format
 use Rattle.cdf_header.specs.Format.{num, str, name, list, many, times, dimension, dims, skip, attribute, attributes, id, ids, vars, header}
 use Rattle.cdf_header.specs.declared.fault.CdfFault.TheVariants as faults
 use Rattle.aql_session.specs.Reading.{at_name, fault_in, in_table, reading, value_in}
+use Rattle.aql_session.specs.Step.{choice}
+use Rattle.aql_session.specs.declared.answer.Ran.TheVariants as ran
 
 -- `s.nc`
 file : Datum
@@ -138,3 +140,19 @@ short = refl
 malformed : fault_in (wanted 2 3) (at_name (wanted 2 3) (Some (take 42 records_file))) ≡ Some (faults.Malformed 40)
 unfolding records_file wanted num str name list many times dimension dims skip attribute attributes id ids format.variable vars header indices
 malformed = refl
+
+-- the turns of the plan pass the budget: the start term counts, though the moved term takes fewer
+start-counts : choice 10 20 8 (Some 3) ≡ Some (ran.Start, 8)
+start-counts = refl
+
+-- those of the start term pass it too: the moved term counts
+moved-counts : choice 10 20 30 (Some 8) ≡ Some (ran.Moved, 8)
+moved-counts = refl
+
+-- none counts: the turns of all three pass it
+none-counts : choice 10 20 30 (Some 11) ≡ None
+none-counts = refl
+
+-- without a moved term there are two
+two-terms : choice 10 20 30 None ≡ None
+two-terms = refl

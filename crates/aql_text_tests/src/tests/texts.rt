@@ -1,10 +1,11 @@
 ghost use Rattle.std.specs.Prelude.{◌≡◌, ◌≤◌, length, IfOk};
 
-use aql_print::{print_core, print_held, print_scheme, print_trace, print_value};
+use aql_print::{print_core, print_held, print_moves, print_scheme, print_trace, print_value};
 use aql_types::ty::{Scheme, Ty, row};
 use aql_value::made::{both, make_box, make_boxes, make_list, make_pair_list};
 use aql_value::{ArithOp, Cells, CompareOp, Dims, Items, Memory, Parts, Str, Value, canon};
 use nrca_array::{Flat, Held};
+use nrca_motion::{Move, MoveRule, Moves};
 use nrca_term::{Core, Path, Rule, Step, Terms, Trace};
 use std::alloc::Global;
 use std::process::Abort;
@@ -399,4 +400,24 @@ fn traces(rt: HostRuntime) -> Result<(), Memory> {
     let rules = [Rule::A1, Rule::L1, Rule::K1, Rule::I1];
     assert_text(&rt, trace_printed(alloc, &[]), b"none")?;
     assert_text(&rt, trace_printed(alloc, &rules), b"A1 L1 K1 I1")
+}
+
+fn moves_printed(alloc: Global, rules: &[MoveRule]) -> Result<Vec<u8>, Memory> {
+    let mut moves = Vec::new(alloc);
+    for rule in rules {
+        let path = Path(Vec::new(alloc));
+        moves.push(Move { rule: *rule, path })?;
+    }
+    let mut out = Vec::new(alloc);
+    print_moves(alloc, &Moves(moves), &mut out)?;
+    Ok(out)
+}
+
+#[test]
+fn moves(rt: HostRuntime) -> Result<(), Memory> {
+    let alloc = rt.alloc();
+    let rules = [MoveRule::M4, MoveRule::M3, MoveRule::M2, MoveRule::M1];
+    assert_text(&rt, moves_printed(alloc, &[]), b"none")?;
+    assert_text(&rt, moves_printed(alloc, &rules[..1]), b"M4")?;
+    assert_text(&rt, moves_printed(alloc, &rules), b"M4 M3 M2 M1")
 }

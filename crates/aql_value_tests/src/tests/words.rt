@@ -11,23 +11,24 @@ fn read(rt: &impl AllocGlobal, words: &[&str]) -> Result<Result<Options, WordFau
     Ok(read_words(rt.alloc(), all.as_slice()))
 }
 
-// A row: the words, and then workers, budget, plan and sample.
+// A row: the words, and then workers, budget, plan, sample and motion.
 #[test]
 fn words_are_read(rt: HostRuntime) -> Result<(), AllocError> {
-    let rows: [(&[&str], u64, u64, bool, Option<u64>); 9] = [
-        (&[], 1, 10_000_000, false, None),
-        (&["--workers", "8"], 8, 10_000_000, false, None),
-        (&["--workers=8"], 8, 10_000_000, false, None),
-        (&["--budget", "1"], 1, 1, false, None),
-        (&["--plan"], 1, 10_000_000, true, None),
-        (&["--sample", "1"], 1, 10_000_000, false, Some(1)),
-        (&["--sample=1000000"], 1, 10_000_000, false, Some(1_000_000)),
+    let rows: [(&[&str], u64, u64, bool, Option<u64>, bool); 11] = [
+        (&[], 1, 10_000_000, false, None, false),
+        (&["--workers", "8"], 8, 10_000_000, false, None, false),
+        (&["--workers=8"], 8, 10_000_000, false, None, false),
+        (&["--budget", "1"], 1, 1, false, None, false),
+        (&["--plan"], 1, 10_000_000, true, None, false),
+        (&["--sample", "1"], 1, 10_000_000, false, Some(1), false),
+        (&["--sample=1000000"], 1, 10_000_000, false, Some(1_000_000), false),
         (
             &["--workers", "64", "--budget", "50000000"],
             64,
             50_000_000,
             false,
             None,
+            false,
         ),
         (
             &["--sample", "7", "--plan", "--budget=2", "--workers=3"],
@@ -35,14 +36,25 @@ fn words_are_read(rt: HostRuntime) -> Result<(), AllocError> {
             2,
             true,
             Some(7),
+            false,
+        ),
+        (&["--motion"], 1, 10_000_000, false, None, true),
+        (
+            &["--motion", "--sample=7", "--plan"],
+            1,
+            10_000_000,
+            true,
+            Some(7),
+            true,
         ),
     ];
-    for (words, workers, budget, plan, sample) in rows {
+    for (words, workers, budget, plan, sample, motion) in rows {
         let wanted = Options {
             workers,
             budget,
             plan,
             sample,
+            motion,
         };
         assert_eq!(rt; read(&rt, words)?, Ok(wanted));
     }
@@ -51,7 +63,7 @@ fn words_are_read(rt: HostRuntime) -> Result<(), AllocError> {
 
 #[test]
 fn words_without_a_reading(rt: HostRuntime) -> Result<(), AllocError> {
-    let rows: [&[&str]; 14] = [
+    let rows: [&[&str]; 16] = [
         &["--workers", "0"],
         &["--workers", "65"],
         &["--budget", "0"],
@@ -66,6 +78,8 @@ fn words_without_a_reading(rt: HostRuntime) -> Result<(), AllocError> {
         &["more"],
         &["--faster"],
         &["--plan", "--plan"],
+        &["--motion=true"],
+        &["--motion", "--motion"],
     ];
     for words in rows {
         assert_eq!(rt; read(&rt, words)?, Err(WordFault::Usage));

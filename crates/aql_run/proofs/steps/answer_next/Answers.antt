@@ -50,7 +50,7 @@ returns-in-Err g c = record {
   goes = tt;
   halts = (
     record { same = c.reserve.ensures.items; written = Appends-nil (g.O.Sink.holds c.args.output.now) },
-    stopped c.args.script.now.prepared.now c.args.script.now.options.now.budget (g.F.Files.holds c.args.files.now) (g.F.Files.faults c.args.files.now) (g.F.Files.faults c.step.new.files)
+    stopped c.args.script.now.prepared.now (settings_of c.args.script.now.options.now) (g.F.Files.holds c.args.files.now) (g.F.Files.faults c.args.files.now) (g.F.Files.faults c.step.new.files)
         c.args.answers.now.items (outcomes c.args.session.now) c.args.n c.in-Err.fault c.requires.prepared c.requires.next c.requires.last c.in-Err.ensures.cause,
   );
   untouched = λ none.

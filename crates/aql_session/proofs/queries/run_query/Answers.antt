@@ -1,10 +1,10 @@
 use Rattle.std.proofs.Common.{arith, sym, ◌∙◌}
 use Rattle.std.proofs.lemmas.Result.{IfOk-weaker, IfErr-weaker}
 use Rattle.nrca_term.specs.View.{term_of}
-use Rattle.aql_session.specs.Planned.{Evaluates, PassBoth}
-use Rattle.aql_session.specs.Runs.{IsEvaluatedAt, IsSpentAt, budget_of, declaration_of, declarations_at}
+use Rattle.aql_session.specs.Planned.{Evaluates, PassAll}
+use Rattle.aql_session.specs.Runs.{IsEvaluatedAt, IsSpentAt, budget_of, declaration_of, declarations_at, motion_of}
 use Rattle.aql_session.proofs.Evaluating.{length-decls_of, evaluated-is, spent-is}
-use Rattle.aql_session.proofs.Planning.{unchanged-plan}
+use Rattle.aql_session.proofs.Planning.{unchanged-plan, unmoved-plan}
 use Rattle.aql_session.proofs.queries.run_query.Goals as goal
 
 pub start_of_query-requires-clause-last : goal.start_of_query-requires-clause-last
@@ -15,18 +15,22 @@ returns-in-Ok-clause-evaluated g c =
     let p = c.args.at.now in
     IfOk-weaker c.run_planned.result (Evaluates c.args.globals.now (budget_of p) c.in-Ok.planned) (IsEvaluatedAt p c.args.globals.now)
     (λ q h d e. evaluated-is (declarations_at p) c.args.globals.now p.n c.requires.stands.many c.requires.stands.last d (term_of c.in_ok-start.start)
-    (c.in_ok-start.ensures.start d e) (declaration_of p) e c.requires.query (budget_of p) c.in-Ok.planned q c.in-Ok.ensures.planned h)
+    (c.in_ok-start.ensures.start d e) (declaration_of p) e c.requires.query (motion_of p) (budget_of p) c.in-Ok.planned q c.in-Ok.ensures.planned h)
     c.run_planned.ensures.evaluated
 
 pub returns-in-Ok-clause-spent : goal.returns-in-Ok-clause-spent
 returns-in-Ok-clause-spent g c =
     let p = c.args.at.now in
-    IfErr-weaker c.run_planned.result (PassBoth c.args.globals.now (budget_of p) c.in-Ok.planned) (IsSpentAt p c.args.globals.now)
+    IfErr-weaker c.run_planned.result (PassAll c.args.globals.now (budget_of p) c.in-Ok.planned) (IsSpentAt p c.args.globals.now)
     (λ f h d e. spent-is (declarations_at p) c.args.globals.now p.n c.requires.stands.many c.requires.stands.last d (term_of c.in_ok-start.start)
-    (c.in_ok-start.ensures.start d e) (budget_of p) c.in-Ok.planned c.in-Ok.ensures.planned f h)
+    (c.in_ok-start.ensures.start d e) (motion_of p) (budget_of p) c.in-Ok.planned c.in-Ok.ensures.planned f h)
     c.run_planned.ensures.spent
 
 pub run_planned-requires-clause-unchanged : goal.run_planned-requires-clause-unchanged
 run_planned-requires-clause-unchanged g c κs within = λ e.
     unchanged-plan c.args.globals.now (term_of c.in_ok-start.start) (term_of c.in-Ok.planned.plan) c.in-Ok.planned.trace c.in-Ok.ensures.planned.plan e
     ∙ sym c.in-Ok.ensures.planned.start
+
+pub run_planned-requires-clause-unmoved : goal.run_planned-requires-clause-unmoved
+run_planned-requires-clause-unmoved g c κs within = λ e.
+    unmoved-plan (motion_of c.args.at.now) c.args.globals.now (term_of c.in-Ok.planned.plan) c.in-Ok.planned.moved c.in-Ok.ensures.planned.moved e

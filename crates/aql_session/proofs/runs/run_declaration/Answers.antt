@@ -3,7 +3,7 @@ use Rattle.aql_outside.specs.Laws.Causes.{none_blamed}
 use Rattle.aql_syntax.specs.Tree.{val, bare}
 use Rattle.aql_syntax.specs.View.{decl_of, tree_of}
 use Rattle.aql_session.specs.Numbered.{so_far}
-use Rattle.aql_session.specs.Runs.{budget_of, declaration_of}
+use Rattle.aql_session.specs.Runs.{budget_of, declaration_of, motion_of}
 use Rattle.aql_session.proofs.Running.{plain-device}
 use Rattle.aql_session.proofs.runs.run_declaration.Goals as goal
 
@@ -30,9 +30,9 @@ returns-in-Bare-clause-cause g c = c.run_plain-in-Bare.ensures.cause (g.F.Files.
 pub returns-in-Val-clause-blamed : goal.returns-in-Val-clause-blamed
 returns-in-Val-clause-blamed g c =
     none_blamed _ _ _ (plain-device (declaration_of c.args.at.now) (decl_of c.declaration.result.now) (so_far c.args.at.now.decls.now c.args.globals.now)
-    (budget_of c.args.at.now) c.run_plain.result c.declaration.ensures c.run_plain.ensures.cause)
+    (motion_of c.args.at.now) (budget_of c.args.at.now) c.run_plain.result c.declaration.ensures c.run_plain.ensures.cause)
 
 pub returns-in-Bare-clause-blamed : goal.returns-in-Bare-clause-blamed
 returns-in-Bare-clause-blamed g c =
     none_blamed _ _ _ (plain-device (declaration_of c.args.at.now) (decl_of c.declaration.result.now) (so_far c.args.at.now.decls.now c.args.globals.now)
-    (budget_of c.args.at.now) c.run_plain-in-Bare.result c.declaration.ensures c.run_plain-in-Bare.ensures.cause)
+    (motion_of c.args.at.now) (budget_of c.args.at.now) c.run_plain-in-Bare.result c.declaration.ensures c.run_plain-in-Bare.ensures.cause)

@@ -3,7 +3,7 @@ use Rattle.aql_syntax.specs.Tree.{read}
 use Rattle.aql_syntax.specs.View.{reader_of}
 use Rattle.nrca_loops.specs.Scope.{held_value}
 use Rattle.aql_session.specs.Numbered.{so_far}
-use Rattle.aql_session.specs.Runs.{IsRun, budget_of, declaration_of, declarations_at, sorts_at}
+use Rattle.aql_session.specs.Runs.{IsRun, budget_of, motion_of, declaration_of, declarations_at, sorts_at}
 use Rattle.aql_session.specs.Step.{IsCause, ReadsNoFile}
 use Rattle.aql_session.specs.declared.answer.Ran.TheVariants as ran
 use Rattle.aql_session.proofs.Running.{same-position, reader-within, argument-typed, readval-run, readval-fits, readval-cause, readval-unread}
@@ -29,7 +29,7 @@ overflow_add-result g c =
     let p = c.args.at.now in
     let h = c.in-Ok.ensures.evaluated (read k.0 (reader_of c.args.reader.now) k.1) k.2 in
     let l : c.in-Ok.field-0.turns + c.in-Ok-read_argument.field-0.turns < 2 ^ 128 =
-    readval-fits k.0 (reader_of c.args.reader.now) k.1 (so_far p.decls.now c.args.globals.now) (budget_of p) c.in-Ok.field-0 h
+    readval-fits k.0 (reader_of c.args.reader.now) k.1 (so_far p.decls.now c.args.globals.now) (motion_of p) (budget_of p) c.in-Ok.field-0 h
     (g.F.Files.holds c.args.files.now) c.in-Ok-read_argument.field-0 c.requires.budget c.in-Ok-read_argument.ensures.read in
     omega (arith, l)
 
@@ -41,9 +41,9 @@ returns-in-Ok-read_argument-clause-ran g c = λ d e.
     let earlier = so_far p.decls.now c.args.globals.now in
     let h = c.in-Ok.ensures.evaluated (read k.0 r k.1) k.2 in
     let z = same-position (declaration_of p) (read k.0 r k.1) d k.2 e in
-    let run = readval-run k.0 r k.1 earlier (budget_of p) c.in-Ok.field-0 h (g.F.Files.holds c.args.files.now) c.in-Ok-read_argument.field-0 c.in-Ok-read_argument.ensures.read in
-    subst (λ x. IsRun x earlier (budget_of p) (g.F.Files.holds c.args.files.now)
-    (record { start = c.in-Ok.field-0.start; plan = c.in-Ok.field-0.plan; trace = c.in-Ok.field-0.trace; by = ran.Read; turns = c.in-Ok.field-0.turns + c.in-Ok-read_argument.field-0.turns; value = c.in-Ok-read_argument.field-0.value })) z run
+    let run = readval-run k.0 r k.1 earlier (motion_of p) (budget_of p) c.in-Ok.field-0 h (g.F.Files.holds c.args.files.now) c.in-Ok-read_argument.field-0 c.in-Ok-read_argument.ensures.read in
+    subst (λ x. IsRun x earlier (motion_of p) (budget_of p) (g.F.Files.holds c.args.files.now)
+    (record { start = c.in-Ok.field-0.start; plan = c.in-Ok.field-0.plan; trace = c.in-Ok.field-0.trace; moved = c.in-Ok.field-0.moved; by = ran.Read; turns = c.in-Ok.field-0.turns + c.in-Ok-read_argument.field-0.turns; value = c.in-Ok-read_argument.field-0.value })) z run
 
 pub returns-in-Ok-read_argument-clause-untouched : goal.returns-in-Ok-read_argument-clause-untouched
 returns-in-Ok-read_argument-clause-untouched g c = λ d e u.
@@ -54,7 +54,7 @@ returns-in-Ok-read_argument-clause-untouched g c = λ d e u.
     let h = c.in-Ok.ensures.evaluated (read k.0 r k.1) k.2 in
     let z = same-position (declaration_of p) d (read k.0 r k.1) e k.2 in
     c.in-Ok-read_argument.ensures.untouched
-    (readval-unread k.0 r k.1 earlier (budget_of p) c.in-Ok.field-0 h (subst (λ x. ReadsNoFile x earlier (budget_of p)) z u))
+    (readval-unread k.0 r k.1 earlier (motion_of p) (budget_of p) c.in-Ok.field-0 h (subst (λ x. ReadsNoFile x earlier (budget_of p)) z u))
 
 pub returns-in-Err-read_argument-clause-cause : goal.returns-in-Err-read_argument-clause-cause
 returns-in-Err-read_argument-clause-cause g c = λ d e.
@@ -64,8 +64,8 @@ returns-in-Err-read_argument-clause-cause g c = λ d e.
     let earlier = so_far p.decls.now c.args.globals.now in
     let h = c.in-Ok.ensures.evaluated (read k.0 r k.1) k.2 in
     let z = same-position (declaration_of p) (read k.0 r k.1) d k.2 e in
-    subst (λ x. IsCause x earlier (budget_of p) (g.F.Files.holds c.args.files.now) (g.F.Files.faults c.args.files.now) (g.F.Files.faults c.read_argument.new.files) c.in-Err-read_argument.fault) z
-    (readval-cause k.0 r k.1 earlier (budget_of p) c.in-Ok.field-0 h (g.F.Files.holds c.args.files.now) (g.F.Files.faults c.args.files.now) (g.F.Files.faults c.read_argument.new.files)
+    subst (λ x. IsCause x earlier (motion_of p) (budget_of p) (g.F.Files.holds c.args.files.now) (g.F.Files.faults c.args.files.now) (g.F.Files.faults c.read_argument.new.files) c.in-Err-read_argument.fault) z
+    (readval-cause k.0 r k.1 earlier (motion_of p) (budget_of p) c.in-Ok.field-0 h (g.F.Files.holds c.args.files.now) (g.F.Files.faults c.args.files.now) (g.F.Files.faults c.read_argument.new.files)
     c.in-Err-read_argument.fault c.in-Err-read_argument.ensures.cause)
 
 pub returns-in-Err-read_argument-clause-untouched : goal.returns-in-Err-read_argument-clause-untouched
@@ -77,4 +77,4 @@ returns-in-Err-read_argument-clause-untouched g c = λ d e u.
     let h = c.in-Ok.ensures.evaluated (read k.0 r k.1) k.2 in
     let z = same-position (declaration_of p) d (read k.0 r k.1) e k.2 in
     c.in-Err-read_argument.ensures.untouched
-    (readval-unread k.0 r k.1 earlier (budget_of p) c.in-Ok.field-0 h (subst (λ x. ReadsNoFile x earlier (budget_of p)) z u))
+    (readval-unread k.0 r k.1 earlier (motion_of p) (budget_of p) c.in-Ok.field-0 h (subst (λ x. ReadsNoFile x earlier (budget_of p)) z u))

@@ -1,0 +1,245 @@
+// Code motion: the two lines, the turns of the term that counts, and which term that is, for one worker and for several.
+use crate::tests::running::{SURE, assert_ran, run_over, run_script};
+use crate::tests::tables::folder;
+use aql_outside::FreeGate;
+use aql_value::Memory;
+use aql_value::made::both;
+use std::alloc::Global;
+use std::process::Abort;
+use std::test::Fail;
+use std::thread::Threads;
+
+// The words behind the program's name, a script, the status, and what is written.
+#[derive(Clone, Copy)]
+struct Row<'a>(&'a [&'a str], &'a str, u8, &'a str);
+
+const BOTH: &[&str] = &["--plan", "--motion"];
+
+// A test of the outer member in the inner loop.
+const OUTER: &str = "{x | \\x <- gen!10000, \\y <- gen!10000, x < 5};";
+
+const OUTER_LINES: &str =
+    "typ it : {nat}\nval it = {0, 1, 2, 3, 4}\nplan it = U{U{(if (x0 < 5) then {x0} else {}) | x1 in gen(10000)} | x0 in gen(10000)}\nrules it = L1 L1\nturns it = 120000\nmoved it = U{(if (x0 < 5) then U{{x0} | x1 in gen(10000)} else {}) | x0 in gen(10000)}\nmoves it = M1\n";
+
+// A test that has no value, in a loop without members.
+const EMPTY: &str = "val \\n = 0; {1 | \\y <- gen!n, 1/n = 1};";
+
+const EMPTY_LINES: &str =
+    "typ n : nat\nval n = 0\nplan n = 0\nrules n = none\nturns n = 0\nmoved n = 0\nmoves n = none\ntyp it : {nat}\nval it = {}\nplan it = U{(if ((1 / @1) = 1) then {1} else {}) | x0 in gen(@1)}\nrules it = L1\nturns it = 0\nmoved it = U{(if ((1 / @1) = 1) then {1} else {}) | x0 in gen(@1)}\nmoves it = none\n";
+
+// Its plan takes 420 turns, as it is written it takes 102, and what is moved in its plan takes 20.
+const THREE: &str =
+    "val \\n = \"a\"; {(x,z) | \\x <- {y%2 | \\y <- gen!10}, \\z <- gen!20, n = \"b\"};";
+
+const THREE_LINES: &str = "typ n : string\nval n = \"a\"\ntyp it : {nat * nat}\nval it = {}\n";
+
+const ROWS: [Row<'static>; 14] = [
+    Row(BOTH, OUTER, 0, OUTER_LINES),
+    Row(
+        &["--plan", "--motion", "--budget", "120000"],
+        OUTER,
+        0,
+        OUTER_LINES,
+    ),
+    Row(
+        &["--plan", "--motion", "--budget", "119999"],
+        OUTER,
+        12,
+        "fault budget in declaration 1\n",
+    ),
+    Row(&["--plan"], OUTER, 12, "fault budget in declaration 1\n"),
+    Row(
+        &["--motion"],
+        OUTER,
+        0,
+        "typ it : {nat}\nval it = {0, 1, 2, 3, 4}\n",
+    ),
+    Row(BOTH, EMPTY, 0, EMPTY_LINES),
+    Row(&["--motion", "--budget", "20"], THREE, 0, THREE_LINES),
+    Row(
+        &["--motion", "--budget", "19"],
+        THREE,
+        12,
+        "typ n : string\nval n = \"a\"\nfault budget in declaration 2\n",
+    ),
+    Row(
+        &["--budget", "101"],
+        THREE,
+        12,
+        "typ n : string\nval n = \"a\"\nfault budget in declaration 2\n",
+    ),
+    // What is moved takes 100 turns here, and the plan none, which counts.
+    Row(
+        &["--motion", "--budget", "1"],
+        "val \\n = 0; {x | \\x <- gen!n, isempty!(gen!100)};",
+        0,
+        "typ n : nat\nval n = 0\ntyp it : {nat}\nval it = {}\n",
+    ),
+    // A macro has none of the lines.
+    Row(
+        BOTH,
+        "macro \\f = fn \\x => x;",
+        0,
+        "typ f : 'a -> 'a\nmac f\n",
+    ),
+    Row(&["--motion", "--motion"], "1;", 2, ""),
+    Row(&["--motion=true"], "1;", 2, ""),
+    Row(&["--motion", "1"], "1;", 2, ""),
+];
+
+#[test]
+fn what_is_moved_is_shown_and_may_count(rt: HostRuntime) -> Result<(), Fail> {
+    for row in &ROWS {
+        let ran = run_script(&rt, rt.alloc(), row.0, row.1.as_bytes());
+        assert_ran(&rt, ran, row.2, row.3.as_bytes())?;
+    }
+    for workers in ["2", "8"] {
+        let words = ["--plan", "--motion", "--workers", workers];
+        let ran = run_script(&rt, rt.alloc(), &words, OUTER.as_bytes());
+        assert_ran(&rt, ran, 0, OUTER_LINES.as_bytes())?;
+        let ran = run_script(&rt, rt.alloc(), &words, EMPTY.as_bytes());
+        assert_ran(&rt, ran, 0, EMPTY_LINES.as_bytes())?;
+    }
+    Ok(())
+}
+
+// A query behind a first declaration, and the lines of the query.
+#[derive(Clone, Copy)]
+struct Query<'a>(&'a str, &'a str);
+
+const SEVEN: &str = "val \\n = 7; ";
+
+const SEVEN_LINES: &str =
+    "typ n : nat\nval n = 7\nplan n = 7\nrules n = none\nturns n = 0\nmoved n = 7\nmoves n = none\n";
+
+const OF_SEVEN: [Query<'static>; 4] = [
+    Query(
+        "summap(fn \\x => let val \\y = n%4 in y+x*y end)!(gen!3);",
+        "typ it : nat\nval it = 18\nplan it = S{(let x1 = (@1 % 4) in (x1 + (x0 * x1))) | x0 in gen(3)}\nrules it = L1 L2\nturns it = 6\nmoved it = (let x0 = (@1 % 4) in S{(x0 + (x1 * x0)) | x1 in gen(3)})\nmoves it = M2\n",
+    ),
+    Query(
+        "[[let val \\y = n%4 in y*i+y end | \\i<3]];",
+        "typ it : [[nat]]_1\nval it = [[3; 3, 6, 9]]\nplan it = [[(let x1 = (@1 % 4) in ((x1 * x0) + x1)) | x0<3]]\nrules it = L2\nturns it = 3\nmoved it = (let x0 = (@1 % 4) in [[((x0 * x1) + x0) | x1<3]])\nmoves it = M3\n",
+    ),
+    Query(
+        "(let val \\y = n%4 in y*y end)+n;",
+        "typ it : nat\nval it = 16\nplan it = ((let x0 = (@1 % 4) in (x0 * x0)) + @1)\nrules it = L2\nturns it = 0\nmoved it = (let x0 = (@1 % 4) in ((x0 * x0) + @1))\nmoves it = M4\n",
+    ),
+    // A let in a part of `default` stays.
+    Query(
+        "(let val \\y = 1/(n-n) in y*y end) default 3;",
+        "typ it : nat\nval it = 3\nplan it = ((let x0 = (1 / (@1 - @1)) in (x0 * x0)) default 3)\nrules it = L2\nturns it = 0\nmoved it = ((let x0 = (1 / (@1 - @1)) in (x0 * x0)) default 3)\nmoves it = none\n",
+    ),
+];
+
+const LETTER: &str = "val \\n = \"a\"; ";
+
+const LETTER_LINES: &str =
+    "typ n : string\nval n = \"a\"\nplan n = \"a\"\nrules n = none\nturns n = 0\nmoved n = \"a\"\nmoves n = none\n";
+
+const OF_LETTER: [Query<'static>; 2] = [
+    Query(
+        "summap(fn \\x => if n = \"b\" then x else 0)!(gen!4);",
+        "typ it : nat\nval it = 0\nplan it = S{(if (@1 = \"b\") then x0 else 0) | x0 in gen(4)}\nrules it = L1\nturns it = 8\nmoved it = (if (@1 = \"b\") then S{x0 | x0 in gen(4)} else 0)\nmoves it = M1\n",
+    ),
+    // Where the test fails a sum must be 0 for the test to go out.
+    Query(
+        "summap(fn \\x => if n = \"b\" then x else 1)!(gen!4);",
+        "typ it : nat\nval it = 4\nplan it = S{(if (@1 = \"b\") then x0 else 1) | x0 in gen(4)}\nrules it = L1\nturns it = 8\nmoved it = S{(if (@1 = \"b\") then x0 else 1) | x0 in gen(4)}\nmoves it = none\n",
+    ),
+];
+
+// One text behind another.
+fn joined(alloc: Global, first: &str, second: &str) -> Result<Vec<u8>, Memory> {
+    let mut text = first.as_bytes().to_vec(alloc)?;
+    text.extend_from_slice(second.as_bytes())?;
+    Ok(text)
+}
+
+// Fails where a run of the query behind this declaration does not write these lines and then those of the query.
+fn assert_moved<R: Threads + Sync + Abort>(
+    rt: &R,
+    alloc: Global,
+    first: &str,
+    lines: &str,
+    query: &Query<'_>,
+) -> Result<(), Fail> {
+    let (script, output) = both(joined(alloc, first, query.0), joined(alloc, lines, query.1))?;
+    let ran = run_script(rt, alloc, BOTH, &script);
+    drop(script);
+    let found = assert_ran(rt, ran, 0, &output);
+    drop(output);
+    found
+}
+
+#[test]
+fn each_move_goes_where_it_may(rt: HostRuntime) -> Result<(), Fail> {
+    for query in &OF_SEVEN {
+        assert_moved(&rt, rt.alloc(), SEVEN, SEVEN_LINES, query)?;
+    }
+    for query in &OF_LETTER {
+        assert_moved(&rt, rt.alloc(), LETTER, LETTER_LINES, query)?;
+    }
+    Ok(())
+}
+
+// A readval of 18 bytes, whose argument takes 220 turns, and what is moved in it 40.
+const READ: &str =
+    "readval \\T using CSVNS at get!({\"a.csv\" | \\x <- gen!10, \\y <- gen!10, x < 1});";
+
+const READS: [Row<'static>; 3] = [
+    Row(
+        BOTH,
+        READ,
+        0,
+        "typ T : {nat * string}\nval T = {(1, \"ab\"), (2, \"c,d\")}\nplan T = get(U{U{(if (x0 < 1) then {\"a.csv\"} else {}) | x1 in gen(10)} | x0 in gen(10)})\nrules T = L1 L1\nturns T = 238\nmoved T = get(U{(if (x0 < 1) then U{{\"a.csv\"} | x1 in gen(10)} else {}) | x0 in gen(10)})\nmoves T = M1\n",
+    ),
+    Row(
+        &["--plan", "--motion", "--budget", "40"],
+        READ,
+        0,
+        "typ T : {nat * string}\nval T = {(1, \"ab\"), (2, \"c,d\")}\nplan T = get(U{U{(if (x0 < 1) then {\"a.csv\"} else {}) | x1 in gen(10)} | x0 in gen(10)})\nrules T = L1 L1\nturns T = 58\nmoved T = get(U{(if (x0 < 1) then U{{\"a.csv\"} | x1 in gen(10)} else {}) | x0 in gen(10)})\nmoves T = M1\n",
+    ),
+    Row(
+        &["--plan", "--budget", "219"],
+        READ,
+        12,
+        "fault budget in declaration 1\n",
+    ),
+];
+
+#[test]
+fn the_argument_of_a_readval_is_moved_in(rt: HostRuntime) -> Result<(), Fail> {
+    for row in &READS {
+        let ran = run_over(
+            &rt,
+            rt.alloc(),
+            row.0,
+            row.1.as_bytes(),
+            folder(rt.alloc()),
+            &SURE,
+            &FreeGate,
+        );
+        assert_ran(&rt, ran, row.2, row.3.as_bytes())?;
+    }
+    Ok(())
+}
+
+// A set of 200 lets, each of which goes out of all unions around it.
+fn many_lets(alloc: Global) -> Result<Vec<u8>, Memory> {
+    let mut text = joined(alloc, SEVEN, "{0")?;
+    for _ in 0..200 {
+        text.extend_from_slice(b", let val \\x = n%4 in x*x end")?;
+    }
+    text.extend_from_slice(b"};")?;
+    Ok(text)
+}
+
+#[test]
+fn many_lets_are_moved(rt: HostRuntime) -> Result<(), Fail> {
+    let script = many_lets(rt.alloc())?;
+    let ran = run_script(&rt, rt.alloc(), &["--motion"], &script);
+    drop(script);
+    let output = "typ n : nat\nval n = 7\ntyp it : {nat}\nval it = {0, 9}\n";
+    assert_ran(&rt, ran, 0, output.as_bytes())
+}
