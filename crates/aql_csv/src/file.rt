@@ -10,9 +10,10 @@ ghost use Rattle.aql_csv.specs.Typed.{IsOfReader};
 
 use crate::fault::CsvFault;
 use crate::rows::read_members;
+use crate::sets::set_of_values;
 use aql_outside::Files;
 use aql_syntax::ast::CsvReader;
-use aql_value::{Str, Value, canon};
+use aql_value::{Str, Value};
 use std::alloc::Global;
 use std::str;
 
@@ -130,5 +131,5 @@ fn set_in(alloc: Global, bytes: &[u8], reader: &CsvReader) -> Result<Value, CsvF
     ensures typed { IfOk result (λ value. IsOfReader reader.now (datum value)) }
 {
     let values = read_members(alloc, bytes, reader.header, &reader.kinds.items)?;
-    Ok(Value::Members(canon(alloc, values)?))
+    Ok(Value::Members(set_of_values(alloc, values)?))
 }

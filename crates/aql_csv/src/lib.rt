@@ -6,13 +6,14 @@
 //! under its defaults but without a header record and with records of any length.
 //!
 //! Read `specs/Records`, `specs/Number`, `specs/Rows` and `specs/File`; then `fault`, `file`,
-//! `rows` and `number`.
+//! `rows`, `number` and `sets`.
 #![tactic(auto)]
 
 mod fault;
 mod file;
 mod number;
 mod rows;
+mod sets;
 
 pub use fault::CsvFault;
 pub use file::{Csv, read_csv};

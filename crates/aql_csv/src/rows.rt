@@ -10,8 +10,9 @@ ghost use Rattle.aql_csv.specs.declared.fault.CsvFault.TheVariants as faults;
 
 use crate::fault::CsvFault;
 use crate::number::number;
+use crate::sets::set_of_values;
 use aql_syntax::ast::Kind;
-use aql_value::{Items, Parts, Str, Value, canon};
+use aql_value::{Items, Parts, Str, Value};
 use csv::{ByteRecord, Error, ErrorKind, ReaderBuilder};
 use std::alloc::Global;
 
@@ -77,7 +78,7 @@ fn kept_small(alloc: Global, values: Vec<Value>, most: &mut usize) -> Result<Vec
     if values.len() < *most {
         return Ok(values);
     }
-    let members = canon(alloc, Items { items: values })?;
+    let members = set_of_values(alloc, Items { items: values })?;
     let kept = members.into_items().items;
     *most = kept.len().saturating_mul(2).max(FEW);
     Ok(kept)

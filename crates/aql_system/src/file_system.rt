@@ -67,7 +67,7 @@ impl<R: rt::Files> Files for FileSystem<'_, R> {
         self.open = None;
         match fs::metadata(self.rt, name) {
             Ok(found) if found.is_file() => Ok(Some(found.len())),
-            Err(error) if error.kind() == ErrorKind::NotFound => Ok(None),
+            Err(error) if names_no_file(error.kind()) => Ok(None),
             _ => {
                 self.faults = self.faults.saturating_add(1);
                 Err(Failed)
@@ -84,6 +84,15 @@ impl<R: rt::Files> Files for FileSystem<'_, R> {
             }
         }
     }
+}
+
+// Whether the system looked and no file has the name: there is none, or a part of the name that should be
+// a folder is none, or no file can have a name so long.
+fn names_no_file(kind: ErrorKind) -> bool {
+    matches!(
+        kind,
+        ErrorKind::NotFound | ErrorKind::NotADirectory | ErrorKind::InvalidFilename
+    )
 }
 
 /// Reads until the piece is full or a read gives nothing, and answers how many bytes were read. An

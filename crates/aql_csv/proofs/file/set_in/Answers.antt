@@ -4,5 +4,5 @@ use Rattle.aql_csv.proofs.file.set_in.Goals as goal
 
 pub returns-clause-typed : goal.returns-clause-typed
 returns-clause-typed c =
-    members_typed c.args.reader.now.header c.args.reader.now.kinds.items.items c.args.bytes.now c.in_ok-canon.field-0
-    (rw c.deref.ensures.value at c.in_ok-values.ensures.meant ∙ ap Ok (sym c.in_ok-canon.ensures))
+    members_typed c.args.reader.now.header c.args.reader.now.kinds.items.items c.args.bytes.now c.in_ok-set_of_values.field-0
+    (rw c.deref.ensures.value at c.in_ok-values.ensures.meant ∙ ap Ok (sym c.in_ok-set_of_values.ensures.same))
