@@ -21,7 +21,14 @@ fn words_are_read(rt: HostRuntime) -> Result<(), AllocError> {
         (&["--budget", "1"], 1, 1, false, None, false),
         (&["--plan"], 1, 10_000_000, true, None, false),
         (&["--sample", "1"], 1, 10_000_000, false, Some(1), false),
-        (&["--sample=1000000"], 1, 10_000_000, false, Some(1_000_000), false),
+        (
+            &["--sample=1000000"],
+            1,
+            10_000_000,
+            false,
+            Some(1_000_000),
+            false,
+        ),
         (
             &["--workers", "64", "--budget", "50000000"],
             64,
