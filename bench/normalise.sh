@@ -3,9 +3,9 @@
 # variable before. Prints for each chain its lets, the rewritings, the processor seconds and the peak memory. Makes a small
 # repository of its own in a temporary folder; run it from anywhere.
 #
-# - `once N`: N lets whose variable is used once, and so put in. Its time grows with the square of N.
-# - `deep N`: 50 lets of a sum of the variable before and N numbers: after they are put in, the sums of numbers are computed at
-#   depths of up to 50 N.
+# - `once N`: N lets whose variable is used once. What each binds becomes a number, which is put in. The time grows with the
+#   square of N, since each is put in by a walk over the lets that are left.
+# - `deep N`: 50 lets of a sum of the variable before and N numbers.
 set -eu
 . "$(dirname "$0")/crates.sh"
 begin nrca_normal nrca_ranges nrca_term aql_types aql_value anyhow
@@ -290,5 +290,7 @@ if [ $# -gt 0 ]; then
 else
     measure deep 195
     measure once 1000
+    measure once 2000
     measure once 3000
+    measure once 9990
 fi

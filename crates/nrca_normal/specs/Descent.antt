@@ -66,10 +66,6 @@ pub record HasRewritten (old : Descent) (t : Term) (new : Descent) (u : Term) (c
   pub recorded : new.steps.items ≡ old.steps.items ++ map (behind old.way.items) steps
   pub some : AreSome changed steps
 
--- the node was rewritten until no rule may be applied there
-abbrev pub HasSettledNode : Descent → Term → Descent → Term → Bool → Type 0
-HasSettledNode old t new u changed = HasRewritten old t new u changed × IsQuietThere old u
-
 -- the term was rewritten until no rule may be applied at any of its places
 abbrev pub HasSettled : Descent → Term → Descent → Term → Bool → Type 0
 HasSettled old t new u changed = HasRewritten old t new u changed × QuietEverywhere (known_shapes old.ctx) (context_of old.ctx) u
@@ -83,15 +79,22 @@ HasSettledPart old t i new u changed =
 abbrev pub HasSettledParts : Descent → Term → ℕ → Descent → Term → Bool → Type 0
 HasSettledParts old t n new u changed = HasRewritten old t new u changed × IsQuietThere old u × QuietParts (known_shapes old.ctx) (context_of old.ctx) u n
 
+-- The node was rewritten until no rule may be applied there. The answer is whether it was, and how many of its first parts are settled.
+abbrev pub HasSettledNode : Descent → Term → Descent → Term → Bool × ℕ → Type 0
+HasSettledNode old t new u r = HasSettledParts old t r.1 new u r.0
+
+-- so many of the first parts were settled, whether or not something was rewritten
+abbrev pub HasSettledFirst : Descent → Term → Descent → Term → ℕ → Type 0
+HasSettledFirst old t new u n = (changed : Bool) × HasRewritten old t new u changed × QuietParts (known_shapes old.ctx) (context_of old.ctx) u n
+
 -- where nothing was rewritten below the node, no rule may be applied there
 abbrev pub IsQuietIfUnchanged : Bool → Descent → Term → Type 0
 IsQuietIfUnchanged below d t = below ≡ false → IsQuietThere d t
 
--- Behind part i: the node was rewritten, which is so only where something below it was, and the first part comes next; or it was not, and
--- the next one does. No rule may be applied at the node.
+-- Behind part i: the node was rewritten, which is so only where something below it was, and the first part that is not settled comes
+-- next; or it was not, and the next one does. No rule may be applied at the node.
 abbrev pub GoesOn : ℕ → Bool → Descent → Term → Descent → Term → ℕ → Type 0
-GoesOn i below old t new u next =
-    (((below ≡ true) × (next ≡ 0) × HasRewritten old t new u true) ⊎ ((next ≡ i + 1) × HasRewritten old t new u false)) × IsQuietThere old u
+GoesOn i below old t new u next = ((below ≡ true) × HasSettledParts old t next new u true) ⊎ ((next ≡ i + 1) × HasRewritten old t new u false × IsQuietThere old u)
 
 -- the descent has gone down to part i of the term; the mark gives back the context
 pub record HasEntered (old : Descent) (t : Term) (i : ℕ) (new : Descent) (m : Mark) : Type 0 where

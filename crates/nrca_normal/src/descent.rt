@@ -9,7 +9,7 @@ ghost use Rattle.nrca_laws.specs.Fitting.{IsSmallPart};
 ghost use Rattle.nrca_ranges.specs.Context.{IsSmallTerm};
 ghost use Rattle.nrca_ranges.specs.Shapes.{known_shapes};
 ghost use Rattle.nrca_normal.specs.Conditions.{IsApplicable, IsMade};
-ghost use Rattle.nrca_normal.specs.Descent.{IsTypedThere, MayFireThere, HasRewritten, HasSettled, HasSettledNode, HasSettledPart, HasEntered, HasLeft, GoesOn, IsQuietIfUnchanged, step_at};
+ghost use Rattle.nrca_normal.specs.Descent.{IsTypedThere, MayFireThere, HasRewritten, HasSettled, HasSettledNode, HasSettledFirst, HasSettledPart, HasEntered, HasLeft, GoesOn, IsQuietIfUnchanged, step_at};
 
 use crate::firing::{Firing, apply, rule_at};
 use aql_value::Memory;
@@ -34,8 +34,9 @@ pub fn settle(alloc: Global, term: &mut Core, run: &mut Descent) -> Result<bool,
     ensures settled { IfOk result
         (HasSettled run.old (term_of term.old) run.new (term_of term.new)) }
 {
-    let mut changed = settle_node(alloc, term, run)?;
-    let mut i = 0;
+    let (first, settled) = settle_node(alloc, term, run)?;
+    let mut changed = first;
+    let mut i = settled;
     while i < term.parts() {
         let below = settle_part(alloc, term, i, run)?;
         i = part_after(alloc, term, i, below, run)?;
@@ -63,8 +64,9 @@ fn settle_part(alloc: Global, term: &mut Core, i: u64, run: &mut Descent) -> Res
     done
 }
 
-// The part that comes next behind part i, in which something was rewritten or not: the first one where now a rule may be
-// applied at the node, which changes all its parts.
+// The part that comes next behind part i, in which something was rewritten or not: the first one that is not settled where now
+// a rule may be applied at the node, which changes all its parts.
+#[cycle(settle)]
 #[inline(never)]
 fn part_after(
     alloc: Global,
@@ -83,27 +85,57 @@ fn part_after(
     if !below {
         return Ok(i + 1);
     }
-    let again = settle_node(alloc, term, run)?;
-    if again { Ok(0) } else { Ok(i + 1) }
+    let (again, settled) = settle_node(alloc, term, run)?;
+    if again { Ok(settled) } else { Ok(i + 1) }
 }
 
-// Rewrites the node until no rule may be applied there. True where it was rewritten.
+// Rewrites the node until no rule may be applied there. Answers whether it was rewritten, and the number of its first parts
+// that are settled. Where a rewriting puts a let there, what it binds is settled before the let is tried: in a chain of lets a
+// term that is put into the next one would else grow, and be walked and copied, at each of them.
+#[cycle(settle)]
 #[inline(never)]
-fn settle_node(alloc: Global, term: &mut Core, run: &mut Descent) -> Result<bool, Memory>
+fn settle_node(alloc: Global, term: &mut Core, run: &mut Descent) -> Result<(bool, u64), Memory>
     requires typed { IsTypedThere run.old (term_of term.old) }
     ensures globals { known_shapes run.new.ctx ≡ known_shapes run.old.ctx }
     ensures settled { IfOk result
         (HasSettledNode run.old (term_of term.old) run.new (term_of term.new)) }
 {
     let mut changed = false;
+    let mut settled = 0;
     loop {
         match rule_at(alloc, term, &mut run.ctx)? {
             Some(firing) => {
                 rewrite(alloc, term, firing, run)?;
+                settled = settle_bound(alloc, term, run)?;
                 changed = true;
             }
-            None => return Ok(changed),
+            None => return Ok((changed, settled)),
         }
+    }
+}
+
+// Settles what a let binds. Answers the number of first parts that are settled: one of a let, none of another node.
+#[cycle(settle)]
+fn settle_bound(alloc: Global, term: &mut Core, run: &mut Descent) -> Result<u64, Memory>
+    requires typed { IsTypedThere run.old (term_of term.old) }
+    ensures globals { known_shapes run.new.ctx ≡ known_shapes run.old.ctx }
+    ensures settled { IfOk result
+        (HasSettledFirst run.old (term_of term.old) run.new (term_of term.new)) }
+{
+    if !is_let(term) {
+        return Ok(0);
+    }
+    settle_part(alloc, term, 0, run)?;
+    Ok(1)
+}
+
+// Whether the node is a let. It has parts then.
+fn is_let(term: &Core) -> bool
+    ensures { result ≡ true → 0 < count (parts_of (term_of term.now)) }
+{
+    match term {
+        Core::Let(_, _) => true,
+        _ => false,
     }
 }
 

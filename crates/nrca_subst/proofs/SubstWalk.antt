@@ -14,7 +14,7 @@ subst_parts-first at w none = refl
 subst_parts-first at w (part k t ps) = ap (part k (subst_part at w k t)) (subst_parts-first at w ps)
 
 -- a node that is no variable keeps its form
-subst_node-other : (at : ℕ) (w : Term) (f : Form) (ps : Parts) → variable_of f ≡ None → node f ps ≡ subst_node at w f ps
+pub subst_node-other : (at : ℕ) (w : Term) (f : Form) (ps : Parts) → variable_of f ≡ None → node f ps ≡ subst_node at w f ps
 subst_node-other at w (Form.var i) ps e = cc
 subst_node-other at w (Form.global n) ps e = refl
 subst_node-other at w Form.bind ps e = refl

@@ -6,7 +6,7 @@ ghost use Rattle.nrca_term.specs.Subst.{subst_term, top_var};
 ghost use Rattle.nrca_term.specs.Term.{form_of, variable_of};
 ghost use Rattle.nrca_term.specs.View.{term_of};
 ghost use Rattle.nrca_subst.specs.Laws.{IsSubst, KeepsMeaning, StaysUndefined, KeepsTypes};
-ghost use Rattle.nrca_subst.specs.Depth.{DepthFits, SubstitutesIn, ReplacesVariable};
+ghost use Rattle.nrca_subst.specs.Depth.{DepthFits, FitsDeeper, SubstitutesIn, SubstitutesBoth, ReplacesVariable};
 
 use crate::shifting::{discard, shift};
 use aql_value::Memory;
@@ -35,10 +35,11 @@ fn subst_in(alloc: Global, term: &mut Core, at: u64, depth: u128, with: &Core) -
 {
     match term.variable() {
         Some(i) => subst_variable(alloc, term, i, at, depth, with),
-        None => subst_parts_in(alloc, term, at, depth, with),
+        None => subst_node(alloc, term, at, depth, with),
     }
 }
 
+// A variable that is kept is not written again.
 #[inline(never)]
 #[tactic(auto, using(crate::proofs::Deeper::variables))]
 fn subst_variable(
@@ -49,12 +50,12 @@ fn subst_variable(
     depth: u128,
     with: &Core,
 ) -> Result<(), Memory>
-    requires { DepthFits at depth (term_of with.now) (variable i) }
+    requires is { term_of term.old ≡ variable i }
+    requires fits { DepthFits at depth (term_of with.now) (variable i) }
     ensures { OnOk result (ReplacesVariable at depth with.now i term.new) }
 {
     let replaced = depth.saturating_add(at as u128);
     if (i as u128) < replaced {
-        *term = Core::Var(i);
         return Ok(());
     }
     if i as u128 == replaced {
@@ -66,6 +67,65 @@ fn subst_variable(
     Ok(())
 }
 
+// In a node that is no variable. A walk over a chain of lets, or of sums, comes to each node once and takes none apart: where
+// both parts stand in boxes it goes to them where they are.
+#[cycle(subst)]
+fn subst_node(
+    alloc: Global,
+    term: &mut Core,
+    at: u64,
+    depth: u128,
+    with: &Core,
+) -> Result<(), Memory>
+    requires other { variable_of (form_of (term_of term.old)) ≡ None }
+    requires fits { DepthFits at depth (term_of with.now) (term_of term.old) }
+    ensures { OnOk result (SubstitutesIn at depth with.now term.old term.new) }
+{
+    match term {
+        Core::Let(a, b) => subst_two(alloc, a, b, 1, at, depth, with),
+        Core::BigUnion { over, body } => subst_two(alloc, over, body, 1, at, depth, with),
+        Core::Sum { over, body } => subst_two(alloc, over, body, 1, at, depth, with),
+        Core::Default(a, b) => subst_two(alloc, a, b, 0, at, depth, with),
+        Core::Union(a, b) => subst_two(alloc, a, b, 0, at, depth, with),
+        Core::Arith(op, a, b) => {
+            leave(op);
+            subst_two(alloc, a, b, 0, at, depth, with)
+        }
+        Core::Compare(op, a, b) => {
+            leave(op);
+            subst_two(alloc, a, b, 0, at, depth, with)
+        }
+        _ => subst_parts_in(alloc, term, at, depth, with),
+    }
+}
+
+// In both parts of a node, of which the second has so many variables of its own.
+#[cycle(subst)]
+fn subst_two(
+    alloc: Global,
+    a: &mut Box<Core>,
+    b: &mut Box<Core>,
+    binders: u64,
+    at: u64,
+    depth: u128,
+    with: &Core,
+) -> Result<(), Memory>
+    requires first { DepthFits at depth (term_of with.now) (term_of a.old.value) }
+    requires second { FitsDeeper at depth binders with.now b.old.value }
+    ensures { OnOk result
+        (SubstitutesBoth at depth binders with.now (a.old, b.old) (a.new, b.new)) }
+{
+    subst_in(alloc, &mut **a, at, depth, with)?;
+    let deeper = depth.saturating_add(binders as u128);
+    subst_in(alloc, &mut **b, at, deeper, with)
+}
+
+// Says that what stands beside the parts stays as it was.
+fn leave<T>(_beside: &mut T)
+    ensures { _beside.new ≡ _beside.old }
+{}
+
+// In the parts of any node, each taken out for the while.
 #[cycle(subst)]
 fn subst_parts_in(
     alloc: Global,

@@ -21,7 +21,7 @@ use Rattle.nrca_normal.specs.Conditions.{IsMade, IsQuietAt, name_of}
 use Rattle.nrca_normal.specs.Rewriting.{Leads, behind}
 use Rattle.nrca_normal.specs.Quiet.{QuietEverywhere, QuietParts}
 use Rattle.nrca_normal.specs.Planned.{IsPlanOf}
-use Rattle.nrca_normal.specs.Descent.{IsTypedAmong, IsTypedThere, MayFireThere, IsQuietThere, IsAtRoot, step_at, AreSome, HasRewritten, HasSettledNode, HasSettled, HasSettledPart, HasSettledParts, GoesOn, HasEntered, HasLeft, left}
+use Rattle.nrca_normal.specs.Descent.{IsTypedAmong, IsTypedThere, MayFireThere, IsQuietThere, IsAtRoot, step_at, AreSome, HasRewritten, HasSettled, HasSettledPart, HasSettledParts, HasSettledFirst, GoesOn, HasEntered, HasLeft, left}
 use Rattle.nrca_normal.specs.Laws.Rewriting.{put-child, put-back, leads-append, leads-none, leads-one, leads-same, leads-above}
 use Rattle.nrca_normal.specs.Laws.Typed.{typed-part, leads-typed, leads-falls, part-number}
 use Rattle.nrca_normal.specs.Laws.Quiet.{parts-none, parts-more, everywhere}
@@ -187,8 +187,26 @@ pub part-counted : (b d : Descent) (u v : Term) (i : ℕ) (y : Bool) → i < cou
 part-counted b d u v i y l k = let p = part-at u i l in child-counted (parts_of v) i k.1.0 (ap (λ s. child_of (parts_of s) i) k.1.1 ∙ put-child u i p.0 k.1.0 p.1)
 
 -- before the first part
-pub parts-begun : (a b : Descent) (t u : Term) (x : Bool) → HasSettledNode a t b u x → HasSettledParts a t 0 b u x
-parts-begun a b t u x h = (h.0, h.1, parts-none (known_shapes a.ctx) (context_of a.ctx) u)
+pub none-settled : (a : Descent) (t : Term) → HasSettledFirst a t a t 0
+none-settled a t = (false, rewritten-none a a t refl refl refl refl, parts-none (known_shapes a.ctx) (context_of a.ctx) t)
+
+-- behind the first part
+pub first-settled : (a b : Descent) (t u : Term) (x : Bool) → 0 < count (parts_of t) → HasSettledPart a t 0 b u x → HasSettledFirst a t b u 1
+first-settled a b t u x l k =
+    let p = part-at t 0 l in (
+      x,
+      k.0,
+      subst (λ s. QuietParts (known_shapes a.ctx) (context_of a.ctx) s 1) (sym k.1.1)
+          (parts-more (known_shapes a.ctx) (context_of a.ctx) t p.0 k.1.0 0 p.1 (parts-none (known_shapes a.ctx) (context_of a.ctx) t) k.1.2),
+    )
+
+-- parts that are settled, in an equal context
+pub parts-as : (a b : Descent) (t u : Term) (x : Bool) (v : Term) (n : ℕ) → HasRewritten a t b u x → QuietParts (known_shapes b.ctx) (context_of b.ctx) v n → QuietParts (known_shapes a.ctx) (context_of a.ctx) v n
+parts-as a b t u x v n h q = subst (λ g. QuietParts g (context_of a.ctx) v n) h.globals (subst (λ c. QuietParts (known_shapes b.ctx) c v n) h.context q)
+
+-- a node was rewritten, and then some of its first parts were settled
+pub again-settled : (a b d : Descent) (t u v : Term) (n : ℕ) → HasRewritten a t b u true → HasSettledFirst b u d v n → HasRewritten a t d v true × QuietParts (known_shapes a.ctx) (context_of a.ctx) v n
+again-settled a b d t u v n h k = (rewritten-more a b d t u v true k.0 h k.1, parts-as a b t u true v n h k.2)
 
 -- no rule may be applied at the node where nothing was rewritten in the part
 pub still-quiet : (a b d : Descent) (t u v : Term) (i : ℕ) (x y : Bool) → HasSettledParts a t i b u x → HasSettledPart b u i d v y → y ≡ false → IsQuietThere d v
@@ -198,18 +216,18 @@ still-quiet a b d t u v i x y h k e =
 
 -- one part more, or from the first one again
 pub parts-next : (a b d e : Descent) (t u v w : Term) (i next : ℕ) (x y : Bool) → i < count (parts_of u) → HasSettledParts a t i b u x → HasSettledPart b u i d v y → GoesOn i y d v e w next → HasSettledParts a t next e w (x || y)
-parts-next a b d e t u v w i next x y l h k (inl g, q) =
+parts-next a b d e t u v w i next x y l h k (inl g) =
     let both : HasRewritten a t d v (x || y) = rewritten-more a b d t u v x y h.0 k.0 in
-    let all : HasRewritten a t e w ((x || y) || true) = rewritten-more a d e t v w (x || y) true both g.2 in (
+    let all : HasRewritten a t e w ((x || y) || true) = rewritten-more a d e t v w (x || y) true both g.1.0 in (
       subst (HasRewritten a t e w) (again x y g.0) all,
-      quiet-as a d t v (x || y) w both q,
-      subst (QuietParts (known_shapes a.ctx) (context_of a.ctx) w) (sym g.1) (parts-none (known_shapes a.ctx) (context_of a.ctx) w),
+      quiet-as a d t v (x || y) w both g.1.1,
+      parts-as a d t v (x || y) w next both g.1.2,
     )
   where
     again : (x y : Bool) → y ≡ true → ((x || y) || true) ≡ (x || y)
     again true y e = refl
     again false y e = ap (λ z. z || true) e ∙ sym e
-parts-next a b d e t u v w i next x y l h k (inr g, q) =
+parts-next a b d e t u v w i next x y l h k (inr g) =
     let both : HasRewritten a t d v (x || y) = rewritten-more a b d t u v x y h.0 k.0 in
     let all : HasRewritten a t e w ((x || y) || false) = rewritten-more a d e t v w (x || y) false both g.1 in
     let p = part-at u i l in
@@ -217,7 +235,7 @@ parts-next a b d e t u v w i next x y l h k (inr g, q) =
     let r : QuietEverywhere (known_shapes a.ctx) (enter_facts (context_of a.ctx) u i) k.1.0 =
     subst (λ s. QuietEverywhere s (enter_facts (context_of a.ctx) u i) k.1.0) h.0.globals (subst (λ c. QuietEverywhere (known_shapes b.ctx) (enter_facts c u i) k.1.0) h.0.context k.1.2) in (
       subst (HasRewritten a t e w) (or-false (x || y)) all,
-      quiet-as a d t v (x || y) w both q,
+      quiet-as a d t v (x || y) w both g.2,
       subst (QuietParts (known_shapes a.ctx) (context_of a.ctx) w) (sym g.0)
           (subst (λ s. QuietParts (known_shapes a.ctx) (context_of a.ctx) s (i + 1)) z (parts-more (known_shapes a.ctx) (context_of a.ctx) u p.0 k.1.0 i p.1 h.2 r)),
     )
@@ -229,9 +247,9 @@ parts-next a b d e t u v w i next x y l h k (inr g, q) =
 -- what is left to fall, and then the parts that are left, become less
 pub parts-falls : (b d e : Descent) (u v w : Term) (i next : ℕ) (y : Bool) → i < count (parts_of u) → IsTypedThere b u → HasRewritten b u d v y → GoesOn i y d v e w next →
     left w * 1280002 + (1280001 - next) < left u * 1280002 + (1280001 - i)
-parts-falls b d e u v w i next y l ty h (inl g, q) =
-    omega (arith, part-number b.ctx.depth u i ty.small l, rewritten-falls b d u v y ty h, rewritten-lower d e v w (rewritten-typed b d u v y ty h) g.2, g.1)
-parts-falls b d e u v w i next y l ty h (inr g, q) =
+parts-falls b d e u v w i next y l ty h (inl g) =
+    omega (arith, part-number b.ctx.depth u i ty.small l, rewritten-falls b d u v y ty h, rewritten-lower d e v w (rewritten-typed b d u v y ty h) g.1.0)
+parts-falls b d e u v w i next y l ty h (inr g) =
     omega (arith, part-number b.ctx.depth u i ty.small l, rewritten-falls b d u v y ty h, rewritten-falls d e v w false (rewritten-typed b d u v y ty h) g.1, g.0)
 
 -- behind the last part
