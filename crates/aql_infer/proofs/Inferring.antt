@@ -11,7 +11,7 @@ use Rattle.aql_types.specs.Variables.{sort_variables}
 use Rattle.aql_infer_steps.specs.Numbering.{number}
 use Rattle.aql_infer_steps.specs.Principal.{IsNotInferred, HasNoSolution}
 use Rattle.aql_infer_steps.specs.View.{FailsTyping}
-use Rattle.aql_infer_steps.specs.declared.names.Position.{Position}
+use Rattle.aql_infer_steps.specs.declared.positions.Position.{Position}
 use Rattle.aql_infer_steps.specs.declared.fault.NoTyping.{NoTyping}
 use Rattle.aql_infer_steps.specs.declared.fault.NoTyping.TheVariants as faults
 use Rattle.aql_infer.specs.Inferred.{Inferred, Placed}

@@ -16,7 +16,7 @@ use Rattle.aql_infer_steps.specs.Principal.{IsInferred, IsNotInferred}
 use Rattle.aql_infer_steps.specs.Laws.Principal.{untyped, inferred_principal, inferred_described, inferred_numbered, none_described}
 use Rattle.aql_infer_steps.specs.View.{scheme_of, schemes_onto, schemes_of}
 use Rattle.aql_syntax.specs.Laws.Written.{decl_written}
-use Rattle.aql_infer_steps.specs.declared.names.Position.{Position}
+use Rattle.aql_infer_steps.specs.declared.positions.Position.{Position}
 use Rattle.aql_infer_steps.specs.Typed.{IsPrincipalScheme, ArePrincipal, sorts_of}
 use Rattle.aql_infer.specs.Checked.{behind, HasNoSort, IsFirstUntyped, found_sorts}
 

@@ -1,12 +1,11 @@
 -- What `check` answers.
-use Rattle.std.specs.Prelude.{ℕ, zero, suc, List, [], ◌∷◌, Result, Ok, Err, Vec}
-use Rattle.std.specs.Global.{Global}
+use Rattle.std.specs.Prelude.{ℕ, zero, suc, List, [], ◌∷◌, Result, Ok, Err}
 use Rattle.aql_types.specs.Types.{Sort}
 use Rattle.aql_types.specs.View.{sort_of}
 use Rattle.aql_syntax.specs.Tree.{Declaration}
 use Rattle.aql_syntax.specs.Typing.{DeclHas, scope_of}
 use Rattle.aql_infer_steps.specs.Typed.{sorts_of, ArePrincipal}
-use Rattle.aql_infer_steps.specs.declared.names.Position.{Position}
+use Rattle.aql_infer_steps.specs.declared.positions.Position.{Position}
 use Rattle.aql_infer_steps.specs.declared.typed.Typed.{Typed}
 use Rattle.aql_infer.specs.declared.fault.TypeFault.{TypeFault}
 use Rattle.aql_infer.specs.declared.fault.TypeFault.TheVariants as faults
@@ -39,7 +38,7 @@ found_sorts [] = []
 found_sorts (p ∷ ps) = sort_of p.scheme ∷ found_sorts ps
 
 -- the same of positions
-abbrev pub AllFound : Result (Vec Position Global) TypeFault → List Declaration → Type 0
-AllFound (Ok found) ds = ArePrincipal [] ds (found_sorts found.items)
+abbrev pub AllFound : Result (List Position) TypeFault → List Declaration → Type 0
+AllFound (Ok found) ds = ArePrincipal [] ds (found_sorts found)
 AllFound (Err (faults.NoType n)) ds = IsFirstUntyped [] ds n
 AllFound (Err faults.Memory) ds = Unit {0}

@@ -10,7 +10,7 @@ use Rattle.aql_types.specs.Variables.{sort_variables}
 use Rattle.aql_infer_steps.specs.Numbering.{renumbering}
 use Rattle.aql_infer_steps.specs.Principal.{IsInferred, IsNotInferred}
 use Rattle.aql_infer_steps.specs.View.{scheme_of}
-use Rattle.aql_infer_steps.specs.declared.names.Position.{Position}
+use Rattle.aql_infer_steps.specs.declared.positions.Position.{Position}
 use Rattle.aql_infer_steps.specs.declared.fault.NoTyping.{NoTyping}
 use Rattle.aql_infer_steps.specs.declared.fault.NoTyping.TheVariants as faults
 

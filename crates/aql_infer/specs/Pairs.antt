@@ -5,7 +5,7 @@ use Rattle.aql_syntax.specs.Tree.{Tree, Trees}
 use Rattle.aql_syntax.specs.Typing.{Locals}
 use Rattle.aql_infer_steps.specs.declared.fault.NoTyping.{NoTyping}
 use Rattle.aql_infer_steps.specs.declared.names.Local.{Local}
-use Rattle.aql_infer_steps.specs.declared.names.Position.{Position}
+use Rattle.aql_infer_steps.specs.declared.positions.Position.{Position}
 use Rattle.aql_infer_steps.specs.declared.store.Store.{Store}
 use Rattle.aql_infer_steps.specs.View.{state_of, locals_of, schemes_of}
 use Rattle.aql_infer_steps.specs.Constraints.{Schemes, Made, Making, made, after, make, make_all, made_choice, made_sub, made_literal}

@@ -8,7 +8,7 @@ ghost use Rattle.aql_infer.specs.Checked.{IsChecked, AllFound, found_sorts};
 use crate::declare::infer_declaration;
 use crate::fault::TypeFault;
 use aql_infer_steps::fault::NoTyping;
-use aql_infer_steps::names::Position;
+use aql_infer_steps::positions::{Position, Positions};
 pub use aql_infer_steps::typed::Typed;
 use aql_syntax::ast::{Decl, Decls};
 use aql_types::ty::Scheme;
@@ -21,18 +21,18 @@ pub fn check(alloc: Global, decls: &Decls) -> Result<Typed, TypeFault>
     ensures { IsChecked result (decls_of decls.now.items.items) }
 {
     let found = infer_all_declarations(alloc, &decls.items)?;
-    let items = schemes(alloc, &found)?;
+    let items = schemes(alloc, found.items())?;
     Ok(Typed { items })
 }
 
 #[tactic(auto, using(crate::proofs::Progress::checked_steps))]
-fn infer_all_declarations(alloc: Global, decls: &[Decl]) -> Result<Vec<Position>, TypeFault>
+fn infer_all_declarations(alloc: Global, decls: &[Decl]) -> Result<Positions, TypeFault>
     ensures { AllFound result (decls_of decls.now) }
 {
-    let mut found = Vec::new(alloc);
+    let mut found = Positions::new(alloc);
     for d in decls {
         match infer_declaration(alloc, d, &found) {
-            Ok(p) => found.push(p)?,
+            Ok(p) => found.push(alloc, p)?,
             Err(NoTyping::NoType) => {
                 let declaration = (found.len() as u64).saturating_add(1);
                 return Err(TypeFault::NoType { declaration });

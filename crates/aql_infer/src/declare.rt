@@ -9,9 +9,9 @@ ghost use Rattle.aql_infer.specs.Inferred.{Inferred, Placed};
 
 use crate::walk::infer;
 use aql_infer_steps::fault::NoTyping;
-use aql_infer_steps::names::Position;
 use aql_infer_steps::numbering::{instance_of, with_places};
 use aql_infer_steps::patterns::pattern;
+use aql_infer_steps::positions::{Position, Positions};
 use aql_infer_steps::readers::{argument_type, has_rank, reader_type};
 use aql_infer_steps::store::{Store, equal_types, require, use_type};
 use aql_syntax::ast::{Decl, Expr, Pattern, Reader};
@@ -28,7 +28,7 @@ use std::alloc::Global;
 pub(crate) fn infer_declaration(
     alloc: Global,
     d: &Decl,
-    positions: &[Position],
+    positions: &Positions,
 ) -> Result<Position, NoTyping>
     ensures { Inferred result (decl_of d.now) (schemes_of positions.now) }
 {
@@ -77,7 +77,7 @@ fn begin(alloc: Global) -> Store
 fn constrain(
     alloc: Global,
     d: &Decl,
-    positions: &[Position],
+    positions: &Positions,
     s: Store,
 ) -> Result<(Scheme, Store), NoTyping>
     ensures { MakesSort result (make_decl (decl_of d.now) (schemes_of positions.now) (state_of s)) }
@@ -102,7 +102,7 @@ fn constrain(
 fn asked_of_value(
     alloc: Global,
     e: &Expr,
-    positions: &[Position],
+    positions: &Positions,
     s: Store,
 ) -> Result<(Scheme, Store), NoTyping>
     ensures { MakesSort result (make_decl (tree.bare (tree_of e.now)) (schemes_of positions.now)
@@ -119,7 +119,7 @@ fn asked_of_macro(
     alloc: Global,
     p: &Pattern,
     body: &Expr,
-    positions: &[Position],
+    positions: &Positions,
     s: Store,
 ) -> Result<(Scheme, Store), NoTyping>
     ensures { MakesSort result (make_decl (tree.mac [] (pat_of p.now) (tree_of body.now))
@@ -144,7 +144,7 @@ fn asked_of_reader(
     alloc: Global,
     reader: &Reader,
     e: &Expr,
-    positions: &[Position],
+    positions: &Positions,
     s: Store,
 ) -> Result<(Scheme, Store), NoTyping>
     ensures { MakesSort result (make_decl (tree.read [] (reader_of reader.now) (tree_of e.now))

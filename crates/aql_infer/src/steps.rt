@@ -7,11 +7,12 @@ ghost use Rattle.aql_infer_steps.specs.View.{state_of, locals_of, schemes_of, ty
 ghost use Rattle.aql_infer.specs.Pairs.{Follows};
 
 use aql_infer_steps::fault::NoTyping;
-use aql_infer_steps::names::{Local, Position, application_type};
+use aql_infer_steps::names::{Local, application_type};
 use aql_infer_steps::operations::{
     arith, choice, comparison, dimensions, either, generate_type, group_type, member, truth,
     truths, tuple, union,
 };
+use aql_infer_steps::positions::Positions;
 use aql_infer_steps::store::Store;
 use aql_types::ty::Ty;
 use aql_value::Str;
@@ -91,7 +92,7 @@ pub(crate) fn headed_of(
     alloc: Global,
     name: &Str,
     part: Result<(Ty, Store), NoTyping>,
-    positions: &[Position],
+    positions: &Positions,
     env: &[Local],
 ) -> Result<(Ty, Store), NoTyping>
     ensures { Follows part result

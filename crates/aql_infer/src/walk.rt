@@ -15,11 +15,12 @@ use crate::steps::{
     member_of, truth_of, truths_of, tuple_of, union_of,
 };
 use aql_infer_steps::fault::NoTyping;
-use aql_infer_steps::names::{Local, Position, name_type, push_local};
+use aql_infer_steps::names::{Local, name_type, push_local};
 use aql_infer_steps::operations::{array_of, empty_set, literal, set_of, subscript};
 use aql_infer_steps::patterns::{
     index_rank, match_pattern, matched_cell, matched_index, matched_member,
 };
+use aql_infer_steps::positions::Positions;
 use aql_infer_steps::store::{Store, equal_types, new_variable, require};
 use aql_syntax::ast::{Bind, Expr, LetBind, Pattern, Qual};
 use aql_types::ty::Ty;
@@ -35,7 +36,7 @@ pub fn infer(
     alloc: Global,
     e: &Expr,
     fuel: u64,
-    positions: &[Position],
+    positions: &Positions,
     env: &mut Vec<Local>,
     s: Store,
 ) -> Result<(Ty, Store), NoTyping>
@@ -55,7 +56,7 @@ fn infer_form(
     alloc: Global,
     e: &Expr,
     fuel: u64,
-    positions: &[Position],
+    positions: &Positions,
     env: &mut Vec<Local>,
     s: Store,
 ) -> Result<(Ty, Store), NoTyping>
@@ -132,7 +133,7 @@ fn infer_two(
     a: &Expr,
     b: &Expr,
     fuel: u64,
-    positions: &[Position],
+    positions: &Positions,
     env: &mut Vec<Local>,
     s: Store,
 ) -> Result<(Ty, Ty, Store), NoTyping>
@@ -154,7 +155,7 @@ fn infer_choice(
     a: &Expr,
     b: &Expr,
     fuel: u64,
-    positions: &[Position],
+    positions: &Positions,
     env: &mut Vec<Local>,
     s: Store,
 ) -> Result<(Ty, Store), NoTyping>
@@ -174,7 +175,7 @@ fn infer_members(
     alloc: Global,
     es: &[Expr],
     fuel: u64,
-    positions: &[Position],
+    positions: &Positions,
     env: &mut Vec<Local>,
     s: Store,
 ) -> Result<(Ty, Store), NoTyping>
@@ -195,7 +196,7 @@ fn infer_literal(
     dims: &[Expr],
     cells: &[Expr],
     fuel: u64,
-    positions: &[Position],
+    positions: &Positions,
     env: &mut Vec<Local>,
     s: Store,
 ) -> Result<(Ty, Store), NoTyping>
@@ -217,7 +218,7 @@ fn infer_subscript(
     array: &Expr,
     at: &[Expr],
     fuel: u64,
-    positions: &[Position],
+    positions: &Positions,
     env: &mut Vec<Local>,
     s: Store,
 ) -> Result<(Ty, Store), NoTyping>
@@ -238,7 +239,7 @@ fn infer_comprehension(
     head: &Expr,
     quals: &[Qual],
     fuel: u64,
-    positions: &[Position],
+    positions: &Positions,
     env: &mut Vec<Local>,
     s: Store,
 ) -> Result<(Ty, Store), NoTyping>
@@ -262,7 +263,7 @@ fn infer_tabulation(
     body: &Expr,
     binds: &[Bind],
     fuel: u64,
-    positions: &[Position],
+    positions: &Positions,
     env: &mut Vec<Local>,
     s: Store,
 ) -> Result<(Ty, Store), NoTyping>
@@ -289,7 +290,7 @@ fn infer_let(
     body: &Expr,
     binds: &[LetBind],
     fuel: u64,
-    positions: &[Position],
+    positions: &Positions,
     env: &mut Vec<Local>,
     s: Store,
 ) -> Result<(Ty, Store), NoTyping>
@@ -314,7 +315,7 @@ fn infer_function(
     argument: &Expr,
     pattern: &Pattern,
     fuel: u64,
-    positions: &[Position],
+    positions: &Positions,
     env: &mut Vec<Local>,
     s: Store,
 ) -> Result<(Ty, Store), NoTyping>
@@ -340,7 +341,7 @@ fn infer_sum(
     over: &Expr,
     pattern: &Pattern,
     fuel: u64,
-    positions: &[Position],
+    positions: &Positions,
     env: &mut Vec<Local>,
     s: Store,
 ) -> Result<(Ty, Store), NoTyping>
@@ -365,7 +366,7 @@ fn infer_all(
     alloc: Global,
     es: &[Expr],
     fuel: u64,
-    positions: &[Position],
+    positions: &Positions,
     env: &mut Vec<Local>,
     s: Store,
 ) -> Result<(Vec<Ty>, Store), NoTyping>
@@ -392,7 +393,7 @@ fn infer_each(
     es: &[Expr],
     t: &Ty,
     fuel: u64,
-    positions: &[Position],
+    positions: &Positions,
     env: &mut Vec<Local>,
     s: Store,
 ) -> Result<Store, NoTyping>
@@ -415,7 +416,7 @@ fn infer_bounds(
     alloc: Global,
     binds: &[Bind],
     fuel: u64,
-    positions: &[Position],
+    positions: &Positions,
     env: &mut Vec<Local>,
     s: Store,
 ) -> Result<Store, NoTyping>
@@ -438,7 +439,7 @@ fn infer_rows(
     alloc: Global,
     quals: &[Qual],
     fuel: u64,
-    positions: &[Position],
+    positions: &Positions,
     env: &mut Vec<Local>,
     s: Store,
 ) -> Result<Store, NoTyping>
@@ -462,7 +463,7 @@ fn infer_row(
     alloc: Global,
     q: &Qual,
     fuel: u64,
-    positions: &[Position],
+    positions: &Positions,
     env: &mut Vec<Local>,
     s: Store,
 ) -> Result<Store, NoTyping>
@@ -499,7 +500,7 @@ fn infer_binds(
     alloc: Global,
     binds: &[LetBind],
     fuel: u64,
-    positions: &[Position],
+    positions: &Positions,
     env: &mut Vec<Local>,
     s: Store,
 ) -> Result<Store, NoTyping>

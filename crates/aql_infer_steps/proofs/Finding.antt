@@ -1,13 +1,19 @@
 -- The last entry of a list of names is the first that is found.
-use Rattle.std.proofs.Common.{◌≡◌, true, false, List, [], ◌∷◌, ◌++◌, Some, None, refl, arith, length}
+use Rattle.std.proofs.Common.{◌≡◌, ◌<◌, ℕ, suc, Bool, true, false, List, [], ◌∷◌, ◌++◌, Option, Some, None, refl, sym, ap, ◌∙◌, arith, length, get_or, slice_get, if◌then◌else◌}
+use Rattle.std.specs.Option.{option_map}
+use Rattle.std.proofs.lemmas.List.{length-map}
+use Rattle.std.proofs.lemmas.Option.{slice_get-get_or}
+use Rattle.aql_value.specs.Partial.{or_else}
+use Rattle.aql_names.specs.Named.{last_named}
+use Rattle.aql_names.specs.Laws.Named.{last_named_inside}
 use Rattle.aql_types.specs.View.{type_of}
 use Rattle.aql_syntax.specs.Tree.{Name}
 use Rattle.aql_syntax.specs.Names.{names_equal, find}
 use Rattle.aql_syntax.specs.Typing.{Locals}
-use Rattle.aql_infer_steps.specs.Constraints.{Schemes}
-use Rattle.aql_infer_steps.specs.View.{locals_onto, locals_of, scheme_of, schemes_onto, schemes_of}
+use Rattle.aql_infer_steps.specs.Constraints.{Scheme, Schemes}
+use Rattle.aql_infer_steps.specs.View.{locals_onto, locals_of, scheme_of, schemes_onto, schemes_of, names_of}
 use Rattle.aql_infer_steps.specs.declared.names.Local.{Local}
-use Rattle.aql_infer_steps.specs.declared.names.Position.{Position}
+use Rattle.aql_infer_steps.specs.declared.positions.Position.{Position}
 
 locals_onto_last : (ls : List Local) (l : Local) (env : Locals) → locals_onto (ls ++ l ∷ []) env ≡ (l.name, type_of l.ty) ∷ locals_onto ls env
 locals_onto_last [] l env = refl
@@ -31,24 +37,36 @@ local_none x (l ∷ ls) e = let bad : ⊥ = omega (arith, e) in absurd bad
 
 pub ruleset local_steps = (local_here, local_past, local_none)
 
-schemes_onto_last : (ps : List Position) (p : Position) (ss : Schemes) → schemes_onto (ps ++ p ∷ []) ss ≡ (p.name, scheme_of p) ∷ schemes_onto ps ss
-schemes_onto_last [] p ss = refl
-schemes_onto_last (k ∷ ps) p ss = schemes_onto_last ps p ((k.name, scheme_of k) ∷ ss)
+-- The latest position of a name, by the place of the last that has it.
 
--- the last position comes first
-pub schemes_last : (ps : List Position) (p : Position) → schemes_of (ps ++ p ∷ []) ≡ (p.name, scheme_of p) ∷ schemes_of ps
-schemes_last ps p = schemes_onto_last ps p []
+-- what the position at a place has, and else what was found before
+abbrev found_at : List Position → Option ℕ → Option Scheme → Option Scheme
+found_at ps None o = o
+found_at ps (Some i) o = option_map scheme_of (slice_get ps i)
 
-pub position_here : (x : Name) (ps all : List Position) (p : Position) → all ≡ ps ++ p ∷ [] → names_equal x p.name ≡ true →
-    find x (schemes_of all) ≡ Some (scheme_of p)
-position_here x ps all p e h = rw (e, schemes_last ps p, h) refl
+find-onto : (x : Name) (ps : List Position) (ss : Schemes) → find x (schemes_onto ps ss) ≡ found_at ps (last_named x (names_of ps)) (find x ss)
+find-onto x [] ss = refl
+find-onto x (p ∷ ps) ss = find-onto x ps ((p.name, scheme_of p) ∷ ss) ∙ go (last_named x (names_of ps)) (names_equal x p.name)
+  where
+    go : (o : Option ℕ) (b : Bool) →
+        found_at ps o (if b then Some (scheme_of p) else find x ss) ≡ found_at (p ∷ ps) (or_else (option_map suc o) (if b then Some 0 else None)) (find x ss)
+    go None true = refl
+    go None false = refl
+    go (Some i) b = refl
 
-pub position_past : (x : Name) (ps all : List Position) (p : Position) → all ≡ ps ++ p ∷ [] → names_equal x p.name ≡ false →
-    find x (schemes_of all) ≡ find x (schemes_of ps)
-position_past x ps all p e h = rw (e, schemes_last ps p, h) refl
+-- no position has the name
+pub latest-none : (x : Name) (ps : List Position) (names : List Name) → None ≡ last_named x names → names ≡ names_of ps → find x (schemes_of ps) ≡ None
+latest-none x ps names e n = find-onto x ps [] ∙ ap (λ k. found_at ps k None) (sym (e ∙ ap (last_named x) n))
 
-pub position_none : (x : Name) (all : List Position) → length all ≡ 0 → find x (schemes_of all) ≡ None
-position_none x [] e = refl
-position_none x (p ∷ ps) e = let bad : ⊥ = omega (arith, e) in absurd bad
+-- the place is one of the list
+pub latest-inside : (x : Name) (ps : List Position) (names : List Name) (i : ℕ) → Some i ≡ last_named x names → names ≡ names_of ps → i < length ps
+latest-inside x ps names i e n =
+    let within : i < length (names_of ps) = last_named_inside x (names_of ps) i (sym (e ∙ ap (last_named x) n)) in
+    omega (arith, within, length-map ps (λ (p : Position). p.name))
 
-pub ruleset position_steps = (position_here, position_past, position_none)
+-- the position at that place is the latest
+pub latest-some : (x : Name) (ps : List Position) (names : List Name) (i : ℕ) (p : Position) → Some i ≡ last_named x names → names ≡ names_of ps →
+    p ≡ get_or ps i p → find x (schemes_of ps) ≡ Some (scheme_of p)
+latest-some x ps names i p e n is =
+    find-onto x ps [] ∙ ap (λ k. found_at ps k None) (sym (e ∙ ap (last_named x) n))
+    ∙ ap (option_map scheme_of) (slice_get-get_or ps i p (latest-inside x ps names i e n) ∙ ap Some (sym is))

@@ -1,14 +1,15 @@
 -- What the code keeps is a state of the walk, local names and schemes, and what it answers an answer of the walk.
-use Rattle.std.specs.Prelude.{◌≡◌, List, [], ◌∷◌, take, length, Option, Some, None, Result, Ok, Err, IfOk}
+use Rattle.std.specs.Prelude.{◌≡◌, List, [], ◌∷◌, map, take, length, Option, Some, None, Result, Ok, Err, IfOk}
 use Rattle.aql_types.specs.Types.{Ty, Sort}
 use Rattle.aql_types.specs.View.{type_of, types_of, sort_of, equations_of}
 use Rattle.aql_types.specs.declared.ty.Ty as code_ty
 use Rattle.aql_types.specs.declared.ty.Scheme as code_scheme
+use Rattle.aql_names.specs.Named.{Name}
 use Rattle.aql_syntax.specs.Typing.{Locals}
 use Rattle.aql_infer_steps.specs.Constraints.{State, Made, Scheme, Schemes}
 use Rattle.aql_infer_steps.specs.declared.store.Store.{Store}
 use Rattle.aql_infer_steps.specs.declared.names.Local.{Local}
-use Rattle.aql_infer_steps.specs.declared.names.Position.{Position}
+use Rattle.aql_infer_steps.specs.declared.positions.Position.{Position}
 use Rattle.aql_infer_steps.specs.declared.fault.NoTyping.{NoTyping}
 use Rattle.aql_infer_steps.specs.declared.fault.NoTyping.TheVariants as faults
 
@@ -41,6 +42,10 @@ schemes_onto (p ∷ ps) ss = schemes_onto ps ((p.name, scheme_of p) ∷ ss)
 -- what the positions of a list have, the latest first
 abbrev pub schemes_of : List Position → Schemes
 schemes_of ps = schemes_onto ps []
+
+-- the names of positions, in order
+abbrev pub names_of : List Position → List Name
+names_of ps = map (λ p. p.name) ps
 
 -- the types of a list, one by one
 abbrev pub types_in : List code_ty.Ty → List Ty

@@ -3,8 +3,8 @@
 //! `specs/Constraints` walks over a tree and writes equations, and types that are to be within the
 //! limits; it solves nothing. `specs/Sound`, `specs/Complete` and `specs/Principal` say what that is
 //! for: whatever solves the equations gives a typing, each typing comes from such a solution, and a
-//! most general solution gives the principal type. The code makes the same steps: `store`, `names`,
-//! `operations`, `patterns`, `readers`, and `numbering` for what comes out.
+//! most general solution gives the principal type. The code makes the same steps: `store`,
+//! `positions`, `names`, `operations`, `patterns`, `readers`, and `numbering` for what comes out.
 //!
 //! Read `specs/Constraints`, then `specs/Describes`, then the laws.
 #![tactic(auto)]
@@ -14,6 +14,7 @@ pub mod names;
 pub mod numbering;
 pub mod operations;
 pub mod patterns;
+pub mod positions;
 pub mod readers;
 pub mod store;
 pub mod typed;

@@ -1,14 +1,15 @@
 //! Local names, and what the earlier positions have.
 
-ghost use Rattle.std.specs.Prelude.{◌≡◌, ◌∷◌, IfOk, OnOk, MatchOption, Some, None};
+ghost use Rattle.std.specs.Prelude.{◌≡◌, ◌∷◌, IfOk, OnOk, Some};
 ghost use Rattle.aql_types.specs.Types.{apply, apply_all};
 ghost use Rattle.aql_types.specs.View.{type_of, types_of, sort_of};
 ghost use Rattle.aql_types.specs.Answers.{type_in};
 ghost use Rattle.aql_syntax.specs.Names.{names_equal, find};
 ghost use Rattle.aql_infer_steps.specs.Constraints.{raised, opened, make_value, make_global, make_name, make_macro, make_call};
-ghost use Rattle.aql_infer_steps.specs.View.{state_of, locals_of, scheme_of, schemes_of, Extends, MakesType};
+ghost use Rattle.aql_infer_steps.specs.View.{state_of, locals_of, schemes_of, Extends, MakesType};
 
 use crate::fault::NoTyping;
+use crate::positions::{Position, Positions};
 use crate::store::{Store, equal_types, use_type};
 use aql_types::ty::{Scheme, Ty, row};
 use aql_value::made::{both, make_box};
@@ -22,20 +23,12 @@ pub struct Local {
     pub ty: Ty,
 }
 
-/// What an earlier position has: its name, its scheme, and how many variables that has.
-#[derive(Drop)]
-pub struct Position {
-    pub name: Str,
-    pub scheme: Scheme,
-    pub variables: u64,
-}
-
 /// The type of a name that stands for a value: that of the innermost local name, else an instance
 /// of what the latest position of that name has.
 pub fn name_type(
     alloc: Global,
     x: &Str,
-    positions: &[Position],
+    positions: &Positions,
     env: &[Local],
     s: Store,
 ) -> Result<(Ty, Store), NoTyping>
@@ -48,10 +41,10 @@ pub fn name_type(
     }
 }
 
-fn global(alloc: Global, x: &Str, positions: &[Position], s: Store) -> Result<(Ty, Store), NoTyping>
+fn global(alloc: Global, x: &Str, positions: &Positions, s: Store) -> Result<(Ty, Store), NoTyping>
     ensures { MakesType result (make_global (find x.now (schemes_of positions.now)) (state_of s)) }
 {
-    match find_position(x, positions) {
+    match positions.latest(x) {
         Some(p) => instance(alloc, p, s),
         None => Err(NoTyping::NoType),
     }
@@ -63,7 +56,7 @@ pub fn application_type(
     alloc: Global,
     f: &Str,
     argument: &Ty,
-    positions: &[Position],
+    positions: &Positions,
     env: &[Local],
     s: Store,
 ) -> Result<(Ty, Store), NoTyping>
@@ -72,7 +65,7 @@ pub fn application_type(
 {
     match find_local(alloc, f, env)? {
         Some(_) => Err(NoTyping::NoType),
-        None => match find_position(f, positions) {
+        None => match positions.latest(f) {
             Some(p) => apply_macro(alloc, p, argument, s),
             None => Err(NoTyping::NoType),
         },
@@ -92,21 +85,6 @@ fn find_local(alloc: Global, x: &Str, env: &[Local]) -> Result<Option<Ty>, Memor
         rest = before;
     }
     Ok(None)
-}
-
-#[tactic(auto, using(crate::proofs::Finding::position_steps))]
-fn find_position<'a>(x: &Str, positions: &'a [Position]) -> Option<&'a Position>
-    ensures { MatchOption result (find x.now (schemes_of positions.now) ≡ None)
-        (λ p. find x.now (schemes_of positions.now) ≡ Some (scheme_of p.now)) }
-{
-    let mut rest = positions;
-    while let Some((last, before)) = rest.split_last() {
-        if same_name(x, &last.name) {
-            return Some(last);
-        }
-        rest = before;
-    }
-    None
 }
 
 fn same_name(a: &Str, b: &Str) -> bool

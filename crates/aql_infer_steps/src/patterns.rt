@@ -9,8 +9,9 @@ ghost use Rattle.aql_infer_steps.specs.Constraints.{make_pat, make_pats};
 ghost use Rattle.aql_infer_steps.specs.View.{state_of, locals_of, schemes_of, Makes, Extends, MakesLocals};
 
 use crate::fault::NoTyping;
-use crate::names::{Local, Position, name_type, push_local};
+use crate::names::{Local, name_type, push_local};
 use crate::operations::{array_of, set_of};
+use crate::positions::Positions;
 use crate::store::{Store, becomes, equal_types, new_variable};
 use aql_syntax::ast::Pattern;
 use aql_types::ty::{Ty, row};
@@ -22,7 +23,7 @@ use std::alloc::Global;
 pub fn pattern(
     alloc: Global,
     p: &Pattern,
-    positions: &[Position],
+    positions: &Positions,
     env: &mut Vec<Local>,
     s: Store,
 ) -> Result<(Ty, Store), NoTyping>
@@ -63,7 +64,7 @@ pub fn pattern(
 fn patterns(
     alloc: Global,
     ps: &[Pattern],
-    positions: &[Position],
+    positions: &Positions,
     env: &mut Vec<Local>,
     s: Store,
 ) -> Result<(Vec<Ty>, Store), NoTyping>
@@ -95,7 +96,7 @@ pub fn match_pattern(
     alloc: Global,
     p: &Pattern,
     t: &Ty,
-    positions: &[Position],
+    positions: &Positions,
     env: &mut Vec<Local>,
     s: Store,
 ) -> Result<Store, NoTyping>
@@ -114,7 +115,7 @@ pub fn matched_member(
     alloc: Global,
     p: &Pattern,
     t: &Ty,
-    positions: &[Position],
+    positions: &Positions,
     env: &mut Vec<Local>,
     s: Store,
 ) -> Result<Store, NoTyping>
@@ -135,7 +136,7 @@ pub fn matched_cell(
     q: &Pattern,
     rank: u64,
     t: &Ty,
-    positions: &[Position],
+    positions: &Positions,
     env: &mut Vec<Local>,
     s: Store,
 ) -> Result<Store, NoTyping>
@@ -169,7 +170,7 @@ pub fn index_rank(p: &Pattern) -> u64
 pub fn matched_index(
     alloc: Global,
     p: &Pattern,
-    positions: &[Position],
+    positions: &Positions,
     env: &mut Vec<Local>,
     s: Store,
 ) -> Result<Store, NoTyping>
@@ -192,7 +193,7 @@ pub fn matched_index(
 fn index_part(
     alloc: Global,
     p: &Pattern,
-    positions: &[Position],
+    positions: &Positions,
     env: &mut Vec<Local>,
     s: Store,
 ) -> Result<Store, NoTyping>
@@ -210,7 +211,7 @@ fn index_part(
 fn index_parts(
     alloc: Global,
     ps: &[Pattern],
-    positions: &[Position],
+    positions: &Positions,
     env: &mut Vec<Local>,
     s: Store,
 ) -> Result<Store, NoTyping>

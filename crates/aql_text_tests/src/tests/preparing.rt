@@ -274,6 +274,10 @@ val \i = 2; [[i | \i<3, \j<i]]; ~ nat / [[nat]]_2
 val \x = 1; macro \x = fn \y => y; x!true; let val \x = 2 in x end; ~ nat / 'a -> 'a / bool / nat
 val \x = 1; macro \f = fn \y => (x,y); val \x = true; f!"a"; ~ nat / 'a -> nat * 'a / bool / nat * string
 1; it; it; ~ nat / nat / nat
+# of positions with one name the latest before a use, and a macro's body keeps those before it
+val \x = 1; val \x = true; val \y = x; val \x = "a"; {x}; {y}; ~ nat / bool / bool / string / {string} / {bool}
+macro \f = fn \y => {y}; macro \g = fn \y => f!y; macro \f = fn \y => (y,y); (g!1,f!1); ~ 'a -> {'a} / 'a -> {'a} / 'a -> 'a * 'a / {nat} * (nat * nat)
+macro \fst = fn (_,\y) => y; fst!(1,true); ~ 'a * 'b -> 'b / bool
 let val \x = 1 val (\y,_) = (x,true) in {y} end; ~ {nat}"#;
 
 #[test]
@@ -290,7 +294,7 @@ fn types_of_scripts(rt: HostRuntime) -> Result<(), Memory> {
             rows = rows.saturating_add(1);
         }
     }
-    assert_eq!(rt; rows, 30);
+    assert_eq!(rt; rows, 33);
     Ok(())
 }
 
@@ -337,6 +341,9 @@ val \x = 1; x!2; ~ type 2
 {fst!(1,2) | \fst <- {1}}; ~ type 1
 macro \f = fn \x => f!x; ~ type 1
 let val \z = 1 in 2 end; macro \f = fn \x => z; ~ type 2
+# no declaration sees its own name, nor a later one
+val \x = 1; val \x = x = true; ~ type 2
+macro \f = fn \y => x; val \x = 1; ~ type 1
 # a local name has one type
 let val \s = {} in (s union {1}, s union {true}) end; ~ type 1
 # the bounds of a tabulation see none of its indices
@@ -362,7 +369,7 @@ fn first_faults(rt: HostRuntime) -> Result<(), Memory> {
             rows = rows.saturating_add(1);
         }
     }
-    assert_eq!(rt; rows, 33);
+    assert_eq!(rt; rows, 35);
     Ok(())
 }
 

@@ -5,6 +5,6 @@ use Rattle.aql_infer.proofs.check.infer_all_declarations.Given as goal
 
 abbrev pub invariant-loop-d : goal.invariant-loop-d
 invariant-loop-d l = record {
-  progress : Progress (decls_of (take l.d-index l.decls)) l.found.items;
-  count : length l.found.items ≡ l.d-index;
+  progress : Progress (decls_of (take l.d-index l.decls)) l.found;
+  count : length l.found ≡ l.d-index;
 }
