@@ -1,6 +1,8 @@
 -- What runs of the members of a loop and of the cells of a tabulation answer.
 use Rattle.std.specs.Prelude.{ℕ, List, Option, Result}
 use Rattle.std.proofs.Common.{Box, Global}
+use Rattle.std.specs.Option.{option_map}
+use Rattle.aql_value.specs.Canon.{canon}
 use Rattle.aql_value.specs.Datum.{Datum}
 use Rattle.aql_value.specs.Partial.{each, total}
 use Rattle.nrca_array.specs.declared.held.Held.{Held}
@@ -14,7 +16,7 @@ use Rattle.nrca_term.specs.View.{term_of, terms_of}
 use Rattle.nrca_loops.specs.declared.done.Counted.{Counted}
 use Rattle.nrca_loops.specs.declared.env.Env.{Env}
 use Rattle.nrca_loops.specs.declared.members.Members.{Members}
-use Rattle.nrca_loops.specs.Runs.{member_list, sum_value, union_value, all_members}
+use Rattle.nrca_loops.specs.Runs.{member_list, sum_value, union_value}
 use Rattle.nrca_loops.specs.Parts.{cell_in, numbers_in}
 use Rattle.nrca_loops.specs.Scope.{values, boxed_value}
 use Rattle.nrca_loops.specs.Within.{Within, itself}
@@ -25,7 +27,7 @@ abbrev pub Runs : {A : Type 0} → (Option (List Datum) → A) → ℕ → Outco
 Runs f budget V env body ms a b r =
     Within itself budget (f (run_values V (values env) (term_of body) (member_list ms) a b)) (run_turns V (values env) (term_of body) (member_list ms) a b) r
 
--- their sum; the set of the members that they have; and these members, one set after the other
+-- their sum
 abbrev pub Sums : ℕ → Outcomes → Env → Core → Members → ℕ → ℕ → Result (Counted (Option ℕ)) EvalFault → Type 0
 Sums = Runs sum_value
 
@@ -33,9 +35,10 @@ Sums = Runs sum_value
 abbrev pub Unites : ℕ → Outcomes → Env → Core → Members → ℕ → ℕ → Result (Counted (Option (List Datum))) EvalFault → Type 0
 Unites = Runs union_value
 
--- the members of the body's sets over the members a up to b, and what it takes there
-abbrev pub Lists : ℕ → Outcomes → Env → Core → Members → ℕ → ℕ → Result (Counted (Option (List Datum))) EvalFault → Type 0
-Lists = Runs all_members
+-- values, each perhaps several times, whose set is that of the body over the members a up to b, and what it takes there
+abbrev pub Collects : ℕ → Outcomes → Env → Core → Members → ℕ → ℕ → Result (Counted (Option (List Datum))) EvalFault → Type 0
+Collects budget V env body ms a b r =
+    Within (option_map canon) budget (union_value (run_values V (values env) (term_of body) (member_list ms) a b)) (run_turns V (values env) (term_of body) (member_list ms) a b) r
 
 -- the body's values at the indices a up to b below the dimensions, and what it takes there
 abbrev pub Fills : ℕ → Outcomes → Env → Core → List ℕ → ℕ → ℕ → Result (Counted (Option (List Datum))) EvalFault → Type 0

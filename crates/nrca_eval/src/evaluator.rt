@@ -7,23 +7,25 @@ ghost use Rattle.nrca_term.specs.View.{term_of, terms_of};
 ghost use Rattle.nrca_loops.specs.Runs.{member_list};
 ghost use Rattle.nrca_eval.specs.Parts.{is_strict_form, part_terms};
 ghost use Rattle.nrca_loops.specs.Evaluates.{Evaluates, EvaluatesAll, EvaluatesHeld, EvaluatesSet, default_of, if_of, let_of, sum_loop, tab_of, union_loop};
-ghost use Rattle.nrca_eval.specs.Loops.{EvaluatesCell, Fills, Lists, Sums, Unites};
+ghost use Rattle.nrca_eval.specs.Loops.{Collects, EvaluatesCell, Fills, Sums, Unites};
 
 use crate::index::strict_kept;
 use crate::joins::{joined_cells, joined_sets, joined_sums};
-use crate::pieces::{canon_in_threads, in_pieces};
+use crate::members::{finished, members_and};
+use crate::pieces::in_pieces;
 use crate::scope::{Mode, Scope};
 use aql_outside::Gate;
-use aql_value::{Ascending, Dims, Items, Value, saturating_product};
+use aql_value::{Ascending, Dims, Value, saturating_product};
 use nrca_array::{Builder, Held};
 use nrca_forms::{cell_boxed, dim_boxed, numbers, part_boxed, sum_of, table_of, union_of};
 use nrca_loops::{
-    Counted, Env, Members, Next, as_members, canon_of, cells_and, from_box, join_done, keep_part,
-    lent, members_and, members_below, members_of_both, parts_kept, position, set_index, sum_and,
-    to_box, truth_kept, variable, zeros,
+    Counted, Env, Members, Next, as_members, cells_and, from_box, join_done, keep_part, lent,
+    members_below, members_of_both, parts_kept, position, set_index, sum_and, to_box, truth_kept,
+    variable, zeros,
 };
 use nrca_par::EvalFault;
 use nrca_quick::{few, members_and_few, quick};
+use nrca_sets::Gather;
 use nrca_term::{Core, Terms};
 use std::alloc::Global;
 use std::thread::Threads;
@@ -441,11 +443,11 @@ fn union_members<R: Threads + Sync, G: Gate>(
     let Mode::Pieces(pool) = &scope.mode else {
         let run = members_run(scope, body, env, members, 0, count, budget)?;
         return Ok(Counted {
-            answer: canon_of(scope.alloc, run.answer)?,
+            answer: finished(scope.alloc, run.answer)?,
             turns: run.turns,
         });
     };
-    let (rt, alloc, globals) = (pool.rt, scope.alloc, scope.globals);
+    let (alloc, globals) = (scope.alloc, scope.globals);
     let run = move |from: u64, to: u64| -> Result<Counted<Option<Ascending>>, EvalFault>
         requires { (from ≤ to) × (to ≤ length (member_list members.now)) }
         ensures { Unites budget globals.entry.now env.entry.now body.entry.now members.entry.now
@@ -458,7 +460,7 @@ fn union_members<R: Threads + Sync, G: Gate>(
         };
         let run = members_run(&here, body, env, members, from, to, budget)?;
         Ok(Counted {
-            answer: canon_in_threads(rt, alloc, run.answer)?,
+            answer: finished(alloc, run.answer)?,
             turns: run.turns,
         })
     };
@@ -563,8 +565,8 @@ fn sum_run<R: Threads + Sync, G: Gate>(
     Ok(Counted { answer: sum, turns })
 }
 
-// The members that a body gives at the members from one number up to another, one set after the
-// other, and what the body takes there. The members of the loop are not counted.
+// The members that a body gives at the members from one number up to another, gathered as they
+// come, and what the body takes there. The members of the loop are not counted.
 #[cycle(eval)]
 fn members_run<R: Threads + Sync, G: Gate>(
     scope: &Scope<R, G>,
@@ -574,14 +576,12 @@ fn members_run<R: Threads + Sync, G: Gate>(
     from: u64,
     to: u64,
     budget: u64,
-) -> Result<Counted<Option<Items>>, EvalFault>
+) -> Result<Counted<Option<Gather>>, EvalFault>
     requires order { from ≤ to }
     requires within { to ≤ length (member_list members.now) }
-    ensures { Lists budget scope.now.globals.now env.now body.now members.now from to result }
+    ensures { Collects budget scope.now.globals.now env.now body.now members.now from to result }
 {
-    let mut all = Some(Items {
-        items: Vec::new(scope.alloc),
-    });
+    let mut all = Some(Gather::new(scope.alloc));
     let mut turns = 0;
     let mut sides = members.sides(from);
     for i in from..to {
@@ -593,13 +593,13 @@ fn members_run<R: Threads + Sync, G: Gate>(
         let inner = Env::Bound(&member, &*env);
         if let Some(set) = few(body, scope.globals, &inner) {
             drop(member);
-            all = members_and_few(all, set)?;
+            all = members_and_few(scope.alloc, all, set)?;
             continue;
         }
         let done = node(scope, body, &inner, budget - turns);
         drop(member);
         let done = done?;
-        all = members_and(all, from_box(done.answer))?;
+        all = members_and(scope.alloc, all, from_box(done.answer))?;
         turns += done.turns;
     }
     Ok(Counted { answer: all, turns })

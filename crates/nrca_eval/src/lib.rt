@@ -6,12 +6,13 @@
 //! a piece runs there. `eval` runs every loop where it stands.
 //!
 //! Read `specs/Parts`, `Runs` and `Loops` with `scope` and `evaluator`, one function a form and one a kind of loop, whose laws
-//! stand in `specs/Laws/Form`; then `specs/Gathered` with `pieces`, `joins` and `index`.
+//! stand in `specs/Laws/Form`, and `members`; then `specs/Gathered` with `pieces`, `joins` and `index`.
 #![tactic(auto)]
 
 mod evaluator;
 mod index;
 mod joins;
+mod members;
 mod pieces;
 mod scope;
 

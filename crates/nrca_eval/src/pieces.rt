@@ -1,15 +1,12 @@
 //! Loops in pieces.
 
 ghost use Rattle.std.specs.Prelude.{◌≡◌, ℕ, ◌<◌, ◌≤◌, IfOk, IfErr};
-ghost use Rattle.std.specs.Option.{option_map};
-ghost use Rattle.aql_value.specs.Canon.{canon};
 ghost use Rattle.nrca_par.specs.declared.fault.EvalFault.TheVariants.{Spent};
 ghost use Rattle.nrca_par.specs.Pieces.{IsPieceAnswer, Joins, SpentOnRun};
 
 use crate::scope::Pool;
 use aql_outside::Gate;
-use aql_value::{Ascending, Items, Memory};
-use nrca_par::{EvalFault, canon_wide, map_pieces};
+use nrca_par::{EvalFault, map_pieces};
 use std::alloc::Global;
 use std::thread::Threads;
 
@@ -39,18 +36,4 @@ pub(crate) fn in_pieces<
     let mut whole = Vec::new(alloc);
     whole.push(work(0, n)?)?;
     Ok(whole)
-}
-
-/// The set of the members, sorted in as many threads as there are processors.
-pub(crate) fn canon_in_threads<R: Threads + Sync>(
-    rt: &R,
-    alloc: Global,
-    members: Option<Items>,
-) -> Result<Option<Ascending>, Memory>
-    ensures { IfOk result (λ set. set ≡ option_map canon members) }
-{
-    match members {
-        Some(members) => Ok(Some(canon_wide(rt, alloc, members)?)),
-        None => Ok(None),
-    }
 }

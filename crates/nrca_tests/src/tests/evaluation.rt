@@ -166,7 +166,7 @@ fn variables_positions_and_choices(rt: HostRuntime) -> Result<(), Fail> {
     meets(&rt, rt.alloc(), &VARIABLES_POSITIONS_AND_CHOICES)
 }
 
-const SUMS_AND_SETS: [Row; 14] = [
+const SUMS_AND_SETS: [Row; 22] = [
     ("1000 gen v0 S", "499500", 2000),
     ("0 gen bot S", "0", 0),
     ("5 v0 S", "undefined", 0),
@@ -181,6 +181,37 @@ const SUMS_AND_SETS: [Row; 14] = [
     ("3 gen 2 gen v1 v0 + one U U", "0 1 2 3 set4", 18),
     ("5 gen 4 gen v1 v0 * S S", "60", 50),
     ("10 gen v0 2 % one U 1 S", "2", 22),
+    // repeats are dropped as the members come, and none is lost where that happens
+    ("3000 gen v0 7 % one U v0 S", "21", 6007),
+    ("3000 gen v0 one U v0 S", "4498500", 9000),
+    (
+        "3000 gen v0 3 % v0 2 % tup2 one U v0 p1/2 10 * v0 p2/2 + S",
+        "63",
+        6006,
+    ),
+    // numbers and pairs of 64 bits, and members past them or of another kind between these
+    (
+        "3 gen 18446744073709551614 v0 + one U v0 18446744073709551614 - S",
+        "3",
+        9,
+    ),
+    (
+        "3 gen v0 1 = v0 v0 tup2 one v0 one if U",
+        "0 2 1 1 tup2 set3",
+        6,
+    ),
+    (
+        "2 gen v0 one v0 2 tup2 one u U",
+        "0 1 0 2 tup2 1 2 tup2 set4",
+        4,
+    ),
+    (
+        "3 gen 5 v0 - 1 tup2 one U",
+        "3 1 tup2 4 1 tup2 5 1 tup2 set3",
+        6,
+    ),
+    // one is undefined
+    ("3 gen 6 v0 / v0 tup2 one U", "undefined", 6),
 ];
 
 #[test]
@@ -214,7 +245,7 @@ fn arrays(rt: HostRuntime) -> Result<(), Fail> {
     meets(&rt, rt.alloc(), &ARRAYS)
 }
 
-const INDICES: [Row; 5] = [
+const INDICES: [Row; 8] = [
     (
         "0 5 tup2 one 2 7 tup2 one u 0 6 tup2 one u idx1",
         "3 5 6 set2 set0 7 set1 arr1.3",
@@ -224,6 +255,10 @@ const INDICES: [Row; 5] = [
     ("{} idx1", "0 arr1.0", 0),
     ("max 1 tup2 one idx1", "undefined", 1),
     ("5 one idx1", "undefined", 1),
+    // pairs with equal first numbers, in pieces, and an index past the end
+    ("8 gen v0 3 % v0 tup2 one U idx1 2 sub1", "2 5 set2", 27),
+    ("8 gen v0 3 % v0 tup2 one U idx1 3 sub1", "undefined", 27),
+    ("2 gen 5 v0 tup2 one U idx1 dim1", "6", 12),
 ];
 
 #[test]

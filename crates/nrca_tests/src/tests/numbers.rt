@@ -5,7 +5,7 @@ use aql_value::made::both;
 use aql_value::{Memory, Value};
 use nrca_array::{Flat, Held};
 use nrca_loops::{Env, Globals};
-use nrca_quick::{AtMostOne, few, quick};
+use nrca_quick::{AtMostOne, Small, few, quick};
 use std::alloc::Global;
 use std::test::Fail;
 
@@ -93,8 +93,11 @@ fn numbers_are_found(rt: HostRuntime) -> Result<(), Fail> {
     Ok(())
 }
 
+// A member that is found: a number, or a pair of two.
+type Member = (u64, Option<u64>);
+
 // The members of the set that is found of a term, with the same positions and variables.
-fn members(alloc: Global, words: &str) -> Result<Option<Option<u64>>, Memory> {
+fn members(alloc: Global, words: &str) -> Result<Option<Option<Member>>, Memory> {
     let (term, globals) = both(term(alloc, words), positions(alloc))?;
     let nine = Held::Value(Value::Nat(9));
     let outer = Env::Bound(&nine, &Env::Empty);
@@ -104,27 +107,41 @@ fn members(alloc: Global, words: &str) -> Result<Option<Option<u64>>, Memory> {
     drop(nine);
     Ok(match set {
         Some(AtMostOne::Nothing) => Some(None),
-        Some(AtMostOne::One(number)) => Some(Some(number)),
+        Some(AtMostOne::One(Small::Number(n))) => Some(Some((n, None))),
+        Some(AtMostOne::One(Small::Pair(m, n))) => Some(Some((m, Some(n)))),
         None => None,
     })
 }
 
-const SETS: [(&str, Option<Option<u64>>); 14] = [
+const SETS: [(&str, Option<Option<Member>>); 21] = [
     ("{}", Some(None)),
-    ("v0 one", Some(Some(4))),
-    ("18446744073709551615 one", Some(Some(18446744073709551615))),
+    ("v0 one", Some(Some((4, None)))),
+    (
+        "18446744073709551615 one",
+        Some(Some((18446744073709551615, None))),
+    ),
     ("18446744073709551615 1 + one", None),
     // undefined
     ("17 0 / one", None),
-    ("v0 v1 < v0 one {} if", Some(Some(4))),
+    ("v0 v1 < v0 one {} if", Some(Some((4, None)))),
     ("v1 v0 < v0 one {} if", Some(None)),
     ("v1 0 / v0 < v0 one {} if", None),
     ("v1 v0 < 17 0 / one {} if", Some(None)),
-    ("v0 1 + v0 one let", Some(Some(5))),
-    ("g2 v0 3 - sub1 v0 one let", Some(Some(6))),
-    ("g2 v0 1 sub1 one let", Some(Some(6))),
+    ("v0 1 + v0 one let", Some(Some((5, None)))),
+    ("g2 v0 3 - sub1 v0 one let", Some(Some((6, None)))),
+    ("g2 v0 1 sub1 one let", Some(Some((6, None)))),
     ("g3 one", None),
     ("5 gen", None),
+    ("v0 v1 tup2 one", Some(Some((4, Some(9))))),
+    ("v1 v0 tup2 one", Some(Some((9, Some(4))))),
+    (
+        "1 18446744073709551615 tup2 one",
+        Some(Some((1, Some(18446744073709551615)))),
+    ),
+    ("1 18446744073709551615 1 + tup2 one", None),
+    ("max 1 tup2 one", None),
+    ("1 0 / 1 tup2 one", None),
+    ("1 2 tup2 3 tup2 one", None),
 ];
 
 #[test]

@@ -248,11 +248,12 @@ enum Compound {
     Array(usize, usize),
 }
 
-const COMPOUNDS: [(&str, Compound); 13] = [
+const COMPOUNDS: [(&str, Compound); 14] = [
     ("tup2", Compound::Tuple(2)),
     ("set0", Compound::Set(0)),
     ("set1", Compound::Set(1)),
     ("set2", Compound::Set(2)),
+    ("set3", Compound::Set(3)),
     ("set4", Compound::Set(4)),
     ("set5", Compound::Set(5)),
     ("arr1.0", Compound::Array(1, 0)),

@@ -3,6 +3,7 @@ use Rattle.std.proofs.Common.{◌≡◌, ◌<◌, ◌∷◌, ◌++◌, [], lengt
 use Rattle.std.specs.Option.{option_map}
 use Rattle.std.specs.Prelude.{slice_get}
 use Rattle.std.proofs.lemmas.Option.{slice_get_within}
+use Rattle.aql_value.specs.Canon.{canon}
 use Rattle.aql_value.specs.Datum.{Datum, natural, set, data_of}
 use Rattle.aql_value.specs.Indices.{product, indices}
 use Rattle.aql_value.specs.Operations.{walked}
@@ -19,16 +20,18 @@ use Rattle.nrca_term.specs.Laws.Variants.{settle-tab}
 use Rattle.nrca_term.specs.View.{term_of, terms_of}
 use Rattle.nrca_term.specs.Laws.WellFormed.{well_formed-Core}
 use Rattle.nrca_loops.specs.Parts.{numbers_in, parts_value, strict_of, strict_in, table_in}
-use Rattle.nrca_loops.specs.Laws.Run.{range_whole, each-range_more, each-range_split, total-range_more, sum_value-with, sum_value-join, all_members-with, union_value-join}
-use Rattle.nrca_loops.specs.Runs.{member_list, members_value, members_with, list_with, all_members, lists_join, sets_join, sum_value, sum_with, sums_join, union_value}
-use Rattle.nrca_loops.specs.Scope.{values, boxed_value, held_value}
+use Rattle.nrca_loops.specs.Laws.Run.{range_whole, each-range_more, each-range_split, total-range_more, sum_value-with, sum_value-join, union_value-join}
+use Rattle.nrca_loops.specs.Runs.{member_list, members_value, list_with, lists_join, sets_join, sum_value, sum_with, sums_join, union_value}
+use Rattle.nrca_loops.specs.Scope.{values, boxed_value, held_value, set_in}
 use Rattle.nrca_loops.specs.Within.{itself}
 use Rattle.nrca_loops.specs.Laws.Within.{err_within, same_within}
+use Rattle.nrca_eval.specs.Laws.Union.{union_value-with}
 use Rattle.nrca_eval.specs.Laws.Form.{count-children, child_of-children, strict_whole, strict_taken, sum_whole, sum_taken, union_whole, union_taken, tab_none, tab_whole, tab_idle, tab_taken}
 use Rattle.nrca_eval.specs.Parts.{children}
 use Rattle.nrca_eval.specs.Runs.{run_values, run_turns, cell_values, cell_turns}
 use Rattle.nrca_eval.proofs.Evaluated.{at_answer, at_fault, member_weight, sub_weight, tab_weight, strict_form, spent_within, spent_whole, written}
 use Rattle.nrca_eval.proofs.Joined.{total_wider, whole_within}
+use Rattle.nrca_quick.specs.Laws.Few.{few_in}
 use Rattle.nrca_quick.specs.Laws.Lent.{term_at, sub_lent, sub_free}
 use Rattle.nrca_eval.proofs.evaluator.+eval.Goals as goal
 use Rattle.nrca_term.specs.Laws.Entering.{child-there}
@@ -337,7 +340,7 @@ members_run-returns-in_err-done g t c =
     let m = held_datum c.in_ok-member.field-0.member in
     let inv = c.loop-i.invariant in
     let at = c.in_ok-member.ensures.0 in
-    err_within itself _ _ _ _ c.in_err-done.field-0.0 c.from_residual-in_err-done.ensures.0 c.from_residual-in_err-done.ensures.1
+    err_within (option_map canon) _ _ _ _ c.in_err-done.field-0.0 c.from_residual-in_err-done.ensures.0 c.from_residual-in_err-done.ensures.1
     (λ s. spent_within g ms c.args.from c.loop-i.i c.args.to m c.args.budget c.loop-i.turns (omega arith) (omega arith) at inv.1 inv.2 (c.in_err-done.ensures s))
 
 pub members_run-loop-i-preserved : goal.members_run-loop-i-preserved
@@ -352,7 +355,7 @@ members_run-loop-i-preserved g t c =
     let inv = c.loop-i.invariant in
     let at = c.in_ok-member.ensures.0 in
     let done = c.in_ok-done.ensures in (
-      c.in_ok-all-2.ensures ∙ (λ k. members_with (inv.0 k) ((c.from_box.ensures ∙ done.0) k)) ∙ sym (all_members-with (run_values V vals b ms c.args.from c.loop-i.i) (f m)) ∙ ap all_members (sym (each-range_more f g ms c.args.from c.loop-i.i m (omega arith) at)),
+      c.in_ok-all-2.ensures ∙ (λ k. sets_join (inv.0 k) (set_in ((c.from_box.ensures ∙ done.0) k))) ∙ sym (union_value-with (run_values V vals b ms c.args.from c.loop-i.i) (f m)) ∙ ap union_value (sym (each-range_more f g ms c.args.from c.loop-i.i m (omega arith) at)),
       omega (arith, total-range_more f g ms c.args.from c.loop-i.i m (omega arith) at, inv.1, done.1),
       omega (arith, inv.2, done.1, done.2),
       c.in_ok-member.ensures.1,
@@ -369,7 +372,7 @@ members_run-loop-i-preserved-in-Some g t c =
     let m = held_datum c.in_ok-member.field-0.member in
     let inv = c.loop-i.invariant in
     let at = c.in_ok-member.ensures.0 in (
-      c.in_ok-all.ensures ∙ (λ k. members_with (inv.0 k) ((sym c.in-Some.ensures.value) k)) ∙ sym (all_members-with (run_values V vals b ms c.args.from c.loop-i.i) (f m)) ∙ ap all_members (sym (each-range_more f g ms c.args.from c.loop-i.i m (omega arith) at)),
+      c.in_ok-all.ensures ∙ (λ k. sets_join (inv.0 k) ((few_in c.in-Some.set ∙ ap set_in (sym c.in-Some.ensures.value)) k)) ∙ sym (union_value-with (run_values V vals b ms c.args.from c.loop-i.i) (f m)) ∙ ap union_value (sym (each-range_more f g ms c.args.from c.loop-i.i m (omega arith) at)),
       omega (arith, total-range_more f g ms c.args.from c.loop-i.i m (omega arith) at, inv.1, c.in-Some.ensures.turns),
       omega (arith, inv.2),
       c.in_ok-member.ensures.1,

@@ -1,4 +1,6 @@
 use Rattle.std.proofs.Common.{◌≡◌, ◌+◌, ◌*◌, ◌≤◌, length}
+use Rattle.std.specs.Option.{option_map}
+use Rattle.aql_value.specs.Canon.{canon}
 use Rattle.aql_value.specs.Partial.{each, total}
 use Rattle.nrca_term.specs.Meaning.{cden}
 use Rattle.nrca_term.specs.Term.{weight_of, list_weight, parts_of}
@@ -7,7 +9,7 @@ use Rattle.nrca_term.specs.View.{term_of, terms_of}
 use Rattle.std.specs.List.{slice_range}
 use Rattle.nrca_loops.specs.Parts.{parts_value}
 use Rattle.nrca_loops.specs.Scope.{values}
-use Rattle.nrca_loops.specs.Runs.{member_list, sum_value, all_members}
+use Rattle.nrca_loops.specs.Runs.{member_list, sum_value, union_value}
 use Rattle.nrca_loops.specs.Walks.{IsAt}
 use Rattle.nrca_eval.specs.Parts.{children}
 use Rattle.nrca_eval.specs.Runs.{run_values, run_turns, cell_values, cell_turns}
@@ -100,7 +102,7 @@ invariant-sum_run-loop-i g l =
 
 abbrev pub invariant-members_run-loop-i : goal.invariant-members_run-loop-i
 invariant-members_run-loop-i g l =
-    (l.all ≡ all_members (run_values l.scope.globals.now (values l.env) (term_of l.body) (member_list l.members) l.from l.i))
+    (option_map canon l.all ≡ union_value (run_values l.scope.globals.now (values l.env) (term_of l.body) (member_list l.members) l.from l.i))
     × (l.turns ≡ run_turns l.scope.globals.now (values l.env) (term_of l.body) (member_list l.members) l.from l.i)
     × (l.turns ≤ l.budget)
     × IsAt l.members l.i l.sides
