@@ -44,13 +44,16 @@ impl<'a, R: rt::Files> FileSystem<'a, R> {
         ensures bound { IfOk result (λ count. count ≤ length into.new) }
         ensures faults { self.new.faults ≡ self.old.faults }
     {
-        let mut file = match self.open.take() {
-            Some(file) => file.renamed(self.rt, name)?,
-            None => OpenedFile::open(self.rt, name)?,
-        };
-        let count = file.read_from(at, into)?;
-        self.open = Some(file);
-        Ok(count)
+        let is_open = self.open.as_ref().is_some_and(|file| file.has(name));
+        if !is_open {
+            // (the one before is closed first)
+            self.open = None;
+            self.open = Some(OpenedFile::open(self.rt, name)?);
+        }
+        match &mut self.open {
+            Some(file) => file.read_from(at, into),
+            None => unreachable!(),
+        }
     }
 }
 
@@ -79,6 +82,7 @@ impl<R: rt::Files> Files for FileSystem<'_, R> {
         match self.read_open(name, at, into) {
             Ok(count) => Ok(count),
             Err(_) => {
+                self.open = None;
                 self.faults = self.faults.saturating_add(1);
                 Err(Failed)
             }

@@ -8,12 +8,14 @@ use std::{fs, rt};
 /// The most bytes of a name that is kept. A file with a longer one is opened for each read.
 const LONGEST: usize = 255;
 
-/// An open file, and the first bytes of its name, as many as the name has where it is kept whole.
+/// An open file, the first bytes of its name, as many as the name has where it is kept whole, and the
+/// offset at which the system stands in it. A file of which a call failed is not used any more.
 #[derive(Drop)]
 pub(crate) struct OpenedFile<F> {
     name: [u8; LONGEST],
     len: usize,
     file: F,
+    at: u64,
 }
 
 impl<F: Read + Seek> OpenedFile<F> {
@@ -25,28 +27,26 @@ impl<F: Read + Seek> OpenedFile<F> {
             name: kept,
             len,
             file,
+            at: 0,
         })
     }
 
-    /// This file where it has the name, and else the one that has it.
-    pub fn renamed<R: rt::Files<File = F>>(self, rt: &R, name: &str) -> io::Result<Self> {
-        if self.has(name) {
-            Ok(self)
-        } else {
-            OpenedFile::open(rt, name)
-        }
-    }
-
-    fn has(&self, name: &str) -> bool {
+    /// Whether this is the file of the name.
+    pub fn has(&self, name: &str) -> bool {
         self.len <= LONGEST && &self.name[..self.len] == name.as_bytes()
     }
 
-    /// Reads from an offset on, until the piece is full or a read gives nothing.
+    /// Reads from an offset on, until the piece is full or a read gives nothing. Where the piece before ended there the
+    /// system stands there already.
     pub fn read_from(&mut self, at: u64, into: &mut [u8]) -> io::Result<usize>
         ensures { IfOk result (λ count. count ≤ length into.new) }
     {
-        self.file.seek(SeekFrom::Start(at))?;
-        read_full(&mut self.file, into)
+        if at != self.at {
+            self.file.seek(SeekFrom::Start(at))?;
+        }
+        let count = read_full(&mut self.file, into)?;
+        self.at = at.saturating_add(count as u64);
+        Ok(count)
     }
 }
 
