@@ -1,6 +1,6 @@
 """Scripts of the language as trees, their core terms, and what these are worth.
 
-For bench/random_plans.py and bench/random_motion.py. Parser, translation and evaluation are written from the language, and share
+For bench/random_plans.py, random_motion.py and random_graph.py. Parser, translation and evaluation are written from the language, and share
 nothing with the program.
 """
 

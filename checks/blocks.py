@@ -26,7 +26,7 @@ from pathlib import Path
 
 ROOT = Path(__file__).resolve().parent.parent
 PAGES = ["README.md", "docs/LANGUAGE.md", "docs/RECIPES.md"]
-PRINTED = re.compile(r"(typ \S+ : |val [^\\ ]+ = |mac |plan \S+ = |rules \S+ = |turns \S+ = |moved \S+ = |moves \S+ = |fault )")
+PRINTED = re.compile(r"(typ \S+ : |val [^\\ ]+ = |mac |plan \S+ = |rules \S+ = |turns \S+ = |moved \S+ = |moves \S+ = |graph \S+ = |fault )")
 STATED = re.compile(r"^(.*;)\s*\(\* ([^:]*): (.*) \*\)$")
 
 

@@ -121,7 +121,7 @@ next_there p n d k h is e =
 
 pub stepped : (p : Prepared) (o : Settings) (holds : Option Content) (answers : List Answer) (s s' : Bound) (a : Answer) (n : ℕ) (d : Declaration) → IsPrepared p →
     n ≡ prelude_count + 1 + length answers → Progress p o holds answers s → slice_get (decls_of p.decls.items.items) (n - 1) ≡ Some d →
-    IsAnswer d (earlier_of (decls_of p.decls.items.items) (outcomes s)) (slice_get (sorts_in p) (n - 1)) o.motion a →
+    IsAnswer d (earlier_of (decls_of p.decls.items.items) (outcomes s)) (slice_get (sorts_in p) (n - 1)) o.motion o.graph o.budget a →
     IsAnswerable d (earlier_of (decls_of p.decls.items.items) (outcomes s)) o.budget holds →
     BindsPosition d (earlier_of (decls_of p.decls.items.items) (outcomes s)) o.budget holds s s' a → HasStepped p o holds answers s s' a
 stepped p o holds answers s s' a n d h is so_far e answer answerable binds =
@@ -140,8 +140,8 @@ stepped p o holds answers s s' a n d h is so_far e answer answerable binds =
         types = subst (λ (V : Outcomes). OutcomesFit (earlier_of (positions (own p)) V)) (sym more) has;
         answered = subst (λ (V : Outcomes). AreAnswered (own p) (sorts_in p) o holds (answers ++ a ∷ []) V) (sym more)
             (answered_more (own p) (sorts_in p) o holds answers (outcomes s) d a binds.outcome so_far.answered there (record {
-              answer = subst (λ (k : ℕ). IsAnswer d (earlier_of (positions (own p)) (outcomes s)) (slice_get (sorts_in p) k) o.motion a) at
-                  (subst (λ (ds : List Declaration). IsAnswer d (earlier_of ds (outcomes s)) (slice_get (sorts_in p) (n - 1)) o.motion a) h.all answer);
+              answer = subst (λ (k : ℕ). IsAnswer d (earlier_of (positions (own p)) (outcomes s)) (slice_get (sorts_in p) k) o.motion o.graph o.budget a) at
+                  (subst (λ (ds : List Declaration). IsAnswer d (earlier_of ds (outcomes s)) (slice_get (sorts_in p) (n - 1)) o.motion o.graph o.budget a) h.all answer);
               answerable = subst (λ (ds : List Declaration). IsAnswerable d (earlier_of ds (outcomes s)) o.budget holds) h.all answerable;
               outcome = subst (λ (ds : List Declaration). IsOutcome d (earlier_of ds (outcomes s)) holds binds.outcome) h.all binds.is;
               told = subst (λ (ds : List Declaration). ForSome holds (λ files. outcome_after (reading files) d (globals_of (earlier_of ds (outcomes s))) ≡ Some binds.outcome)) h.all binds.told;
@@ -206,7 +206,7 @@ outcome_last V o n k many is =
 
 pub has_stepped : (p : Prepared) (o : Settings) (holds : Option Content) (answers : List Answer) (s s' : Bound) (a : Answer) (n : ℕ) → IsPrepared p →
     n ≡ prelude_count + 1 + length answers → n ≤ length p.decls.items.items → Progress p o holds answers s →
-    ((d : Declaration) → slice_get (decls_of p.decls.items.items) (n - 1) ≡ Some d → IsAnswer d (earlier_of (decls_of p.decls.items.items) (outcomes s)) (slice_get (sorts_in p) (n - 1)) o.motion a) →
+    ((d : Declaration) → slice_get (decls_of p.decls.items.items) (n - 1) ≡ Some d → IsAnswer d (earlier_of (decls_of p.decls.items.items) (outcomes s)) (slice_get (sorts_in p) (n - 1)) o.motion o.graph o.budget a) →
     ((d : Declaration) → slice_get (decls_of p.decls.items.items) (n - 1) ≡ Some d → IsAnswerable d (earlier_of (decls_of p.decls.items.items) (outcomes s)) o.budget holds) →
     ((d : Declaration) → slice_get (decls_of p.decls.items.items) (n - 1) ≡ Some d → BindsPosition d (earlier_of (decls_of p.decls.items.items) (outcomes s)) o.budget holds s s' a) →
     HasStepped p o holds answers s s' a

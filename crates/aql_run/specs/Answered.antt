@@ -22,7 +22,7 @@ use Rattle.aql_run.specs.Settings.{Settings}
 -- the answer of a declaration after others, and its outcome: what it denotes or reads; where the files are told, the script's
 -- outcome over them; and which term counts, with what it and reading the outcome took
 pub record IsAnswered (d : Declaration) (earlier : Earlier) (sort : Option Sort) (settings : Settings) (holds : Option Content) (a : Answer) (o : Option Datum) : Type 0 where
-  pub answer : IsAnswer d earlier sort settings.motion a
+  pub answer : IsAnswer d earlier sort settings.motion settings.graph settings.budget a
   pub answerable : IsAnswerable d earlier settings.budget holds
   pub outcome : IsOutcome d earlier holds o
   pub told : ForSome holds (λ files. outcome_after (reading files) d (globals_of earlier) ≡ Some o)

@@ -2,9 +2,13 @@
 use Rattle.std.specs.Prelude.{ℕ, Bool, List, [], ◌∷◌, ◌++◌, Option, Some, None, option_map, codes, decimal, if◌then◌else◌}
 use Rattle.std.specs.Borrow.{Bor}
 use Rattle.aql_value.specs.Datum.{Datum}
+use Rattle.aql_value.specs.Meaning.{datum}
 use Rattle.aql_types.specs.View.{sort_of}
 use Rattle.nrca_array.specs.Held.{held_datum}
 use Rattle.nrca_array.specs.declared.held.Held.{Held}
+use Rattle.nrca_encoded.specs.declared.ran.Graph.{Graph}
+use Rattle.nrca_encoded.specs.declared.ran.GraphRan.{GraphRan}
+use Rattle.nrca_encoded.specs.declared.ran.GraphRan.TheVariants as graph_ran
 use Rattle.nrca_motion.specs.declared.still.Moved.{Moved}
 use Rattle.nrca_term.specs.View.{term_of}
 use Rattle.aql_print.specs.CoreText.{core_text}
@@ -64,9 +68,21 @@ abbrev pub plan_lines : Ran → Answer → List ℕ
 plan_lines ran.Declared a = []
 plan_lines _ a = plan_line a ++ (rules_line a ++ (turns_line a ++ moved_lines a.name a.moved))
 
--- the lines of a declaration with its outcome, and with the plan and what is moved in it where that is asked for
+-- what an array-free form came to
+abbrev pub graph_text : GraphRan → List ℕ
+graph_text graph_ran.Spent = codes "spent"
+graph_text graph_ran.Undefined = codes "undefined"
+graph_text (graph_ran.Value v) = text (datum v)
+
+-- of a query's plan; without the word `--graph`, and of a macro and a readval, nothing
+abbrev pub graph_line : (name : List ℕ) → Option Graph → List ℕ
+graph_line name None = []
+graph_line name (Some g) = line (codes "graph ") name (codes " = ") (graph_text g.ran)
+
+-- the lines of a declaration with its outcome, with the plan and what is moved in it where that is asked for, and at the end what the
+-- array-free form of its plan came to, where there is one
 abbrev pub entry : (plan : Bool) → Answer → Option Datum → List ℕ
-entry plan a o = type_line a ++ (value_line a.by a.name o ++ (if plan then plan_lines a.by a else []))
+entry plan a o = type_line a ++ (value_line a.by a.name o ++ ((if plan then plan_lines a.by a else []) ++ graph_line a.name a.graph))
 
 -- the lines of several, in order
 abbrev pub entries : (plan : Bool) → List Answer → List (Option Datum) → List ℕ

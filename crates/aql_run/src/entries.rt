@@ -1,12 +1,12 @@
 //! The lines of a declaration.
-ghost use Rattle.std.specs.Prelude.{◌≡◌, ◌++◌, codes, IfOk, OnOk};
+ghost use Rattle.std.specs.Prelude.{◌≡◌, ◌++◌, [], codes, IfOk, OnOk, if◌then◌else◌};
 ghost use Rattle.nrca_term.specs.View.{term_of};
 ghost use Rattle.aql_print.specs.CoreText.{core_text};
 ghost use Rattle.aql_print.specs.MovesText.{moves_text};
-ghost use Rattle.aql_run.specs.Entry.{entry, lent, line, type_line, value_line, plan_line, plan_lines, rules_line, turns_line, moved_lines, outcome_text};
+ghost use Rattle.aql_run.specs.Entry.{entry, lent, line, type_line, value_line, plan_line, plan_lines, rules_line, turns_line, moved_lines, outcome_text, graph_line, graph_text};
 
-use aql_print::{print_core, print_held, print_moves, print_scheme, print_trace};
-use aql_session::{Answer, Ran};
+use aql_print::{print_core, print_held, print_moves, print_scheme, print_trace, print_value};
+use aql_session::{Answer, Graph, GraphRan, Ran};
 use aql_value::Memory;
 use itoa::Buffer;
 use nrca_array::Held;
@@ -15,7 +15,8 @@ use nrca_term::Core;
 use std::alloc::Global;
 
 /// The lines of a declaration: its type, its value or that it is a macro, and with `plan` its plan,
-/// the rules that made it, its turns, and what is moved in the plan, where there is something.
+/// the rules that made it, its turns, and what is moved in the plan, where there is something; at the
+/// end what the array-free form of the plan came to, where there is one.
 pub fn entry_text(
     alloc: Global,
     plan: bool,
@@ -27,9 +28,8 @@ pub fn entry_text(
     let mut text = Vec::new(alloc);
     push_type(alloc, answer, &mut text)?;
     push_value(alloc, answer, outcome, &mut text)?;
-    if plan {
-        push_plan(alloc, answer, &mut text)?;
-    }
+    push_asked(alloc, plan, answer, &mut text)?;
+    push_graph(alloc, &answer.name.bytes, &answer.graph, &mut text)?;
     Ok(text)
 }
 
@@ -85,6 +85,18 @@ fn push_outcome(
     }
     text.extend_from_slice(b"\n")?;
     Ok(())
+}
+
+// With `plan` the lines of the plan.
+fn push_asked(alloc: Global, plan: bool, answer: &Answer, text: &mut Vec<u8>) -> Result<(), Memory>
+    ensures { OnOk result (text.new.items ≡ text.old.items
+        ++ (if plan then plan_lines answer.now.by answer.now else [])) }
+{
+    if plan {
+        push_plan(alloc, answer, text)
+    } else {
+        Ok(())
+    }
 }
 
 fn push_plan(alloc: Global, answer: &Answer, text: &mut Vec<u8>) -> Result<(), Memory>
@@ -185,6 +197,36 @@ fn push_moves(alloc: Global, name: &[u8], moves: &Moves, text: &mut Vec<u8>) -> 
     text.extend_from_slice(name)?;
     text.extend_from_slice(b" = ")?;
     print_moves(alloc, moves, text)?;
+    text.extend_from_slice(b"\n")?;
+    Ok(())
+}
+
+fn push_graph(
+    alloc: Global,
+    name: &[u8],
+    graph: &Option<Graph>,
+    text: &mut Vec<u8>,
+) -> Result<(), Memory>
+    ensures { OnOk result (text.new.items ≡ text.old.items ++ graph_line name.now graph.now) }
+{
+    match graph {
+        Some(graph) => push_ran(alloc, name, &graph.ran, text),
+        None => Ok(()),
+    }
+}
+
+fn push_ran(alloc: Global, name: &[u8], ran: &GraphRan, text: &mut Vec<u8>) -> Result<(), Memory>
+    ensures { OnOk result (text.new.items ≡ text.old.items
+        ++ line (codes "graph ") name.now (codes " = ") (graph_text ran.now)) }
+{
+    text.extend_from_slice(b"graph ")?;
+    text.extend_from_slice(name)?;
+    text.extend_from_slice(b" = ")?;
+    match ran {
+        GraphRan::Spent => text.extend_from_slice(b"spent")?,
+        GraphRan::Undefined => text.extend_from_slice(b"undefined")?,
+        GraphRan::Value(value) => print_value(alloc, value, text)?,
+    }
     text.extend_from_slice(b"\n")?;
     Ok(())
 }

@@ -1,5 +1,6 @@
 mod devices;
 mod examples;
+mod graph;
 mod limits;
 mod motion;
 mod netcdf;

@@ -1,18 +1,11 @@
 -- The positions of a session: names and outcomes side by side, and the last position of each name.
 use Rattle.std.proofs.Common.{◌≡◌, ℕ, suc, ◌+◌, ◌-◌, ◌<◌, ◌≤◌, Bool, true, false, List, [], ◌∷◌, ◌++◌, length, map, get_or, Option, Some, None, refl, sym, ap, ◌∙◌, arith, length-append, if◌then◌else◌}
-use Rattle.std.specs.Prelude.{slice_get}
-use Rattle.std.specs.Option.{option_map}
 use Rattle.std.specs.List.{zip}
-use Rattle.std.proofs.lemmas.Option.{slice_get-map, slice_get-get_or, slice_get_past}
-use Rattle.std.proofs.lemmas.List.{length-map}
 use Rattle.std.specs.Global.{Vec}
 use Rattle.indexmap.specs.IndexMap.{IndexMap}
 use Rattle.aql_value.specs.Datum.{Datum}
-use Rattle.aql_value.specs.Partial.{◌>>=◌, or_else}
-use Rattle.nrca_array.specs.declared.held.Held.{Held}
-use Rattle.nrca_array.specs.Held.{held_datum}
-use Rattle.nrca_loops.specs.Scope.{held_value}
-use Rattle.nrca_term.specs.Meaning.{Outcomes, outcome}
+use Rattle.aql_value.specs.Partial.{or_else}
+use Rattle.nrca_term.specs.Meaning.{Outcomes}
 use Rattle.aql_syntax.specs.Names.{names_equal}
 use Rattle.aql_syntax.specs.Tree.{Name}
 use Rattle.aql_session.specs.Bound.{names, outcomes, last_from}
@@ -53,25 +46,6 @@ last_from-push n (z ∷ ys) y x =
     ap (λ o. or_else o (if names_equal x z then Some n else None)) (last_from-push (n + 1) ys y x)
     ∙ or_else-assoc (if names_equal x y then Some (n + 1 + length ys) else None) (last_from (n + 1) ys x) (if names_equal x z then Some n else None)
     ∙ ap (λ k. or_else (if names_equal x y then Some k else None) (or_else (last_from (n + 1) ys x) (if names_equal x z then Some n else None))) e
-
-pub held-copied : {B : Type 0} (now : B → Held) (r : Option B) → option_map (λ h. held_datum (now h)) r ≡ held_value (option_map now r)
-held-copied now None = refl
-held-copied now (Some h) = refl
-
-outcome_at : (V : Outcomes) (n i : ℕ) → n ≡ suc i → outcome V n ≡ (slice_get V i >>= λ o. o)
-outcome_at V n i e = ap (outcome V) e
-
--- the value at a place
-pub value-there : (hs : List (Option Held)) (n : ℕ) (x : Option Held) → (n ≡ 0 → ⊥) → n - 1 < length hs → x ≡ get_or hs (n - 1) x → held_value x ≡ outcome (map held_value hs) n
-value-there hs n x z l g =
-    sym (outcome_at (map held_value hs) n (n - 1) (omega (arith, z))
-    ∙ ap (λ o. o >>= λ v. v) (slice_get-map held_value hs (n - 1) ∙ ap (option_map held_value) (slice_get-get_or hs (n - 1) x l ∙ ap Some (sym g))))
-
--- past the end there is none
-pub value-past : (hs : List (Option Held)) (n : ℕ) → (n ≡ 0 → ⊥) → length hs ≤ n - 1 → None ≡ outcome (map held_value hs) n
-value-past hs n z l =
-    sym (outcome_at (map held_value hs) n (n - 1) (omega (arith, z))
-    ∙ ap (λ o. o >>= λ v. v) (slice_get_past (map held_value hs) (n - 1) (omega (arith, l, length-map hs held_value))))
 
 module _ {S : Type 0} (old new : IndexMap (Vec ℕ) ℕ S) (ns ms : List Name) (V W : Outcomes) (name : Name) (o : Option Datum) where
   gained : (k : ℕ) (x : Name) (b : Bool) (p : Option ℕ) → k ≡ 1 + length ns → (if b then Some k else p) ≡ or_else (if b then Some (1 + length ns) else None) p

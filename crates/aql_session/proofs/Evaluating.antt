@@ -20,7 +20,7 @@ use Rattle.aql_desugar_spec.specs.Laws.{outcomes_of}
 use Rattle.aql_desugar_spec.specs.Start.{query}
 use Rattle.aql_session.specs.Bound.{earlier_of}
 use Rattle.aql_session.specs.Planned.{IsPlanned, Evaluates, PassAll}
-use Rattle.aql_session.specs.Runs.{IsQuery, IsEvaluated, IsSpentFault}
+use Rattle.aql_session.specs.Runs.{IsQuery, IsEvaluated, IsSpentFault, query_value}
 use Rattle.aql_session.specs.Step.{by_moved, choice, first_within, moved_term, moved_turns, start_term, start_of, query_turns, turns_in, IsMovedBy, MayBeEvaluated}
 use Rattle.aql_session.specs.declared.answer.Ran.{Ran}
 use Rattle.aql_session.specs.declared.answer.Ran.TheVariants as ran
@@ -61,16 +61,17 @@ module _ (d : Declaration) (earlier : Earlier) (motion : Bool) (budget : ℕ) (q
   pub evaluated-may : MayBeEvaluated d earlier motion budget
   evaluated-may = (q.trace, term_of q.plan, q.moved, (q.by, q.turns), h.planned, h.moved, h.counts)
 
+-- the outcomes of the positions before position n
+pub outcomes-at : (ds : List Declaration) (V : Outcomes) (n : ℕ) → length V ≡ n - 1 → n ≤ length ds → V ≡ outcomes_of (earlier_of ds V)
+outcomes-at ds V n many last = let l : length V ≤ length ds = omega (arith, many, last) in sym (outcomes-earlier ds V l)
+
 module _ (ds : List Declaration) (V : Outcomes) (n : ℕ) (many : length V ≡ n - 1) (last : n ≤ length ds) (d : Declaration) (t : Term)
     (start : t ≡ start_term (query d) (before ds n)) where
   term : t ≡ start_of d (earlier_of ds V)
   term = start ∙ start-at ds V n many last d
 
-  covered : length V ≤ length ds
-  covered = omega (arith, many, last)
-
   outcomes-are : V ≡ outcomes_of (earlier_of ds V)
-  outcomes-are = sym (outcomes-earlier ds V covered)
+  outcomes-are = outcomes-at ds V n many last
 
   turns : (u : Term) → settle V [] u ≡ turns_in (earlier_of ds V) u
   turns u = ap (λ W. settle W [] u) outcomes-are
@@ -86,6 +87,7 @@ module _ (ds : List Declaration) (V : Outcomes) (n : ℕ) (many : length V ≡ n
   evaluated-is p e k motion budget r q h x =
       let z : k.0 ≡ d = (let y = sym k.2 ∙ e in cc) in
       let v : held_value q.value ≡ cden V [] t = x.value ∙ ap (cden V []) h.start in
+      let w : cden V [] t ≡ query_value d (earlier_of ds V) = ap (cden V []) term ∙ value-at ds V n many last d k.1 (subst (λ x. query x ≡ Some k.1) z k.3) in
       record {
         start = x.start ∙ h.start ∙ term;
         planned = subst (λ u. IsPlan (outcomes_of (earlier_of ds V)) (start_of d (earlier_of ds V)) q.trace u) (sym x.plan)
@@ -100,7 +102,8 @@ module _ (ds : List Declaration) (V : Outcomes) (n : ℕ) (many : length V ≡ n
             ∙ ap (choice budget (settle V [] (term_of r.plan)) (settle V [] (term_of r.start)))
             (ap (λ W. moved_turns W q.moved) (sym outcomes-are) ∙ ap (moved_turns V) x.moved)
             ∙ x.chosen;
-        value = v ∙ ap (cden V []) term ∙ value-at ds V n many last d k.1 (subst (λ x. query x ≡ Some k.1) z k.3);
+        value = v ∙ w;
+        same = ap (λ W. cden W [] (term_of q.plan)) (sym outcomes-are) ∙ ap (cden V []) x.plan ∙ h.same ∙ w;
         valid = subst (λ o. ForSome o IsValue) (sym v) h.valid;
       }
 

@@ -25,6 +25,7 @@ use Rattle.nrca_term.specs.View.{term_of}
 use Rattle.nrca_term.specs.declared.trace.Step as code
 use Rattle.nrca_term.specs.Laws.Measure.{below-weight}
 use Rattle.nrca_laws.specs.Laws.Steps.{replay-keeps, replay-types, step-types, step-lowers}
+use Rattle.nrca_encoded.specs.Graphs.{IsTypedOver}
 use Rattle.nrca_ranges.specs.Bounds.{Bounds}
 use Rattle.nrca_normal.specs.Planned.{IsReplayed, IsNormalIn, IsPlan}
 use Rattle.nrca_motion.specs.Moved.{IsChained, IsStillIn, KeepsMeaning}
@@ -35,7 +36,7 @@ use Rattle.aql_desugar_spec.specs.Start.{query}
 use Rattle.aql_desugar.specs.Translation.{IsTranslated, types_before, query_of, query_at}
 use Rattle.aql_session.specs.Bound.{onto}
 use Rattle.aql_session.specs.Known.{Knows}
-use Rattle.aql_session.specs.Planned.{IsQueryTerm, KeepsMoved}
+use Rattle.aql_session.specs.Planned.{KeepsMoved}
 use Rattle.aql_session.specs.Runs.{IsReadyAt, IsQuery}
 use Rattle.aql_session.specs.Step.{IsMovedBy, NoMacroHasValue, moved_term, moves_of}
 use Rattle.aql_session.proofs.Positions.{sort-at}
@@ -100,7 +101,7 @@ has-query (bare b) e g (types.macro s t) q h = absurd h
 
 -- the term of a query is typed and small
 pub query-term : (ds : List Declaration) (sorts : List Sort) (n : ℕ) (V : Outcomes) (t : Term) → IsReadyAt ds sorts n V → IsQuery (slice_get ds (n - 1)) →
-    ((e : Tree) → query_of ds n ≡ Some e → IsTranslated ds sorts n e t) → (ArePrincipal [] ds sorts → IsSmall 0 t) → IsQueryTerm V t
+    ((e : Tree) → query_of ds n ≡ Some e → IsTranslated ds sorts n e t) → (ArePrincipal [] ds sorts → IsSmall 0 t) → IsTypedOver V t
 query-term ds sorts n V t h q x small =
     let s = sort-at ds sorts n q.0 h.checked q.2 in
     let y = has-query q.0 q.1 (scope_of (before ds n)) s.0 q.3 s.2.principal.has in
@@ -113,7 +114,7 @@ query-term ds sorts n V t h q x small =
     }
 
 -- what the normaliser answers is a plan, and has the meaning of the term
-module _ (V : Outcomes) (gs : List (Option Bounds)) (t u : Term) (trace : List code.Step) (q : IsQueryTerm V t) (k : Knows gs V) (c : HasConstants t)
+module _ (V : Outcomes) (gs : List (Option Bounds)) (t u : Term) (trace : List code.Step) (q : IsTypedOver V t) (k : Knows gs V) (c : HasConstants t)
     (r : IsReplayed gs t trace u) (normal : IsNormalIn gs u) (few : length trace ≤ (weight_of t + 1) ^ 3) where
   pub plan-made : IsPlan V t trace u
   unfolding IsReplayed IsNormalIn
@@ -136,7 +137,7 @@ replay-weight G V (s ∷ trace) t u T ty h =
     omega (arith, replay-weight G V trace h.0 u T (step-types G V s.rule s.path t h.0 [] T ty h.1) h.2, below-weight h.0 t (step-lowers G V s.rule s.path t h.0 T ty h.1))
 
 -- a plan is a term of its query's type too
-pub plan-query : (V : Outcomes) (t u : Term) (trace : List code.Step) → IsQueryTerm V t → IsPlan V t trace u → IsQueryTerm V u
+pub plan-query : (V : Outcomes) (t u : Term) (trace : List code.Step) → IsTypedOver V t → IsPlan V t trace u → IsTypedOver V u
 plan-query V t u trace q p = record {
   given = q.given;
   type = q.type;
@@ -146,7 +147,7 @@ plan-query V t u trace q p = record {
 }
 
 -- what is moved in a plan is, and has its meaning
-module _ (V : Outcomes) (gs : List (Option Bounds)) (t : Term) (m : Moved) (q : IsQueryTerm V t) (k : Knows gs V) where
+module _ (V : Outcomes) (gs : List (Option Bounds)) (t : Term) (m : Moved) (q : IsTypedOver V t) (k : Knows gs V) where
   pub motion-made : IsChained gs t m.moves (term_of m.term) → IsStillIn gs (term_of m.term) → length m.moves ≤ (weight_of t + 1) ^ 3 → IsMovedBy true V t (Some m)
   unfolding IsChained IsStillIn
   motion-made c s few = record { chained = c q.given q.type V q.typed q.have k.tells; still = s V k.tells; few = few }

@@ -21,6 +21,8 @@ use Rattle.aql_syntax.specs.Tree.{Name, Tree, Reader, Declaration, val, mac, rea
 use Rattle.aql_syntax.specs.Typing.{Has, DeclHas, IsPrincipal, scope_of, reader_type, argument_type}
 use Rattle.aql_syntax.specs.View.{decl_of, decls_of}
 use Rattle.aql_syntax.specs.declared.ast.Decl.{Decl}
+use Rattle.aql_desugar_spec.specs.Laws.{outcomes_of}
+use Rattle.nrca_encoded.specs.declared.ran.Graph.{Graph}
 use Rattle.nrca_loops.specs.Scope.{held_value}
 use Rattle.nrca_term.specs.Laws.Equations.{term_of-Bottom}
 use Rattle.nrca_term.specs.View.{term_of}
@@ -29,8 +31,8 @@ use Rattle.nrca_term.specs.declared.term.Core.TheVariants as core
 use Rattle.aql_value.specs.Limits.{most_budget}
 use Rattle.aql_session.specs.Bound.{Bound, AreBound, earlier_of, outcomes}
 use Rattle.aql_session.specs.Reading.{read_value, reading}
-use Rattle.aql_session.specs.Runs.{IsReadyAt, IsValueDeclaration, IsSpentFault, IsEvaluated, IsReadBy, IsArgumentCause, IsRun, IsAnswerOf, asked_in, query_value}
-use Rattle.aql_session.specs.Step.{CallsNoFile, HasMotion, HasPlan, IsAnswer, IsCounted, IsCountOf, IsOutcome, IsReadable, IsReadOutcome, BindsPosition, IsCause, IsOverTurns, NoMacroHasValue, OutcomesFit, ReadsNoFile, asks, start_of}
+use Rattle.aql_session.specs.Runs.{IsReadyAt, IsValueDeclaration, IsSpentFault, IsEvaluated, IsReadBy, IsArgumentCause, IsRun, IsAnswerOf, asked_in, query_value, run_with}
+use Rattle.aql_session.specs.Step.{CallsNoFile, HasGraph, HasMotion, HasPlan, IsAnswer, IsCounted, IsCountOf, IsGraphBy, IsOutcome, IsReadable, IsReadOutcome, BindsPosition, IsCause, IsOverTurns, NoMacroHasValue, OutcomesFit, ReadsNoFile, asks, start_of}
 use Rattle.aql_session.specs.declared.answer.Answer.{Answer}
 use Rattle.aql_session.specs.declared.answer.Ran.TheVariants as ran
 use Rattle.aql_session.specs.declared.answer.StepFault.{StepFault}
@@ -63,23 +65,26 @@ pub same-position : (p : Option Declaration) (c d : Declaration) → p ≡ Some 
 same-position p c d e f = let y = sym e ∙ f in cc
 
 -- a query that is evaluated and kept
-pub plain-run : (d : Declaration) (earlier : Earlier) (motion : Bool) (budget : ℕ) (holds : Option Content) (q : Evaluated) → IsValueDeclaration d → IsEvaluated d earlier motion budget q →
-    IsRun d earlier motion budget holds (record { start = q.start; plan = q.plan; trace = q.trace; moved = q.moved; by = q.by; turns = q.turns; value = q.value })
-plain-run (val x e) earlier motion budget holds q p h = record {
+pub plain-run : (d : Declaration) (earlier : Earlier) (motion graphs : Bool) (budget : ℕ) (holds : Option Content) (q : Evaluated) (g : Option Graph) → IsValueDeclaration d →
+    IsEvaluated d earlier motion budget q → IsGraphBy graphs (outcomes_of earlier) budget (term_of q.plan) (query_value d earlier) g →
+    IsRun d earlier motion graphs budget holds (run_with q g)
+plain-run (val x e) earlier motion graphs budget holds q g p h k = record {
   start = h.start;
   planned = h.planned;
   moved = h.moved;
+  graph = k;
   counts = h.counts;
   answerable = λ a k. cc;
   outcome = h.value;
   valid = h.valid;
 }
-plain-run (mac f p body) earlier motion budget holds q u h = absurd u
-plain-run (read x r e) earlier motion budget holds q u h = absurd u
-plain-run (bare e) earlier motion budget holds q p h = record {
+plain-run (mac f p body) earlier motion graphs budget holds q g u h k = absurd u
+plain-run (read x r e) earlier motion graphs budget holds q g u h k = absurd u
+plain-run (bare e) earlier motion graphs budget holds q g p h k = record {
   start = h.start;
   planned = h.planned;
   moved = h.moved;
+  graph = k;
   counts = h.counts;
   answerable = λ a k. cc;
   outcome = h.value;
@@ -87,17 +92,24 @@ plain-run (bare e) earlier motion budget holds q p h = record {
 }
 
 -- a macro
-pub macro-run : (f : Name) (p : _) (body : Tree) (earlier : Earlier) (motion : Bool) (budget : ℕ) (holds : Option Content) →
-    IsRun (mac f p body) earlier motion budget holds (record { start = core.Bottom; plan = core.Bottom; trace = []; moved = None; by = ran.Declared; turns = 0; value = None })
-macro-run f p body earlier motion budget holds = record {
+pub macro-run : (f : Name) (p : _) (body : Tree) (earlier : Earlier) (motion graphs : Bool) (budget : ℕ) (holds : Option Content) →
+    IsRun (mac f p body) earlier motion graphs budget holds
+    (record { start = core.Bottom; plan = core.Bottom; trace = []; moved = None; graph = None; by = ran.Declared; turns = 0; value = None })
+macro-run f p body earlier motion graphs budget holds = record {
   start = term_of-Bottom;
   planned = (term_of-Bottom, refl);
   moved = refl;
+  graph = refl;
   counts = refl;
   answerable = λ a k. cc;
   outcome = refl;
   valid = λ v k. cc;
 }
+
+-- want of memory is no fault of anything
+pub memory-cause : (d : Declaration) (earlier : Earlier) (motion : Bool) (budget : ℕ) (holds : Option Content) (before now : ℕ) (f : StepFault) → f ≡ faults.Memory →
+    IsCause d earlier motion budget holds before now f
+memory-cause d earlier motion budget holds before now f e = subst (IsCause d earlier motion budget holds before now) (sym e) tt
 
 pub spent-cause : (d : Declaration) (earlier : Earlier) (motion : Bool) (budget : ℕ) (holds : Option Content) (before now : ℕ) (f : StepFault) → IsSpentFault d earlier motion budget f →
     IsCause d earlier motion budget holds before now f
@@ -124,13 +136,14 @@ module _ (x : Name) (r : Reader) (e : Tree) (earlier : Earlier) (motion : Bool) 
   asked-is = ap (asked_in r) argument-is
 
   -- a readval: its argument, and what it asks for
-  pub readval-run : (holds : Option Content) (y : Read) → IsReadBy r (held_value q.value) budget holds y →
-      IsRun (read x r e) earlier motion budget holds
-      (record { start = q.start; plan = q.plan; trace = q.trace; moved = q.moved; by = ran.Read; turns = q.turns + y.turns; value = y.value })
-  readval-run holds y k = record {
+  pub readval-run : (graphs : Bool) (holds : Option Content) (y : Read) → IsReadBy r (held_value q.value) budget holds y →
+      IsRun (read x r e) earlier motion graphs budget holds
+      (record { start = q.start; plan = q.plan; trace = q.trace; moved = q.moved; graph = None; by = ran.Read; turns = q.turns + y.turns; value = y.value })
+  readval-run graphs holds y k = record {
     start = h.start;
     planned = h.planned;
     moved = h.moved;
+    graph = refl;
     counts = ((q.by, q.turns), y.turns, h.counts, refl, subst (λ o. IsCountOf budget holds o (held_value y.value) y.turns) asked-is k.counts);
     answerable = subst (λ o. ForSome o (IsReadable budget holds)) asked-is k.readable;
     outcome = subst (λ o. IsReadOutcome r o holds (held_value y.value)) argument-is k.outcome;
@@ -186,9 +199,9 @@ module _ (ds : List Declaration) (sorts : List Sort) (n : ℕ) (V : Outcomes) (s
         (subst (λ l. Has e (scope_of l) [] (argument_type r)) (sym (declarations-before ds V n stands.many)) read-has.has) (sym q ∙ k)
 
   -- the answer of a run
-  pub answer-is : (d : Declaration) → slice_get ds (n - 1) ≡ Some d → (motion : Bool) (budget : ℕ) (holds : Option Content) (r : Run) (a : Answer) → IsRun d (earlier_of ds V) motion budget holds r →
-      IsAnswerOf d (slice_get sorts (n - 1)) r a → IsAnswer d (earlier_of ds V) (slice_get sorts (n - 1)) motion a
-  answer-is d e motion budget holds r a h k =
+  pub answer-is : (d : Declaration) → slice_get ds (n - 1) ≡ Some d → (motion graphs : Bool) (budget : ℕ) (holds : Option Content) (r : Run) (a : Answer) →
+      IsRun d (earlier_of ds V) motion graphs budget holds r → IsAnswerOf d (slice_get sorts (n - 1)) r a → IsAnswer d (earlier_of ds V) (slice_get sorts (n - 1)) motion graphs budget a
+  answer-is d e motion graphs budget holds r a h k =
       let s = sort-at ds sorts n d stands.checked e in
       let z : s.0 ≡ sort_of a.ty = (let y = sym s.1 ∙ k.found in cc) in
       record {
@@ -203,6 +216,8 @@ module _ (ds : List Declaration) (sorts : List Sort) (n : ℕ) (V : Outcomes) (s
             (subst (λ t. HasPlan d (earlier_of ds V) (start_of d (earlier_of ds V)) a.trace t) (sym k.plan)
             (subst (λ s. HasPlan d (earlier_of ds V) (start_of d (earlier_of ds V)) s (term_of r.plan)) (sym k.trace) h.planned));
         moved = subst (λ t. HasMotion d (earlier_of ds V) motion t a.moved) (sym k.plan) (subst (HasMotion d (earlier_of ds V) motion (term_of r.plan)) (sym k.moved) h.moved);
+        graph = subst (λ t. HasGraph d (earlier_of ds V) graphs budget t a.graph) (sym k.plan)
+            (subst (HasGraph d (earlier_of ds V) graphs budget (term_of r.plan)) (sym k.graph) h.graph);
       }
 
 no-reading : ReaderMeaning
@@ -245,9 +260,9 @@ outcome-told (read x r e) earlier holds o k files l = go (den e (globals_of earl
         ap (λ w. option_map (λ y. Some y) (w >>= read_value files)) k.2 ∙ ap (option_map (λ y. Some y)) (k.4.told files l) ∙ ap Some (sym k.3)
 
 -- the position that a run binds
-pub binds-is : (d : Declaration) (earlier : Earlier) (motion : Bool) (budget : ℕ) (holds : Option Content) (r : Run) (sort : Option Sort) (a : Answer) (old new : Bound) → OutcomesFit earlier →
-    IsRun d earlier motion budget holds r → IsAnswerOf d sort r a → new ≡ old ++ (declared d, held_value r.value) ∷ [] → BindsPosition d earlier budget holds old new a
-binds-is d earlier motion budget holds r sort a old new t h k e = record {
+pub binds-is : (d : Declaration) (earlier : Earlier) (motion graphs : Bool) (budget : ℕ) (holds : Option Content) (r : Run) (sort : Option Sort) (a : Answer) (old new : Bound) →
+    OutcomesFit earlier → IsRun d earlier motion graphs budget holds r → IsAnswerOf d sort r a → new ≡ old ++ (declared d, held_value r.value) ∷ [] → BindsPosition d earlier budget holds old new a
+binds-is d earlier motion graphs budget holds r sort a old new t h k e = record {
   outcome = held_value r.value;
   bound = e;
   is = h.outcome;

@@ -41,7 +41,7 @@ so_far decls V = earlier_of (declarations decls) V
 -- this is the answer of declaration n over the outcomes of those before it
 abbrev pub IsAnswerTo : Decls → Typed → (n : ℕ) → Outcomes → Options → Answer → Type 0
 IsAnswerTo decls typed n V options a =
-    ForSome (declaration_numbered decls n) (λ d. IsAnswer d (so_far decls V) (sort_numbered typed n) options.motion a)
+    ForSome (declaration_numbered decls n) (λ d. IsAnswer d (so_far decls V) (sort_numbered typed n) options.motion options.graph options.budget a)
 
 -- declaration n is answerable within the budget over files that hold this
 abbrev pub MayBeAnswered : Decls → (n : ℕ) → Outcomes → Options → Option Content → Type 0

@@ -1,14 +1,12 @@
 -- The term of a query, its plan, what is moved in it, and which of them was evaluated.
-use Rattle.std.specs.Prelude.{◌≡◌, ℕ, ◌≤◌, ◌<◌, Bool, List, [], Option, Some}
+use Rattle.std.specs.Prelude.{◌≡◌, ℕ, ◌<◌, Bool, List, [], Option, Some}
 use Rattle.std.specs.Option.{ForSome}
 use Rattle.aql_value.specs.Valid.{IsValue}
-use Rattle.aql_types.specs.Types.{Ty}
 use Rattle.nrca_loops.specs.Scope.{held_value}
 use Rattle.nrca_loops.specs.declared.done.Done.{Done}
 use Rattle.nrca_term.specs.Meaning.{Outcomes, cden}
-use Rattle.nrca_term.specs.Term.{Term, weight_of}
+use Rattle.nrca_term.specs.Term.{Term}
 use Rattle.nrca_term.specs.Turns.{settle}
-use Rattle.nrca_term.specs.Typing.{ctyped, instances, OutcomesHave}
 use Rattle.nrca_term.specs.View.{term_of}
 use Rattle.nrca_normal.specs.Planned.{IsPlan}
 use Rattle.nrca_motion.specs.declared.still.Moved.{Moved}
@@ -18,14 +16,6 @@ use Rattle.aql_session.specs.declared.answer.StepFault.{StepFault}
 use Rattle.aql_session.specs.declared.answer.StepFault.TheVariants as faults
 use Rattle.aql_session.specs.declared.queries.Evaluated.{Evaluated}
 use Rattle.aql_session.specs.declared.queries.Planned.{Planned}
-
--- a small closed term of some type, under types of the positions that their outcomes have
-pub record IsQueryTerm (V : Outcomes) (t : Term) : Type 0 where
-  pub given : List Ty
-  pub type : Ty
-  pub typed : ctyped (instances given) [] t type
-  pub have : OutcomesHave (instances given) V
-  pub small : weight_of t ≤ 1280000
 
 -- what is moved in a plan has the plan's meaning
 abbrev pub KeepsMoved : Outcomes → (plan : Term) → Option Moved → Type 0

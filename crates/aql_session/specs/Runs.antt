@@ -30,8 +30,10 @@ use Rattle.aql_csv.specs.declared.fault.CsvFault.TheVariants as csv_faults
 use Rattle.aql_infer_steps.specs.Typed.{ArePrincipal}
 use Rattle.nrca_array.specs.Held.{table_datum}
 use Rattle.nrca_array.specs.declared.held.Held.{Held}
+use Rattle.nrca_encoded.specs.Graphs.{IsTypedOver}
+use Rattle.nrca_encoded.specs.declared.ran.Graph.{Graph}
 use Rattle.nrca_loops.specs.Scope.{held_value}
-use Rattle.nrca_term.specs.Meaning.{Outcomes}
+use Rattle.nrca_term.specs.Meaning.{Outcomes, cden}
 use Rattle.nrca_term.specs.Term.{Term}
 use Rattle.nrca_term.specs.View.{term_of}
 use Rattle.nrca_normal.specs.Planned.{IsPlan}
@@ -46,8 +48,7 @@ use Rattle.aql_session.specs.Asked.{Hyperslab, Asked, hyperslab, table, asked, a
 use Rattle.aql_session.specs.Bound.{Bound, earlier_of}
 use Rattle.aql_session.specs.Numbered.{declarations, sorts, declaration_numbered, sort_numbered, so_far, IsCauseOf, UnlessRead}
 use Rattle.aql_session.specs.Reading.{opened, read_fault, read_hyperslab, read_value}
-use Rattle.aql_session.specs.Planned.{IsQueryTerm}
-use Rattle.aql_session.specs.Step.{CallsFiles, CallsNoFile, HasFileFault, HasForm, HasPlan, HasTableFault, HasMotion, IsAnswerable, IsCount, IsCounted, IsCountOf, IsMovedBy, IsOutcome, IsReadable, IsReadOutcome, IsRequestFault, IsSpent, NoMacroHasValue, PassesBudget, chosen, start_of, start_term}
+use Rattle.aql_session.specs.Step.{CallsFiles, CallsNoFile, HasFileFault, HasForm, HasPlan, HasTableFault, HasGraph, HasMotion, IsAnswerable, IsCount, IsCounted, IsCountOf, IsGraphBy, IsMovedBy, IsOutcome, IsReadable, IsReadOutcome, IsRequestFault, IsSpent, NoMacroHasValue, PassesBudget, chosen, start_of, start_term}
 use Rattle.aql_session.specs.declared.answer.Answer.{Answer}
 use Rattle.aql_session.specs.declared.answer.StepFault.{StepFault}
 use Rattle.aql_session.specs.declared.answer.StepFault.TheVariants as faults
@@ -85,6 +86,7 @@ pub record IsEvaluated (d : Declaration) (earlier : Earlier) (motion : Bool) (bu
   pub moved : IsMovedBy motion (outcomes_of earlier) (term_of q.plan) q.moved
   pub counts : chosen d earlier budget (term_of q.plan) q.moved ≡ Some (q.by, q.turns)
   pub value : held_value q.value ≡ query_value d earlier
+  pub same : cden (outcomes_of earlier) [] (term_of q.plan) ≡ query_value d earlier
   pub valid : ForSome (held_value q.value) IsValue
 
 -- it was not evaluated: the turns of all its terms pass the budget, or memory was wanting
@@ -228,10 +230,11 @@ abbrev pub IsReadval : Option Declaration → Reader → Type 0
 IsReadval position r = (x : Name) × (e : Tree) × (position ≡ Some (read x r e))
 
 -- a declaration was run
-pub record IsRun (d : Declaration) (earlier : Earlier) (motion : Bool) (budget : ℕ) (holds : Option Content) (r : Run) : Type 0 where
+pub record IsRun (d : Declaration) (earlier : Earlier) (motion graphs : Bool) (budget : ℕ) (holds : Option Content) (r : Run) : Type 0 where
   pub start : term_of r.start ≡ start_of d earlier
   pub planned : HasPlan d earlier (start_of d earlier) r.trace (term_of r.plan)
   pub moved : HasMotion d earlier motion (term_of r.plan) r.moved
+  pub graph : HasGraph d earlier graphs budget (term_of r.plan) r.graph
   pub counts : IsCounted d earlier budget holds (term_of r.plan) r.moved (held_value r.value) (r.by, r.turns)
   pub answerable : IsAnswerable d earlier budget holds
   pub outcome : IsOutcome d earlier holds (held_value r.value)
@@ -245,6 +248,7 @@ pub record IsAnswerOf (d : Declaration) (sort : Option Sort) (r : Run) (a : Answ
   pub plan : term_of a.plan ≡ term_of r.plan
   pub trace : a.trace ≡ r.trace
   pub moved : a.moved ≡ r.moved
+  pub graph : a.graph ≡ r.graph
   pub by : a.by ≡ r.by
   pub turns : a.turns ≡ r.turns
 
@@ -317,6 +321,10 @@ budget_of p = p.options.now.budget
 abbrev pub motion_of : Position → Bool
 motion_of p = p.options.now.motion
 
+-- whether it is run with the word `--graph`
+abbrev pub graphs_of : Position → Bool
+graphs_of p = p.options.now.graph
+
 -- the number of workers is one that evaluation takes
 abbrev pub HasWorkers : Position → Type 0
 HasWorkers p = (1 ≤ p.options.now.workers) × (p.options.now.workers ≤ most_workers)
@@ -327,7 +335,7 @@ StandsAt p V = IsReadyAt (declarations_at p) (sorts_at p) p.n V
 
 -- its declaration was run
 abbrev pub RunsPosition : Position → Outcomes → Option Content → Run → Type 0
-RunsPosition p V holds r = ForSome (declaration_of p) (λ d. IsRun d (so_far p.decls.now V) (motion_of p) (budget_of p) holds r)
+RunsPosition p V holds r = ForSome (declaration_of p) (λ d. IsRun d (so_far p.decls.now V) (motion_of p) (graphs_of p) (budget_of p) holds r)
 
 -- why its declaration has no answer; the counts of faults are those of the files before and after
 abbrev pub IsPositionCause : Position → Outcomes → Option Content → (before now : ℕ) → StepFault → Type 0
@@ -347,11 +355,20 @@ IsStartAt p t = ForSome (declaration_of p) (λ d. t ≡ start_term (query d) (be
 
 -- over outcomes over which it stands that term has a type
 abbrev pub IsQueryTermAt : Position → Term → Type 0
-IsQueryTermAt p t = (V : Outcomes) → StandsAt p V → IsQueryTerm V t
+IsQueryTermAt p t = (V : Outcomes) → StandsAt p V → IsTypedOver V t
 
 -- its query was evaluated within the budget
 abbrev pub IsEvaluatedAt : Position → Outcomes → Evaluated → Type 0
 IsEvaluatedAt p V q = ForSome (declaration_of p) (λ d. IsEvaluated d (so_far p.decls.now V) (motion_of p) (budget_of p) q)
+
+-- the run of a query that was evaluated, with this array-free form
+abbrev pub run_with : Evaluated → Option Graph → Run
+run_with q g = record { start = q.start; plan = q.plan; trace = q.trace; moved = q.moved; graph = g; by = q.by; turns = q.turns; value = q.value }
+
+-- with the word it has the array-free form of its plan
+abbrev pub IsRunWithGraph : Position → Outcomes → Evaluated → Run → Type 0
+IsRunWithGraph p V q r =
+    (r ≡ run_with q r.graph) × IsGraphBy (graphs_of p) V (budget_of p) (term_of q.plan) (cden V [] (term_of q.plan)) r.graph
 
 -- or it was not
 abbrev pub IsSpentAt : Position → Outcomes → StepFault → Type 0

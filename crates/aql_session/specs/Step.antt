@@ -25,6 +25,8 @@ use Rattle.nrca_term.specs.Turns.{settle}
 use Rattle.nrca_term.specs.declared.trace.Step as code
 use Rattle.nrca_term.specs.View.{term_of}
 use Rattle.nrca_normal.specs.Planned.{IsPlan}
+use Rattle.nrca_encoded.specs.Graphs.{IsGraph}
+use Rattle.nrca_encoded.specs.declared.ran.Graph.{Graph}
 use Rattle.nrca_motion.specs.Moved.{IsMotion}
 use Rattle.nrca_motion.specs.declared.moves.Move as motion_code
 use Rattle.nrca_motion.specs.declared.still.Moved.{Moved}
@@ -105,6 +107,13 @@ abbrev pub IsMovedBy : (motion : Bool) → Outcomes → (plan : Term) → Option
 IsMovedBy true V plan (Some m) = IsMotion V plan m.moves (term_of m.term)
 IsMovedBy true V plan None = ⊥
 IsMovedBy false V plan moved = moved ≡ None
+
+-- With the word there is the array-free form of a query's plan, and it came to the query's encoded outcome, or its turns pass the budget;
+-- without it there is none.
+abbrev pub IsGraphBy : (graphs : Bool) → Outcomes → (budget : ℕ) → (plan : Term) → (outcome : Option Datum) → Option Graph → Type 0
+IsGraphBy true V budget plan o (Some g) = IsGraph V budget plan o g
+IsGraphBy true V budget plan o None = ⊥
+IsGraphBy false V budget plan o graph = graph ≡ None
 
 -- the first of these turns that are within the budget, with what was evaluated
 abbrev pub first_within : (budget : ℕ) → List (Ran × ℕ) → Option (Ran × ℕ)
@@ -204,9 +213,17 @@ HasMotion (mac f p body) earlier motion plan moved = moved ≡ None
 HasMotion (read x r e) earlier motion plan moved = IsMovedBy motion (outcomes_of earlier) plan moved
 HasMotion (bare e) earlier motion plan moved = IsMovedBy motion (outcomes_of earlier) plan moved
 
--- the answer of a declaration: its name, its type, its start term, the plan with the rewritings that lead there, and with the word
--- `--motion` what is moved in the plan
-pub record IsAnswer (d : Declaration) (earlier : Earlier) (sort : Option Sort) (motion : Bool) (a : Answer) : Type 0 where
+-- with the word there is the array-free form of a query's plan, with the query's encoded outcome; without it, of a macro and of a readval
+-- there is none
+abbrev pub HasGraph : Declaration → Earlier → (graphs : Bool) → (budget : ℕ) → (plan : Term) → Option Graph → Type 0
+HasGraph (val x e) earlier graphs budget plan graph = IsGraphBy graphs (outcomes_of earlier) budget plan (den e (globals_of earlier) []) graph
+HasGraph (mac f p body) earlier graphs budget plan graph = graph ≡ None
+HasGraph (read x r e) earlier graphs budget plan graph = graph ≡ None
+HasGraph (bare e) earlier graphs budget plan graph = IsGraphBy graphs (outcomes_of earlier) budget plan (den e (globals_of earlier) []) graph
+
+-- the answer of a declaration: its name, its type, its start term, the plan with the rewritings that lead there, with the word `--motion`
+-- what is moved in the plan, and with the word `--graph` the array-free form of a query's plan
+pub record IsAnswer (d : Declaration) (earlier : Earlier) (sort : Option Sort) (motion graphs : Bool) (budget : ℕ) (a : Answer) : Type 0 where
   pub name : a.name ≡ declared d
   -- its type is the one that was found, and principal
   pub found : sort ≡ Some (sort_of a.ty)
@@ -214,6 +231,7 @@ pub record IsAnswer (d : Declaration) (earlier : Earlier) (sort : Option Sort) (
   pub start : term_of a.start ≡ start_of d earlier
   pub planned : HasPlan d earlier (term_of a.start) a.trace (term_of a.plan)
   pub moved : HasMotion d earlier motion (term_of a.plan) a.moved
+  pub graph : HasGraph d earlier graphs budget (term_of a.plan) a.graph
 
 -- it is answered only where what it asks for is readable
 abbrev pub IsAnswerable : Declaration → Earlier → (budget : ℕ) → Option Content → Type 0

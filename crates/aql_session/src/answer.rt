@@ -6,6 +6,7 @@ use aql_csv::CsvFault;
 use aql_types::ty::Scheme;
 use aql_value::{Memory, Str};
 use cdf_header::CdfFault;
+use nrca_encoded::Graph;
 use nrca_motion::Moved;
 use nrca_term::{Core, Trace};
 use std::alloc::{AllocError, AllocFailed};
@@ -26,6 +27,9 @@ pub struct Answer {
     /// With the word `--motion` what is moved in the plan, and the moves that lead from the plan to
     /// it. None without the word, and of a macro: the plan stands for it, and there is no move.
     pub moved: Option<Moved>,
+    /// With the word `--graph`, of a query, the array-free form of the plan and what that came to over
+    /// the encoded outcomes of the positions. None without the word, of a macro and of a readval.
+    pub graph: Option<Graph>,
     pub by: Ran,
     /// Loop turns of the term that was evaluated, and of a readval besides the cells that were read,
     /// or the bytes of a file of records.

@@ -5,14 +5,17 @@
 //! to what its reader reads, a macro to no value. Or it answers a fault and leaves the session as
 //! it was. A query is evaluated by its plan, a normal form of the term that it is translated to; where
 //! the turns of the plan pass the budget, that term is evaluated as it is; and where those of both do,
-//! with the word `--motion`, the plan with what could be moved out of loops.
+//! with the word `--motion`, the plan with what could be moved out of loops. With the word `--graph` a
+//! query's answer also has the array-free form of its plan, and what that comes to over the encoded
+//! outcomes of the positions, which a session encodes where a query uses them, and keeps.
 //!
 //! Read `specs/Bound`, `Asked`, `Reading`, `Step` and `Numbered`; then `answer`, `session`, `step`,
-//! `runs`, `queries`, `readings`. What a session knows of its outcomes stands in `specs/Known` and
+//! `runs`, `queries`, `graphs`, `readings`. What a session knows of its outcomes stands in `specs/Known` and
 //! `shapes`, what is said of a query's terms in `specs/Planned`.
 #![tactic(auto)]
 
 mod answer;
+mod graphs;
 mod queries;
 mod readings;
 mod runs;
@@ -23,4 +26,5 @@ mod step;
 pub use answer::{Answer, Ran, StepFault};
 pub use aql_prelude::prelude;
 pub use aql_words::Options;
+pub use nrca_encoded::{Graph, GraphRan};
 pub use session::Session;

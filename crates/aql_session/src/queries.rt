@@ -3,13 +3,14 @@ ghost use Rattle.std.specs.Prelude.{◌≡◌, ◌≤◌, ◌<◌, [], length, I
 ghost use Rattle.aql_infer_steps.specs.Typed.{ArePrincipal};
 ghost use Rattle.aql_syntax.specs.Size.{AreWithinLimits};
 ghost use Rattle.aql_value.specs.Limits.{most_budget, most_workers};
+ghost use Rattle.nrca_encoded.specs.Graphs.{IsTypedOver};
 ghost use Rattle.nrca_loops.specs.Evaluates.{EvaluatesClosed};
 ghost use Rattle.nrca_ranges.specs.Shapes.{shapes_in};
 ghost use Rattle.nrca_term.specs.Term.{weight_of};
 ghost use Rattle.nrca_term.specs.Turns.{settle};
 ghost use Rattle.nrca_term.specs.View.{term_of};
 ghost use Rattle.aql_session.specs.Known.{Knows};
-ghost use Rattle.aql_session.specs.Planned.{IsQueryTerm, IsPlanned, KeepsMoved, KeepsValue, IsUnchanged, IsUnmoved, KeepsTerms, IsChosen, PassAll, Evaluates, moved_of};
+ghost use Rattle.aql_session.specs.Planned.{IsPlanned, KeepsMoved, KeepsValue, IsUnchanged, IsUnmoved, KeepsTerms, IsChosen, PassAll, Evaluates, moved_of};
 ghost use Rattle.aql_session.specs.Runs.{StandsAt, HasWorkers, budget_of, declaration_of, declarations_at, sorts_at, IsQuery, IsStartAt, IsEvaluatedAt, IsSpentAt, IsQueryTermAt};
 ghost use Rattle.aql_session.specs.Step.{IsMovedBy};
 
@@ -70,6 +71,7 @@ pub(crate) fn run_query<R: Threads + Sync, G: Gate>(
     requires known { Knows (shapes_in shapes.old) globals.now }
     ensures shapes { shapes_in shapes.new ≡ shapes_in shapes.old }
     ensures evaluated { IfOk result (IsEvaluatedAt at.now globals.now) }
+    ensures typed { IfOk result (λ q. IsTypedOver globals.now (term_of q.plan)) }
     ensures spent { IfErr result (IsSpentAt at.now globals.now) }
 {
     let start = start_of_query(alloc, at)?;
@@ -105,7 +107,7 @@ fn plan_of(
     start: Core,
     options: &Options,
 ) -> Result<Planned, Memory>
-    requires query { IsQueryTerm globals.now (term_of start) }
+    requires query { IsTypedOver globals.now (term_of start) }
     requires known { Knows (shapes_in shapes.old) globals.now }
     ensures shapes { shapes_in shapes.new ≡ shapes_in shapes.old }
     ensures planned { IfOk result (IsPlanned options.now.motion globals.now (term_of start)) }
@@ -141,7 +143,7 @@ fn move_out(
     plan: &Core,
     options: &Options,
 ) -> Result<Option<Moved>, Memory>
-    requires query { IsQueryTerm globals.now (term_of plan.now) }
+    requires query { IsTypedOver globals.now (term_of plan.now) }
     requires known { Knows (shapes_in shapes.old) globals.now }
     ensures shapes { shapes_in shapes.new ≡ shapes_in shapes.old }
     ensures moved { IfOk result (IsMovedBy options.now.motion globals.now (term_of plan.now)) }

@@ -6,6 +6,7 @@ ghost use Rattle.aql_outside.specs.Contents.{Content};
 ghost use Rattle.aql_syntax.specs.View.{decl_of, decls_of, reader_of};
 ghost use Rattle.aql_value.specs.Limits.{most_budget};
 ghost use Rattle.nrca_ranges.specs.Shapes.{shapes_in};
+ghost use Rattle.nrca_encoded.specs.Encodings.{AreEncodings};
 ghost use Rattle.aql_session.specs.Device.{BlamesFiles};
 ghost use Rattle.aql_session.specs.Known.{Knows};
 ghost use Rattle.aql_session.specs.Numbered.{declarations, declaration_numbered};
@@ -13,6 +14,7 @@ ghost use Rattle.aql_session.specs.Step.{IsOverTurns};
 ghost use Rattle.aql_session.specs.Runs.{StandsAt, HasWorkers, budget_of, declaration_of, IsQuery, IsValueDeclaration, IsReadval, RunsPosition, IsPositionCause, PositionFails, UnlessReadAt};
 
 use crate::answer::{Ran, StepFault};
+use crate::graphs::with_graph;
 use crate::queries::{Evaluated, run_query};
 use crate::readings::{Read, read_argument};
 use aql_infer_steps::typed::Typed;
@@ -20,6 +22,7 @@ use aql_outside::{Files, Gate};
 use aql_syntax::ast::{Decl, Decls, Reader};
 use aql_words::Options;
 use nrca_array::Held;
+use nrca_encoded::Graph;
 use nrca_eval::Globals;
 use nrca_motion::Moved;
 use nrca_ranges::GlobalShapes;
@@ -44,6 +47,7 @@ pub(crate) struct Run {
     pub(crate) plan: Core,
     pub(crate) trace: Trace,
     pub(crate) moved: Option<Moved>,
+    pub(crate) graph: Option<Graph>,
     pub(crate) by: Ran,
     pub(crate) turns: u128,
     pub(crate) value: Option<Held>,
@@ -55,6 +59,7 @@ pub(crate) fn run_declaration<R: Threads + Sync, F: Files, G: Gate>(
     alloc: Global,
     globals: &Globals,
     shapes: &mut GlobalShapes,
+    encodings: &mut Globals,
     at: &Position,
     files: &mut F,
     gate: &G,
@@ -63,6 +68,8 @@ pub(crate) fn run_declaration<R: Threads + Sync, F: Files, G: Gate>(
     requires workers { HasWorkers at.now }
     requires budget { budget_of at.now ≤ most_budget }
     requires known { Knows (shapes_in shapes.old) globals.now }
+    requires encodings { AreEncodings globals.now encodings.old }
+    ensures encodings { AreEncodings globals.now encodings.new }
     ensures shapes { shapes_in shapes.new ≡ shapes_in shapes.old }
     ensures ran { IfOk result (RunsPosition at.now globals.now (F.holds files.old)) }
     ensures cause { IfErr result (PositionFails at.now globals.now F.Files files.old files.new) }
@@ -72,7 +79,9 @@ pub(crate) fn run_declaration<R: Threads + Sync, F: Files, G: Gate>(
     ensures unread { IfErr result (λ f. IsOverTurns f → files.new ≡ files.old) }
 {
     match declaration(at.decls, at.n) {
-        Decl::Val { name: _, expr: _ } => run_plain(rt, alloc, globals, shapes, at, gate),
+        Decl::Val { name: _, expr: _ } => {
+            run_plain(rt, alloc, globals, shapes, encodings, at, gate)
+        }
         Decl::Macro {
             name: _,
             pattern: _,
@@ -82,6 +91,7 @@ pub(crate) fn run_declaration<R: Threads + Sync, F: Files, G: Gate>(
             plan: Core::Bottom,
             trace: Trace(Vec::new(alloc)),
             moved: None,
+            graph: None,
             by: Ran::Declared,
             turns: 0,
             value: None,
@@ -91,7 +101,7 @@ pub(crate) fn run_declaration<R: Threads + Sync, F: Files, G: Gate>(
             reader,
             expr: _,
         } => run_readval(rt, alloc, globals, shapes, at, reader, files, gate),
-        Decl::Bare { expr: _ } => run_plain(rt, alloc, globals, shapes, at, gate),
+        Decl::Bare { expr: _ } => run_plain(rt, alloc, globals, shapes, encodings, at, gate),
     }
 }
 
@@ -112,12 +122,13 @@ fn declaration_at(decls: &[Decl], n: u64) -> &Decl
     &decls[(n - 1) as usize]
 }
 
-// A query that is no readval's argument.
+// A query that is no readval's argument, and with the word `--graph` the array-free form of its plan.
 fn run_plain<R: Threads + Sync, G: Gate>(
     rt: &R,
     alloc: Global,
     globals: &Globals,
     shapes: &mut GlobalShapes,
+    encodings: &mut Globals,
     at: &Position,
     gate: &G,
 ) -> Result<Run, StepFault>
@@ -127,31 +138,15 @@ fn run_plain<R: Threads + Sync, G: Gate>(
     requires workers { HasWorkers at.now }
     requires budget { budget_of at.now ≤ most_budget }
     requires known { Knows (shapes_in shapes.old) globals.now }
+    requires encodings { AreEncodings globals.now encodings.old }
+    ensures encodings { AreEncodings globals.now encodings.new }
     ensures shapes { shapes_in shapes.new ≡ shapes_in shapes.old }
     ensures ran { (holds : Option Content) → IfOk result (RunsPosition at.now globals.now holds) }
     ensures cause { (holds : Option Content) (before now : ℕ) →
         IfErr result (IsPositionCause at.now globals.now holds before now) }
 {
     match run_query(rt, alloc, globals, shapes, at, gate) {
-        Ok(
-            Evaluated {
-                start,
-                plan,
-                trace,
-                moved,
-                by,
-                value,
-                turns,
-            },
-        ) => Ok(Run {
-            start,
-            plan,
-            trace,
-            moved,
-            by,
-            turns,
-            value,
-        }),
+        Ok(evaluated) => with_graph(rt, alloc, globals, encodings, at, evaluated, gate),
         Err(fault) => Err(fault),
     }
 }
@@ -197,6 +192,7 @@ fn run_readval<R: Threads + Sync, F: Files, G: Gate>(
                 plan,
                 trace,
                 moved,
+                graph: None,
                 by: Ran::Read,
                 turns: turns + read,
                 value,

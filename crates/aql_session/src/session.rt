@@ -16,6 +16,7 @@ use aql_value::made::both;
 use aql_value::{Memory, Str};
 use indexmap::IndexMap;
 use nrca_array::Held;
+use nrca_encoded::value_of;
 use nrca_eval::Globals;
 use nrca_ranges::{GlobalShapes, Shape};
 use std::alloc::Global;
@@ -28,6 +29,8 @@ pub struct Session {
     pub(crate) globals: Globals,
     // What is known of each of them.
     pub(crate) shapes: GlobalShapes,
+    // The encodings of those that array-free forms used so far.
+    pub(crate) encodings: Globals,
     // The names in order.
     names: Vec<Str>,
     // The last position, counted from 1, of each name, by its bytes.
@@ -45,17 +48,19 @@ impl Model for Session {
 
     ghost use Rattle.std.specs.List.{zip};
     ghost use Rattle.nrca_ranges.specs.Shapes.{shapes_in};
+    ghost use Rattle.nrca_encoded.specs.Encodings.{AreEncodings};
     ghost use Rattle.aql_session.specs.Known.{Knows};
     ghost use Rattle.aql_session.specs.LatestNames.{AreKept};
 
     ghost view = { λ s. zip s.names.items s.globals };
 
     ghost invariant = { λ s. AreKept s.names.items s.globals s.latest
-        × Knows (shapes_in s.shapes) s.globals };
+        × Knows (shapes_in s.shapes) s.globals × AreEncodings s.globals s.encodings };
 }
 
 impl Session {
     /// A session in which nothing is bound.
+    #[tactic(auto, using(nrca_encoded::specs::Laws::Encodings::no_encodings))]
     pub fn new(alloc: Global) -> Result<Session, Memory>
         ensures { IfOk result (λ s. s ≡ []) }
     {
@@ -64,6 +69,9 @@ impl Session {
                 list: Vec::new(alloc),
             },
             shapes: GlobalShapes::new(alloc),
+            encodings: Globals {
+                list: Vec::new(alloc),
+            },
             names: Vec::new(alloc),
             latest: IndexMap::new(alloc),
         })
@@ -125,28 +133,6 @@ fn entry_of(alloc: Global, name: &Str, value: Option<Held>) -> Result<Entry, Mem
     let parts = both(name.copy(alloc), shape_of_outcome(alloc, &value));
     let (value, (name, shape)) = both(Ok(value), parts)?;
     Ok(Entry { name, value, shape })
-}
-
-// The value of a position.
-fn value_of(globals: &Globals, n: u64) -> Option<&Held>
-    ensures { option_map (λ h. held_datum h.now) result ≡ outcome globals.now n }
-{
-    value_at(globals.list.as_slice(), n)
-}
-
-// The value at a place that is counted from 1.
-fn value_at(list: &[Option<Held>], n: u64) -> Option<&Held>
-    ensures { option_map (λ h. held_datum h.now) result ≡ outcome (map held_value list.now) n }
-{
-    if n == 0 {
-        return None;
-    }
-    let i = (n - 1) as usize;
-    if i < list.len() {
-        list[i].as_ref()
-    } else {
-        None
-    }
 }
 
 // One outcome more, and what is known of it.

@@ -34,7 +34,9 @@ impl Session {
     ///
     /// A query is evaluated by its plan where the turns of that are within the budget, else as it is
     /// translated, where those are; else, with the word `--motion`, by what is moved in the plan, where
-    /// those are. With the word the plan is moved in every case, before anything is evaluated.
+    /// those are. With the word the plan is moved in every case, before anything is evaluated. With the
+    /// word `--graph` the array-free form of a query's plan is evaluated after the query, within the
+    /// same budget; what comes of it has no fault but want of memory.
     /// Of a readval first the argument is evaluated; where it is undefined, so is the readval, and no
     /// call is made on the files. Faults come in this order:
     /// `Query` (the argument of a readval, too), `Cells`, then those of the file; of a file of
@@ -116,7 +118,16 @@ impl Session {
         ensures untouched { UnlessReadAt at.now (outcomes self.old) (files.new ≡ files.old) }
         ensures unread { IfErr result (λ f. IsOverTurns f → files.new ≡ files.old) }
     {
-        run_declaration(rt, alloc, &self.globals, &mut self.shapes, at, files, gate)
+        run_declaration(
+            rt,
+            alloc,
+            &self.globals,
+            &mut self.shapes,
+            &mut self.encodings,
+            at,
+            files,
+            gate,
+        )
     }
 
     // The answer of a run, with the position bound.
@@ -150,6 +161,7 @@ fn answer_of(alloc: Global, at: &Position, run: Run) -> Result<(Answer, Option<H
         plan,
         trace,
         moved,
+        graph,
         by,
         turns,
         value,
@@ -162,7 +174,8 @@ fn answer_of(alloc: Global, at: &Position, run: Run) -> Result<(Answer, Option<H
         trace,
         moved,
     };
-    let (terms, (value, (name, ty))) = both(Ok(terms), both(Ok(value), head))?;
+    let parts = both(Ok(terms), both(Ok(graph), both(Ok(value), head)));
+    let (terms, (graph, (value, (name, ty)))) = parts?;
     let Planned {
         start,
         plan,
@@ -176,6 +189,7 @@ fn answer_of(alloc: Global, at: &Position, run: Run) -> Result<(Answer, Option<H
         plan,
         trace,
         moved,
+        graph,
         by,
         turns,
     };

@@ -10,13 +10,14 @@ use Rattle.aql_words.specs.Words.{HasReading, aql, options_of}
 abbrev line : Text → Text → List Text
 line first second = codes "aql" ∷ first ∷ second ∷ []
 
-abbrev options : ℕ → ℕ → Bool → Option ℕ → Bool → Options
-options workers budget plan sample motion = record {
+abbrev options : ℕ → ℕ → Bool → Option ℕ → Bool → Bool → Options
+options workers budget plan sample motion graph = record {
   workers = workers;
   budget = budget;
   plan = plan;
   sample = sample;
   motion = motion;
+  graph = graph;
 }
 
 abbrev fault : List Text → Kinds
@@ -26,7 +27,7 @@ none_read : HasReading (codes "aql" ∷ [])
 unfolding clap_on_literals
 none_read = refl
 
-none : options_of (codes "aql" ∷ []) ≡ options 1 10000000 false None false
+none : options_of (codes "aql" ∷ []) ≡ options 1 10000000 false None false false
 unfolding clap_on_literals
 none = refl
 
@@ -34,7 +35,7 @@ workers_read : HasReading (line (codes "--workers") (codes "64"))
 unfolding clap_on_literals
 workers_read = refl
 
-workers : options_of (line (codes "--workers") (codes "64")) ≡ options 64 10000000 false None false
+workers : options_of (line (codes "--workers") (codes "64")) ≡ options 64 10000000 false None false false
 unfolding clap_on_literals
 workers = refl
 
@@ -42,7 +43,7 @@ joined_read : HasReading (line (codes "--plan") (codes "--sample=12"))
 unfolding clap_on_literals
 joined_read = refl
 
-joined : options_of (line (codes "--plan") (codes "--sample=12")) ≡ options 1 10000000 true (Some 12) false
+joined : options_of (line (codes "--plan") (codes "--sample=12")) ≡ options 1 10000000 true (Some 12) false false
 unfolding clap_on_literals
 joined = refl
 
@@ -50,7 +51,7 @@ motion_read : HasReading (line (codes "--motion") (codes "--plan"))
 unfolding clap_on_literals
 motion_read = refl
 
-motion : options_of (line (codes "--motion") (codes "--plan")) ≡ options 1 10000000 true None true
+motion : options_of (line (codes "--motion") (codes "--plan")) ≡ options 1 10000000 true None true false
 unfolding clap_on_literals
 motion = refl
 
@@ -69,6 +70,18 @@ twice = refl
 motion_twice : fault (line (codes "--motion") (codes "--motion")) ≡ kinds.ArgumentConflict ∷ []
 unfolding clap_on_literals
 motion_twice = refl
+
+graph_read : HasReading (line (codes "--graph") (codes "--plan"))
+unfolding clap_on_literals
+graph_read = refl
+
+graph : options_of (line (codes "--graph") (codes "--plan")) ≡ options 1 10000000 true None false true
+unfolding clap_on_literals
+graph = refl
+
+graph_twice : fault (line (codes "--graph") (codes "--graph")) ≡ kinds.ArgumentConflict ∷ []
+unfolding clap_on_literals
+graph_twice = refl
 
 help : fault (codes "aql" ∷ codes "--help" ∷ []) ≡ kinds.DisplayHelp ∷ []
 unfolding clap_on_literals

@@ -21,14 +21,15 @@ flag_rule name = record (new_rule name) { long = Some name; action = Some SetTru
 abbrev pub most_sample : ℕ
 most_sample = 1000000
 
--- aql [--workers N] [--budget N] [--plan] [--sample N] [--motion]
+-- aql [--workers N] [--budget N] [--plan] [--sample N] [--motion] [--graph]
 abbrev pub aql : App
-aql = with_rule (with_rule (with_rule (with_rule (with_rule (new_app (codes "aql"))
+aql = with_rule (with_rule (with_rule (with_rule (with_rule (with_rule (new_app (codes "aql"))
     (number_rule (codes "workers") most_workers))
     (number_rule (codes "budget") most_budget))
     (flag_rule (codes "plan")))
     (number_rule (codes "sample") most_sample))
-    (flag_rule (codes "motion"))
+    (flag_rule (codes "motion")))
+    (flag_rule (codes "graph"))
 
 -- the command reads the words: no step of the reading fails, and none asks for help or for a version
 abbrev pub HasReading : List Text → Type 0
@@ -61,6 +62,7 @@ options_in rows = record {
   plan = is_true_text (first_of (codes "plan") rows);
   sample = number_at most_sample (codes "sample") rows;
   motion = is_true_text (first_of (codes "motion") rows);
+  graph = is_true_text (first_of (codes "graph") rows);
 }
 
 -- what the words ask for

@@ -17,7 +17,7 @@ pub const MOST_BUDGET: u64 = 50_000_000;
 /// The greatest size of a sample script.
 pub const MOST_SAMPLE: u64 = 1_000_000;
 
-/// The command, which has the five options and no subcommand.
+/// The command, which has the six options and no subcommand.
 pub(crate) fn command<'a>(alloc: Global) -> Result<Command<'a>, AllocError>
     ensures { IfOk result (λ c. app_of c ≡ aql) }
 {
@@ -26,13 +26,15 @@ pub(crate) fn command<'a>(alloc: Global) -> Result<Command<'a>, AllocError>
     let plan = flag_option(alloc, "plan");
     let sample = number_option(alloc, "sample", MOST_SAMPLE);
     let motion = flag_option(alloc, "motion");
+    let graph = flag_option(alloc, "graph");
     let start = Command::new(alloc, "aql");
     let one = start.arg(workers)?;
     let two = one.arg(budget)?;
     let three = two.arg(plan)?;
     let four = three.arg(sample)?;
     let five = four.arg(motion)?;
-    Ok(five)
+    let six = five.arg(graph)?;
+    Ok(six)
 }
 
 // An option that takes a number from 1 on.

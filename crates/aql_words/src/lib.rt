@@ -1,4 +1,4 @@
-//! The words of the command line: `aql [--workers N] [--budget N] [--plan] [--sample N] [--motion]`.
+//! The words of the command line: `aql [--workers N] [--budget N] [--plan] [--sample N] [--motion] [--graph]`.
 //!
 //! `read_words` answers the options that the words ask for, exactly `options_of words`, and blames the words only
 //! where the command has no reading of them. What a reading is, `clap` says of simple commands: a request for

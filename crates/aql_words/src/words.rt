@@ -12,8 +12,8 @@ use clap::{ArgMatches, Error};
 use std::alloc::Global;
 
 /// What a run was asked for: its threads (1 to 64), the turns that each declaration may take (1 to 50,000,000),
-/// whether plans are printed, the size of the sample script (1 to 1,000,000) that stands for the input, and whether
-/// lets and tests are moved out of the loops of plans.
+/// whether plans are printed, the size of the sample script (1 to 1,000,000) that stands for the input, whether lets
+/// and tests are moved out of the loops of plans, and whether the array-free forms of plans are made and evaluated.
 #[derive(Clone, Copy, Debug, PartialEq, Eq)]
 pub struct Options {
     pub workers: u64,
@@ -21,6 +21,7 @@ pub struct Options {
     pub plan: bool,
     pub sample: Option<u64>,
     pub motion: bool,
+    pub graph: bool,
 }
 
 /// The options that the words of a command line ask for, the first word being the program's name.
@@ -58,12 +59,14 @@ fn asked_for<'a>(matches: &ArgMatches<'a>) -> Options
     let plan = flag(matches, "plan");
     let sample = number(matches, "sample", MOST_SAMPLE);
     let motion = flag(matches, "motion");
+    let graph = flag(matches, "graph");
     Options {
         workers,
         budget,
         plan,
         sample,
         motion,
+        graph,
     }
 }
 

@@ -33,7 +33,15 @@ const THREE: &str =
 
 const THREE_LINES: &str = "typ n : string\nval n = \"a\"\ntyp it : {nat * nat}\nval it = {}\n";
 
-const ROWS: [Row<'static>; 14] = [
+// Its plan takes no turn, as it is written it takes 1,000, and what is moved in its plan takes 100, since the loop is empty.
+const PLAN_ALONE: &str =
+    "val \\n = 0; ({x | \\x <- gen!n, isempty!(gen!100)}, [[i | \\i<1000]][3]);";
+
+// As it is written it takes 102 turns, its plan takes 420, and what is moved in its plan takes 1,420.
+const START_ALONE: &str =
+    "val \\n = 0; ({x | \\x <- {y%2 | \\y <- gen!10}, \\z <- gen!20}, {x | \\x <- gen!n, isempty!(gen!1000)});";
+
+const ROWS: [Row<'static>; 17] = [
     Row(BOTH, OUTER, 0, OUTER_LINES),
     Row(
         &["--plan", "--motion", "--budget", "120000"],
@@ -67,6 +75,24 @@ const ROWS: [Row<'static>; 14] = [
         THREE,
         12,
         "typ n : string\nval n = \"a\"\nfault budget in declaration 2\n",
+    ),
+    Row(
+        &["--motion", "--budget", "99"],
+        PLAN_ALONE,
+        0,
+        "typ n : nat\nval n = 0\ntyp it : {nat} * nat\nval it = ({}, 3)\n",
+    ),
+    Row(
+        &["--motion", "--budget", "102"],
+        START_ALONE,
+        0,
+        "typ n : nat\nval n = 0\ntyp it : {nat} * {nat}\nval it = ({0, 1}, {})\n",
+    ),
+    Row(
+        &["--motion", "--budget", "101"],
+        START_ALONE,
+        12,
+        "typ n : nat\nval n = 0\nfault budget in declaration 2\n",
     ),
     // What is moved takes 100 turns here, and the plan none, which counts.
     Row(

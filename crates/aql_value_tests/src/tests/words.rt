@@ -11,22 +11,39 @@ fn read(rt: &impl AllocGlobal, words: &[&str]) -> Result<Result<Options, WordFau
     Ok(read_words(rt.alloc(), all.as_slice()))
 }
 
-// A row: the words, and then workers, budget, plan, sample and motion.
+// A row: the words, and then workers, budget, plan, sample, motion and graph.
 #[test]
 fn words_are_read(rt: HostRuntime) -> Result<(), AllocError> {
-    let rows: [(&[&str], u64, u64, bool, Option<u64>, bool); 11] = [
-        (&[], 1, 10_000_000, false, None, false),
-        (&["--workers", "8"], 8, 10_000_000, false, None, false),
-        (&["--workers=8"], 8, 10_000_000, false, None, false),
-        (&["--budget", "1"], 1, 1, false, None, false),
-        (&["--plan"], 1, 10_000_000, true, None, false),
-        (&["--sample", "1"], 1, 10_000_000, false, Some(1), false),
+    let rows: [(&[&str], u64, u64, bool, Option<u64>, bool, bool); 13] = [
+        (&[], 1, 10_000_000, false, None, false, false),
+        (
+            &["--workers", "8"],
+            8,
+            10_000_000,
+            false,
+            None,
+            false,
+            false,
+        ),
+        (&["--workers=8"], 8, 10_000_000, false, None, false, false),
+        (&["--budget", "1"], 1, 1, false, None, false, false),
+        (&["--plan"], 1, 10_000_000, true, None, false, false),
+        (
+            &["--sample", "1"],
+            1,
+            10_000_000,
+            false,
+            Some(1),
+            false,
+            false,
+        ),
         (
             &["--sample=1000000"],
             1,
             10_000_000,
             false,
             Some(1_000_000),
+            false,
             false,
         ),
         (
@@ -36,6 +53,7 @@ fn words_are_read(rt: HostRuntime) -> Result<(), AllocError> {
             false,
             None,
             false,
+            false,
         ),
         (
             &["--sample", "7", "--plan", "--budget=2", "--workers=3"],
@@ -44,8 +62,9 @@ fn words_are_read(rt: HostRuntime) -> Result<(), AllocError> {
             true,
             Some(7),
             false,
+            false,
         ),
-        (&["--motion"], 1, 10_000_000, false, None, true),
+        (&["--motion"], 1, 10_000_000, false, None, true, false),
         (
             &["--motion", "--sample=7", "--plan"],
             1,
@@ -53,15 +72,27 @@ fn words_are_read(rt: HostRuntime) -> Result<(), AllocError> {
             true,
             Some(7),
             true,
+            false,
+        ),
+        (&["--graph"], 1, 10_000_000, false, None, false, true),
+        (
+            &["--graph", "--motion", "--budget=9"],
+            1,
+            9,
+            false,
+            None,
+            true,
+            true,
         ),
     ];
-    for (words, workers, budget, plan, sample, motion) in rows {
+    for (words, workers, budget, plan, sample, motion, graph) in rows {
         let wanted = Options {
             workers,
             budget,
             plan,
             sample,
             motion,
+            graph,
         };
         assert_eq!(rt; read(&rt, words)?, Ok(wanted));
     }
@@ -70,7 +101,7 @@ fn words_are_read(rt: HostRuntime) -> Result<(), AllocError> {
 
 #[test]
 fn words_without_a_reading(rt: HostRuntime) -> Result<(), AllocError> {
-    let rows: [&[&str]; 16] = [
+    let rows: [&[&str]; 18] = [
         &["--workers", "0"],
         &["--workers", "65"],
         &["--budget", "0"],
@@ -87,6 +118,8 @@ fn words_without_a_reading(rt: HostRuntime) -> Result<(), AllocError> {
         &["--plan", "--plan"],
         &["--motion=true"],
         &["--motion", "--motion"],
+        &["--graph=true"],
+        &["--graph", "--graph"],
     ];
     for words in rows {
         assert_eq!(rt; read(&rt, words)?, Err(WordFault::Usage));

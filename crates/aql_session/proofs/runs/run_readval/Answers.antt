@@ -1,9 +1,9 @@
-use Rattle.std.proofs.Common.{◌+◌, ◌<◌, ◌^◌, subst, arith}
+use Rattle.std.proofs.Common.{◌+◌, ◌<◌, ◌^◌, None, subst, arith}
 use Rattle.aql_syntax.specs.Tree.{read}
 use Rattle.aql_syntax.specs.View.{reader_of}
 use Rattle.nrca_loops.specs.Scope.{held_value}
 use Rattle.aql_session.specs.Numbered.{so_far}
-use Rattle.aql_session.specs.Runs.{IsRun, budget_of, motion_of, declaration_of, declarations_at, sorts_at}
+use Rattle.aql_session.specs.Runs.{IsRun, budget_of, graphs_of, motion_of, declaration_of, declarations_at, sorts_at}
 use Rattle.aql_session.specs.Step.{IsCause, ReadsNoFile}
 use Rattle.aql_session.specs.declared.answer.Ran.TheVariants as ran
 use Rattle.aql_session.proofs.Running.{same-position, reader-within, argument-typed, readval-run, readval-fits, readval-cause, readval-unread}
@@ -41,9 +41,9 @@ returns-in-Ok-read_argument-clause-ran g c = λ d e.
     let earlier = so_far p.decls.now c.args.globals.now in
     let h = c.in-Ok.ensures.evaluated (read k.0 r k.1) k.2 in
     let z = same-position (declaration_of p) (read k.0 r k.1) d k.2 e in
-    let run = readval-run k.0 r k.1 earlier (motion_of p) (budget_of p) c.in-Ok.field-0 h (g.F.Files.holds c.args.files.now) c.in-Ok-read_argument.field-0 c.in-Ok-read_argument.ensures.read in
-    subst (λ x. IsRun x earlier (motion_of p) (budget_of p) (g.F.Files.holds c.args.files.now)
-    (record { start = c.in-Ok.field-0.start; plan = c.in-Ok.field-0.plan; trace = c.in-Ok.field-0.trace; moved = c.in-Ok.field-0.moved; by = ran.Read; turns = c.in-Ok.field-0.turns + c.in-Ok-read_argument.field-0.turns; value = c.in-Ok-read_argument.field-0.value })) z run
+    let run = readval-run k.0 r k.1 earlier (motion_of p) (budget_of p) c.in-Ok.field-0 h (graphs_of p) (g.F.Files.holds c.args.files.now) c.in-Ok-read_argument.field-0 c.in-Ok-read_argument.ensures.read in
+    subst (λ x. IsRun x earlier (motion_of p) (graphs_of p) (budget_of p) (g.F.Files.holds c.args.files.now)
+    (record { start = c.in-Ok.field-0.start; plan = c.in-Ok.field-0.plan; trace = c.in-Ok.field-0.trace; moved = c.in-Ok.field-0.moved; graph = None; by = ran.Read; turns = c.in-Ok.field-0.turns + c.in-Ok-read_argument.field-0.turns; value = c.in-Ok-read_argument.field-0.value })) z run
 
 pub returns-in-Ok-read_argument-clause-untouched : goal.returns-in-Ok-read_argument-clause-untouched
 returns-in-Ok-read_argument-clause-untouched g c = λ d e u.

@@ -16,4 +16,5 @@ returns c =
     let budget = added _ _ _ _ _ c.in_ok-two.ensures c.number_option-budget.ensures.local c.number_option-budget.ensures.rule workers in
     let plan = added _ _ _ _ _ c.in_ok-three.ensures c.flag_option-plan.ensures.local c.flag_option-plan.ensures.rule budget in
     let sample = added _ _ _ _ _ c.in_ok-four.ensures c.number_option-sample.ensures.local c.number_option-sample.ensures.rule plan in
-    added _ _ _ _ _ c.in_ok-five.ensures c.flag_option-motion.ensures.local c.flag_option-motion.ensures.rule sample
+    let motion = added _ _ _ _ _ c.in_ok-five.ensures c.flag_option-motion.ensures.local c.flag_option-motion.ensures.rule sample in
+    added _ _ _ _ _ c.in_ok-six.ensures c.flag_option-graph.ensures.local c.flag_option-graph.ensures.rule motion

@@ -3,6 +3,8 @@ use Rattle.std.specs.Option.{ForSome}
 use Rattle.aql_value.specs.Valid.{IsValue}
 use Rattle.nrca_loops.specs.Scope.{held_value}
 use Rattle.nrca_ranges.specs.Shapes.{bounds_there, shapes_in}
+use Rattle.nrca_encoded.specs.Encodings.{AreEncodings}
+use Rattle.nrca_encoded.specs.Laws.Encodings.{one-more-outcome}
 use Rattle.aql_session.specs.Known.{HasShapeThere}
 use Rattle.aql_session.proofs.Binding.{latest-push, lengths-push, view-push}
 use Rattle.aql_session.proofs.Knowing.{known-push}
@@ -21,6 +23,7 @@ invariant_of-self-2 c =
       known-push (shapes_in old.shapes) (shapes_in new.shapes) old.globals new.globals (bounds_there entry.shape) (held_value entry.value) c.self.invariant.1 p.shaped p.pushed
           (subst (HasShapeThere (bounds_there entry.shape)) (sym c.in_ok-entry.ensures.value) c.in_ok-entry.ensures.shape)
           (subst (λ o. ForSome o IsValue) (sym c.in_ok-entry.ensures.value) c.requires.valid),
+      subst (λ V. AreEncodings V old.encodings) (sym p.pushed) (one-more-outcome old.globals old.encodings (held_value entry.value) c.self.invariant.2),
     )
 
 pub returns-clause-bound : goal.returns-clause-bound

@@ -41,11 +41,11 @@ returns-in_ok-keep-in-Ok-clause-answer g c = λ d e.
       macros = c.requires.types.1;
       limits = c.requires.limits;
     })
-    d e c.args.options.now.motion c.args.options.now.budget (g.F.Files.holds c.args.files.now) c.in-Ok.run' c.in_ok-keep-in-Ok.field-0 (c.in-Ok.ensures.ran d e) (c.in_ok-keep-in-Ok.ensures.answer d e)
+    d e c.args.options.now.motion c.args.options.now.graph c.args.options.now.budget (g.F.Files.holds c.args.files.now) c.in-Ok.run' c.in_ok-keep-in-Ok.field-0 (c.in-Ok.ensures.ran d e) (c.in_ok-keep-in-Ok.ensures.answer d e)
 
 pub returns-in_ok-keep-in-Ok-clause-binds : goal.returns-in_ok-keep-in-Ok-clause-binds
 returns-in_ok-keep-in-Ok-clause-binds g c = λ d e.
-    binds-is d (so_far c.args.decls.now (outcomes c.args.self.now)) c.args.options.now.motion c.args.options.now.budget (g.F.Files.holds c.args.files.now) c.in-Ok.run' (sort_numbered c.args.typed.now c.args.n)
+    binds-is d (so_far c.args.decls.now (outcomes c.args.self.now)) c.args.options.now.motion c.args.options.now.graph c.args.options.now.budget (g.F.Files.holds c.args.files.now) c.in-Ok.run' (sort_numbered c.args.typed.now c.args.n)
     c.in_ok-keep-in-Ok.field-0 c.args.self.now c.keep.new.self c.requires.types (c.in-Ok.ensures.ran d e) (c.in_ok-keep-in-Ok.ensures.answer d e)
     (c.in_ok-keep-in-Ok.ensures.bound d e ∙ ap (λ b. b ++ (declared d, held_value c.in-Ok.run'.value) ∷ []) c.run_next.ensures.as_before)
 

@@ -1,7 +1,7 @@
 use Rattle.std.proofs.Common.{◌∙◌, ap}
 use Rattle.nrca_loops.specs.Scope.{held_value}
-use Rattle.aql_session.proofs.Binding.{held-copied, value-there, value-past}
-use Rattle.aql_session.proofs.session.value_at.Goals as goal
+use Rattle.nrca_encoded.proofs.Placing.{held-copied, value-there, value-past}
+use Rattle.nrca_encoded.proofs.positions.value_at.Goals as goal
 
 pub returns-then-i-list : goal.returns-then-i-list
 returns-then-i-list c =

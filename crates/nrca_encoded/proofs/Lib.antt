@@ -1,0 +1,4 @@
+pub mod Agreeing
+pub mod Kept
+pub mod Placing
+pub mod Coming

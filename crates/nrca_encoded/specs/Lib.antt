@@ -1,0 +1,4 @@
+pub mod Positions
+pub mod Encodings
+pub mod Graphs
+pub mod Laws
