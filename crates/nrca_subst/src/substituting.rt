@@ -27,15 +27,33 @@ pub fn subst(alloc: Global, term: Core, at: u64, with: &Core) -> Result<Core, Me
     Ok(whole)
 }
 
-// In place, under `depth` binders, or under as many that no variable is as high as their number.
+// In place, under `depth` binders, or under as many that no variable is as high as their number. A walk over a chain of lets, or of
+// sums, comes to each node once and takes none apart: where both parts stand in boxes it goes to them where they are.
 #[cycle(subst)]
 fn subst_in(alloc: Global, term: &mut Core, at: u64, depth: u128, with: &Core) -> Result<(), Memory>
     requires { DepthFits at depth (term_of with.now) (term_of term.old) }
     ensures { OnOk result (SubstitutesIn at depth with.now term.old term.new) }
 {
-    match term.variable() {
-        Some(i) => subst_variable(alloc, term, i, at, depth, with),
-        None => subst_node(alloc, term, at, depth, with),
+    match term {
+        Core::Var(i) => {
+            let i = *i;
+            subst_variable(alloc, term, i, at, depth, with)
+        }
+        Core::Nat(_) => Ok(()),
+        Core::Let(a, b) => subst_two(alloc, a, b, 1, at, depth, with),
+        Core::BigUnion { over, body } => subst_two(alloc, over, body, 1, at, depth, with),
+        Core::Sum { over, body } => subst_two(alloc, over, body, 1, at, depth, with),
+        Core::Default(a, b) => subst_two(alloc, a, b, 0, at, depth, with),
+        Core::Union(a, b) => subst_two(alloc, a, b, 0, at, depth, with),
+        Core::Arith(op, a, b) => {
+            leave(op);
+            subst_two(alloc, a, b, 0, at, depth, with)
+        }
+        Core::Compare(op, a, b) => {
+            leave(op);
+            subst_two(alloc, a, b, 0, at, depth, with)
+        }
+        _ => subst_other(alloc, term, at, depth, with),
     }
 }
 
@@ -67,38 +85,6 @@ fn subst_variable(
     Ok(())
 }
 
-// In a node that is no variable. A walk over a chain of lets, or of sums, comes to each node once and takes none apart: where
-// both parts stand in boxes it goes to them where they are.
-#[cycle(subst)]
-fn subst_node(
-    alloc: Global,
-    term: &mut Core,
-    at: u64,
-    depth: u128,
-    with: &Core,
-) -> Result<(), Memory>
-    requires other { variable_of (form_of (term_of term.old)) ≡ None }
-    requires fits { DepthFits at depth (term_of with.now) (term_of term.old) }
-    ensures { OnOk result (SubstitutesIn at depth with.now term.old term.new) }
-{
-    match term {
-        Core::Let(a, b) => subst_two(alloc, a, b, 1, at, depth, with),
-        Core::BigUnion { over, body } => subst_two(alloc, over, body, 1, at, depth, with),
-        Core::Sum { over, body } => subst_two(alloc, over, body, 1, at, depth, with),
-        Core::Default(a, b) => subst_two(alloc, a, b, 0, at, depth, with),
-        Core::Union(a, b) => subst_two(alloc, a, b, 0, at, depth, with),
-        Core::Arith(op, a, b) => {
-            leave(op);
-            subst_two(alloc, a, b, 0, at, depth, with)
-        }
-        Core::Compare(op, a, b) => {
-            leave(op);
-            subst_two(alloc, a, b, 0, at, depth, with)
-        }
-        _ => subst_parts_in(alloc, term, at, depth, with),
-    }
-}
-
 // In both parts of a node, of which the second has so many variables of its own.
 #[cycle(subst)]
 fn subst_two(
@@ -121,9 +107,29 @@ fn subst_two(
 }
 
 // Says that what stands beside the parts stays as it was.
+#[inline(always)]
 fn leave<T>(_beside: &mut T)
     ensures { _beside.new ≡ _beside.old }
 {}
+
+// In a variable, or in the parts of any node, each taken out for the while.
+#[cycle(subst)]
+#[inline(never)]
+fn subst_other(
+    alloc: Global,
+    term: &mut Core,
+    at: u64,
+    depth: u128,
+    with: &Core,
+) -> Result<(), Memory>
+    requires { DepthFits at depth (term_of with.now) (term_of term.old) }
+    ensures { OnOk result (SubstitutesIn at depth with.now term.old term.new) }
+{
+    match term.variable() {
+        Some(i) => subst_variable(alloc, term, i, at, depth, with),
+        None => subst_parts_in(alloc, term, at, depth, with),
+    }
+}
 
 // In the parts of any node, each taken out for the while.
 #[cycle(subst)]

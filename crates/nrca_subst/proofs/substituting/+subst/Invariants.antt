@@ -13,8 +13,8 @@ invariant-subst_parts_in-loop-i l = (n : ℕ) → IsDepth l.depth n → term_of 
 abbrev pub decreases-subst_in : goal.decreases-subst_in
 decreases-subst_in l = 4 * weight_of (term_of l.term.now) + 2
 
-abbrev pub decreases-subst_node : goal.decreases-subst_node
-decreases-subst_node l = 4 * weight_of (term_of l.term.now) + 1
+abbrev pub decreases-subst_other : goal.decreases-subst_other
+decreases-subst_other l = 4 * weight_of (term_of l.term.now) + 1
 
 abbrev pub decreases-subst_two : goal.decreases-subst_two
 decreases-subst_two l = 4 * max (weight_of (term_of l.a.now.value)) (weight_of (term_of l.b.now.value)) + 3
