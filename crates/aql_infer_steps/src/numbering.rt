@@ -2,19 +2,20 @@
 
 ghost use Rattle.std.specs.Prelude.{◌≡◌, IfOk};
 ghost use Rattle.aql_types.specs.Types.{apply, apply_all, apply_sort};
-ghost use Rattle.aql_types.specs.View.{type_of, types_of, sort_of, subst_of};
+ghost use Rattle.aql_types.specs.View.{type_of, types_of, sort_of};
+ghost use Rattle.aql_type_solve.specs.Solution.{subst_in};
 ghost use Rattle.aql_infer_steps.specs.Numbering.{renumbering};
 
-use aql_types::subst::Subst;
+use aql_type_solve::solve::Solution;
 use aql_types::ty::{Scheme, Ty, row};
 use aql_types::variables::place_of;
 use aql_value::Memory;
 use aql_value::made::{both, make_box};
 use std::alloc::Global;
 
-/// The instance of a scheme under a substitution.
-pub fn instance_of(alloc: Global, solution: &Subst, s: &Scheme) -> Result<Scheme, Memory>
-    ensures { IfOk result (λ made. sort_of made ≡ apply_sort (subst_of solution.now)
+/// The instance of a scheme under a solution.
+pub fn instance_of(alloc: Global, solution: &Solution, s: &Scheme) -> Result<Scheme, Memory>
+    ensures { IfOk result (λ made. sort_of made ≡ apply_sort (subst_in solution.now)
         (sort_of s.now)) }
 {
     match s {

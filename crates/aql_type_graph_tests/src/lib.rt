@@ -1,5 +1,7 @@
-//! Tests of equations between types in a graph: the limits at their edge, cycles, and types read out.
+//! Tests of equations between types and between the nodes of a graph: the limits at their edge, cycles, types read out.
 #![tactic(auto)]
 
 #[cfg(test)]
 mod tests;
+#[cfg(test)]
+mod types;

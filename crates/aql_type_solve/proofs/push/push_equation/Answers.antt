@@ -1,0 +1,8 @@
+use Rattle.aql_types.specs.View.{type_of}
+use Rattle.aql_type_solve.proofs.Pushing.{sides_pushed}
+use Rattle.aql_type_solve.proofs.push.push_equation.Goals as goal
+
+pub returns : goal.returns
+returns c =
+    sides_pushed c.in_ok-left.left c.in_ok-right.right c.in_ok-right.g c.in_ok-left.g c.args.g (type_of c.args.e.left) (type_of c.args.e.right)
+    c.in_ok-left.ensures c.in_ok-right.ensures

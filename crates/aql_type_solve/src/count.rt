@@ -1,0 +1,49 @@
+//! How many variables a graph needs, so that each variable of some types is the node of its own number.
+
+ghost use Rattle.std.specs.Prelude.{◌≡◌, IfOk};
+
+use aql_types::equation::Equation;
+use aql_types::ty::Ty;
+use aql_value::Memory;
+
+/// One more than the greatest number of a variable, or 0 where there are none. `Memory` where 32 bits do not hold it.
+pub(crate) fn count_variables(work: &[Equation], uses: &[Ty]) -> Result<u32, Memory> {
+    let mut least = past_all(uses);
+    for e in work {
+        least = least.max(past(&e.left)).max(past(&e.right));
+    }
+    to_number(least)
+}
+
+/// The number in 32 bits. `Memory` where they do not hold it.
+pub(crate) fn to_number(n: u64) -> Result<u32, Memory>
+    ensures { IfOk result (λ i. i ≡ n) }
+{
+    if n > u32::MAX as u64 {
+        return Err(Memory);
+    }
+    Ok(n as u32)
+}
+
+// One more than the greatest number of a variable of a type.
+#[cycle(past)]
+fn past(t: &Ty) -> u64 {
+    match t {
+        Ty::Nat => 0,
+        Ty::Bool => 0,
+        Ty::Text => 0,
+        Ty::Var(x) => x.saturating_add(1),
+        Ty::Tuple(ts) => past_all(&ts.items),
+        Ty::SetOf(t) => past(t),
+        Ty::ArrayOf { rank: _, cell } => past(cell),
+    }
+}
+
+#[cycle(past)]
+fn past_all(ts: &[Ty]) -> u64 {
+    let mut least = 0;
+    for t in ts {
+        least = least.max(past(t));
+    }
+    least
+}

@@ -1,0 +1,91 @@
+//! Solving equations between types, and the solution.
+
+ghost use Rattle.std.specs.Prelude.{◌≡◌, [], ◌∷◌, IfOk};
+ghost use Rattle.aql_types.specs.Types as types;
+ghost use Rattle.aql_types.specs.View.{type_of, types_of, equations_of};
+ghost use Rattle.aql_type_solve.specs.Solution.{subst_in, SolvedIn};
+
+use crate::push::make_graph;
+use aql_type_graph::read::node_type;
+use aql_type_graph::solve::SolvedGraph;
+use aql_types::equation::Equation;
+use aql_types::fault::UnifyFault;
+use aql_types::ty::{Ty, row};
+use aql_value::Memory;
+use std::alloc::Global;
+
+/// What each variable stands for, in a graph: the first nodes are the variables, each by its own number.
+#[derive(Drop)]
+pub struct Solution {
+    pub graph: SolvedGraph,
+    pub variables: u32,
+}
+
+/// A most general solution of the equations under which the types of `uses` and both sides of each equation are within the
+/// limits. Clash exactly where there is none.
+pub fn solve(alloc: Global, work: Vec<Equation>, uses: Vec<Ty>) -> Result<Solution, UnifyFault>
+    ensures { SolvedIn result (equations_of work.items) (types_of uses.items) }
+{
+    let (equations, g) = make_graph(alloc, work, uses)?;
+    let variables = g.variables;
+    match aql_type_graph::solve::solve(alloc, g, equations) {
+        Ok(graph) => Ok(Solution { graph, variables }),
+        Err(fault) => Err(fault),
+    }
+}
+
+impl Solution {
+    /// The instance of a type.
+    #[cycle(apply)]
+    #[tactic(auto, using(aql_types::specs::Laws::View::type_of_row))]
+    pub fn apply(&self, alloc: Global, t: &Ty) -> Result<Ty, Memory>
+        ensures { IfOk result
+            (λ made. type_of made ≡ types.apply (subst_in self.now) (type_of t.now)) }
+    {
+        match t {
+            Ty::Nat => Ok(Ty::Nat),
+            Ty::Bool => Ok(Ty::Bool),
+            Ty::Text => Ok(Ty::Text),
+            Ty::Var(x) => value_of(alloc, self, *x),
+            Ty::Tuple(ts) => {
+                let items = apply_all(alloc, self, &ts.items)?;
+                Ok(row(items))
+            }
+            Ty::SetOf(t) => {
+                let t = self.apply(alloc, t)?;
+                Ok(Ty::SetOf(Box::new(alloc, t)?))
+            }
+            Ty::ArrayOf { rank, cell } => {
+                let cell = self.apply(alloc, cell)?;
+                Ok(Ty::ArrayOf {
+                    rank: *rank,
+                    cell: Box::new(alloc, cell)?,
+                })
+            }
+        }
+    }
+}
+
+#[cycle(apply)]
+#[tactic(auto, using(aql_types::specs::Laws::View::list_steps))]
+fn apply_all(alloc: Global, s: &Solution, ts: &[Ty]) -> Result<Vec<Ty>, Memory>
+    ensures { IfOk result
+        (λ made. types_of made.items ≡ types.apply_all (subst_in s.now) (types_of ts.now)) }
+{
+    let mut made = Vec::new(alloc);
+    for t in ts {
+        let new = s.apply(alloc, t)?;
+        made.push(new)?;
+    }
+    Ok(made)
+}
+
+// What stands for a variable.
+fn value_of(alloc: Global, s: &Solution, x: u64) -> Result<Ty, Memory>
+    ensures { IfOk result (λ made. type_of made ≡ subst_in s.now x) }
+{
+    if x < s.variables as u64 {
+        return node_type(alloc, &s.graph, x as u32);
+    }
+    Ok(Ty::Var(x))
+}
