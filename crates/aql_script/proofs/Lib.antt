@@ -1,2 +1,3 @@
 mod Positions
 pub mod Examples
+pub mod Past

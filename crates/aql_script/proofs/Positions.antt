@@ -1,6 +1,6 @@
 -- Why what is prepared is a script's one reading behind the prelude.
 use Rattle.std.proofs.Common.{ℕ, zero, suc, ◌≡◌, ◌+◌, ◌-◌, ◌<◌, ◌≤◌, ◌⊎◌, inl, inr, List, [], ◌∷◌, ◌++◌, refl, sym, ap, ◌∙◌, subst, length, append_assoc, arith, Bool, true}
-use Rattle.std.specs.Prelude.{◌&&◌, nat_le, Err, Option, Some, None}
+use Rattle.std.specs.Prelude.{◌&&◌, nat_le, Result, Ok, Err, IfOk, Option, Some, None}
 use Rattle.std.specs.Cmp.{first_so, second_so}
 use Rattle.std.proofs.lemmas.Bool.{leb-true, cases_lt}
 use Rattle.aql_syntax.specs.declared.token.Token.{Token}
@@ -136,6 +136,11 @@ is_first_large all ds n e one last within_before large = record {
 pub first_past : (all : List Decl) (ds : List Declaration) (o : Option ℕ) → decls_of all ≡ positions ds → SearchesLarge all o → IsFirstPast ds o
 first_past all ds None e h = all_within all ds e h
 first_past all ds (Some n) e (one, last, before, large) = is_first_large all ds n e one last before large
+
+-- the same where the search had the memory that it wants
+pub first_past_found : {E : Type 0} (all : List Decl) (ds : List Declaration) (r : Result (Option ℕ) E) → decls_of all ≡ positions ds → IfOk r (SearchesLarge all) → IfOk r (IsFirstPast ds)
+first_past_found all ds (Ok o) e h = first_past all ds o e h
+first_past_found all ds (Err x) e h = tt
 
 -- what inference answers of the positions
 pub first_untyped : (all ds : List Declaration) (f : TypeFault) (k : ℕ) → all ≡ ds → f ≡ type_faults.NoType k → IsChecked (Err f) all → IsFirstUntyped [] ds k

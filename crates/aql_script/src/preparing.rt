@@ -67,9 +67,10 @@ fn prepare_positions(alloc: Global, own: Decls) -> Result<Prepared, ScriptFault>
 {
     let decls = behind_prelude(alloc, own)?;
     match infer_types(alloc, &decls) {
-        Ok(typed) => match first_past_limit(&decls) {
-            Some(declaration) => Err(ScriptFault::Large { declaration }),
-            None => Ok(Prepared { decls, typed }),
+        Ok(typed) => match first_past_limit(alloc, &decls) {
+            Ok(Some(declaration)) => Err(ScriptFault::Large { declaration }),
+            Ok(None) => Ok(Prepared { decls, typed }),
+            Err(Memory) => Err(ScriptFault::Memory),
         },
         Err(fault) => Err(fault),
     }
@@ -103,10 +104,10 @@ fn infer_types(alloc: Global, decls: &Decls) -> Result<Typed, ScriptFault>
 }
 
 // The first declaration behind the prelude that passes a limit, counted from behind it.
-fn first_past_limit(decls: &Decls) -> Option<u64>
+fn first_past_limit(alloc: Global, decls: &Decls) -> Result<Option<u64>, Memory>
     requires { (ds : List Declaration) × (decls_of decls.now.items.items ≡ positions ds) }
     ensures { (ds : List Declaration) → decls_of decls.now.items.items ≡ positions ds
-        → IsFirstPast ds result }
+        → IfOk result (IsFirstPast ds) }
 {
-    first_large(decls)
+    first_large(alloc, decls)
 }
