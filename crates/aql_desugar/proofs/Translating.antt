@@ -192,14 +192,17 @@ fault_here ds before n x h f w =
     (subst (λ k. IsFaultAt (size (tree_of x) (extents_of (latest before))) k f) (sym (levels_here-code ds before n x h)) w)
 
 -- within the limits the weight is at most 64 times 20,000
+pub small_within : (ds before : List Decl) (n : ℕ) (x : Expr) → Chosen ds before n x → (sorts : List Sort) (t : Term) →
+    t ≡ start (tree_of x) (knowns_of (latest before)) [] → IsWithinLimits (decls_of ds) n → ArePrincipal [] (decls_of ds) sorts → IsSmall 0 t
+small_within ds before n x h sorts t is fits p =
+    let made = translated_here ds before n x h sorts t is (tree_of x) h.query in
+    omega (arith, made.weight p, fits.0)
+
 pub small_here : (ds before : List Decl) (n : ℕ) (x : Expr) → Chosen ds before n x → (sorts : List Sort) (t : Term) →
     t ≡ start (tree_of x) (knowns_of (latest before)) [] →
     AreWithin (size (tree_of x) (extents_of (latest before))) (levels (tree_of x) (extents_of (latest before))) →
     ArePrincipal [] (decls_of ds) sorts → IsSmall 0 t
-small_here ds before n x h sorts t is w p =
-    let made = translated_here ds before n x h sorts t is (tree_of x) h.query in
-    let fits = within_here ds before n x h w in
-    omega (arith, made.weight p, fits.0)
+small_here ds before n x h sorts t is w p = small_within ds before n x h sorts t is (within_here ds before n x h w) p
 
 -- what follows from two things that are known of an answer
 pub ok_join : {T E : Type 0} (r : Result T E) (P Q R : T → Type 0) → ((x : T) → P x → Q x → R x) → IfOk r P → IfOk r Q → IfOk r R

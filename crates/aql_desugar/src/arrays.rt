@@ -11,7 +11,8 @@ ghost use Rattle.aql_desugar.specs.Names.{missing_term, scope_in, knowns_in, Ent
 use crate::matches::{Missing, enter_past, plus, wrap};
 use crate::names::enter;
 use crate::nodes::{big_union, dim, generate, let_in, proj, sub};
-use aql_syntax::ast::{Decl, Pattern};
+use crate::positions::Earlier;
+use aql_syntax::ast::Pattern;
 use aql_value::made::both;
 use aql_value::{Memory, Str};
 use nrca_term::Core;
@@ -88,7 +89,7 @@ pub fn enter_axes<'a>(ps: &'a [Pattern], names: &mut Vec<Option<&'a Str>>) -> Re
 fn wrap_axes<'a>(
     alloc: Global,
     ps: &'a [Pattern],
-    earlier: &[Decl],
+    earlier: &Earlier,
     names: &mut Vec<Option<&'a Str>>,
     added: u64,
     inside: Core,
@@ -118,7 +119,7 @@ fn wrap_axes<'a>(
 pub fn walk<'a>(
     alloc: Global,
     ps: &'a [Pattern],
-    earlier: &[Decl],
+    earlier: &Earlier,
     names: &mut Vec<Option<&'a Str>>,
     low: usize,
     added: u64,

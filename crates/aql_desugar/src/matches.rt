@@ -11,8 +11,8 @@ ghost use Rattle.aql_desugar.specs.Names.{scope, missing_term, scope_in, knowns_
 
 use crate::names::{enter, index_of};
 use crate::nodes::{choose, compare, let_in, proj};
-use crate::positions::position_term;
-use aql_syntax::ast::{Decl, Pattern};
+use crate::positions::{Earlier, position_term};
+use aql_syntax::ast::Pattern;
 use aql_value::made::both;
 use aql_value::{CompareOp, Memory, Str};
 use nrca_term::Core;
@@ -45,7 +45,7 @@ pub fn plus(a: u64, b: u64) -> Result<u64, Memory>
 }
 
 /// A name: the variable, else the position.
-pub fn name_term(name: &Str, earlier: &[Decl], names: &[Option<&Str>]) -> Core
+pub fn name_term(name: &Str, earlier: &Earlier, names: &[Option<&Str>]) -> Core
     ensures { (base : ℕ) → term_of result ≡ start_term.name_term
         (start_term.index_of name.now (scope_in names.now base))
         (surface_names.find name.now (knowns_in earlier.now)) }
@@ -71,7 +71,7 @@ fn test(alloc: Global, at: u64, c: Core, inside: Core, other: Missing) -> Result
 pub(crate) fn wrap<'a>(
     alloc: Global,
     p: &'a Pattern,
-    earlier: &[Decl],
+    earlier: &Earlier,
     names: &mut Vec<Option<&'a Str>>,
     at: u64,
     inside: Core,
@@ -110,7 +110,7 @@ pub(crate) fn wrap<'a>(
 fn wrap_parts<'a>(
     alloc: Global,
     ps: &'a [Pattern],
-    earlier: &[Decl],
+    earlier: &Earlier,
     names: &mut Vec<Option<&'a Str>>,
     at: u64,
     j: u64,
@@ -143,7 +143,7 @@ fn wrap_parts<'a>(
 pub fn close<'a>(
     alloc: Global,
     p: &'a Pattern,
-    earlier: &[Decl],
+    earlier: &Earlier,
     names: &mut Vec<Option<&'a Str>>,
     mark: usize,
     inside: Core,

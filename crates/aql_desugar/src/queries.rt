@@ -18,7 +18,7 @@ use crate::nodes::{
     arith, big_union, choose, compare, conjunction, default, dim, disjunction, generate, get,
     guard, index, let_in, literal, single, sub, sum, tab, text, tuple, union,
 };
-use crate::positions::find;
+use crate::positions::{Earlier, find};
 use crate::unions::unite;
 use aql_syntax::ast::{Bind, Decl, Expr, LetBind, Pattern, Qual};
 use aql_syntax::build::{bindings_in, indices_in};
@@ -35,7 +35,7 @@ use std::slice;
 pub fn start<'a>(
     alloc: Global,
     e: &'a Expr,
-    earlier: &'a [Decl],
+    earlier: &Earlier<'a>,
     base: u64,
     names: &mut Vec<Option<&'a Str>>,
 ) -> Result<Core, Memory>
@@ -127,7 +127,7 @@ fn pair<'a>(
     alloc: Global,
     a: &'a Expr,
     b: &'a Expr,
-    earlier: &'a [Decl],
+    earlier: &Earlier<'a>,
     base: u64,
     names: &mut Vec<Option<&'a Str>>,
 ) -> Result<(Core, Core), Memory>
@@ -148,7 +148,7 @@ fn pair<'a>(
 fn all<'a>(
     alloc: Global,
     es: &'a [Expr],
-    earlier: &'a [Decl],
+    earlier: &Earlier<'a>,
     base: u64,
     names: &mut Vec<Option<&'a Str>>,
 ) -> Result<Vec<Core>, Memory>
@@ -170,7 +170,7 @@ fn all<'a>(
 fn bounds<'a>(
     alloc: Global,
     binds: &'a [Bind],
-    earlier: &'a [Decl],
+    earlier: &Earlier<'a>,
     base: u64,
     names: &mut Vec<Option<&'a Str>>,
 ) -> Result<Vec<Core>, Memory>
@@ -204,7 +204,7 @@ fn index_body<'a>(
     alloc: Global,
     binds: &'a [Bind],
     body: &'a Expr,
-    earlier: &'a [Decl],
+    earlier: &Earlier<'a>,
     base: u64,
     names: &mut Vec<Option<&'a Str>>,
 ) -> Result<Core, Memory>
@@ -225,7 +225,7 @@ fn match_body<'a>(
     alloc: Global,
     p: &'a Pattern,
     body: &'a Expr,
-    earlier: &'a [Decl],
+    earlier: &Earlier<'a>,
     base: u64,
     names: &mut Vec<Option<&'a Str>>,
 ) -> Result<Core, Memory>
@@ -245,7 +245,7 @@ fn match_body<'a>(
 fn call<'a>(
     alloc: Global,
     name: &Str,
-    earlier: &'a [Decl],
+    earlier: &Earlier<'a>,
     base: u64,
     names: &[Option<&Str>],
 ) -> Result<Core, Memory>
@@ -264,7 +264,7 @@ fn call<'a>(
 
 // A macro's body under the match of its argument, which is the innermost of `depth` variables without a name and one more.
 #[cycle(start)]
-fn expand<'a>(alloc: Global, name: &Str, earlier: &'a [Decl], depth: u64) -> Result<Core, Memory>
+fn expand<'a>(alloc: Global, name: &Str, earlier: &Earlier<'a>, depth: u64) -> Result<Core, Memory>
     ensures { IfOk result (λ c. term_of c ≡ start_term.macro_term
         (surface_names.find name.now (knowns_in earlier.now)) depth) }
 {
@@ -278,7 +278,7 @@ fn expand<'a>(alloc: Global, name: &Str, earlier: &'a [Decl], depth: u64) -> Res
                 body,
             } => {
                 let mut names = Vec::new(alloc);
-                let made = match_body(alloc, pattern, body, before, depth, &mut names)?;
+                let made = match_body(alloc, pattern, body, &before, depth, &mut names)?;
                 Ok(made)
             }
             Decl::Read {
@@ -297,7 +297,7 @@ fn comprehend<'a>(
     alloc: Global,
     quals: &'a [Qual],
     head: &'a Expr,
-    earlier: &'a [Decl],
+    earlier: &Earlier<'a>,
     base: u64,
     names: &mut Vec<Option<&'a Str>>,
 ) -> Result<Core, Memory>
@@ -357,7 +357,7 @@ fn match_qualifiers<'a>(
     p: &'a Pattern,
     rest: &'a [Qual],
     head: &'a Expr,
-    earlier: &'a [Decl],
+    earlier: &Earlier<'a>,
     base: u64,
     names: &mut Vec<Option<&'a Str>>,
 ) -> Result<Core, Memory>
@@ -381,7 +381,7 @@ fn grid<'a>(
     p: &'a Pattern,
     rest: &'a [Qual],
     head: &'a Expr,
-    earlier: &'a [Decl],
+    earlier: &Earlier<'a>,
     base: u64,
     names: &mut Vec<Option<&'a Str>>,
 ) -> Result<Core, Memory>
@@ -410,7 +410,7 @@ fn bind_all<'a>(
     alloc: Global,
     binds: &'a [LetBind],
     body: &'a Expr,
-    earlier: &'a [Decl],
+    earlier: &Earlier<'a>,
     base: u64,
     names: &mut Vec<Option<&'a Str>>,
 ) -> Result<Core, Memory>
@@ -436,7 +436,7 @@ fn bind_rest<'a>(
     p: &'a Pattern,
     rest: &'a [LetBind],
     body: &'a Expr,
-    earlier: &'a [Decl],
+    earlier: &Earlier<'a>,
     base: u64,
     names: &mut Vec<Option<&'a Str>>,
 ) -> Result<Core, Memory>

@@ -1,6 +1,5 @@
 pub mod Translated
 pub mod Binding
-pub mod Latest
 pub mod Positions
 pub mod Evaluating
 pub mod Asking

@@ -1,6 +1,5 @@
 pub mod Device
 pub mod Bound
-pub mod LatestNames
 pub mod Asked
 pub mod Reading
 pub mod Step

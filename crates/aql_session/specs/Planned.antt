@@ -21,7 +21,7 @@ use Rattle.aql_session.specs.declared.queries.Planned.{Planned}
 abbrev pub KeepsMoved : Outcomes → (plan : Term) → Option Moved → Type 0
 KeepsMoved V plan moved = cden V [] (moved_term plan moved) ≡ cden V [] plan
 
--- a term with its plan and, with the word, what is moved in that; both have the term's meaning; where they have a value it is one of the
+-- a term with its plan and, with the word `--motion`, what is moved in that; both have the term's meaning; where they have a value it is one of the
 -- language
 pub record IsPlanned (motion : Bool) (V : Outcomes) (t : Term) (p : Planned) : Type 0 where
   pub start : term_of p.start ≡ t

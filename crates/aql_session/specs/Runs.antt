@@ -1,5 +1,5 @@
 -- What the functions within this crate say of one another's answers.
-use Rattle.std.specs.Prelude.{◌≡◌, ℕ, ◌-◌, ◌<◌, ◌≤◌, Bool, List, [], ◌∷◌, ◌++◌, length, Option, Some, None, option_map, Ok, if◌then◌else◌}
+use Rattle.std.specs.Prelude.{◌≡◌, ℕ, ◌-◌, ◌<◌, ◌≤◌, Bool, List, [], ◌∷◌, ◌++◌, length, map, take, Option, Some, None, option_map, Ok, if◌then◌else◌}
 use Rattle.std.specs.Global.{Vec}
 use Rattle.std.specs.Option.{ForSome}
 use Rattle.std.specs.Str.{IsUtf8}
@@ -333,6 +333,10 @@ HasWorkers p = (1 ≤ p.options.now.workers) × (p.options.now.workers ≤ most_
 abbrev pub StandsAt : Position → Outcomes → Type 0
 StandsAt p V = IsReadyAt (declarations_at p) (sorts_at p) p.n V
 
+-- these are the names of the positions before it
+abbrev pub AreNamesAt : Position → List Name → Type 0
+AreNamesAt p names = names ≡ map declared (take (p.n - 1) (declarations_at p))
+
 -- its declaration was run
 abbrev pub RunsPosition : Position → Outcomes → Option Content → Run → Type 0
 RunsPosition p V holds r = ForSome (declaration_of p) (λ d. IsRun d (so_far p.decls.now V) (motion_of p) (graphs_of p) (budget_of p) holds r)
@@ -365,7 +369,7 @@ IsEvaluatedAt p V q = ForSome (declaration_of p) (λ d. IsEvaluated d (so_far p.
 abbrev pub run_with : Evaluated → Option Graph → Run
 run_with q g = record { start = q.start; plan = q.plan; trace = q.trace; moved = q.moved; graph = g; by = q.by; turns = q.turns; value = q.value }
 
--- with the word it has the array-free form of its plan
+-- with the word `--graph` it has the array-free form of its plan
 abbrev pub IsRunWithGraph : Position → Outcomes → Evaluated → Run → Type 0
 IsRunWithGraph p V q r =
     (r ≡ run_with q r.graph) × IsGraphBy (graphs_of p) V (budget_of p) (term_of q.plan) (cden V [] (term_of q.plan)) r.graph

@@ -102,13 +102,13 @@ abbrev pub moved_turns : Outcomes → Option Moved → Option ℕ
 moved_turns V None = None
 moved_turns V (Some m) = Some (settle V [] (term_of m.term))
 
--- with the word, moves lead from the plan to the moved term, in which no move is left, and they are few; without it there is none
+-- with the word `--motion`, moves lead from the plan to the moved term, in which no move is left, and they are few; without it there is none
 abbrev pub IsMovedBy : (motion : Bool) → Outcomes → (plan : Term) → Option Moved → Type 0
 IsMovedBy true V plan (Some m) = IsMotion V plan m.moves (term_of m.term)
 IsMovedBy true V plan None = ⊥
 IsMovedBy false V plan moved = moved ≡ None
 
--- With the word there is the array-free form of a query's plan, and it came to the query's encoded outcome, or its turns pass the budget;
+-- With the word `--graph` there is the array-free form of a query's plan, and it came to the query's encoded outcome, or its turns pass the budget;
 -- without it there is none.
 abbrev pub IsGraphBy : (graphs : Bool) → Outcomes → (budget : ℕ) → (plan : Term) → (outcome : Option Datum) → Option Graph → Type 0
 IsGraphBy true V budget plan o (Some g) = IsGraph V budget plan o g
@@ -206,14 +206,14 @@ HasPlan (mac f p body) earlier start trace plan = (plan ≡ bottom_term) × (tra
 HasPlan (read x r e) earlier start trace plan = IsPlan (outcomes_of earlier) start trace plan
 HasPlan (bare e) earlier start trace plan = IsPlan (outcomes_of earlier) start trace plan
 
--- with the word there is a moved term of the plan, of a readval of that of its argument; without it, and of a macro, there is none
+-- with the word `--motion` there is a moved term of the plan, of a readval of that of its argument; without it, and of a macro, there is none
 abbrev pub HasMotion : Declaration → Earlier → (motion : Bool) → (plan : Term) → (moved : Option Moved) → Type 0
 HasMotion (val x e) earlier motion plan moved = IsMovedBy motion (outcomes_of earlier) plan moved
 HasMotion (mac f p body) earlier motion plan moved = moved ≡ None
 HasMotion (read x r e) earlier motion plan moved = IsMovedBy motion (outcomes_of earlier) plan moved
 HasMotion (bare e) earlier motion plan moved = IsMovedBy motion (outcomes_of earlier) plan moved
 
--- with the word there is the array-free form of a query's plan, with the query's encoded outcome; without it, of a macro and of a readval
+-- with the word `--graph` there is the array-free form of a query's plan, with the query's encoded outcome; without it, of a macro and of a readval
 -- there is none
 abbrev pub HasGraph : Declaration → Earlier → (graphs : Bool) → (budget : ℕ) → (plan : Term) → Option Graph → Type 0
 HasGraph (val x e) earlier graphs budget plan graph = IsGraphBy graphs (outcomes_of earlier) budget plan (den e (globals_of earlier) []) graph

@@ -11,13 +11,13 @@ ghost use Rattle.nrca_term.specs.Turns.{settle};
 ghost use Rattle.nrca_term.specs.View.{term_of};
 ghost use Rattle.aql_session.specs.Known.{Knows};
 ghost use Rattle.aql_session.specs.Planned.{IsPlanned, KeepsMoved, KeepsValue, IsUnchanged, IsUnmoved, KeepsTerms, IsChosen, PassAll, Evaluates, moved_of};
-ghost use Rattle.aql_session.specs.Runs.{StandsAt, HasWorkers, budget_of, declaration_of, declarations_at, sorts_at, IsQuery, IsStartAt, IsEvaluatedAt, IsSpentAt, IsQueryTermAt};
+ghost use Rattle.aql_session.specs.Runs.{StandsAt, AreNamesAt, HasWorkers, budget_of, declaration_of, declarations_at, sorts_at, IsQuery, IsStartAt, IsEvaluatedAt, IsSpentAt, IsQueryTermAt};
 ghost use Rattle.aql_session.specs.Step.{IsMovedBy};
 
 use crate::answer::{Ran, StepFault};
 use crate::runs::Position;
-use aql_desugar::fault::Fault;
-use aql_desugar::translate::translate;
+use aql_desugar::translate::translate_within;
+use aql_names::names::Names;
 use aql_outside::Gate;
 use aql_value::Memory;
 use aql_words::Options;
@@ -60,11 +60,13 @@ pub(crate) fn run_query<R: Threads + Sync, G: Gate>(
     rt: &R,
     alloc: Global,
     globals: &Globals,
+    names: &Names,
     shapes: &mut GlobalShapes,
     at: &Position,
     gate: &G,
 ) -> Result<Evaluated, StepFault>
     requires stands { StandsAt at.now globals.now }
+    requires named { AreNamesAt at.now names.now }
     requires query { IsQuery (declaration_of at.now) }
     requires workers { HasWorkers at.now }
     requires budget { budget_of at.now ≤ most_budget }
@@ -74,28 +76,26 @@ pub(crate) fn run_query<R: Threads + Sync, G: Gate>(
     ensures typed { IfOk result (λ q. IsTypedOver globals.now (term_of q.plan)) }
     ensures spent { IfErr result (IsSpentAt at.now globals.now) }
 {
-    let start = start_of_query(alloc, at)?;
+    let start = start_of_query(alloc, names, at)?;
     match plan_of(alloc, globals, shapes, start, at.options) {
         Ok(planned) => run_planned(rt, alloc, globals, planned, at.options, gate),
         Err(Memory) => Err(StepFault::Memory),
     }
 }
 
-// The start term of a query. It is within the limits.
-fn start_of_query(alloc: Global, at: &Position) -> Result<Core, Memory>
+// The start term of a query. It is within the limits, and the names of the positions before it are at
+// hand.
+fn start_of_query(alloc: Global, names: &Names, at: &Position) -> Result<Core, Memory>
     requires first { 1 ≤ at.now.n }
     requires last { at.now.n ≤ length at.now.decls.now.items.items }
     requires query { IsQuery (declaration_of at.now) }
+    requires named { AreNamesAt at.now names.now }
     requires checked { ArePrincipal [] (declarations_at at.now) (sorts_at at.now) }
     requires limits { AreWithinLimits (declarations_at at.now) at.now.n }
     ensures start { IfOk result (λ c. IsStartAt at.now (term_of c)) }
     ensures query { IfOk result (λ c. IsQueryTermAt at.now (term_of c)) }
 {
-    match translate(alloc, at.decls, at.typed, at.n) {
-        Ok(start) => Ok(start),
-        Err(Fault::Memory) => Err(Memory),
-        Err(Fault::Large { .. }) => unreachable!(),
-    }
+    translate_within(alloc, at.decls, names, at.typed, at.n)
 }
 
 // The plan of a query's term, and with the word `--motion` what is moved in it: both have the term's

@@ -11,13 +11,14 @@ ghost use Rattle.aql_session.specs.Device.{BlamesFiles};
 ghost use Rattle.aql_session.specs.Known.{Knows};
 ghost use Rattle.aql_session.specs.Numbered.{declarations, declaration_numbered};
 ghost use Rattle.aql_session.specs.Step.{IsOverTurns};
-ghost use Rattle.aql_session.specs.Runs.{StandsAt, HasWorkers, budget_of, declaration_of, IsQuery, IsValueDeclaration, IsReadval, RunsPosition, IsPositionCause, PositionFails, UnlessReadAt};
+ghost use Rattle.aql_session.specs.Runs.{StandsAt, AreNamesAt, HasWorkers, budget_of, declaration_of, IsQuery, IsValueDeclaration, IsReadval, RunsPosition, IsPositionCause, PositionFails, UnlessReadAt};
 
 use crate::answer::{Ran, StepFault};
 use crate::graphs::with_graph;
 use crate::queries::{Evaluated, run_query};
 use crate::readings::{Read, read_argument};
 use aql_infer_steps::typed::Typed;
+use aql_names::names::Names;
 use aql_outside::{Files, Gate};
 use aql_syntax::ast::{Decl, Decls, Reader};
 use aql_words::Options;
@@ -58,6 +59,7 @@ pub(crate) fn run_declaration<R: Threads + Sync, F: Files, G: Gate>(
     rt: &R,
     alloc: Global,
     globals: &Globals,
+    names: &Names,
     shapes: &mut GlobalShapes,
     encodings: &mut Globals,
     at: &Position,
@@ -65,6 +67,7 @@ pub(crate) fn run_declaration<R: Threads + Sync, F: Files, G: Gate>(
     gate: &G,
 ) -> Result<Run, StepFault>
     requires stands { StandsAt at.now globals.now }
+    requires named { AreNamesAt at.now names.now }
     requires workers { HasWorkers at.now }
     requires budget { budget_of at.now ≤ most_budget }
     requires known { Knows (shapes_in shapes.old) globals.now }
@@ -80,7 +83,7 @@ pub(crate) fn run_declaration<R: Threads + Sync, F: Files, G: Gate>(
 {
     match declaration(at.decls, at.n) {
         Decl::Val { name: _, expr: _ } => {
-            run_plain(rt, alloc, globals, shapes, encodings, at, gate)
+            run_plain(rt, alloc, globals, names, shapes, encodings, at, gate)
         }
         Decl::Macro {
             name: _,
@@ -100,8 +103,8 @@ pub(crate) fn run_declaration<R: Threads + Sync, F: Files, G: Gate>(
             name: _,
             reader,
             expr: _,
-        } => run_readval(rt, alloc, globals, shapes, at, reader, files, gate),
-        Decl::Bare { expr: _ } => run_plain(rt, alloc, globals, shapes, encodings, at, gate),
+        } => run_readval(rt, alloc, globals, names, shapes, at, reader, files, gate),
+        Decl::Bare { expr: _ } => run_plain(rt, alloc, globals, names, shapes, encodings, at, gate),
     }
 }
 
@@ -127,12 +130,14 @@ fn run_plain<R: Threads + Sync, G: Gate>(
     rt: &R,
     alloc: Global,
     globals: &Globals,
+    names: &Names,
     shapes: &mut GlobalShapes,
     encodings: &mut Globals,
     at: &Position,
     gate: &G,
 ) -> Result<Run, StepFault>
     requires stands { StandsAt at.now globals.now }
+    requires named { AreNamesAt at.now names.now }
     requires query { IsQuery (declaration_of at.now) }
     requires plain { ForSome (declaration_of at.now) IsValueDeclaration }
     requires workers { HasWorkers at.now }
@@ -145,7 +150,7 @@ fn run_plain<R: Threads + Sync, G: Gate>(
     ensures cause { (holds : Option Content) (before now : ℕ) →
         IfErr result (IsPositionCause at.now globals.now holds before now) }
 {
-    match run_query(rt, alloc, globals, shapes, at, gate) {
+    match run_query(rt, alloc, globals, names, shapes, at, gate) {
         Ok(evaluated) => with_graph(rt, alloc, globals, encodings, at, evaluated, gate),
         Err(fault) => Err(fault),
     }
@@ -156,6 +161,7 @@ fn run_readval<R: Threads + Sync, F: Files, G: Gate>(
     rt: &R,
     alloc: Global,
     globals: &Globals,
+    names: &Names,
     shapes: &mut GlobalShapes,
     at: &Position,
     reader: &Reader,
@@ -163,6 +169,7 @@ fn run_readval<R: Threads + Sync, F: Files, G: Gate>(
     gate: &G,
 ) -> Result<Run, StepFault>
     requires stands { StandsAt at.now globals.now }
+    requires named { AreNamesAt at.now names.now }
     requires reads { IsReadval (declaration_of at.now) (reader_of reader.now) }
     requires workers { HasWorkers at.now }
     requires budget { budget_of at.now ≤ most_budget }
@@ -175,7 +182,7 @@ fn run_readval<R: Threads + Sync, F: Files, G: Gate>(
     ensures untouched { UnlessReadAt at.now globals.now (files.new ≡ files.old) }
     ensures unread { IfErr result (λ f. IsOverTurns f → files.new ≡ files.old) }
 {
-    match run_query(rt, alloc, globals, shapes, at, gate) {
+    match run_query(rt, alloc, globals, names, shapes, at, gate) {
         Ok(
             Evaluated {
                 start,

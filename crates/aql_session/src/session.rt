@@ -9,12 +9,11 @@ ghost use Rattle.std.specs.Option.{ForSome};
 ghost use Rattle.aql_value.specs.Valid.{IsValue};
 ghost use Rattle.nrca_ranges.specs.Shapes.{bounds_there, shapes_in, PushesShape};
 ghost use Rattle.aql_session.specs.Known.{HasShapeThere};
-ghost use Rattle.aql_session.specs.LatestNames.{GainsName, SameNames};
 
 use crate::shapes::shape_of_outcome;
+use aql_names::names::Names;
 use aql_value::made::both;
 use aql_value::{Memory, Str};
-use indexmap::IndexMap;
 use nrca_array::Held;
 use nrca_encoded::value_of;
 use nrca_eval::Globals;
@@ -32,9 +31,7 @@ pub struct Session {
     // The encodings of those that array-free forms used so far.
     pub(crate) encodings: Globals,
     // The names in order.
-    names: Vec<Str>,
-    // The last position, counted from 1, of each name, by its bytes.
-    latest: IndexMap<Vec<u8>, u64>,
+    pub(crate) names: Names,
 }
 
 impl Model for Session {
@@ -46,15 +43,15 @@ impl Model for Session {
 
     ghost coded = { coded_list (coded× (coded_list coded_ℕ) (coded_option coded_datum)) };
 
+    ghost use Rattle.std.specs.Prelude.{◌≡◌, length};
     ghost use Rattle.std.specs.List.{zip};
     ghost use Rattle.nrca_ranges.specs.Shapes.{shapes_in};
     ghost use Rattle.nrca_encoded.specs.Encodings.{AreEncodings};
     ghost use Rattle.aql_session.specs.Known.{Knows};
-    ghost use Rattle.aql_session.specs.LatestNames.{AreKept};
 
-    ghost view = { λ s. zip s.names.items s.globals };
+    ghost view = { λ s. zip s.names s.globals };
 
-    ghost invariant = { λ s. AreKept s.names.items s.globals s.latest
+    ghost invariant = { λ s. (length s.names ≡ length s.globals)
         × Knows (shapes_in s.shapes) s.globals × AreEncodings s.globals s.encodings };
 }
 
@@ -72,8 +69,7 @@ impl Session {
             encodings: Globals {
                 list: Vec::new(alloc),
             },
-            names: Vec::new(alloc),
-            latest: IndexMap::new(alloc),
+            names: Names::new(alloc),
         })
     }
 
@@ -88,7 +84,14 @@ impl Session {
     pub fn latest(&self, name: &Str) -> Option<u64>
         ensures { result ≡ latest_of self.now name.now }
     {
-        self.latest.get(name.bytes.as_slice()).copied()
+        let count = self.names.len();
+        match self.names.latest(name) {
+            Some(i) => {
+                prove!(i < count);
+                Some(i as u64 + 1)
+            }
+            None => None,
+        }
     }
 
     /// Binds one position more, to a value of the language or to none. For want of memory nothing is
@@ -103,36 +106,34 @@ impl Session {
         ensures bound { OnOk result (self.new ≡ self.old ++ (name.now, held_value value) ∷ []) }
         ensures as_before { OnErr result (self.new ≡ self.old) }
     {
-        let entry = entry_of(alloc, name, value)?;
+        let entry = entry_of(alloc, value)?;
         push_entry(
             alloc,
             &mut self.globals,
             &mut self.shapes,
             &mut self.names,
-            &mut self.latest,
+            name,
             entry,
         )?;
         Ok(())
     }
 }
 
-// What is bound at a position: its name, its outcome, and what is known of that.
+// What is bound at a position: its outcome, and what is known of that.
 #[derive(Drop)]
 pub(crate) struct Entry {
-    name: Str,
     value: Option<Held>,
     shape: Option<Shape>,
 }
 
 // The entry of an outcome.
-fn entry_of(alloc: Global, name: &Str, value: Option<Held>) -> Result<Entry, Memory>
-    ensures name { IfOk result (λ e. e.name ≡ name.now) }
+fn entry_of(alloc: Global, value: Option<Held>) -> Result<Entry, Memory>
     ensures value { IfOk result (λ e. held_value e.value ≡ held_value value) }
     ensures shape { IfOk result (λ e. HasShapeThere (bounds_there e.shape) (held_value value)) }
 {
-    let parts = both(name.copy(alloc), shape_of_outcome(alloc, &value));
-    let (value, (name, shape)) = both(Ok(value), parts)?;
-    Ok(Entry { name, value, shape })
+    let shape = shape_of_outcome(alloc, &value);
+    let (value, shape) = both(Ok(value), shape)?;
+    Ok(Entry { value, shape })
 }
 
 // One outcome more, and what is known of it.
@@ -173,46 +174,24 @@ fn push_entry(
     alloc: Global,
     globals: &mut Globals,
     shapes: &mut GlobalShapes,
-    names: &mut Vec<Str>,
-    latest: &mut IndexMap<Vec<u8>, u64>,
+    names: &mut Names,
+    name: &Str,
     entry: Entry,
 ) -> Result<(), Memory>
     ensures pushed { OnOk result (globals.new ≡ globals.old ++ held_value entry.value ∷ []) }
     ensures shaped { OnOk result (PushesShape shapes.old entry.shape shapes.new) }
-    ensures named { OnOk result (names.new.items ≡ names.old.items ++ entry.name ∷ []) }
-    ensures last { OnOk result
-        (GainsName latest.old latest.new entry.name (length names.old.items + 1)) }
+    ensures named { OnOk result (names.new ≡ names.old ++ name.now ∷ []) }
     ensures same_outcomes { OnErr result (globals.new ≡ globals.old) }
     ensures same_shapes { OnErr result (shapes_in shapes.new ≡ shapes_in shapes.old) }
-    ensures same_names { OnErr result (names.new.items ≡ names.old.items) }
-    ensures same_last { OnErr result (SameNames latest.old latest.new) }
+    ensures same_names { OnErr result (names.new ≡ names.old) }
 {
-    let key = entry.name.copy(alloc)?;
-    let Entry { name, value, shape } = entry;
-    let n = names.len() as u64 + 1;
-    if push_outcome(globals, shapes, value, shape).is_err() {
-        drop(name);
-        drop(key);
-        return Err(Memory);
+    let Entry { value, shape } = entry;
+    push_outcome(globals, shapes, value, shape)?;
+    match names.push(alloc, name) {
+        Ok(()) => Ok(()),
+        Err(Memory) => {
+            pop_outcome(globals, shapes);
+            Err(Memory)
+        }
     }
-    if names.push(name).is_err() {
-        pop_outcome(globals, shapes);
-        drop(key);
-        return Err(Memory);
-    }
-    if set_latest(latest, key, n).is_err() {
-        drop(names.pop());
-        pop_outcome(globals, shapes);
-        return Err(Memory);
-    }
-    Ok(())
-}
-
-// The last position of a name.
-fn set_latest(latest: &mut IndexMap<Vec<u8>, u64>, name: Str, n: u64) -> Result<(), Memory>
-    ensures set { OnOk result (GainsName latest.old latest.new name n) }
-    ensures as_before { OnErr result (SameNames latest.old latest.new) }
-{
-    latest.insert(name.bytes, n)?;
-    Ok(())
 }

@@ -8,10 +8,10 @@ ghost use Rattle.aql_types.specs.View.{sort_of};
 ghost use Rattle.aql_value.specs.Limits.{most_budget, most_workers};
 ghost use Rattle.aql_value.specs.Valid.{IsValue};
 ghost use Rattle.nrca_loops.specs.Scope.{held_value};
-ghost use Rattle.aql_session.specs.Bound.{AreBound, outcomes};
+ghost use Rattle.aql_session.specs.Bound.{AreBound, names, outcomes};
 ghost use Rattle.aql_session.specs.Device.{BlamesFiles};
 ghost use Rattle.aql_session.specs.Numbered.{declarations, sorts, declaration_numbered, sort_numbered, so_far, IsAnswerTo, MayBeAnswered, BindsNext, StepFails, UnlessRead};
-ghost use Rattle.aql_session.specs.Runs.{StandsAt, HasWorkers, budget_of, declaration_of, declarations_at, sorts_at, RunsPosition, PositionFails, UnlessReadAt, AnswersRun, IsNameAt, BindsRun};
+ghost use Rattle.aql_session.specs.Runs.{StandsAt, AreNamesAt, HasWorkers, budget_of, declaration_of, declarations_at, sorts_at, RunsPosition, PositionFails, UnlessReadAt, AnswersRun, IsNameAt, BindsRun};
 ghost use Rattle.aql_session.specs.Step.{OutcomesFit, IsOverTurns};
 
 use crate::answer::{Answer, StepFault};
@@ -107,6 +107,7 @@ impl Session {
         gate: &G,
     ) -> Result<Run, StepFault>
         requires stands { StandsAt at.now (outcomes self.old) }
+        requires named { AreNamesAt at.now (names self.old) }
         requires workers { HasWorkers at.now }
         requires budget { budget_of at.now ≤ most_budget }
         ensures as_before { self.new ≡ self.old }
@@ -122,6 +123,7 @@ impl Session {
             rt,
             alloc,
             &self.globals,
+            &self.names,
             &mut self.shapes,
             &mut self.encodings,
             at,

@@ -10,4 +10,5 @@ returns-in-None c = term_of-Bottom ∙ sym (position_none c.args.name.now (lates
 
 pub returns-in-Some : goal.returns-in-Some
 returns-in-Some c =
-    position_some c.args.name.now c.args.earlier.now c.in-Some.d.now c.in-Some.before.now (term_of c.value_term.result) c.in-Some.ensures.found c.value_term.ensures
+    position_some c.args.name.now c.args.earlier.now c.in-Some.d.now c.in-Some.before c.next.result (term_of c.value_term.result) c.next.ensures c.in-Some.ensures.found
+    c.value_term.ensures

@@ -462,23 +462,23 @@ expand-returns-in-None t c =
 
 pub expand-returns-in-Val : goal.expand-returns-in-Val
 expand-returns-in-Val t c =
-    term_of-Bottom ∙ sym (ap (λ o. macro_term o c.args.depth) (known_some c.args.name.now (latest c.args.earlier.now) (decl_of c.in-Some.d.now) (latest c.in-Some.before.now) c.in-Some.ensures.found ∙ ap (λ e. Some (known_of (decl_of e) (knowns_of (latest c.in-Some.before.now)) (suc (length (latest c.in-Some.before.now))))) c.in-Val.is))
+    term_of-Bottom ∙ sym (ap (λ o. macro_term o c.args.depth) (known_some c.args.name.now (latest c.args.earlier.now) (decl_of c.in-Some.d.now) (latest c.in-Some.before) c.in-Some.ensures.found ∙ ap (λ e. Some (known_of (decl_of e) (knowns_of (latest c.in-Some.before)) (suc (length (latest c.in-Some.before))))) c.in-Val.is))
 
 pub expand-returns-in-Read : goal.expand-returns-in-Read
 expand-returns-in-Read t c =
-    term_of-Bottom ∙ sym (ap (λ o. macro_term o c.args.depth) (known_some c.args.name.now (latest c.args.earlier.now) (decl_of c.in-Some.d.now) (latest c.in-Some.before.now) c.in-Some.ensures.found ∙ ap (λ e. Some (known_of (decl_of e) (knowns_of (latest c.in-Some.before.now)) (suc (length (latest c.in-Some.before.now))))) c.in-Read.is))
+    term_of-Bottom ∙ sym (ap (λ o. macro_term o c.args.depth) (known_some c.args.name.now (latest c.args.earlier.now) (decl_of c.in-Some.d.now) (latest c.in-Some.before) c.in-Some.ensures.found ∙ ap (λ e. Some (known_of (decl_of e) (knowns_of (latest c.in-Some.before)) (suc (length (latest c.in-Some.before))))) c.in-Read.is))
 
 pub expand-returns-in-Bare : goal.expand-returns-in-Bare
 expand-returns-in-Bare t c =
-    term_of-Bottom ∙ sym (ap (λ o. macro_term o c.args.depth) (known_some c.args.name.now (latest c.args.earlier.now) (decl_of c.in-Some.d.now) (latest c.in-Some.before.now) c.in-Some.ensures.found ∙ ap (λ e. Some (known_of (decl_of e) (knowns_of (latest c.in-Some.before.now)) (suc (length (latest c.in-Some.before.now))))) c.in-Bare.is))
+    term_of-Bottom ∙ sym (ap (λ o. macro_term o c.args.depth) (known_some c.args.name.now (latest c.args.earlier.now) (decl_of c.in-Some.d.now) (latest c.in-Some.before) c.in-Some.ensures.found ∙ ap (λ e. Some (known_of (decl_of e) (knowns_of (latest c.in-Some.before)) (suc (length (latest c.in-Some.before))))) c.in-Bare.is))
 
 pub expand-returns-in_ok-made-in-Macro : goal.expand-returns-in_ok-made-in-Macro
 expand-returns-in_ok-made-in-Macro t c =
-    c.in_ok-made-in-Macro.ensures.made ∙ ap (λ us. matching (pat_of c.in-Macro.pattern) (knowns_of (latest c.in-Some.before.now)) (scope (λ x. x.now) us c.args.depth) (start (tree_of c.in-Macro.body) (knowns_of (latest c.in-Some.before.now))) bottom_term) c.new-names.ensures.items ∙ sym (ap (λ o. macro_term o c.args.depth) (known_some c.args.name.now (latest c.args.earlier.now) (decl_of c.in-Some.d.now) (latest c.in-Some.before.now) c.in-Some.ensures.found ∙ ap (λ e. Some (known_of (decl_of e) (knowns_of (latest c.in-Some.before.now)) (suc (length (latest c.in-Some.before.now))))) c.in-Macro.is))
+    c.in_ok-made-in-Macro.ensures.made ∙ ap (λ us. matching (pat_of c.in-Macro.pattern) (knowns_of (latest c.in-Some.before)) (scope (λ x. x.now) us c.args.depth) (start (tree_of c.in-Macro.body) (knowns_of (latest c.in-Some.before))) bottom_term) c.new-names.ensures.items ∙ sym (ap (λ o. macro_term o c.args.depth) (known_some c.args.name.now (latest c.args.earlier.now) (decl_of c.in-Some.d.now) (latest c.in-Some.before) c.in-Some.ensures.found ∙ ap (λ e. Some (known_of (decl_of e) (knowns_of (latest c.in-Some.before)) (suc (length (latest c.in-Some.before))))) c.in-Macro.is))
 
 pub expand-match_body-requires : goal.expand-match_body-requires
 expand-match_body-requires t c =
-    (omega (arith, ap (λ o. (extent_of o).levels) (extent_some c.args.name.now (latest c.args.earlier.now) (decl_of c.in-Some.d.now) (latest c.in-Some.before.now) c.in-Some.ensures.found ∙ ap (λ e. Some (extent (decl_of e) (extents_of (latest c.in-Some.before.now)))) c.in-Macro.is), c.decreases), tt)
+    (omega (arith, ap (λ o. (extent_of o).levels) (extent_some c.args.name.now (latest c.args.earlier.now) (decl_of c.in-Some.d.now) (latest c.in-Some.before) c.in-Some.ensures.found ∙ ap (λ e. Some (extent (decl_of e) (extents_of (latest c.in-Some.before)))) c.in-Macro.is), c.decreases), tt)
 
 pub comprehend-start-members-requires : goal.comprehend-start-members-requires
 comprehend-start-members-requires t c =

@@ -6,7 +6,7 @@ use Rattle.nrca_ranges.specs.Shapes.{bounds_there, shapes_in}
 use Rattle.nrca_encoded.specs.Encodings.{AreEncodings}
 use Rattle.nrca_encoded.specs.Laws.Encodings.{one-more-outcome}
 use Rattle.aql_session.specs.Known.{HasShapeThere}
-use Rattle.aql_session.proofs.Binding.{latest-push, lengths-push, view-push}
+use Rattle.aql_session.proofs.Binding.{lengths-push, view-push}
 use Rattle.aql_session.proofs.Knowing.{known-push}
 use Rattle.aql_session.proofs.session.Session.bind.Goals as goal
 
@@ -16,10 +16,7 @@ invariant_of-self-2 c =
     let old = c.self.inside in
     let new = c.push_entry.new in
     let entry = c.in_ok-entry.entry in (
-      (
-        lengths-push old.latest new.latest old.names.items new.names.items old.globals new.globals entry.name (held_value entry.value) c.self.invariant.0.0 p.named p.pushed,
-        latest-push old.latest new.latest old.names.items new.names.items old.globals new.globals entry.name (held_value entry.value) c.self.invariant.0.1 p.named p.last,
-      ),
+      lengths-push old.names new.names old.globals new.globals c.args.name.now (held_value entry.value) c.self.invariant.0 p.named p.pushed,
       known-push (shapes_in old.shapes) (shapes_in new.shapes) old.globals new.globals (bounds_there entry.shape) (held_value entry.value) c.self.invariant.1 p.shaped p.pushed
           (subst (HasShapeThere (bounds_there entry.shape)) (sym c.in_ok-entry.ensures.value) c.in_ok-entry.ensures.shape)
           (subst (λ o. ForSome o IsValue) (sym c.in_ok-entry.ensures.value) c.requires.valid),
@@ -32,7 +29,6 @@ returns-clause-bound c =
     let old = c.self.inside in
     let new = c.push_entry.new in
     let entry = c.in_ok-entry.entry in
-    view-push old.latest new.latest old.names.items new.names.items old.globals new.globals entry.name (held_value entry.value) c.self.invariant.0.0 p.named p.pushed
-    ∙ ap (λ b. b ++ (entry.name, held_value entry.value) ∷ []) c.self.view_is
-    ∙ ap (λ x. c.args.self.now ++ (x, held_value entry.value) ∷ []) c.in_ok-entry.ensures.name
+    view-push old.names new.names old.globals new.globals c.args.name.now (held_value entry.value) c.self.invariant.0 p.named p.pushed
+    ∙ ap (λ b. b ++ (c.args.name.now, held_value entry.value) ∷ []) c.self.view_is
     ∙ ap (λ o. c.args.self.now ++ (c.args.name.now, o) ∷ []) c.in_ok-entry.ensures.value

@@ -1,13 +1,15 @@
-use Rattle.std.proofs.Common.{◌∙◌, ap, sym}
-use Rattle.aql_session.specs.Bound.{names, last_from}
-use Rattle.aql_session.specs.LatestNames.{latest_in}
-use Rattle.aql_session.proofs.Binding.{names-zip}
+use Rattle.std.proofs.Common.{◌<◌, Some, None, length, arith, sym}
+use Rattle.aql_names.specs.Laws.Named.{last_named_inside}
+use Rattle.aql_session.proofs.Binding.{latest-is}
 use Rattle.aql_session.proofs.session.Session.latest.Goals as goal
 
-pub returns : goal.returns
-returns c =
-    c.copied.ensures ∙ c.get.ensures.value
-    ∙ ap (λ x. latest_in c.self.inside.latest x) (c.as_slice.ensures.value ∙ c.name.view_is)
-    ∙ c.self.invariant.0.1 c.args.name.now
-    ∙ ap (λ l. last_from 1 l c.args.name.now)
-    (sym (names-zip c.self.inside.names.items c.self.inside.globals c.self.invariant.0.0) ∙ ap names c.self.view_is)
+pub returns-in-Some : goal.returns-in-Some
+returns-in-Some c = latest-is c.self.inside.names c.self.inside.globals c.self.invariant.0 c.args.self.now c.self.view_is c.args.name.now (Some c.in-Some.i) c.in-Some.ensures
+
+pub returns-in-None : goal.returns-in-None
+returns-in-None c = latest-is c.self.inside.names c.self.inside.globals c.self.invariant.0 c.args.self.now c.self.view_is c.args.name.now None c.in-None.ensures
+
+pub prove-unreachable-requires : goal.prove-unreachable-requires
+prove-unreachable-requires c =
+    let inside : c.in-Some.i < length c.self.inside.names = last_named_inside c.args.name.now c.self.inside.names c.in-Some.i (sym c.in-Some.ensures) in
+    omega (arith, inside, c.len-count.ensures, c.if-prove.true)

@@ -7,4 +7,4 @@ use Rattle.aql_session.proofs.session.Session.value.Goals as goal
 pub returns : goal.returns
 returns c =
     c.value_of.ensures
-    ∙ ap (λ V. outcome V c.args.n) (sym (outcomes-zip c.self.inside.names.items c.self.inside.globals c.self.invariant.0.0) ∙ ap outcomes c.self.view_is)
+    ∙ ap (λ V. outcome V c.args.n) (sym (outcomes-zip c.self.inside.names c.self.inside.globals c.self.invariant.0) ∙ ap outcomes c.self.view_is)

@@ -1,0 +1,6 @@
+use Rattle.std.proofs.Common.{◌≡◌, ◌++◌, drop}
+use Rattle.aql_desugar.specs.Named.{names_of}
+use Rattle.aql_desugar.proofs.positions.index_names.Given as goal
+
+abbrev pub invariant-loop-d : goal.invariant-loop-d
+invariant-loop-d l = l.names ++ names_of (drop l.d-index l.decls) ≡ names_of l.decls
