@@ -74,7 +74,7 @@ graph_text graph_ran.Spent = codes "spent"
 graph_text graph_ran.Undefined = codes "undefined"
 graph_text (graph_ran.Value v) = text (datum v)
 
--- of a query's plan; without the word `--graph`, and of a macro and a readval, nothing
+-- the line of what the array-free form of a query's plan came to; without the word `--graph`, and of a macro and a readval, nothing
 abbrev pub graph_line : (name : List ℕ) → Option Graph → List ℕ
 graph_line name None = []
 graph_line name (Some g) = line (codes "graph ") name (codes " = ") (graph_text g.ran)

@@ -2,7 +2,7 @@
 use Rattle.std.specs.Prelude.{ℕ, Bool, Option}
 use Rattle.aql_words.specs.declared.words.Options.{Options}
 
--- the turns that each declaration may take, whether plans are shown, the cells of the built-in script, where that is asked for, and whether
+-- the turns that each declaration may take, whether plans are shown, the size of the built-in script, where that is asked for, and whether
 -- what is moved in plans may be evaluated and is shown with them, and whether the array-free forms of plans are evaluated and shown
 pub record Settings : Type 0 where
   pub budget : ℕ

@@ -4,13 +4,15 @@ ghost use Rattle.nrca_array.specs.Held.{held_datum};
 
 use crate::flat::Flat;
 use aql_value::{Memory, Value};
+use nrca_sets::Set;
 use std::alloc::Global;
 
-/// A value as it is kept: an array perhaps packed, every other value as it is.
+/// A value as it is kept: an array or a set perhaps packed, every other value as it is.
 #[derive(Drop)]
 pub enum Held {
     Value(Value),
     Flat(Flat),
+    Set(Set),
 }
 
 impl Held {
@@ -21,6 +23,7 @@ impl Held {
         match self {
             Held::Value(value) => value.copy(alloc),
             Held::Flat(flat) => Ok(Value::Grid(flat.to_cells(alloc)?)),
+            Held::Set(set) => set.to_value(alloc),
         }
     }
 
@@ -31,6 +34,7 @@ impl Held {
         match self {
             Held::Value(value) => Ok(Held::Value(value.copy(alloc)?)),
             Held::Flat(flat) => Ok(Held::Flat(flat.copy(alloc)?)),
+            Held::Set(set) => Ok(Held::Set(set.copy(alloc)?)),
         }
     }
 }

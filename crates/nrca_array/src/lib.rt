@@ -1,4 +1,5 @@
-//! Arrays as the evaluator and the reader of files keep them: packed where that can be.
+//! Arrays as the evaluator and the reader of files keep them, packed where that can be; and values as they are kept,
+//! of which an array or a set (`nrca_sets`) may be packed.
 //!
 //! A contract sees a `Flat` as its dimensions and its cells, as it sees `aql_value::Cells`, and a
 //! `Held` as the value `held_datum h`. `Flat::packed` lends the bytes, which `packing` in

@@ -11,13 +11,14 @@ use crate::held::Held;
 use aql_value::{Dims, Items, valid};
 
 /// Shows that what is held obeys the rules of its kind, at every level: anything that is held does.
-/// Packed cells are not visited. It takes no memory.
+/// Packed cells and members are not visited. It takes no memory.
 pub fn valid_held(held: &Held)
     ensures { IsValue (held_datum held.now) }
 {
     match held {
         Held::Value(value) => valid(value),
         Held::Flat(flat) => valid_flat(flat),
+        Held::Set(set) => set.valid(),
     }
 }
 

@@ -34,7 +34,7 @@ HasRun budget turns o ran.Spent = budget < turns
 HasRun budget turns o ran.Undefined = (turns ≤ budget) × (o ≡ None)
 HasRun budget turns o (ran.Value w) = (turns ≤ budget) × (encoded o ≡ Some (datum w))
 
--- the array-free form of a plan with this outcome, and what it came to; its turns are at most the bound by those of the plan's parts
+-- the array-free form of a plan with this outcome, and what it came to; its turns are at most `graph_turns` of the plan
 pub record IsGraph (V : Outcomes) (budget : ℕ) (plan : Term) (outcome : Option Datum) (g : Graph) : Type 0 where
   pub term : term_of g.term ≡ array_free plan
   pub ran : HasRun budget (encoded_turns V (array_free plan)) outcome g.ran

@@ -141,6 +141,12 @@ fn encode_held(alloc: Global, held: &Held) -> Result<Value, Memory>
             drop(array);
             made
         }
+        Held::Set(set) => {
+            let members = set.to_value(alloc)?;
+            let made = encode(alloc, &members);
+            drop(members);
+            made
+        }
     }
 }
 

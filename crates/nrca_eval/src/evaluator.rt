@@ -15,7 +15,7 @@ use crate::members::{finished, members_and};
 use crate::pieces::in_pieces;
 use crate::scope::{Mode, Scope};
 use aql_outside::Gate;
-use aql_value::{Ascending, Dims, Value, saturating_product};
+use aql_value::{Dims, Value, saturating_product};
 use nrca_array::{Builder, Held};
 use nrca_forms::{cell_boxed, dim_boxed, numbers, part_boxed, sum_of, table_of, union_of};
 use nrca_loops::{
@@ -25,7 +25,7 @@ use nrca_loops::{
 };
 use nrca_par::EvalFault;
 use nrca_quick::{few, members_and_few, quick};
-use nrca_sets::Gather;
+use nrca_sets::{Gather, Set};
 use nrca_term::{Core, Terms};
 use std::alloc::Global;
 use std::thread::Threads;
@@ -436,19 +436,19 @@ fn union_members<R: Threads + Sync, G: Gate>(
     members: &Members,
     count: u64,
     budget: u64,
-) -> Result<Counted<Option<Ascending>>, EvalFault>
+) -> Result<Counted<Option<Set>>, EvalFault>
     requires { count ≤ length (member_list members.now) }
     ensures { Unites budget scope.now.globals.now env.now body.now members.now 0 count result }
 {
     let Mode::Pieces(pool) = &scope.mode else {
         let run = members_run(scope, body, env, members, 0, count, budget)?;
         return Ok(Counted {
-            answer: finished(scope.alloc, run.answer)?,
+            answer: finished(run.answer),
             turns: run.turns,
         });
     };
     let (alloc, globals) = (scope.alloc, scope.globals);
-    let run = move |from: u64, to: u64| -> Result<Counted<Option<Ascending>>, EvalFault>
+    let run = move |from: u64, to: u64| -> Result<Counted<Option<Set>>, EvalFault>
         requires { (from ≤ to) × (to ≤ length (member_list members.now)) }
         ensures { Unites budget globals.entry.now env.entry.now body.entry.now members.entry.now
             from to result }
@@ -460,7 +460,7 @@ fn union_members<R: Threads + Sync, G: Gate>(
         };
         let run = members_run(&here, body, env, members, from, to, budget)?;
         Ok(Counted {
-            answer: finished(alloc, run.answer)?,
+            answer: finished(run.answer),
             turns: run.turns,
         })
     };

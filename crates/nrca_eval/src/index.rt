@@ -13,11 +13,11 @@ use crate::joins::joined_pairs;
 use crate::pieces::in_pieces;
 use crate::scope::{Mode, Pool, Scope};
 use aql_outside::Gate;
-use aql_value::Ascending;
 use nrca_array::Held;
 use nrca_forms::{Indexed, index_pairs, index_run, strict, strict_boxed};
 use nrca_loops::{Counted, set_of, to_box};
 use nrca_par::EvalFault;
+use nrca_sets::Set;
 use nrca_term::Core;
 use std::alloc::Global;
 use std::thread::Threads;
@@ -112,7 +112,7 @@ fn index_value<R: Threads + Sync, G: Gate>(
     let Some(set) = set_of(value) else {
         return Ok(undefined());
     };
-    let count = set.items().items.len() as u64;
+    let count = set.count() as u64;
     if count > budget {
         return Err(EvalFault::Spent);
     }
@@ -132,7 +132,7 @@ fn index_pieces<R: Threads + Sync, G: Gate>(
     pool: &Pool<R, G>,
     alloc: Global,
     rank: u64,
-    set: &Ascending,
+    set: &Set,
     count: u64,
 ) -> Result<Option<Vec<Indexed>>, EvalFault>
     requires { count ≤ length set.now }

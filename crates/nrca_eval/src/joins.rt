@@ -5,11 +5,12 @@ ghost use Rattle.nrca_forms.specs.Indexing.{pairs_of};
 ghost use Rattle.nrca_loops.specs.Runs.{sums_join, sets_join, lists_join};
 ghost use Rattle.nrca_eval.specs.Gathered.{Gathers, gathered_pairs};
 
-use aql_value::{Ascending, Items, Memory, canon};
+use aql_value::Memory;
 use nrca_array::Builder;
 use nrca_forms::{Indexed, join_pairs};
 use nrca_loops::{Counted, join_cells, join_sets, join_sums};
 use nrca_par::EvalFault;
+use nrca_sets::Set;
 use std::alloc::Global;
 
 /// The sum of the sums. Spent exactly where the turns pass the budget.
@@ -37,15 +38,12 @@ pub(crate) fn joined_sums(
 /// The set of the members of the sets. Spent exactly where the turns pass the budget.
 pub(crate) fn joined_sets(
     alloc: Global,
-    parts: Vec<Counted<Option<Ascending>>>,
+    parts: Vec<Counted<Option<Set>>>,
     budget: u64,
-) -> Result<Counted<Option<Ascending>>, EvalFault>
+) -> Result<Counted<Option<Set>>, EvalFault>
     ensures { Gathers sets_join (Some []) budget parts.items result }
 {
-    let none = Items {
-        items: Vec::new(alloc),
-    };
-    let mut members = Some(canon(alloc, none)?);
+    let mut members = Some(Set::new(alloc));
     let mut turns = 0;
     for set in parts {
         if set.turns > budget - turns {

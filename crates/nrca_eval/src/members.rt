@@ -6,7 +6,7 @@ ghost use Rattle.aql_value.specs.Canon.{canon};
 ghost use Rattle.nrca_loops.specs.Scope.{held_value, set_in};
 ghost use Rattle.nrca_quick.specs.Few.{AddsSet};
 
-use aql_value::{Ascending, Memory};
+use aql_value::Memory;
 use nrca_array::Held;
 use nrca_loops::set_of;
 use nrca_sets::{Gather, Set};
@@ -28,7 +28,7 @@ pub(crate) fn members_and(
 
 // The set that a value is.
 #[tactic(auto, using(aql_value::specs::Laws::Datum::data_lists))]
-fn set_kept(value: Option<Held>) -> Option<Ascending>
+fn set_kept(value: Option<Held>) -> Option<Set>
     ensures { result ≡ set_in (held_value value) }
 {
     match value {
@@ -38,18 +38,18 @@ fn set_kept(value: Option<Held>) -> Option<Ascending>
 }
 
 #[tactic(auto, using(aql_value::specs::Laws::Set::canon_append_left))]
-fn extend(alloc: Global, members: Gather, set: Ascending) -> Result<Gather, Memory>
+fn extend(alloc: Global, members: Gather, set: Set) -> Result<Gather, Memory>
     ensures { IfOk result (λ ms. canon ms ≡ canon (canon members ++ set)) }
 {
-    Ok(members.append(alloc, Set::plain(set))?)
+    Ok(members.append(alloc, set)?)
 }
 
-/// The set of the members.
-pub(crate) fn finished(alloc: Global, members: Option<Gather>) -> Result<Option<Ascending>, Memory>
-    ensures { IfOk result (λ set. set ≡ option_map canon members) }
+/// The set of the members, packed as they were gathered. It takes no memory.
+pub(crate) fn finished(members: Option<Gather>) -> Option<Set>
+    ensures { result ≡ option_map canon members }
 {
     match members {
-        Some(members) => Ok(Some(members.finish().into_ascending(alloc)?)),
-        None => Ok(None),
+        Some(members) => Some(members.finish()),
+        None => None,
     }
 }

@@ -3,3 +3,4 @@ pub mod Arities
 pub mod Grouping
 pub mod Extents
 pub mod Arrays
+pub mod Members

@@ -1,7 +1,7 @@
 -- The pairs of an index and a value that `index` reads.
 use Rattle.std.specs.Prelude.{◌≡◌, ℕ, suc, ◌^◌, nat_eq, nat_lt, if◌then◌else◌, List, [], ◌∷◌, ◌++◌, length, map, Option, Some, None, Result}
 use Rattle.std.specs.Option.{option_map}
-use Rattle.std.specs.List.{slice_range}
+use Rattle.std.specs.List.{slice_get, slice_range}
 use Rattle.std.specs.Cmp.Lexicographic.{pointwise}
 use Rattle.std.proofs.Math.ListN.{set}
 use Rattle.std.proofs.Common.{get_or}
@@ -49,6 +49,10 @@ index_lists ps = map (λ p. p.0) (map pair_of ps)
 -- the pairs that members are, from one place up to another
 abbrev pub pairs_run : (rank : ℕ) → List Datum → ℕ → ℕ → Option (List (List ℕ × Datum))
 pairs_run rank ms a b = each (as_indexed rank) (slice_range ms a b)
+
+-- the index and the value that the member at a place is a pair of
+abbrev pub indexed_at : (rank : ℕ) → List Datum → ℕ → Option (List ℕ × Datum)
+indexed_at rank ms i = slice_get ms i >>= as_indexed rank
 
 -- the index and the value that two parts are
 abbrev pub indexed_pair : (rank : ℕ) → List Datum → Option (List ℕ × Datum)

@@ -1,6 +1,7 @@
 //! `index`: the array of the sets of values that a set of pairs has at each index.
 
-ghost use Rattle.std.specs.Prelude.{◌≡◌, ◌<◌, ◌≤◌, ◌^◌, ◌∷◌, ◌++◌, [], suc, length, map, max, replicate, Some, IfOk};
+ghost use Rattle.std.specs.Prelude.{◌≡◌, ◌<◌, ◌≤◌, ◌^◌, ◌∷◌, ◌++◌, [], suc, length, map, max, replicate, Some, IfOk, IfSome};
+ghost use Rattle.aql_value.specs.Datum.{natural};
 ghost use Rattle.std.specs.Option.{option_map};
 ghost use Rattle.aql_value.specs.Indices.{product};
 ghost use Rattle.aql_value.specs.Lists.{below};
@@ -8,19 +9,18 @@ ghost use Rattle.aql_value.specs.Meaning.{datum};
 ghost use Rattle.aql_value.specs.Operations.{as_natural, as_tuple, as_indexed, dims_above, index_numbers, set_of as set_datum};
 ghost use Rattle.aql_value.specs.Partial.{each};
 ghost use Rattle.nrca_array.specs.Held.{held_datum};
-ghost use Rattle.nrca_forms.specs.Indexing.{pair_of, pairs_of, pairs_run, extent, indexed_pair, AreRanked, push_group, ranked_numbers, values_of, AddsPair, MakesArray, groups_in, index_lists, ranged_dims, set_cells, values_by_index, PutsAt, greater_dims, pairs_in};
+ghost use Rattle.nrca_forms.specs.Indexing.{pair_of, pairs_of, pairs_run, indexed_at, extent, indexed_pair, AreRanked, push_group, ranked_numbers, values_of, AddsPair, MakesArray, groups_in, index_lists, ranged_dims, set_cells, values_by_index, PutsAt, greater_dims, pairs_in};
 ghost use Rattle.nrca_loops.specs.Runs.{lists_join};
 ghost use Rattle.nrca_loops.specs.Scope.{held_value};
 ghost use Rattle.aql_value.specs.Strict.{Strict};
 ghost use Rattle.nrca_loops.specs.Evaluates.{Applies};
 
 use crate::operations::{free, table_of};
-use aql_value::{
-    Ascending, Dims, Items, Memory, Value, canon, is_below, place, saturating_product,
-};
+use aql_value::{Dims, Items, Memory, Value, canon, is_below, place, saturating_product};
 use nrca_array::{Builder, Held};
-use nrca_loops::{Counted, member_at, set_of, with_cell};
+use nrca_loops::{Counted, set_of, with_cell};
 use nrca_par::EvalFault;
+use nrca_sets::Set;
 use std::alloc::Global;
 
 /// An index and a value that is paired with it.
@@ -43,7 +43,7 @@ pub(crate) fn index_set(
     let Some(set) = set_of(v) else {
         return Ok(free(None));
     };
-    let count = set.items().items.len() as u64;
+    let count = set.count() as u64;
     if count > budget {
         return Err(EvalFault::Spent);
     }
@@ -62,7 +62,7 @@ pub(crate) fn index_set(
 pub fn index_run(
     alloc: Global,
     rank: u64,
-    set: &Ascending,
+    set: &Set,
     from: u64,
     to: u64,
 ) -> Result<Option<Vec<Indexed>>, Memory>
@@ -70,10 +70,9 @@ pub fn index_run(
     requires within { to ≤ length set.now }
     ensures { IfOk result (λ ps. pairs_of ps ≡ pairs_run rank set.now from to) }
 {
-    let members = set.items();
     let mut pairs = Some(Vec::new(alloc));
     for i in from..to {
-        let pair = read_pair(alloc, rank, member_at(members, i as usize))?;
+        let pair = pair_at(alloc, rank, set, i as usize)?;
         pairs = pairs_and(pairs, pair)?;
     }
     Ok(pairs)
@@ -93,6 +92,41 @@ fn pairs_and(
         }
         None => Ok(None),
     }
+}
+
+// The index and the value that the member at a place is a pair of. Two numbers are read where they are packed.
+#[tactic(auto, using(crate::proofs::Members::members))]
+fn pair_at(alloc: Global, rank: u64, set: &Set, at: usize) -> Result<Option<Indexed>, Memory>
+    requires { at < length set.now }
+    ensures { IfOk result (λ p. option_map pair_of p ≡ indexed_at rank set.now at) }
+{
+    match two_at(rank, set, at) {
+        Some((index, value)) => Ok(Some(two_numbers(alloc, index, value)?)),
+        None => {
+            let member = set.member(alloc, at)?;
+            let pair = read_pair(alloc, rank, &member);
+            drop(member);
+            pair
+        }
+    }
+}
+
+// The index of one number and the natural that the member at a place is a pair of.
+#[tactic(auto, using(crate::proofs::Members::members))]
+fn two_at(rank: u64, set: &Set, at: usize) -> Option<(u128, u128)>
+    ensures { IfSome result (λ p. indexed_at rank set.now at ≡ Some (p.0 ∷ [], natural p.1)) }
+{
+    if rank == 1 { set.pair_at(at) } else { None }
+}
+
+fn two_numbers(alloc: Global, index: u128, value: u128) -> Result<Indexed, Memory>
+    ensures { IfOk result (λ p. pair_of p ≡ (index ∷ [], natural value)) }
+{
+    let dims = vec![in alloc; index]?;
+    Ok(Indexed {
+        at: Dims { dims },
+        value: Value::Nat(value),
+    })
 }
 
 // The index and the value that a member is a pair of.

@@ -6,7 +6,8 @@ ghost use Rattle.aql_value.specs.Datum.{natural, set, data_of};
 ghost use Rattle.aql_value.specs.Meaning.{datum};
 ghost use Rattle.aql_value.specs.Operations.{as_tuple, part_of, get_of, dim_of, arith_of, compare_of, union_of as union_datum, tuple_of, set_of, literal_of, cell_of, only, nth};
 ghost use Rattle.aql_value.specs.Indices.{cell};
-ghost use Rattle.aql_value.specs.Lists.{below};
+ghost use Rattle.aql_value.specs.Ops.{compare_by};
+ghost use Rattle.aql_value.specs.Order.{datum_cmp};
 ghost use Rattle.aql_value.specs.Strict.{sub_value, Strict};
 ghost use Rattle.nrca_array.specs.Held.{held_datum};
 ghost use Rattle.nrca_loops.specs.Scope.{held_value};
@@ -14,14 +15,16 @@ ghost use Rattle.nrca_loops.specs.Parts.{held_values, parts_value, numbers_in, n
 ghost use Rattle.nrca_forms.specs.Made.{dims_datum, items_in, kept_cell};
 ghost use Rattle.nrca_loops.specs.Evaluates.{Applies};
 
-use aql_value::made::{both, make_list};
+use aql_value::made::both;
 use aql_value::{
-    ArithOp, Ascending, Cells, CompareOp, Dims, Index, Items, Memory, Parts, Value, canon, merge,
+    ArithOp, Cells, CompareOp, Dims, Index, Items, Memory, Parts, Value, compare as compare_values,
 };
 use nrca_array::{Builder, Flat, Held};
-use nrca_loops::{Counted, into_value, item, natural, row_of, set_of, with_cell};
+use nrca_loops::{Counted, into_value, item, merge_sets, natural, row_of, set_of, with_cell};
 use nrca_par::EvalFault;
+use nrca_sets::{Gather, Set};
 use std::alloc::Global;
+use std::cmp::Ordering;
 
 // A value that takes no turns of its own.
 pub(crate) fn free(value: Option<Held>) -> Counted<Option<Held>>
@@ -48,29 +51,20 @@ pub(crate) fn gen_set(
     if n > u128::from(budget) {
         return Err(EvalFault::Spent);
     }
-    let set = naturals_below(alloc, n as u64)?;
+    let set = Set::below(alloc, n as u64)?;
     Ok(Counted {
-        answer: Some(Held::Value(Value::Members(set))),
+        answer: Some(Held::Set(set)),
         turns: n as u64,
     })
 }
 
-fn naturals_below(alloc: Global, n: u64) -> Result<Ascending, Memory>
-    ensures { IfOk result (λ set. set ≡ map natural (below n)) }
-{
-    let mut items = Vec::new(alloc);
-    for i in 0..n {
-        items.push(Value::Nat(u128::from(i)))?;
-    }
-    let set = canon(alloc, Items { items })?;
-    Ok(set)
-}
-
+// A set of one member, packed where the member can be.
 pub(crate) fn single(alloc: Global, v: Held) -> Result<Held, Memory>
     ensures { IfOk result (λ r. held_datum r ≡ set_of (held_datum v ∷ [])) }
 {
-    let items = make_list(alloc, into_value(alloc, v))?;
-    Ok(Held::Value(Value::Members(canon(alloc, Items { items })?)))
+    let value = into_value(alloc, v)?;
+    let one = Gather::new(alloc).add(alloc, value)?;
+    Ok(Held::Set(one.finish()))
 }
 
 #[tactic(auto, using(crate::proofs::Strictly::parts))]
@@ -80,16 +74,16 @@ pub(crate) fn get(alloc: Global, v: Held) -> Result<Option<Held>, Memory>
     let Some(set) = set_of(v) else {
         return Ok(None);
     };
-    let found = only_member(alloc, &set.into_items())?;
+    let found = only_member(alloc, &set)?;
     Ok(found)
 }
 
 #[tactic(auto, using(crate::proofs::Strictly::parts))]
-fn only_member(alloc: Global, items: &Items) -> Result<Option<Held>, Memory>
-    ensures { IfOk result (λ r. held_value r ≡ only items.now) }
+fn only_member(alloc: Global, set: &Set) -> Result<Option<Held>, Memory>
+    ensures { IfOk result (λ r. held_value r ≡ only set.now) }
 {
-    if items.items.len() == 1 {
-        Ok(Some(Held::Value(item(alloc, items, 0)?)))
+    if set.count() == 1 {
+        Ok(Some(Held::Value(set.member(alloc, 0)?)))
     } else {
         Ok(None)
     }
@@ -201,17 +195,57 @@ pub(crate) fn arith(op: ArithOp, v: Held, w: Held) -> Option<Held>
 pub(crate) fn compare(alloc: Global, op: CompareOp, v: Held, w: Held) -> Result<Held, Memory>
     ensures { IfOk result (λ r. Some (held_datum r) ≡ compare_of op (held_datum v) (held_datum w)) }
 {
+    let order = order_of(alloc, v, w)?;
+    Ok(Held::Value(Value::Bool(is_so(op, order))))
+}
+
+// The order of two values. Sets that are packed alike are not unpacked.
+fn order_of(alloc: Global, v: Held, w: Held) -> Result<Ordering, Memory>
+    ensures { IfOk result (λ o. o ≡ datum_cmp (held_datum v) (held_datum w)) }
+{
+    match v {
+        Held::Set(v) => set_order_to(alloc, v, w),
+        v => values_order(alloc, v, w),
+    }
+}
+
+fn set_order_to(alloc: Global, v: Set, w: Held) -> Result<Ordering, Memory>
+    ensures { IfOk result (λ o. o ≡ datum_cmp (set (data_of v)) (held_datum w)) }
+{
+    match w {
+        Held::Set(w) => v.compare(alloc, &w),
+        w => values_order(alloc, Held::Set(v), w),
+    }
+}
+
+fn values_order(alloc: Global, v: Held, w: Held) -> Result<Ordering, Memory>
+    ensures { IfOk result (λ o. o ≡ datum_cmp (held_datum v) (held_datum w)) }
+{
     let both = both(into_value(alloc, v), into_value(alloc, w))?;
-    let truth = op.holds(&both.0, &both.1);
+    let order = compare_values(&both.0, &both.1);
     drop(both);
-    Ok(Held::Value(Value::Bool(truth)))
+    Ok(order)
+}
+
+// Whether a comparison holds of two values in that order.
+fn is_so(op: CompareOp, order: Ordering) -> bool
+    ensures { result ≡ compare_by op order }
+{
+    match op {
+        CompareOp::Equal => order == Ordering::Equal,
+        CompareOp::Unequal => order != Ordering::Equal,
+        CompareOp::Less => order == Ordering::Less,
+        CompareOp::LessEqual => order != Ordering::Greater,
+        CompareOp::Greater => order == Ordering::Greater,
+        CompareOp::GreaterEqual => order != Ordering::Less,
+    }
 }
 
 pub(crate) fn union(alloc: Global, v: Held, w: Held) -> Result<Option<Held>, Memory>
     ensures { IfOk result (λ r. held_value r ≡ union_datum (held_datum v) (held_datum w)) }
 {
     match set_of(v).zip(set_of(w)) {
-        Some((v, w)) => Ok(Some(Held::Value(Value::Members(merge(alloc, v, w)?)))),
+        Some((v, w)) => Ok(Some(Held::Set(merge_sets(alloc, v, w)?))),
         None => Ok(None),
     }
 }
@@ -399,11 +433,11 @@ pub fn sum_of(sum: Option<u128>) -> Option<Held>
 
 /// A set as a value.
 #[tactic(auto, using(aql_value::specs::Laws::Datum::data_lists))]
-pub fn union_of(members: Option<Ascending>) -> Option<Held>
+pub fn union_of(members: Option<Set>) -> Option<Held>
     ensures { held_value result ≡ option_map (λ ms. set (data_of ms)) members }
 {
     match members {
-        Some(members) => Some(Held::Value(Value::Members(members))),
+        Some(members) => Some(Held::Set(members)),
         None => None,
     }
 }

@@ -1,12 +1,14 @@
 -- The least member that is left of two ascending lists.
-use Rattle.std.proofs.Common.{◌≡◌, ℕ, zero, suc, ◌+◌, ◌<◌, ◌≤◌, true, false, List, [], ◌∷◌, ◌++◌, length, drop, Some, None, refl, sym, ◌∙◌, ap, arith}
+use Rattle.std.proofs.Common.{◌≡◌, ℕ, zero, suc, ◌+◌, ◌<◌, ◌≤◌, true, false, List, [], ◌∷◌, ◌++◌, length, drop, get_or, Some, None, refl, sym, ◌∙◌, ap, arith}
 use Rattle.std.specs.Prelude.{slice_get}
 use Rattle.std.specs.declared.cmp.Ordering.TheVariants.{Less, Equal, Greater}
 use Rattle.std.proofs.lemmas.List.{append-nil, length-drop}
-use Rattle.std.proofs.lemmas.Option.{slice_get_within}
+use Rattle.std.proofs.lemmas.Option.{slice_get-get_or, slice_get_within}
 use Rattle.aql_value.specs.Canon.{IsAscending, canon}
-use Rattle.aql_value.specs.Datum.{Datum}
+use Rattle.aql_value.specs.Datum.{Datum, natural}
 use Rattle.aql_value.specs.Order.{datum_cmp}
+use Rattle.aql_value.specs.Partial.{◌>>=◌}
+use Rattle.nrca_sets.specs.Places.{order_to, places_order}
 use Rattle.aql_value.specs.Laws.Set.{canon_merge-less, canon_merge-equal, canon_merge-greater, canon_ascending_cons, ascending_tail}
 use Rattle.nrca_loops.specs.Walks.{both_rest, first_order, TakesLeast}
 
@@ -38,6 +40,14 @@ ascending_drop (x ∷ xs) (suc i) a = ascending_drop xs i (ascending_tail x xs a
 -- the order of the next elements
 pub order_both : (xs ys : List Datum) (i j : ℕ) (x y : Datum) → slice_get xs i ≡ Some x → slice_get ys j ≡ Some y → Some (datum_cmp x y) ≡ first_order (drop i xs) (drop j ys)
 order_both xs ys i j x y e f = (λ k. first_order (sym (drop_there xs i x e) k) (sym (drop_there ys j y f) k))
+
+pub order_places : (xs ys : List Datum) (i j : ℕ) → i < length xs → j < length ys → places_order xs i ys j ≡ first_order (drop i xs) (drop j ys)
+order_places xs ys i j h l =
+    let x = get_or xs i (natural 0) in
+    let y = get_or ys j (natural 0) in
+    let e = slice_get-get_or xs i (natural 0) h in
+    let f = slice_get-get_or ys j (natural 0) l in
+    ap (λ o. o >>= λ z. order_to z ys j) e ∙ ap (λ o. o >>= λ z. Some (datum_cmp x z)) f ∙ order_both xs ys i j x y e f
 
 pub order_left : (xs ys : List Datum) (i j : ℕ) → i < length xs → length ys ≤ j → Some Less ≡ first_order (drop i xs) (drop j ys)
 order_left xs ys i j h l = go (drop i xs) refl ∙ ap (first_order (drop i xs)) (sym (drop_past ys j l))
@@ -129,7 +139,7 @@ left_there xs ys i j p q t = slice_get_within xs i t.member t.there
 pub right_there : (xs ys : List Datum) (i j : ℕ) (p q : ℕ) → TakesLeast xs ys i j false p q → j < length ys
 right_there xs ys i j p q t = slice_get_within ys j t.member t.there
 
-pub ruleset orders = (order_both, order_left, order_right, order_none)
+pub ruleset orders = (order_places, order_left, order_right, order_none)
 
 pub ruleset takes = (takes_less, takes_equal, takes_greater, takes_none)
 

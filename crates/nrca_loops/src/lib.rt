@@ -21,24 +21,23 @@ mod walk;
 pub use boxes::{from_box, keep_part, parts_kept, to_box, truth_kept};
 pub use done::{Counted, Done, join_done};
 pub use env::{Env, Globals, index_variable, lent, lookup, position, variable};
-pub use joins::{join_cells, join_sets, join_sums};
+pub use joins::{join_cells, join_sets, join_sums, merge_sets};
 pub use members::{
     Members, Next, as_members, item, members_below, members_of_both, natural, row_of, set_of, truth,
 };
-pub use runs::{
-    canon_of, cells_and, into_value, members_and, parts_and, set_index, sum_and, with_cell, zeros,
-};
-pub use walk::{Sides, member_at};
+pub use runs::{cells_and, into_value, parts_and, set_index, sum_and, with_cell, zeros};
+pub use walk::Sides;
 
-// Values may be sent to another thread, and lent to several.
+// Outcomes of positions and members may be sent to another thread, and lent to several.
 fn crosses_threads<T: Send + Sync>(_value: &T) {}
 
 fn globals_cross_threads(globals: &Globals) {
     crosses_threads(globals);
 }
 
+// Variables may be lent to several.
 fn values_cross_threads(env: &Env) {
-    crosses_threads(env);
+    crosses_threads(&env);
 }
 
 fn members_cross_threads(members: &Members) {

@@ -11,18 +11,19 @@ ghost use Rattle.nrca_loops.specs.Evaluates.{Generates};
 
 use crate::done::Counted;
 use crate::walk::{Sides, count, sides_before, take};
-use aql_value::{Ascending, Items, Memory, Value};
+use aql_value::{Items, Memory, Value};
 use nrca_array::Held;
 use nrca_par::EvalFault;
+use nrca_sets::Set;
 use std::alloc::Global;
 
 /// The members of a loop: the naturals below a number and those of two sets, which are not kept as
-/// a set, or those of a set.
+/// a set, or those of a set. Members that are packed are read where they stand.
 #[derive(Drop)]
 pub enum Members {
     Below(u128),
-    Listed(Ascending),
-    Both(Ascending, Ascending),
+    Listed(Set),
+    Both(Set, Set),
 }
 
 /// A member, and how far a walk over two sets has come behind it.
@@ -40,8 +41,8 @@ impl Members {
     {
         match self {
             Members::Below(n) => *n,
-            Members::Listed(set) => set.items().items.len() as u128,
-            Members::Both(left, right) => count(left.items(), right.items()),
+            Members::Listed(set) => set.count() as u128,
+            Members::Both(left, right) => count(left, right),
         }
     }
 
@@ -50,7 +51,7 @@ impl Members {
         ensures { IsAt self.now number result }
     {
         match self {
-            Members::Both(left, right) => sides_before(left.items(), right.items(), number),
+            Members::Both(left, right) => sides_before(left, right, number),
             _ => Sides { left: 0, right: 0 },
         }
     }
@@ -68,11 +69,11 @@ impl Members {
                 Ok(Next { member, sides })
             }
             Members::Listed(set) => {
-                let member = Held::Value(item(alloc, set.items(), at as usize)?);
+                let member = Held::Value(set.member(alloc, at as usize)?);
                 Ok(Next { member, sides })
             }
             Members::Both(left, right) => {
-                let taken = take(alloc, left.items(), right.items(), sides)?;
+                let taken = take(alloc, left, right, sides)?;
                 Ok(Next {
                     member: Held::Value(taken.member),
                     sides: taken.sides,
@@ -95,7 +96,7 @@ pub fn item(alloc: Global, items: &Items, at: usize) -> Result<Value, Memory>
 pub fn as_members(value: Option<Held>) -> Option<Members>
     ensures { option_map member_list result ≡ set_in (held_value value) }
 {
-    match ascending(value) {
+    match set_from(value) {
         Some(set) => Some(Members::Listed(set)),
         None => None,
     }
@@ -132,7 +133,7 @@ pub fn members_below(
 pub fn members_of_both(first: Option<Held>, second: Option<Held>) -> Option<Members>
     ensures { members_value result ≡ set_in (united (held_value first) (held_value second)) }
 {
-    match ascending(first).zip(ascending(second)) {
+    match set_from(first).zip(set_from(second)) {
         Some((first, second)) => Some(Members::Both(first, second)),
         None => None,
     }
@@ -140,7 +141,7 @@ pub fn members_of_both(first: Option<Held>, second: Option<Held>) -> Option<Memb
 
 // The set that a value is.
 #[tactic(auto, using(aql_value::specs::Laws::Datum::data_lists))]
-pub(crate) fn ascending(value: Option<Held>) -> Option<Ascending>
+fn set_from(value: Option<Held>) -> Option<Set>
     ensures { result ≡ set_in (held_value value) }
 {
     match value {
@@ -149,13 +150,14 @@ pub(crate) fn ascending(value: Option<Held>) -> Option<Ascending>
     }
 }
 
-/// The members of the set that a value is.
+/// The set that a value is, its members kept as they are.
 #[tactic(auto, using(aql_value::specs::Laws::Datum::data_lists))]
-pub fn set_of(value: Held) -> Option<Ascending>
+pub fn set_of(value: Held) -> Option<Set>
     ensures { result ≡ as_set (held_datum value) }
 {
     match value {
-        Held::Value(Value::Members(set)) => Some(set),
+        Held::Set(set) => Some(set),
+        Held::Value(Value::Members(members)) => Some(Set::plain(members)),
         other => {
             drop(other);
             None

@@ -1,18 +1,16 @@
 //! What a run adds at each member or cell, and what becomes of it.
 
 ghost use Rattle.std.specs.Prelude.{◌≡◌, ◌<◌, ◌++◌, ◌∷◌, [], Some, length, slice_get, IfOk, IsOkAnd};
-ghost use Rattle.std.specs.Option.{option_map};
-ghost use Rattle.aql_value.specs.Canon.{canon};
 ghost use Rattle.aql_value.specs.Indices.{product, indices};
 ghost use Rattle.aql_value.specs.Meaning.{datum};
 ghost use Rattle.nrca_array.specs.Held.{held_datum};
 ghost use Rattle.nrca_loops.specs.Scope.{held_value};
-ghost use Rattle.nrca_loops.specs.Runs.{sum_with, members_with, list_with};
+ghost use Rattle.nrca_loops.specs.Runs.{sum_with, list_with};
 ghost use Rattle.nrca_loops.specs.Parts.{AddsPart};
 
-use crate::members::{ascending, natural};
+use crate::members::natural;
 use aql_value::made::both;
-use aql_value::{Ascending, Items, Memory, Value, add, canon};
+use aql_value::{Memory, Value, add};
 use nrca_array::{Builder, Held};
 use std::alloc::Global;
 
@@ -24,27 +22,6 @@ pub fn sum_and(sum: Option<u128>, value: Option<Held>) -> Option<u128>
         (Some(m), Some(n)) => add(m, n),
         _ => None,
     }
-}
-
-/// The members so far, and those of one set more.
-#[tactic(auto, using(aql_value::specs::Laws::Datum::data_lists))]
-pub fn members_and(members: Option<Items>, value: Option<Held>) -> Result<Option<Items>, Memory>
-    ensures { IfOk result (λ ms. ms ≡ members_with members (held_value value)) }
-{
-    match members.zip(ascending(value)) {
-        Some((members, set)) => Ok(Some(extend(members, set)?)),
-        None => Ok(None),
-    }
-}
-
-fn extend(members: Items, set: Ascending) -> Result<Items, Memory>
-    ensures { IfOk result (λ ms. ms ≡ members ++ set) }
-{
-    let mut items = members.items;
-    for member in set.into_items().items {
-        items.push(member)?;
-    }
-    Ok(Items { items })
 }
 
 /// The cells so far, and one more.
@@ -97,16 +74,7 @@ pub fn into_value(alloc: Global, held: Held) -> Result<Value, Memory>
             drop(flat);
             Ok(Value::Grid(cells?))
         }
-    }
-}
-
-/// The set of the members.
-pub fn canon_of(alloc: Global, members: Option<Items>) -> Result<Option<Ascending>, Memory>
-    ensures { IfOk result (λ set. set ≡ option_map canon members) }
-{
-    match members {
-        Some(members) => Ok(Some(canon(alloc, members)?)),
-        None => Ok(None),
+        Held::Set(set) => set.into_value(alloc),
     }
 }
 

@@ -1,11 +1,11 @@
 //! Walking the members of two sets together, in ascending order and each once.
 
-ghost use Rattle.std.specs.Prelude.{◌≡◌, ◌<◌, ◌≤◌, ◌++◌, length, drop, slice_get, Some, IfOk};
-ghost use Rattle.aql_value.specs.Canon.{IsAscending, canon};
-ghost use Rattle.aql_value.specs.Meaning.{datum};
+ghost use Rattle.std.specs.Prelude.{◌≡◌, ◌≤◌, ◌++◌, length, drop, IfOk};
+ghost use Rattle.aql_value.specs.Canon.{canon};
 ghost use Rattle.nrca_loops.specs.Walks.{both_rest, first_order, StepsOn, AreBefore, IsFirst};
 
-use aql_value::{Items, Memory, Value, compare};
+use aql_value::{Memory, Value};
+use nrca_sets::Set;
 use std::alloc::Global;
 use std::cmp::Ordering;
 
@@ -33,13 +33,11 @@ pub(crate) struct Member {
 
 /// The next member of a walk: none at its end.
 #[tactic(auto, using(crate::proofs::Merged::takes))]
-pub(crate) fn step(left: &Items, right: &Items, i: usize, j: usize) -> Option<Taken>
-    requires left { IsAscending left.now }
-    requires right { IsAscending right.now }
+pub(crate) fn step(left: &Set, right: &Set, i: usize, j: usize) -> Option<Taken>
     ensures { StepsOn left.now right.now i j result }
 {
-    let _lefts = count_of(left);
-    let _rights = count_of(right);
+    let _lefts = left.count();
+    let _rights = right.count();
     match order_of(left, right, i, j) {
         Some(Ordering::Less) => Some(Taken {
             from_left: true,
@@ -62,47 +60,28 @@ pub(crate) fn step(left: &Items, right: &Items, i: usize, j: usize) -> Option<Ta
 
 // The order of the next members of both sides.
 #[tactic(auto, using(crate::proofs::Merged::orders))]
-fn order_of(left: &Items, right: &Items, i: usize, j: usize) -> Option<Ordering>
+fn order_of(left: &Set, right: &Set, i: usize, j: usize) -> Option<Ordering>
     ensures { result ≡ first_order (drop i left.now) (drop j right.now) }
 {
-    if i < count_of(left) {
-        if j < count_of(right) {
-            let x = member_at(left, i);
-            let y = member_at(right, j);
-            Some(compare(x, y))
+    if i < left.count() {
+        if j < right.count() {
+            left.order(i, right, j)
         } else {
             Some(Ordering::Less)
         }
-    } else if j < count_of(right) {
+    } else if j < right.count() {
         Some(Ordering::Greater)
     } else {
         None
     }
 }
 
-// How many elements.
-fn count_of(items: &Items) -> usize
-    ensures { result ≡ length items.now }
-{
-    items.items.len()
-}
-
-/// The element of a place.
-pub fn member_at(members: &Items, at: usize) -> &Value
-    requires { at < length members.now }
-    ensures { slice_get members.now at ≡ Some (datum result.now) }
-{
-    &members.items[at]
-}
-
 /// How many members a walk comes to.
-pub(crate) fn count(left: &Items, right: &Items) -> u128
-    requires left { IsAscending left.now }
-    requires right { IsAscending right.now }
+pub(crate) fn count(left: &Set, right: &Set) -> u128
     ensures { result ≡ length (canon (left.now ++ right.now)) }
 {
-    let _lefts = count_of(left);
-    let _rights = count_of(right);
+    let _lefts = left.count();
+    let _rights = right.count();
     let mut count: u128 = 0;
     let mut i = 0;
     let mut j = 0;
@@ -115,9 +94,7 @@ pub(crate) fn count(left: &Items, right: &Items) -> u128
 }
 
 /// How far a walk has come before the member of a number.
-pub(crate) fn sides_before(left: &Items, right: &Items, number: u64) -> Sides
-    requires left { IsAscending left.now }
-    requires right { IsAscending right.now }
+pub(crate) fn sides_before(left: &Set, right: &Set, number: u64) -> Sides
     ensures { AreBefore left.now right.now number result }
 {
     let mut sides = Sides { left: 0, right: 0 };
@@ -136,14 +113,7 @@ pub(crate) fn sides_before(left: &Items, right: &Items, number: u64) -> Sides
 }
 
 /// The next member of a walk, and how far it has then come.
-pub(crate) fn take(
-    alloc: Global,
-    left: &Items,
-    right: &Items,
-    sides: Sides,
-) -> Result<Member, Memory>
-    requires left { IsAscending left.now }
-    requires right { IsAscending right.now }
+pub(crate) fn take(alloc: Global, left: &Set, right: &Set, sides: Sides) -> Result<Member, Memory>
     requires some { 1 ≤ length (both_rest left.now right.now sides.left sides.right) }
     ensures { IfOk result (λ m. IsFirst left.now right.now sides m) }
 {
@@ -154,13 +124,13 @@ pub(crate) fn take(
                 right: taken.right,
             };
             if taken.from_left {
-                let member = member_at(left, sides.left).copy(alloc)?;
+                let member = left.member(alloc, sides.left)?;
                 Ok(Member {
                     member,
                     sides: after,
                 })
             } else {
-                let member = member_at(right, sides.right).copy(alloc)?;
+                let member = right.member(alloc, sides.right)?;
                 Ok(Member {
                     member,
                     sides: after,

@@ -5,3 +5,4 @@ pub mod Places
 pub mod Runs
 pub mod Pairs
 pub mod Kinds
+pub mod Valid

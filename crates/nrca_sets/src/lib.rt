@@ -13,6 +13,7 @@ mod order;
 mod rows;
 pub mod runs;
 mod set;
+mod validity;
 mod values;
 
 pub use gather::Gather;

@@ -3,14 +3,17 @@ ghost use Rattle.std.specs.List.Sorted.{IsStrictlySortedBy};
 ghost use Rattle.std.specs.Ordering.{nat_cmp};
 ghost use Rattle.aql_value.specs.Canon.{canon, IsAscending};
 ghost use Rattle.aql_value.specs.Datum.{data_of, natural, set};
+ghost use Rattle.aql_value.specs.Lists.{below};
 ghost use Rattle.aql_value.specs.Meaning.{datum};
 ghost use Rattle.aql_value.specs.Operations.{as_set};
+ghost use Rattle.aql_value.specs.Valid.{IsValue};
 ghost use Rattle.nrca_sets.specs.Pairs.{number_at, pair_at, pair_cmp, pair_value};
 ghost use Rattle.nrca_sets.specs.Places.{places_order};
 ghost use Rattle.nrca_sets.specs.Rows.{row_data, set_order};
 
 use crate::order::order;
 use crate::rows::Rows;
+use crate::validity::valid_rows;
 use aql_value::{Ascending, Items, Memory, Value};
 use std::alloc::Global;
 use std::cmp::Ordering;
@@ -49,6 +52,16 @@ impl Set {
         Set {
             rows: Rows::new(alloc),
         }
+    }
+
+    /// The naturals below a number.
+    pub fn below(alloc: Global, n: u64) -> Result<Set, Memory>
+        ensures { IfOk result (λ s. s ≡ map natural (below n)) }
+    {
+        let numbers = numbers_below(alloc, n)?;
+        Ok(Set {
+            rows: Rows::Ones(numbers),
+        })
     }
 
     // The set whose members are those of the rows, which ascend.
@@ -114,6 +127,14 @@ impl Set {
         ensures { IfOk result (λ v. datum v ≡ set (data_of self.now)) }
     {
         Ok(Value::Members(ascending(self.rows.to_items(alloc)?)))
+    }
+
+    /// Shows that the set obeys the rules of its kind, at every level: any set that there is does. It takes no memory.
+    #[tactic(auto, using(aql_value::specs::Laws::Datum::data_lists))]
+    pub fn valid(&self)
+        ensures { IsValue (set (data_of self.now)) }
+    {
+        valid_rows(&self.rows);
     }
 
     /// How many members. It takes no memory.
@@ -209,6 +230,16 @@ impl Set {
         let rows = self.rows.copy(alloc)?;
         Ok(Set { rows })
     }
+}
+
+fn numbers_below(alloc: Global, n: u64) -> Result<Vec<u64>, Memory>
+    ensures { IfOk result (λ ns. ns.items ≡ below n) }
+{
+    let mut numbers = Vec::with_capacity(alloc, n as usize)?;
+    for i in 0..n {
+        numbers.push(i)?;
+    }
+    Ok(numbers)
 }
 
 // Members that ascend as an `Ascending`.

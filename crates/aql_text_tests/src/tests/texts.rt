@@ -6,6 +6,7 @@ use aql_value::made::{both, make_box, make_boxes, make_list, make_pair_list};
 use aql_value::{ArithOp, Cells, CompareOp, Dims, Items, Memory, Parts, Str, Value, canon};
 use nrca_array::{Flat, Held};
 use nrca_motion::{Move, MoveRule, Moves};
+use nrca_sets::{Gather, Set};
 use nrca_term::{Core, Path, Rule, Step, Terms, Trace};
 use std::alloc::Global;
 use std::process::Abort;
@@ -271,6 +272,22 @@ fn packed_arrays(rt: HostRuntime) -> Result<(), Memory> {
     put_held(alloc, packed(alloc, &[1, 3], cells), &mut out)?;
     put_held(alloc, Ok(Held::Value(Value::Bool(true))), &mut out)?;
     assert_eq!(rt; out.as_slice(), b"[[1,3; 7, 300, 0]]true".as_slice());
+    Ok(())
+}
+
+fn pairs(alloc: Global) -> Result<Set, Memory> {
+    let pairs = Gather::new(alloc).two(alloc, 5, 0)?.two(alloc, 1, 7)?;
+    Ok(pairs.finish())
+}
+
+#[test]
+fn packed_sets(rt: HostRuntime) -> Result<(), Memory> {
+    let alloc = rt.alloc();
+    let mut out = Vec::new(alloc);
+    put_held(alloc, Ok(Held::Set(Set::below(alloc, 3)?)), &mut out)?;
+    put_held(alloc, Ok(Held::Set(pairs(alloc)?)), &mut out)?;
+    put_held(alloc, Ok(Held::Set(Set::new(alloc))), &mut out)?;
+    assert_eq!(rt; out.as_slice(), b"{0, 1, 2}{(1, 7), (5, 0)}{}".as_slice());
     Ok(())
 }
 

@@ -166,7 +166,7 @@ fn variables_positions_and_choices(rt: HostRuntime) -> Result<(), Fail> {
     meets(&rt, rt.alloc(), &VARIABLES_POSITIONS_AND_CHOICES)
 }
 
-const SUMS_AND_SETS: [Row; 22] = [
+const SUMS_AND_SETS: [Row; 31] = [
     ("1000 gen v0 S", "499500", 2000),
     ("0 gen bot S", "0", 0),
     ("5 v0 S", "undefined", 0),
@@ -212,6 +212,21 @@ const SUMS_AND_SETS: [Row; 22] = [
     ),
     // one is undefined
     ("3 gen 6 v0 / v0 tup2 one U", "undefined", 6),
+    // packed sets beside an unpacked one with the same members
+    ("g3 v0 one U g3 =", "T", 2),
+    ("g3 v0 one U g3 u", "1 2 set2", 2),
+    // and bound, put into a tuple, compared, indexed, and of members of several kinds walked
+    ("3 gen v0 v0 S v0 tup2 let", "3 0 1 2 set3 tup2", 6),
+    ("2 gen 3 gen <", "T", 5),
+    ("3 gen 3 gen <", "F", 6),
+    ("2 gen v0 v0 tup2 one U 2 gen >", "T", 6),
+    ("g3 v0 v0 tup2 one U g3 v0 1 tup2 one U =", "F", 4),
+    ("g3 v0 v0 tup2 one U idx1 2 sub1", "2 set1", 7),
+    (
+        "g3 v0 1 = v0 v0 tup2 one v0 one if U v0 one U",
+        "2 1 1 tup2 set2",
+        4,
+    ),
 ];
 
 #[test]

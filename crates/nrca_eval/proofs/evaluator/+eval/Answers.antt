@@ -33,6 +33,10 @@ use Rattle.nrca_eval.proofs.Evaluated.{at_answer, at_fault, member_weight, sub_w
 use Rattle.nrca_eval.proofs.Joined.{total_wider, whole_within}
 use Rattle.nrca_quick.specs.Laws.Few.{few_in}
 use Rattle.nrca_quick.specs.Laws.Lent.{term_at, sub_lent, sub_free}
+use denote.Param.Send.{sendable}
+use Rattle.std.proofs.Crossing.{crosses}
+use Rattle.nrca_loops.proofs.Crosses.{env-sync, globals-sync, members-sync}
+use Rattle.nrca_term.proofs.term.Core.TheLaws.TheKnot.{sync-Core}
 use Rattle.nrca_eval.proofs.evaluator.+eval.Goals as goal
 use Rattle.nrca_term.specs.Laws.Entering.{child-there}
 
@@ -468,3 +472,13 @@ fill_cells-returns g t c =
     whole_within itself lists_join (λ i j. cell_values V vals b ds i j) (λ (at : List ℕ). settle V (walked at [] ++ vals) b) (indices ds) c.args.budget c.args.count
     (λ i m j low high. each-range_split (indices ds) i m j low high f)
     (Some []) refl c.in_ok-runs.runs.items c.in_ok-runs.runs.items refl c.in_ok-runs.ensures.joined c.joined_cells.result c.joined_cells.ensures
+
+-- what a piece is lent may be lent to several threads
+pub sum_members-in_pieces-requires-sync-F : goal.sum_members-in_pieces-requires-sync-F
+sum_members-in_pieces-requires-sync-F g t c κs within = search (globals-sync, members-sync, env-sync, sendable, crosses, sync-Core) depth 40 fits 5000
+
+pub union_members-in_pieces-requires-sync-F : goal.union_members-in_pieces-requires-sync-F
+union_members-in_pieces-requires-sync-F g t c κs within = search (globals-sync, members-sync, env-sync, sendable, crosses, sync-Core) depth 40 fits 5000
+
+pub fill_cells-in_pieces-requires-sync-F : goal.fill_cells-in_pieces-requires-sync-F
+fill_cells-in_pieces-requires-sync-F g t c κs within = search (globals-sync, env-sync, sendable, crosses, sync-Core) depth 40 fits 5000

@@ -11,6 +11,6 @@ overflow_add-count c =
       ap length c.in-Some.ensures.rest,
       length_canon (c.args.left.now ++ c.args.right.now),
       length-append c.args.left.now c.args.right.now,
-      c.count_of-lefts.ensures,
-      c.count_of-rights.ensures,
+      c.count-lefts.ensures.count,
+      c.count-rights.ensures.count,
     )

@@ -13,9 +13,5 @@ returns-in_ok-taken-in-Both c =
     let next = c.in_ok-taken-in-Both.taken.sides in
     let member = datum c.in_ok-taken-in-Both.taken.member in
     let place = subst (λ m. IsAt m c.args.at c.args.sides) c.in-Both.is c.requires.place in
-    let taken =
-    (λ k. both_rest (sym c.items-in-Both.ensures.items k) (sym c.items-in-Both-2.ensures.items k) c.args.sides.left c.args.sides.right)
-    ∙ c.in_ok-taken-in-Both.ensures
-    ∙ (λ k. member ∷ both_rest (c.items-in-Both.ensures.items k) (c.items-in-Both-2.ensures.items k) next.left next.right) in
-    let r = drop_is whole c.args.at member (both_rest c.in-Both.left c.in-Both.right next.left next.right) (sym place ∙ taken) in
+    let r = drop_is whole c.args.at member (both_rest c.in-Both.left c.in-Both.right next.left next.right) (sym place ∙ c.in_ok-taken-in-Both.ensures) in
     (ap (λ m. slice_get (member_list m) c.args.at) c.in-Both.is ∙ r.0, subst (λ m. IsAt m (c.args.at + 1) next) (sym c.in-Both.is) (sym r.1))
