@@ -1,10 +1,11 @@
 #!/usr/bin/env bash
 # Measures read_header and read_slab over the program's adapter of files beside plain Rust programs on the same real files: all of
 # 50,000,000 shorts and every 7th; one number of each of 100,000 records of 129,600 bytes; 100 columns of 10,000 x 10,000 bytes; and a
-# header of 16 MB whose variables have as many dimensions as they may. It prints seconds (the least of five runs, one after the other),
-# peak memory in KiB and how many bytes a cell were read, and the seconds of the plain program, with their ratio. The plain program
-# sums the numbers as it reads them; that ours makes the same ones is seen in a run of its own, which sums the array, so that what is
-# measured is the reading alone.
+# header of 16 MB whose variables have as many dimensions as they may. It prints seconds (the least of twelve runs, in turn with those
+# of the plain program), peak memory in KiB and how many bytes a cell were read, and the seconds of the plain program, with their ratio.
+# The plain program sums the numbers as it reads them; of the shorts it is also run so that it keeps them in an array, as ours does
+# (`kept`). That ours makes the same numbers is seen in a run of its own, which sums the array, so that what is measured is the reading
+# alone.
 #
 #     bench/hyperslabs.sh
 #
@@ -336,6 +337,27 @@ fn shorts(count: usize, stride: usize) -> u64 {
     sum
 }
 
+// The same shorts, kept.
+fn kept(count: usize, stride: usize) -> Vec<u16> {
+    let mut file = File::open("shorts.nc").unwrap();
+    file.seek(SeekFrom::Start(80)).unwrap();
+    let mut piece = vec![0u8; 65536];
+    let mut cells = Vec::with_capacity(count);
+    let (mut k, mut read) = (0usize, 0usize);
+    let last = (count - 1) * stride;
+    while k <= last {
+        let n = file.read(&mut piece).unwrap();
+        assert!(n > 0 && n % 2 == 0);
+        while k <= last && 2 * k < read + n {
+            let at = 2 * k - read;
+            cells.push(u16::from_be_bytes([piece[at], piece[at + 1]]));
+            k += stride;
+        }
+        read += n;
+    }
+    cells
+}
+
 // So many shorts, or bytes, each read alone.
 fn alone(file: &File, size: usize, start: u64, count: u64, step: u64) -> u64 {
     let mut cell = [0u8; 2];
@@ -352,6 +374,7 @@ fn main() {
     let number = |i: usize| words[i].parse::<u64>().unwrap();
     let sum = match words[0].as_str() {
         "shorts" => shorts(number(1) as usize, number(2) as usize),
+        "kept" => kept(number(1) as usize, number(2) as usize).len() as u64,
         "point" => alone(&File::open("point.nc").unwrap(), 2, number(1), 100_000, 129_600),
         "columns" => {
             let file = File::open("field.nc").unwrap();
@@ -429,9 +452,10 @@ def run(words):
     assert os.waitpid(pid, 0)[1] == 0, words
     return text, seconds, read
 
-def least(words):
-    runs = [run(words) for _ in range(5)]
-    return runs[0][0], min(r[1] for r in runs), runs[0][2]
+def least(*programs):
+    """Of each program what it prints, the least seconds of twelve runs in turn, and the bytes that it read."""
+    runs = [[run(words) for words in programs] for _ in range(12)]
+    return [(runs[0][i][0], min(r[i][1] for r in runs), runs[0][i][2]) for i in range(len(programs))]
 
 def peak(words):
     """In KiB; by a small program, since a child's peak is at least what its parent has."""
@@ -446,13 +470,14 @@ SHAPES = [
     ("100 columns", 1000000, ["field.nc", "100", "0,0", "10000,1", "1,1"], ["columns", "96", "100"]),
     ("a hostile header", 0, ["hostile.nc", "1", "0", "0", "1"], ["hostile"]),
 ]
-print(f"{'what':18} {'seconds':>8} {'plain':>8} {'ratio':>6} {'KiB':>7} {'bytes read a cell':>18}")
+print(f"{'what':18} {'seconds':>8} {'plain':>8} {'ratio':>6} {'kept':>8} {'ratio':>6} {'KiB':>7} {'bytes read a cell':>18}")
 for what, cells, ours, theirs in SHAPES:
     a = run([program, *ours, "sum"])[0]
-    _, seconds, read = least([program, *ours])
-    b, others, _ = least([plain, *theirs])
+    keeps = [["kept", *theirs[1:]]] if theirs[0] == "shorts" else []
+    (_, seconds, read), (b, others, _), *kept = least([program, *ours], *([plain, *words] for words in [theirs, *keeps]))
     assert cells == 0 or a == b, (what, a, b)
     each = f"{read / cells:.1f}" if cells else ""
-    print(f"{what:18} {seconds:8.3f} {others:8.3f} {seconds / others:6.1f} {peak([program, *ours]):7} {each:>18}")
+    more = f"{kept[0][1]:8.3f} {seconds / kept[0][1]:6.2f}" if kept else " " * 15
+    print(f"{what:18} {seconds:8.3f} {others:8.3f} {seconds / others:6.2f} {more} {peak([program, *ours]):7} {each:>18}")
 PROGRAM
 python3 runs.py "$program" "$work/plain"

@@ -1,9 +1,9 @@
 #!/usr/bin/env bash
-# Measures check of aql_infer on scripts of five shapes: many declarations of 20 nodes, many that each name the first of all, one
-# comprehension of many generators, a chain of macros that doubles its type at each step, a let that doubles it at each binding. For
-# each script two lines: `read` only reads it, `check` also infers its types. Prints seconds (the least of three runs), peak memory in
-# KiB, and the first declaration without a typing (0: there is none). Makes a small repository of its own in a temporary folder; run it
-# from anywhere: bench/infer.sh
+# Measures check of aql_infer on scripts of six shapes: many declarations of 20 nodes, many that each name the first of all, one
+# comprehension of many generators, one set of many empty sets, a chain of macros that doubles its type at each step, a let that
+# doubles it at each binding. For each script two lines: `read` only reads it, `check` also infers its types. Prints seconds (the
+# least of three runs), peak memory in KiB, and the first declaration without a typing (0: there is none). Makes a small repository
+# of its own in a temporary folder; run it from anywhere: bench/infer.sh
 set -eu
 . "$(dirname "$0")/crates.sh"
 begin aql_lex aql_parse aql_infer aql_syntax anyhow
@@ -45,6 +45,7 @@ fn text_of(alloc: Global, what: &str, n: u64) -> Result<Option<Vec<u8>>, AllocEr
         "declarations" => Ok(Some(repeated(alloc, b"", b"{(x,x*x,x) | \\x <- gen!4, x<3 and not (x=2)};", b"", n)?)),
         "uses" => Ok(Some(repeated(alloc, b"val \\x=1;", b"x;", b"", n)?)),
         "generators" => Ok(Some(repeated(alloc, b"{1 | \\x <- {1}", b", \\x <- {x}", b"};", n)?)),
+        "sets" => Ok(Some(repeated(alloc, b"{", b"{},", b"{}};", n)?)),
         "macros" => Ok(Some(chained(alloc, n)?)),
         "let" => Ok(Some(repeated(alloc, b"let val \\x = 1", b" val \\x = (x,x)", b" in 1 end;", n)?)),
         _ => Ok(None),
@@ -90,7 +91,7 @@ program=$(find "$work/crates/measure/out" -maxdepth 1 -type f -perm -u+x | head 
 printf '%-6s %-14s %9s %9s %9s %9s\n' call what n seconds KiB untyped
 for line in "declarations 5000" "declarations 10000" "declarations 20000" "uses 50000" "uses 100000" "uses 200000" \
     "generators 2500" "generators 5000" "generators 10000" \
-    "macros 12" "macros 100" "macros 200" "let 12" "let 60" "let 120"; do
+    "sets 5000" "sets 10000" "sets 19990" "macros 12" "macros 100" "macros 200" "let 12" "let 60" "let 120"; do
     set -- $line
     for call in read check; do
         untyped=$("$program" "$call" "$1" "$2")
