@@ -21,7 +21,7 @@ DATA = re.compile(r"^(ℕ|Datum|Ty|Subst|Term|Parts|List |Type |Option |Bool|Tre
 WIDE = {"step", "answer_all", "read_slab", "read"}
 # functions of the recursions of inference and translation, and of a step, each of which hands on what it was lent; docs/DECISIONS.md says
 # why they take no struct
-HANDED_ON = {"infer_choice", "infer_function", "infer_sum", "wrap_parts", "grid", "run_readval", "run_declaration", "graph_of", "run_encoded"}
+HANDED_ON = {"infer_choice", "infer_function", "infer_sum", "wrap_parts", "grid", "run_plain", "run_readval", "run_declaration", "graph_of", "run_encoded"}
 # laws that a definition beside them is made of
 NEEDED = {"run-spell", "run-spell_all"}
 
