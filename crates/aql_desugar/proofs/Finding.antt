@@ -6,12 +6,12 @@ use Rattle.aql_names.specs.Laws.Named.{last_named_inside}
 use Rattle.aql_syntax.specs.Tree.{Name, Declaration, declared}
 use Rattle.aql_syntax.specs.Names.{names_equal, find}
 use Rattle.aql_syntax.specs.View.{decl_of, decls_of}
-use Rattle.aql_syntax.specs.Measured.{onto, latest}
+use Rattle.aql_syntax.specs.Measured.{onto, latest, names_of}
 use Rattle.aql_syntax.specs.declared.ast.Decl.{Decl}
 use Rattle.nrca_term.specs.Term.{Term}
 use Rattle.nrca_term.specs.Nodes.{bottom_term}
 use Rattle.aql_desugar_spec.specs.Start.{Resolutions, known_of, knowns_of, position_term}
-use Rattle.aql_desugar.specs.Named.{names_of, BeginWith, NameThoseBefore}
+use Rattle.aql_desugar.specs.Named.{BeginWith, NameThoseBefore}
 use Rattle.aql_desugar.specs.Names.{declaration_of}
 use Rattle.aql_desugar.specs.Laws.Knowns.{find-known, known_some}
 use Rattle.aql_desugar.specs.Laws.Scopes.{take_all}

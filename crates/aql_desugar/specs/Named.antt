@@ -1,12 +1,8 @@
 -- The names of declarations.
 use Rattle.std.specs.Prelude.{◌≡◌, ℕ, ◌-◌, List, length, map, take}
 use Rattle.aql_syntax.specs.Tree.{Name, Declaration, declared}
-use Rattle.aql_syntax.specs.View.{decl_of}
+use Rattle.aql_syntax.specs.Measured.{names_of}
 use Rattle.aql_syntax.specs.declared.ast.Decl.{Decl}
-
--- the names of the code's declarations, in order
-abbrev pub names_of : List Decl → List Name
-names_of ds = map (λ d. declared (decl_of d)) ds
 
 -- the names begin with those of the code's declarations
 abbrev pub BeginWith : List Decl → List Name → Type 0

@@ -5,11 +5,11 @@ ghost use Rattle.aql_names.specs.Named.{last_named};
 ghost use Rattle.aql_syntax.specs.Names.{find};
 ghost use Rattle.aql_syntax.specs.Tree.{declared};
 ghost use Rattle.aql_syntax.specs.View.{decl_of};
-ghost use Rattle.aql_syntax.specs.Measured.{latest};
+ghost use Rattle.aql_syntax.specs.Measured.{latest, names_of};
 ghost use Rattle.nrca_term.specs.View.{term_of};
 ghost use Rattle.aql_desugar_spec.specs.Start as start_term;
 ghost use Rattle.aql_desugar.specs.Names.{declaration_of, knowns_in};
-ghost use Rattle.aql_desugar.specs.Named.{BeginWith, names_of};
+ghost use Rattle.aql_desugar.specs.Named.{BeginWith};
 
 use aql_names::names::Names;
 use aql_syntax::ast::Decl;

@@ -10,10 +10,10 @@ use Rattle.aql_syntax.specs.Names.{names_equal, find}
 use Rattle.aql_syntax.specs.Tree.{Name, Declaration, declared}
 use Rattle.aql_syntax.specs.View.{decl_of}
 use Rattle.aql_syntax.specs.Size.{Extent, Extents, extent_of, no_extent, extent}
-use Rattle.aql_syntax.specs.Measured.{onto}
+use Rattle.aql_syntax.specs.Measured.{onto, names_of}
 use Rattle.aql_syntax.specs.declared.ast.Decl.{Decl}
-use Rattle.aql_syntax.proofs.Measuring.{latest_last}
-use Rattle.aql_extents.specs.Kept.{in_words, keep, kept_of, kept, names_of}
+use Rattle.aql_syntax.specs.Laws.Measuring.{latest_last}
+use Rattle.aql_extents.specs.Kept.{in_words, keep, kept_of, kept}
 use Rattle.aql_extents.specs.View.{extent_in, entries_onto, entries}
 use Rattle.aql_extents.specs.declared.extents.Added.{Added}
 

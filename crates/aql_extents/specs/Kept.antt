@@ -1,7 +1,6 @@
 -- What is kept of declarations: the extents of the definition, with numbers of 64 bits.
-use Rattle.std.specs.Prelude.{◌-◌, ◌^◌, min, map, List, [], ◌∷◌, Some}
-use Rattle.aql_syntax.specs.Tree.{Name, Declaration, declared}
-use Rattle.aql_syntax.specs.View.{decl_of}
+use Rattle.std.specs.Prelude.{◌-◌, ◌^◌, min, List, [], ◌∷◌, Some}
+use Rattle.aql_syntax.specs.Tree.{Declaration, declared}
 use Rattle.aql_syntax.specs.Measured.{latest}
 use Rattle.aql_syntax.specs.Size.{Extent, Extents, extent, extent_of}
 use Rattle.aql_syntax.specs.declared.ast.Decl.{Decl}
@@ -22,7 +21,3 @@ kept_of (d ∷ earlier) = keep d (kept_of earlier)
 -- what is kept of declarations in order
 abbrev pub kept : List Decl → Extents
 kept ds = kept_of (latest ds)
-
--- the names that declarations bind, in order
-abbrev pub names_of : List Decl → List Name
-names_of ds = map (λ d. declared (decl_of d)) ds

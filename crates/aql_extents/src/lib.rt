@@ -7,6 +7,5 @@
 //! Read `specs/Kept`, then `extents`, then `walk`.
 #![tactic(auto)]
 
-mod counts;
 pub mod extents;
 mod walk;

@@ -5,14 +5,15 @@ ghost use Rattle.aql_syntax.specs.View.{tree_of, trees_of, quals_of, axes_in, de
 ghost use Rattle.aql_syntax.specs.Size as sizes;
 ghost use Rattle.aql_syntax.specs.Measured.{qual_part};
 
-use crate::counts::{add_node, add_parts, digits, leaf, lets_nodes, nothing, quals_nodes};
 use crate::extents::Extents;
 use aql_syntax::ast::{Bind, Expr, LetBind, Qual};
-use aql_syntax::sizes::Counts;
+use aql_syntax::counts::{
+    Counts, add_node, add_parts, digits, leaf, lets_nodes, nothing, quals_nodes,
+};
 
 // The size and the levels of an expression after these declarations.
 #[cycle(measure)]
-#[tactic(auto, using(aql_syntax::proofs::Measuring::measure_views))]
+#[tactic(auto, using(aql_syntax::specs::Laws::Measuring::measure_views))]
 pub(crate) fn measure(e: &Expr, earlier: &Extents) -> Counts
     ensures size { result.size ≡ min (sizes.size (tree_of e.now) earlier.now) (2 ^ 64 - 1) }
     ensures levels { result.levels ≡ min (sizes.levels (tree_of e.now) earlier.now) (2 ^ 64 - 1) }
@@ -135,7 +136,7 @@ fn measure_all(es: &[Expr], earlier: &Extents) -> Counts
 }
 
 #[cycle(measure)]
-#[tactic(auto, using(aql_syntax::proofs::Measuring::qual_sums))]
+#[tactic(auto, using(aql_syntax::specs::Laws::Measuring::qual_sums))]
 fn measure_quals(quals: &[Qual], earlier: &Extents) -> Counts
     ensures size { result.size ≡ min
         (sizes.quals_sizes (quals_of quals.now) earlier.now) (2 ^ 64 - 1) }

@@ -8,7 +8,7 @@ use Rattle.aql_syntax.specs.View.{decl_of, decls_of}
 use Rattle.aql_syntax.specs.Measured.{latest}
 use Rattle.aql_syntax.specs.Size.{expanded_size, expanded_levels, size_at, levels_at, decl_size, decl_levels, extents_of, most_nodes, most_levels, AreWithin, PassLimits, IsWithinLimits, IsLarge}
 use Rattle.aql_syntax.specs.declared.ast.Decl.{Decl}
-use Rattle.aql_syntax.proofs.Measuring.{latest-take, decl-at}
+use Rattle.aql_syntax.specs.Laws.Measuring.{latest-take, decl-at}
 use Rattle.aql_script.specs.Limits.{WithinBetween}
 
 one_more : (i : ℕ) → i + 1 - 1 ≡ i

@@ -1,5 +1,6 @@
 -- Laws of names, macros, rows and turns.
 pub mod Index
+pub mod Measuring
 pub mod Sound
 pub mod Uses
 pub mod View

@@ -1,7 +1,6 @@
--- The declarations of the code as the sizes take them.
-use Rattle.std.specs.Prelude.{ℕ, List, [], ◌∷◌}
-use Rattle.std.specs.Prelude.{◌+◌}
-use Rattle.aql_syntax.specs.Tree.{Declaration, Tree}
+-- The declarations of the code as sizes and names take them.
+use Rattle.std.specs.Prelude.{ℕ, ◌+◌, List, [], ◌∷◌, map}
+use Rattle.aql_syntax.specs.Tree.{Name, Declaration, Tree, declared}
 use Rattle.aql_syntax.specs.View.{decl_of, tree_of, pat_of}
 use Rattle.aql_syntax.specs.Size.{pat_nodes}
 use Rattle.aql_syntax.specs.declared.ast.Qual as code_qual
@@ -15,6 +14,10 @@ onto (d ∷ rest) ds = onto rest (decl_of d ∷ ds)
 -- the declarations of a list, the latest first
 abbrev pub latest : List Decl → List Declaration
 latest ds = onto ds []
+
+-- the names that declarations bind, in order
+abbrev pub names_of : List Decl → List Name
+names_of ds = map (λ d. declared (decl_of d)) ds
 
 -- the expression of a qualifier
 abbrev pub qual_part : code_qual.Qual → Tree

@@ -5,10 +5,11 @@ ghost use Rattle.std.specs.List.{slice_get};
 ghost use Rattle.aql_syntax.specs.Names.{find};
 ghost use Rattle.aql_syntax.specs.View.{tree_of, trees_of, quals_of, axes_in, defs_in, pat_of, pats_of, decl_of, decls_of};
 ghost use Rattle.aql_syntax.specs.Size as sizes;
-ghost use Rattle.aql_syntax.specs.Size.{pat_nodes, pats_nodes, quals_patterns, defs_patterns, binary_digits, expanded_size, expanded_levels, extents_of, extent_of, decl_size, decl_levels, size_at, levels_at, IsWithinLimits, IsLarge};
-ghost use Rattle.aql_syntax.specs.Measured.{latest, qual_part, qual_pattern};
+ghost use Rattle.aql_syntax.specs.Size.{pat_nodes, pats_nodes, expanded_size, expanded_levels, extents_of, extent_of, decl_size, decl_levels, size_at, levels_at};
+ghost use Rattle.aql_syntax.specs.Measured.{latest, qual_part};
 
 use crate::ast::{Bind, Decl, Decls, Expr, LetBind, Pattern, Qual};
+use crate::counts::{Counts, add_node, add_parts, digits, leaf, lets_nodes, nothing, quals_nodes};
 use aql_value::Str;
 
 /// The most nodes of a declaration, with every macro put in place.
@@ -16,23 +17,6 @@ pub const MOST_NODES: u64 = 20_000;
 
 /// The most levels of it.
 pub const MOST_LEVELS: u64 = 1_000;
-
-/// A size and levels, each the greatest number of 64 bits where it passes it.
-#[derive(Clone, Copy, Debug)]
-pub struct Counts {
-    pub size: u64,
-    pub levels: u64,
-}
-
-/// Whether declaration n, counted from 1, passes a limit.
-pub fn is_large(decls: &Decls, n: u64) -> bool
-    requires first { 1 ≤ n }
-    requires last { n ≤ length decls.now.items.items }
-    ensures large { result ≡ true → IsLarge (decls_of decls.now.items.items) n }
-    ensures within { result ≡ false → IsWithinLimits (decls_of decls.now.items.items) n }
-{
-    size(decls, n) > MOST_NODES || levels(decls, n) > MOST_LEVELS
-}
 
 /// The expanded size of declaration n, counted from 1.
 pub fn size(decls: &Decls, n: u64) -> u64
@@ -52,7 +36,7 @@ pub fn levels(decls: &Decls, n: u64) -> u64
     measure_at(&decls.items, n as usize - 1).levels
 }
 
-#[tactic(auto, using(crate::proofs::Measuring::latest_last))]
+#[tactic(auto, using(crate::specs::Laws::Measuring::latest_last))]
 fn measure_at(decls: &[Decl], i: usize) -> Counts
     requires { i < length decls.now }
     ensures size { result.size ≡ min (size_at (slice_get (decls_of decls.now) i)
@@ -91,7 +75,7 @@ fn measure_own(d: &Decl, before: &[Decl]) -> Counts
 
 /// The size and the levels of an expression after these declarations.
 #[cycle(measure)]
-#[tactic(auto, using(crate::proofs::Measuring::measure_views))]
+#[tactic(auto, using(crate::specs::Laws::Measuring::measure_views))]
 pub fn measure(e: &Expr, earlier: &[Decl]) -> Counts
     ensures size { result.size ≡ min (sizes.size (tree_of e.now) (extents_of (latest earlier.now)))
         (2 ^ 64 - 1) }
@@ -214,7 +198,7 @@ fn measure_all(es: &[Expr], earlier: &[Decl]) -> Counts
 }
 
 #[cycle(measure)]
-#[tactic(auto, using(crate::proofs::Measuring::qual_sums))]
+#[tactic(auto, using(crate::specs::Laws::Measuring::qual_sums))]
 fn measure_quals(quals: &[Qual], earlier: &[Decl]) -> Counts
     ensures size { result.size ≡ min (sizes.quals_sizes (quals_of quals.now)
         (extents_of (latest earlier.now))) (2 ^ 64 - 1) }
@@ -280,7 +264,7 @@ fn measure_lets(binds: &[LetBind], earlier: &[Decl]) -> Counts
 
 // The nodes of the pattern of the macro of that name, and its body; nothing where it is no macro.
 #[cycle(measure)]
-#[tactic(auto, using(crate::proofs::Measuring::macro_steps))]
+#[tactic(auto, using(crate::specs::Laws::Measuring::macro_steps))]
 fn measure_macro(name: &Str, earlier: &[Decl]) -> (u64, Counts)
     ensures pattern { result.0 ≡ min
         ((extent_of (find name.now (extents_of (latest earlier.now)))).pattern) (2 ^ 64 - 1) }
@@ -327,56 +311,6 @@ fn measure_declared(d: &Decl, before: &[Decl]) -> (u64, Counts)
     }
 }
 
-fn nothing() -> Counts
-    ensures size { result.size ≡ 0 }
-    ensures levels { result.levels ≡ 0 }
-{
-    Counts { size: 0, levels: 0 }
-}
-
-fn leaf() -> Counts
-    ensures size { result.size ≡ 1 }
-    ensures levels { result.levels ≡ 1 }
-{
-    Counts { size: 1, levels: 1 }
-}
-
-// Parts side by side.
-fn add_parts(a: Counts, b: Counts) -> Counts
-    ensures size { result.size ≡ min (a.size + b.size) (2 ^ 64 - 1) }
-    ensures levels { result.levels ≡ max a.levels b.levels }
-{
-    Counts {
-        size: a.size.saturating_add(b.size),
-        levels: a.levels.max(b.levels),
-    }
-}
-
-// A node above its parts.
-fn add_node(size: u64, levels: u64, parts: Counts) -> Counts
-    ensures size { result.size ≡ min (size + parts.size) (2 ^ 64 - 1) }
-    ensures levels { result.levels ≡ min (levels + parts.levels) (2 ^ 64 - 1) }
-{
-    Counts {
-        size: size.saturating_add(parts.size),
-        levels: levels.saturating_add(parts.levels),
-    }
-}
-
-// How many binary digits a number has.
-#[tactic(auto, using(crate::proofs::Measuring::digit_steps))]
-fn digits(n: usize) -> u64
-    ensures { result ≡ binary_digits n }
-{
-    let mut rest = n;
-    let mut found: u64 = 0;
-    while rest != 0 {
-        rest /= 2;
-        found = found.saturating_add(1);
-    }
-    found
-}
-
 impl Pattern {
     /// The number of nodes, or the greatest number of 64 bits where there are more.
     #[cycle(pattern_nodes)]
@@ -404,43 +338,6 @@ fn patterns_nodes(ps: &[Pattern]) -> u64
     let mut total: u64 = 0;
     for p in ps {
         total = total.saturating_add(p.nodes());
-    }
-    total
-}
-
-#[tactic(auto, using(crate::proofs::Measuring::qual_sums))]
-fn quals_nodes(quals: &[Qual]) -> u64
-    ensures { result ≡ min (quals_patterns (quals_of quals.now)) (2 ^ 64 - 1) }
-{
-    let mut total: u64 = 0;
-    for q in quals {
-        total = total.saturating_add(qual_nodes(q));
-    }
-    total
-}
-
-fn qual_nodes(q: &Qual) -> u64
-    ensures { result ≡ min (qual_pattern q.now) (2 ^ 64 - 1) }
-{
-    match q {
-        Qual::From { pattern, over: _ } => pattern.nodes(),
-        Qual::Cells {
-            index,
-            cell,
-            over: _,
-        } => index.nodes().saturating_add(cell.nodes()),
-        Qual::Match { pattern, of: _ } => pattern.nodes(),
-        Qual::Test(_) => 0,
-    }
-}
-
-#[tactic(auto, using(crate::specs::Laws::View::defs_steps))]
-fn lets_nodes(binds: &[LetBind]) -> u64
-    ensures { result ≡ min (defs_patterns (defs_in binds.now)) (2 ^ 64 - 1) }
-{
-    let mut total: u64 = 0;
-    for b in binds {
-        total = total.saturating_add(b.pattern.nodes());
     }
     total
 }

@@ -1,4 +1,4 @@
--- The strict forms that speak of no arrays, at encoded values.
+-- The strict forms that speak of no arrays: those that an array-free term keeps as they are.
 use Rattle.aql_value.specs.Strict.{Strict}
 
 -- the strict forms that are kept

@@ -22,7 +22,7 @@ use Rattle.nrca_motion.specs.Moves.{LoopBody, TabBody, LetBelow, MoveRedex, IsSt
 abbrev pub HasLet : Term → ℕ → Type 0
 HasLet t i = (a b : Term) × (child_of (parts_of t) i ≡ Some (let_term a b))
 
--- part i is a let and always evaluated, and the node is no let
+-- part i is a let and strict, and the node is no let
 abbrev pub IsStrictLet : Term → ℕ → Type 0
 IsStrictLet t i = (form_of t ≡ Form.bind → ⊥) × (is_strict (form_of t) i ≡ true) × HasLet t i
 

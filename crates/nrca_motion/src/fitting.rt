@@ -46,7 +46,7 @@ pub fn fit_at(alloc: Global, term: &Core, ctx: &Ctx) -> Result<Option<Fit>, Memo
     }
 }
 
-// The first let in a part that is always evaluated.
+// The first let in a strict part: one without whose value the node has none.
 fn strict_let(term: &Core) -> Option<u64>
     ensures { TellsStrict (term_of term.now) result }
 {
@@ -69,7 +69,7 @@ fn first_let(term: &Core) -> Option<u64>
     None
 }
 
-// Whether part i is a let and always evaluated.
+// Whether part i is a let and strict.
 fn is_strict_let(term: &Core, i: u64) -> bool
     requires { form_of (term_of term.now) ≡ Form.bind → ⊥ }
     ensures { TellsPart (term_of term.now) i result }

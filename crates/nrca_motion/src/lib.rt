@@ -1,4 +1,4 @@
-//! Code motion: tests and lets out of loops and tabulations, and lets out of all parts that are always evaluated.
+//! Code motion: tests and lets out of loops and tabulations, and lets out of the parts without whose value a node has none.
 //!
 //! `motion` answers, for a closed typed term and the shapes of its positions, a term in which no move is left (`IsStill`),
 //! and the moves that lead to it (`MoveChain`). It has the meaning, the types and the weight of the plan, and the moves are

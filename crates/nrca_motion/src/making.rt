@@ -107,7 +107,7 @@ fn let_out(alloc: Global, term: Core, i: u64) -> Result<Core, Memory>
     }
 }
 
-// The let of part i, which is always evaluated, around the node.
+// The let of part i, which is strict, around the node.
 fn strict_out(term: Core, i: u64) -> Core
     requires fits { IsStrictLet (term_of term) i }
     requires room { HasRoom (term_of term) }

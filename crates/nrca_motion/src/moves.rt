@@ -4,7 +4,7 @@ use nrca_term::Path;
 use std::marker::Model;
 
 /// How a part goes out of a node: the test of an `If` (M1) or a `Let` (M2) out of a loop, a `Let` out of a tabulation (M3), a `Let` out
-/// of a part that is always evaluated (M4).
+/// of a part without whose value the node has none (M4).
 #[derive(Clone, Copy, Debug, PartialEq, Eq)]
 pub enum MoveRule {
     M1,

@@ -35,8 +35,8 @@ pub(crate) struct Progress {
     pub room: u64,
 }
 
-/// Moves tests and lets of a closed typed term out of loops and tabulations, and lets out of all parts that are always
-/// evaluated, until no move is left whose terms are firm, wherever the shapes tell which positions have a value. The moves
+/// Moves tests and lets of a closed typed term out of loops and tabulations, and lets out of the parts without whose value a
+/// node has none, until no move is left whose terms are firm, wherever the shapes tell which positions have a value. The moves
 /// lead from the plan to the term, each move's terms being defined. The one refusal is want of memory; so it is also where
 /// the paths of the moves have more than 2^27 numbers together.
 pub fn motion(alloc: Global, plan: &Core, globals: &GlobalShapes) -> Result<Moved, Memory>

@@ -97,7 +97,7 @@ abbrev mutual
   pub strict_uses : ℕ → Term → ℕ
   strict_uses at (node f ps) = form_uses at f + parts_strict_uses at f 0 ps
 
-  -- how often the variable stands in the parts that are always evaluated
+  -- how often the variable stands in the parts without whose value the node has none
   pub parts_strict_uses : ℕ → Form → ℕ → Parts → ℕ
   parts_strict_uses at f i none = 0
   parts_strict_uses at f i (part k t ps) = (if is_strict f i then strict_uses (at + k) t else 0) + parts_strict_uses at f (suc i) ps

@@ -81,7 +81,7 @@ tells-outside gs c k t u b w e s f = at b refl
     at true q = ((u, e), λ v g. subst (IsDefinedAt gs c) (same v g) (s q))
     at false q = λ v g h. never (sym q ∙ f (ap (firm (is_shaped gs) c) (same v g) ∙ h))
 
--- a node without a let in a part that is always evaluated
+-- a node without a let in a strict part
 pub no-strict : (t : Term) (n : ℕ) → count (parts_of t) ≤ n → ((i : ℕ) → i < n → IsStrictLet t i → ⊥) → TellsStrict t None
 no-strict t n l h i s = h i (omega (arith, l, child-counted (parts_of t) i (let_term s.2.0 s.2.1) s.2.2)) s
 
@@ -280,7 +280,7 @@ moves-first gs c f k t body first h e g l o d = record {
       defined-out gs c f.rule t u.0 needs o u.2 (d.1 u.0 (u.1 ∙ ap (λ n. shift_term 0 n u.0) (sym l)));
 }
 
--- a let in a part that is always evaluated may go out
+-- a let in a strict part may go out
 pub moves-strict : (gs : List (Option Bounds)) (c : Facts) (t : Term) (f : Fit) → f.rule ≡ M4 → IsStrictLet t f.part → MayMove gs c t f
 moves-strict gs c t f e s = record {
   fits = subst (λ R. FitsAt R f.part t) (sym e) s;

@@ -73,7 +73,7 @@ bound-room t p a b i e k h = room-child p 0 a (ap (λ x. child_of (parts_of x) 0
 pub body-room : (t p a b : Term) (i : ℕ) → Some p ≡ child_of (parts_of t) i → p ≡ let_term a b → HasRoom t → HasRoom b
 body-room t p a b i e k h = room-child p 1 b (ap (λ x. child_of (parts_of x) 1) k) (room-child t i p (sym e) h)
 
--- the let of a part that is always evaluated goes out
+-- the let of a strict part goes out
 pub strict-made : (t rest p r a b s : Term) (i : ℕ) → p ≡ let_term a b → Some p ≡ child_of (parts_of t) i → rest ≡ with_part t i s → r ≡ let_term a (with_part (shift_term 0 1 rest) i b) → IsStrictOut t i r
 strict-made t rest p r a b s i k e g h =
     (a, b, sym e ∙ ap Some k, h ∙ ap (λ x. let_term a (with_part (shift_term 0 1 x) i b)) g ∙ ap (let_term a) (with-shifted t i s b))

@@ -1,5 +1,5 @@
 use Rattle.std.proofs.Common.{◌≡◌, ◌++◌, drop}
-use Rattle.aql_desugar.specs.Named.{names_of}
+use Rattle.aql_syntax.specs.Measured.{names_of}
 use Rattle.aql_desugar.proofs.positions.index_names.Given as goal
 
 abbrev pub invariant-loop-d : goal.invariant-loop-d

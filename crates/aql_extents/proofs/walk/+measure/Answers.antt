@@ -2,7 +2,7 @@
 use Rattle.std.proofs.Common.{ap, ◌∙◌, arith}
 use Rattle.aql_syntax.specs.View.{tree_of, trees_of, quals_of}
 use Rattle.aql_syntax.specs.Size.{size, levels, sizes, greatest, quals_sizes, quals_greatest, quals_patterns}
-use Rattle.aql_syntax.proofs.Measuring.{size-Comp, levels-Comp, size-Literal, levels-Literal, size-Sub, levels-Sub}
+use Rattle.aql_syntax.specs.Laws.Measuring.{size-Comp, levels-Comp, size-Literal, levels-Literal, size-Sub, levels-Sub}
 use Rattle.aql_extents.proofs.walk.+measure.Goals as goal
 
 pub measure-measure_quals-requires : goal.measure-measure_quals-requires

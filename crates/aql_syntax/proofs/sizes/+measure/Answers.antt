@@ -4,7 +4,7 @@ use Rattle.aql_syntax.specs.View.{tree_of, trees_of, quals_of}
 use Rattle.aql_syntax.specs.Laws.View.{tree_of-Row, tree_of-Members}
 use Rattle.aql_syntax.specs.Measured.{latest}
 use Rattle.aql_syntax.specs.Size.{size, levels, sizes, greatest, quals_sizes, quals_greatest, quals_patterns, extents_of}
-use Rattle.aql_syntax.proofs.Measuring.{size-Comp, levels-Comp, size-Literal, levels-Literal, size-Sub, levels-Sub}
+use Rattle.aql_syntax.specs.Laws.Measuring.{size-Comp, levels-Comp, size-Literal, levels-Literal, size-Sub, levels-Sub}
 use Rattle.aql_syntax.proofs.sizes.+measure.Goals as goal
 
 -- A node above one part, two or three: what is counted of it is what is counted of its parts, and its own.

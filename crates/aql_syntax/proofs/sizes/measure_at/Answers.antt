@@ -5,7 +5,7 @@ use Rattle.aql_syntax.specs.View.{decl_of, decls_of}
 use Rattle.aql_syntax.specs.Measured.{latest}
 use Rattle.aql_syntax.specs.Size.{decl_size, decl_levels, size_at, levels_at, extents_of}
 use Rattle.aql_syntax.specs.declared.ast.Decl.{Decl}
-use Rattle.aql_syntax.proofs.Measuring.{latest-take, decl-at}
+use Rattle.aql_syntax.specs.Laws.Measuring.{latest-take, decl-at}
 use Rattle.aql_syntax.proofs.sizes.measure_at.Goals as goal
 
 there : (ds : List Decl) (i : ℕ) (d : Decl) → i < length ds → d ≡ get_or ds i d → Some (decl_of d) ≡ slice_get (decls_of ds) i

@@ -5,25 +5,33 @@ ghost use Rattle.aql_syntax.specs.View.{quals_of, defs_in};
 ghost use Rattle.aql_syntax.specs.Size.{quals_patterns, defs_patterns, binary_digits};
 ghost use Rattle.aql_syntax.specs.Measured.{qual_pattern};
 
-use aql_syntax::ast::{LetBind, Qual};
-use aql_syntax::sizes::Counts;
+use crate::ast::{LetBind, Qual};
 
-pub(crate) fn nothing() -> Counts
+/// A size and levels, each the greatest number of 64 bits where it passes it.
+#[derive(Clone, Copy, Debug)]
+pub struct Counts {
+    pub size: u64,
+    pub levels: u64,
+}
+
+/// No nodes.
+pub fn nothing() -> Counts
     ensures size { result.size ≡ 0 }
     ensures levels { result.levels ≡ 0 }
 {
     Counts { size: 0, levels: 0 }
 }
 
-pub(crate) fn leaf() -> Counts
+/// A node without parts.
+pub fn leaf() -> Counts
     ensures size { result.size ≡ 1 }
     ensures levels { result.levels ≡ 1 }
 {
     Counts { size: 1, levels: 1 }
 }
 
-// Parts side by side.
-pub(crate) fn add_parts(a: Counts, b: Counts) -> Counts
+/// Parts side by side.
+pub fn add_parts(a: Counts, b: Counts) -> Counts
     ensures size { result.size ≡ min (a.size + b.size) (2 ^ 64 - 1) }
     ensures levels { result.levels ≡ max a.levels b.levels }
 {
@@ -33,8 +41,8 @@ pub(crate) fn add_parts(a: Counts, b: Counts) -> Counts
     }
 }
 
-// A node above its parts.
-pub(crate) fn add_node(size: u64, levels: u64, parts: Counts) -> Counts
+/// A node above its parts.
+pub fn add_node(size: u64, levels: u64, parts: Counts) -> Counts
     ensures size { result.size ≡ min (size + parts.size) (2 ^ 64 - 1) }
     ensures levels { result.levels ≡ min (levels + parts.levels) (2 ^ 64 - 1) }
 {
@@ -44,9 +52,9 @@ pub(crate) fn add_node(size: u64, levels: u64, parts: Counts) -> Counts
     }
 }
 
-// How many binary digits a number has.
-#[tactic(auto, using(aql_syntax::proofs::Measuring::digit_steps))]
-pub(crate) fn digits(n: usize) -> u64
+/// How many binary digits a number has.
+#[tactic(auto, using(crate::specs::Laws::Measuring::digit_steps))]
+pub fn digits(n: usize) -> u64
     ensures { result ≡ binary_digits n }
 {
     let mut rest = n;
@@ -58,8 +66,9 @@ pub(crate) fn digits(n: usize) -> u64
     found
 }
 
-#[tactic(auto, using(aql_syntax::proofs::Measuring::qual_sums))]
-pub(crate) fn quals_nodes(quals: &[Qual]) -> u64
+/// The nodes of the patterns of qualifiers.
+#[tactic(auto, using(crate::specs::Laws::Measuring::qual_sums))]
+pub fn quals_nodes(quals: &[Qual]) -> u64
     ensures { result ≡ min (quals_patterns (quals_of quals.now)) (2 ^ 64 - 1) }
 {
     let mut total: u64 = 0;
@@ -84,8 +93,9 @@ fn qual_nodes(q: &Qual) -> u64
     }
 }
 
-#[tactic(auto, using(aql_syntax::specs::Laws::View::defs_steps))]
-pub(crate) fn lets_nodes(binds: &[LetBind]) -> u64
+/// The nodes of the patterns of bindings.
+#[tactic(auto, using(crate::specs::Laws::View::defs_steps))]
+pub fn lets_nodes(binds: &[LetBind]) -> u64
     ensures { result ≡ min (defs_patterns (defs_in binds.now)) (2 ^ 64 - 1) }
 {
     let mut total: u64 = 0;

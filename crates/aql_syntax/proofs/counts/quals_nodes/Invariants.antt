@@ -1,7 +1,7 @@
 use Rattle.std.proofs.Common.{◌≡◌, ◌+◌, ◌-◌, ◌^◌, ◌<◌, drop, min}
 use Rattle.aql_syntax.specs.Size.{quals_patterns}
 use Rattle.aql_syntax.specs.View.{quals_of}
-use Rattle.aql_extents.proofs.counts.quals_nodes.Given as goal
+use Rattle.aql_syntax.proofs.counts.quals_nodes.Given as goal
 
 abbrev pub invariant-loop-q : goal.invariant-loop-q
 invariant-loop-q l = record {

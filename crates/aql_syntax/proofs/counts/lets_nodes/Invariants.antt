@@ -1,7 +1,7 @@
 use Rattle.std.proofs.Common.{◌≡◌, ◌+◌, ◌-◌, ◌^◌, ◌<◌, drop, min}
 use Rattle.aql_syntax.specs.Size.{defs_patterns}
 use Rattle.aql_syntax.specs.View.{defs_in}
-use Rattle.aql_syntax.proofs.sizes.lets_nodes.Given as goal
+use Rattle.aql_syntax.proofs.counts.lets_nodes.Given as goal
 
 abbrev pub invariant-loop-b : goal.invariant-loop-b
 invariant-loop-b l = record {
