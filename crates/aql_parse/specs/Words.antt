@@ -44,6 +44,15 @@ GivesReading view (Err e) read = RefusesReading e read
 abbrev pub Parses : {X Y : Type 0} → (X → Y) → List ℕ → List Word → Result (X × Bor (List Word)) Refusal → (List Lexeme → Out Y) → Type 0
 Parses view source ws answer parser = GivesReading (λ x. (view x.0, lexemes source x.1.now)) answer (parser (lexemes source ws))
 
+-- what follows that which was read, where something was
+abbrev pub behind_of : {A : Type 0} → Out A → Option (List Lexeme)
+behind_of o = o >>= λ x. Some x.1
+
+-- the words that were answered are those behind what the parser reads at the front of the words; none where it reads nothing
+abbrev pub Passes : {A : Type 0} → List ℕ → List Word → Option (Bor (List Word)) → (List Lexeme → Out A) → Type 0
+Passes source ws None parser = behind_of (parser (lexemes source ws)) ≡ None
+Passes source ws (Some r) parser = behind_of (parser (lexemes source ws)) ≡ Some (lexemes source r.now)
+
 -- where in a string the code is
 abbrev pub spot_of : code_spot.Spot → Spot
 spot_of spots.Within = within

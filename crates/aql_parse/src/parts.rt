@@ -1,6 +1,6 @@
 //! Parts of expressions that hold none, and the application of a macro.
 
-ghost use Rattle.std.specs.Prelude.{◌≡◌, IfOk, Some};
+ghost use Rattle.std.specs.Prelude.{◌≡◌, IfOk, Some, is_some};
 ghost use Rattle.aql_syntax.specs.Tree as tree;
 ghost use Rattle.aql_syntax.specs.View.{tree_of, trees_of, pat_of};
 ghost use Rattle.aql_lex.specs.Texts.{text_of};
@@ -11,7 +11,7 @@ ghost use Rattle.aql_parse.specs.Forms.{front_seen};
 ghost use Rattle.aql_parse.specs.Parts.{leaf_at, none_at};
 
 use crate::forms::Front;
-use crate::patterns::{name, pattern, pattern_then};
+use crate::patterns::{name, past_pattern, pattern, pattern_then};
 use crate::refusal::Refusal;
 use crate::words::{Word, expect, name_in, next, string_in};
 use aql_syntax::ast::{Expr, Pattern};
@@ -82,7 +82,8 @@ pub fn front<'a>(
     }
 }
 
-// A pattern and `<-` or `==`.
+// A pattern and `<-` or `==`. Its tree is made only where it stands there.
+#[tactic(auto, using(crate::proofs::Steps::none_there))]
 fn pattern_front<'a>(
     alloc: Global,
     source: &[u8],
@@ -92,11 +93,29 @@ fn pattern_front<'a>(
     ensures { GivesReading (λ x. (front_seen x.0, lexemes source.now x.1.now)) result
         (front_of (pat_at depth (lexemes source.now words.now))) }
 {
+    if !begins_with_pattern(source, words, depth) {
+        return Err(Refusal::Syntax);
+    }
     let (pattern, rest) = pattern(alloc, source, words, depth)?;
     match next(rest) {
         Some((Word::Mark(Sign::Arrow), rest)) => Ok((Front::Set(pattern), rest)),
         Some((Word::Mark(Sign::DoubleEqual), rest)) => Ok((Front::Match(pattern), rest)),
         _ => Err(Refusal::Syntax),
+    }
+}
+
+// Whether a pattern stands first, and `<-` or `==` behind it.
+#[tactic(auto, using(crate::proofs::Steps::front_behind))]
+fn begins_with_pattern(source: &[u8], words: &[Word], depth: u64) -> bool
+    ensures { result ≡ is_some (front_of (pat_at depth (lexemes source.now words.now))) }
+{
+    match past_pattern(source, words, depth) {
+        Some(rest) => match next(rest) {
+            Some((Word::Mark(Sign::Arrow), _)) => true,
+            Some((Word::Mark(Sign::DoubleEqual), _)) => true,
+            _ => false,
+        },
+        None => false,
     }
 }
 

@@ -3,10 +3,10 @@
 ghost use Rattle.std.specs.Prelude.{◌≡◌};
 ghost use Rattle.aql_syntax.specs.View.{pat_of, pats_of};
 ghost use Rattle.aql_parse_spec.specs.Parsing.{name_at, pat_at, pats_at, enclosed_pats, pat_then};
-ghost use Rattle.aql_parse.specs.Words.{Parses};
+ghost use Rattle.aql_parse.specs.Words.{Parses, Passes};
 
 use crate::refusal::Refusal;
-use crate::words::{Word, expect, name_in, next, string_in};
+use crate::words::{Word, expect, name_in, next, skip_sign, string_in};
 use aql_syntax::ast::Pattern;
 use aql_syntax::build::tuple_pattern;
 use aql_syntax::sign::Sign;
@@ -78,6 +78,61 @@ fn patterns<'a>(
         }
     }
     Err(Refusal::Syntax)
+}
+
+/// The words behind a pattern of at most that depth, of which no tree is made: none where none stands first.
+#[cycle(past)]
+#[tactic(auto, using(crate::proofs::Loops::past_steps))]
+pub fn past_pattern<'a>(source: &[u8], words: &'a [Word], depth: u64) -> Option<&'a [Word]>
+    ensures { Passes source.now words.now result (pat_at depth) }
+{
+    if depth == 0 {
+        return None;
+    }
+    match next(words) {
+        Some((Word::Name(_), rest)) => Some(rest),
+        Some((Word::Number(_), rest)) => Some(rest),
+        Some((Word::Text(_), rest)) => Some(rest),
+        Some((Word::Mark(Sign::True), rest)) => Some(rest),
+        Some((Word::Mark(Sign::False), rest)) => Some(rest),
+        Some((Word::Mark(Sign::Underscore), rest)) => Some(rest),
+        Some((Word::Mark(Sign::Backslash), rest)) => past_name(source, rest),
+        Some((Word::Mark(Sign::Open), rest)) => {
+            let rest = past_patterns(source, rest, depth - 1)?;
+            skip_sign(source, rest, Sign::Close)
+        }
+        _ => None,
+    }
+}
+
+// The words behind one pattern or more, with commas between them.
+#[cycle(past)]
+#[tactic(auto, using(crate::proofs::Loops::pasts_steps))]
+fn past_patterns<'a>(source: &[u8], words: &'a [Word], depth: u64) -> Option<&'a [Word]>
+    ensures { Passes source.now words.now result (pats_at (pat_at depth) depth) }
+{
+    let mut rest = words;
+    for _turn in 0..depth {
+        let behind = past_pattern(source, rest, depth)?;
+        match next(behind) {
+            Some((Word::Mark(Sign::Comma), more)) => {
+                rest = more;
+            }
+            _ => return Some(behind),
+        }
+    }
+    None
+}
+
+// The words behind a name.
+#[tactic(auto, unfolding(aql_parse_spec::specs::Parsing::name_at))]
+fn past_name<'a>(source: &[u8], words: &'a [Word]) -> Option<&'a [Word]>
+    ensures { Passes source.now words.now result name_at }
+{
+    match next(words) {
+        Some((Word::Name(_), rest)) => Some(rest),
+        _ => None,
+    }
 }
 
 // What stands in parentheses: one pattern, or a tuple of several.
