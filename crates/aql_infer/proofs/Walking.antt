@@ -6,8 +6,6 @@ use Rattle.aql_value.specs.Strict.{Strict}
 use Rattle.aql_value.specs.declared.ops.ArithOp.{ArithOp}
 use Rattle.aql_value.specs.declared.ops.CompareOp.{CompareOp}
 use Rattle.aql_types.specs.Types.{Ty, natural, truth}
-use Rattle.aql_types.specs.View.{type_of}
-use Rattle.aql_types.specs.declared.ty.Ty as code_ty
 use Rattle.aql_syntax.specs.Tree as tree
 use Rattle.aql_syntax.specs.Tree.{Trees, no_tree, Tree, Quals, no_qual, Axes, Defs, count_trees, count_axes, count_pats, axes, append}
 use Rattle.aql_syntax.specs.View.{pat_of, tree_of, trees_of, qual_of, quals_of, axes_in, defs_in}
@@ -23,7 +21,9 @@ use Rattle.aql_syntax.specs.declared.ast.Bind.{Bind}
 use Rattle.aql_syntax.specs.declared.ast.LetBind.{LetBind}
 use Rattle.aql_syntax.specs.declared.ast.Qual as code_qual
 use Rattle.aql_infer_steps.specs.Constraints.{State, Made, Making, made, after, equate, Schemes, make_op, made_tuple, made_sub, made_literal, made_choice, made_truth, made_truths, made_gen, made_get, made_dim, made_index, made_either, made_compare, made_arith, made_union, make, make_all, make_each, make_bounds, make_rows, make_binds, matched, matched_member, matched_index, matched_cell}
-use Rattle.aql_infer_steps.specs.View.{types_in, locals_of, Extends}
+use Rattle.aql_infer_steps.specs.View.{sketch_type, types_in, locals_of, Extends}
+use Rattle.aql_infer_steps.specs.declared.sketch.Sketch.{Sketch}
+use Rattle.aql_infer_steps.specs.declared.positions.Position.{Position}
 use Rattle.aql_infer_steps.specs.View.{Makes, FailsTyping, state_of}
 use Rattle.aql_infer_steps.specs.declared.fault.NoTyping.TheVariants as faults
 use Rattle.aql_infer_steps.specs.declared.store.Store.{Store}
@@ -44,9 +44,9 @@ extends_extends (x ∷ a) (y ∷ b) (z ∷ c) h k =
     let second : Extends b c = cc in
     let rest = extends_extends a b c first second in cc
 
-pub types_in_append : (a b : List code_ty.Ty) → types_in (a ++ b) ≡ types_in a ++ types_in b
-types_in_append [] b = refl
-types_in_append (t ∷ a) b = ap (λ l. type_of t ∷ l) (types_in_append a b)
+pub types_in_append : (ps : List Position) (a b : List Sketch) → types_in ps (a ++ b) ≡ types_in ps a ++ types_in ps b
+types_in_append ps [] b = refl
+types_in_append ps (t ∷ a) b = ap (λ l. sketch_type ps t ∷ l) (types_in_append ps a b)
 
 pub count_axes-list : (bs : List Bind) → count_axes (axes_in bs) ≡ length bs
 count_axes-list [] = refl
@@ -306,119 +306,119 @@ turn : {A B : Type 0} (o : Option (Made A)) (f : A → Making B) (a : A) (m : St
 unfolding after
 turn {A = A} o f a m e = ap (λ (o : Option (Made A)). after o f) e
 
-pub all_more : (es : List Expr) (i : ℕ) (e : Expr) (ss : Schemes) (env new : List Local) (n m : State) (parts next : List code_ty.Ty) (y : code_ty.Ty) (all : Option (Made (List Ty))) →
-    i < length es → e ≡ get_or es i e → make (tree_of e) ss (locals_of env) n ≡ Some (record { result = type_of y; state = m }) → new ≡ env → next ≡ parts ++ y ∷ [] →
-    after (make_all (trees_of (drop i es)) ss (locals_of env) n) (λ ts. made (types_in parts ++ ts)) ≡ all →
-    after (make_all (trees_of (drop (i + 1) es)) ss (locals_of new) m) (λ ts. made (types_in next ++ ts)) ≡ all
+pub all_more : (ps : List Position) (es : List Expr) (i : ℕ) (e : Expr) (ss : Schemes) (env new : List Local) (n m : State) (parts next : List Sketch) (y : Sketch) (all : Option (Made (List Ty))) →
+    i < length es → e ≡ get_or es i e → make (tree_of e) ss (locals_of ps env) n ≡ Some (record { result = sketch_type ps y; state = m }) → new ≡ env → next ≡ parts ++ y ∷ [] →
+    after (make_all (trees_of (drop i es)) ss (locals_of ps env) n) (λ ts. made (types_in ps parts ++ ts)) ≡ all →
+    after (make_all (trees_of (drop (i + 1) es)) ss (locals_of ps new) m) (λ ts. made (types_in ps next ++ ts)) ≡ all
 unfolding after
-all_more es i e ss env new n m parts next y all h d k l g total =
-    ap (λ (env : List Local). after (make_all rest ss (locals_of env) m) (λ ts. made (types_in next ++ ts))) l
-    ∙ go (make_all rest ss (locals_of env) m)
-    ∙ sym (ap (λ (o : Option (Made (List Ty))). after o (λ ts. made (types_in parts ++ ts)))
-    (turn (make (tree_of e) ss (locals_of env) n) (λ t n. after (make_all rest ss (locals_of env) n) (λ ts. made (t ∷ ts))) (type_of y) m k))
-    ∙ sym (ap (λ (x : Trees). after (make_all x ss (locals_of env) n) (λ ts. made (types_in parts ++ ts)))
+all_more ps es i e ss env new n m parts next y all h d k l g total =
+    ap (λ (env : List Local). after (make_all rest ss (locals_of ps env) m) (λ ts. made (types_in ps next ++ ts))) l
+    ∙ go (make_all rest ss (locals_of ps env) m)
+    ∙ sym (ap (λ (o : Option (Made (List Ty))). after o (λ ts. made (types_in ps parts ++ ts)))
+    (turn (make (tree_of e) ss (locals_of ps env) n) (λ t n. after (make_all rest ss (locals_of ps env) n) (λ ts. made (t ∷ ts))) (sketch_type ps y) m k))
+    ∙ sym (ap (λ (x : Trees). after (make_all x ss (locals_of ps env) n) (λ ts. made (types_in ps parts ++ ts)))
     (trees_from es i e h ∙ ap (λ (e : Expr). tree.tree (tree_of e) rest) (sym d)))
     ∙ total
   where
     rest : Trees
     rest = trees_of (drop (i + 1) es)
 
-    longer : (ts : List Ty) → types_in next ++ ts ≡ types_in parts ++ type_of y ∷ ts
+    longer : (ts : List Ty) → types_in ps next ++ ts ≡ types_in ps parts ++ sketch_type ps y ∷ ts
     longer ts =
-        ap (λ (l : List code_ty.Ty). types_in l ++ ts) g ∙ ap (λ (l : List Ty). l ++ ts) (types_in_append parts (y ∷ []))
-        ∙ append_assoc (types_in parts) (type_of y ∷ []) ts
+        ap (λ (l : List Sketch). types_in ps l ++ ts) g ∙ ap (λ (l : List Ty). l ++ ts) (types_in_append ps parts (y ∷ []))
+        ∙ append_assoc (types_in ps parts) (sketch_type ps y ∷ []) ts
 
-    go : (o : Option (Made (List Ty))) → after o (λ ts. made (types_in next ++ ts)) ≡ after (after o (λ ts. made (type_of y ∷ ts))) (λ ts. made (types_in parts ++ ts))
+    go : (o : Option (Made (List Ty))) → after o (λ ts. made (types_in ps next ++ ts)) ≡ after (after o (λ ts. made (sketch_type ps y ∷ ts))) (λ ts. made (types_in ps parts ++ ts))
     go None = refl
     go (Some q) = ap (λ (ts : List Ty). Some (record { result = ts; state = q.state })) (longer q.result)
 
-pub count_more : (ts next : List code_ty.Ty) (t : code_ty.Ty) (k : ℕ) → length ts ≡ k → next ≡ ts ++ t ∷ [] → length next ≡ k + 1
+pub count_more : (ts next : List Sketch) (t : Sketch) (k : ℕ) → length ts ≡ k → next ≡ ts ++ t ∷ [] → length next ≡ k + 1
 count_more ts next t k e f = ap length f ∙ omega (arith, length-append ts (t ∷ []), e)
 
-pub each_more : (es : List Expr) (i : ℕ) (e : Expr) (ss : Schemes) (env new : List Local) (n m last : State) (y t : Ty) (all : Option (Made (Unit {0}))) →
-    i < length es → e ≡ get_or es i e → make (tree_of e) ss (locals_of env) n ≡ Some (record { result = y; state = m }) → new ≡ env →
-    equate y t m ≡ Some (record { result = tt; state = last }) → make_each (trees_of (drop i es)) ss (locals_of env) t n ≡ all →
-    make_each (trees_of (drop (i + 1) es)) ss (locals_of new) t last ≡ all
-each_more es i e ss env new n m last y t all h d k l f total =
+pub each_more : (ps : List Position) (es : List Expr) (i : ℕ) (e : Expr) (ss : Schemes) (env new : List Local) (n m last : State) (y t : Ty) (all : Option (Made (Unit {0}))) →
+    i < length es → e ≡ get_or es i e → make (tree_of e) ss (locals_of ps env) n ≡ Some (record { result = y; state = m }) → new ≡ env →
+    equate y t m ≡ Some (record { result = tt; state = last }) → make_each (trees_of (drop i es)) ss (locals_of ps env) t n ≡ all →
+    make_each (trees_of (drop (i + 1) es)) ss (locals_of ps new) t last ≡ all
+each_more ps es i e ss env new n m last y t all h d k l f total =
     let rest : Trees = trees_of (drop (i + 1) es) in
-    ap (λ (env : List Local). make_each rest ss (locals_of env) t last) l
-    ∙ sym (turn (equate y t m) (λ _. make_each rest ss (locals_of env) t) tt last f)
-    ∙ sym (turn (make (tree_of e) ss (locals_of env) n) (λ s n. after (equate s t n) (λ _. make_each rest ss (locals_of env) t)) y m k)
-    ∙ sym (ap (λ (x : Trees). make_each x ss (locals_of env) t n) (trees_from es i e h ∙ ap (λ (e : Expr). tree.tree (tree_of e) rest) (sym d))) ∙ total
+    ap (λ (env : List Local). make_each rest ss (locals_of ps env) t last) l
+    ∙ sym (turn (equate y t m) (λ _. make_each rest ss (locals_of ps env) t) tt last f)
+    ∙ sym (turn (make (tree_of e) ss (locals_of ps env) n) (λ s n. after (equate s t n) (λ _. make_each rest ss (locals_of ps env) t)) y m k)
+    ∙ sym (ap (λ (x : Trees). make_each x ss (locals_of ps env) t n) (trees_from es i e h ∙ ap (λ (e : Expr). tree.tree (tree_of e) rest) (sym d))) ∙ total
 
-pub bounds_more : (bs : List Bind) (i : ℕ) (b : Bind) (ss : Schemes) (env new : List Local) (n m last : State) (y : Ty) (all : Option (Made (Unit {0}))) →
-    i < length bs → b ≡ get_or bs i b → make (tree_of b.bound) ss (locals_of env) n ≡ Some (record { result = y; state = m }) → new ≡ env →
-    equate y natural m ≡ Some (record { result = tt; state = last }) → make_bounds (axes_in (drop i bs)) ss (locals_of env) n ≡ all →
-    make_bounds (axes_in (drop (i + 1) bs)) ss (locals_of new) last ≡ all
-bounds_more bs i b ss env new n m last y all h d k l f total =
+pub bounds_more : (ps : List Position) (bs : List Bind) (i : ℕ) (b : Bind) (ss : Schemes) (env new : List Local) (n m last : State) (y : Ty) (all : Option (Made (Unit {0}))) →
+    i < length bs → b ≡ get_or bs i b → make (tree_of b.bound) ss (locals_of ps env) n ≡ Some (record { result = y; state = m }) → new ≡ env →
+    equate y natural m ≡ Some (record { result = tt; state = last }) → make_bounds (axes_in (drop i bs)) ss (locals_of ps env) n ≡ all →
+    make_bounds (axes_in (drop (i + 1) bs)) ss (locals_of ps new) last ≡ all
+bounds_more ps bs i b ss env new n m last y all h d k l f total =
     let rest : Axes = axes_in (drop (i + 1) bs) in
-    ap (λ (env : List Local). make_bounds rest ss (locals_of env) last) l
-    ∙ sym (turn (equate y natural m) (λ _. make_bounds rest ss (locals_of env)) tt last f)
-    ∙ sym (turn (make (tree_of b.bound) ss (locals_of env) n) (λ t n. after (equate t natural n) (λ _. make_bounds rest ss (locals_of env))) y m k)
-    ∙ sym (ap (λ (x : Axes). make_bounds x ss (locals_of env) n) (axes_from bs i b h ∙ ap (λ (b : Bind). tree.axis b.name (tree_of b.bound) rest) (sym d))) ∙ total
+    ap (λ (env : List Local). make_bounds rest ss (locals_of ps env) last) l
+    ∙ sym (turn (equate y natural m) (λ _. make_bounds rest ss (locals_of ps env)) tt last f)
+    ∙ sym (turn (make (tree_of b.bound) ss (locals_of ps env) n) (λ t n. after (equate t natural n) (λ _. make_bounds rest ss (locals_of ps env))) y m k)
+    ∙ sym (ap (λ (x : Axes). make_bounds x ss (locals_of ps env) n) (axes_from bs i b h ∙ ap (λ (b : Bind). tree.axis b.name (tree_of b.bound) rest) (sym d))) ∙ total
 
-pub binds_more : (bs : List LetBind) (i : ℕ) (b : LetBind) (ss : Schemes) (env mid new : List Local) (n m last : State) (y : Ty) (all : Option (Made Locals)) →
-    i < length bs → b ≡ get_or bs i b → make (tree_of b.expr) ss (locals_of env) n ≡ Some (record { result = y; state = m }) → mid ≡ env →
-    matched (pat_of b.pattern) ss (locals_of mid) y m ≡ Some (record { result = locals_of new; state = last }) → make_binds (defs_in (drop i bs)) ss (locals_of env) n ≡ all →
-    make_binds (defs_in (drop (i + 1) bs)) ss (locals_of new) last ≡ all
-binds_more bs i b ss env mid new n m last y all h d k l f total =
+pub binds_more : (ps : List Position) (bs : List LetBind) (i : ℕ) (b : LetBind) (ss : Schemes) (env mid new : List Local) (n m last : State) (y : Ty) (all : Option (Made Locals)) →
+    i < length bs → b ≡ get_or bs i b → make (tree_of b.expr) ss (locals_of ps env) n ≡ Some (record { result = y; state = m }) → mid ≡ env →
+    matched (pat_of b.pattern) ss (locals_of ps mid) y m ≡ Some (record { result = locals_of ps new; state = last }) → make_binds (defs_in (drop i bs)) ss (locals_of ps env) n ≡ all →
+    make_binds (defs_in (drop (i + 1) bs)) ss (locals_of ps new) last ≡ all
+binds_more ps bs i b ss env mid new n m last y all h d k l f total =
     let rest : Defs = defs_in (drop (i + 1) bs) in
-    sym (turn (matched (pat_of b.pattern) ss (locals_of env) y m) (λ inner. make_binds rest ss inner) (locals_of new) last
-    (ap (λ (env : List Local). matched (pat_of b.pattern) ss (locals_of env) y m) (sym l) ∙ f))
-    ∙ sym (turn (make (tree_of b.expr) ss (locals_of env) n) (λ t n. after (matched (pat_of b.pattern) ss (locals_of env) t n) (λ inner. make_binds rest ss inner)) y m k)
-    ∙ sym (ap (λ (x : Defs). make_binds x ss (locals_of env) n) (defs_from bs i b h ∙ ap (λ (b : LetBind). tree.def (pat_of b.pattern) (tree_of b.expr) rest) (sym d))) ∙ total
+    sym (turn (matched (pat_of b.pattern) ss (locals_of ps env) y m) (λ inner. make_binds rest ss inner) (locals_of ps new) last
+    (ap (λ (env : List Local). matched (pat_of b.pattern) ss (locals_of ps env) y m) (sym l) ∙ f))
+    ∙ sym (turn (make (tree_of b.expr) ss (locals_of ps env) n) (λ t n. after (matched (pat_of b.pattern) ss (locals_of ps env) t n) (λ inner. make_binds rest ss inner)) y m k)
+    ∙ sym (ap (λ (x : Defs). make_binds x ss (locals_of ps env) n) (defs_from bs i b h ∙ ap (λ (b : LetBind). tree.def (pat_of b.pattern) (tree_of b.expr) rest) (sym d))) ∙ total
 
 -- the same, for an answer
-pub along : (r : Result (code_ty.Ty × Store) NoTyping) (o p : Option (Made Ty)) → o ≡ p →
-    Makes (λ r. record { result = type_of r.0; state = state_of r.1 }) r p → Makes (λ r. record { result = type_of r.0; state = state_of r.1 }) r o
-along r o p e h = subst (λ (o : Option (Made Ty)). Makes (λ r. record { result = type_of r.0; state = state_of r.1 }) r o) (sym e) h
+pub along : (ps : List Position) (r : Result (Sketch × Store) NoTyping) (o p : Option (Made Ty)) → o ≡ p →
+    Makes (λ r. record { result = sketch_type ps r.0; state = state_of ps r.1 }) r p → Makes (λ r. record { result = sketch_type ps r.0; state = state_of ps r.1 }) r o
+along ps r o p e h = subst (λ (o : Option (Made Ty)). Makes (λ r. record { result = sketch_type ps r.0; state = state_of ps r.1 }) r o) (sym e) h
 
 -- what comes of one part, or of two
-pub one_made : (ss : Schemes) (env : Locals) (n : State) (K : Box Expr Global → Expr) (f : Ty → Making Ty) →
+pub one_made : (ps : List Position) (ss : Schemes) (env : Locals) (n : State) (K : Box Expr Global → Expr) (f : Ty → Making Ty) →
     ((a : Box Expr Global) → make (tree_of (K a)) ss env n ≡ after (make (tree_of a.value) ss env n) (λ s. f s)) →
-    (e : Expr) (a : Box Expr Global) (x : Expr) (part r : Result (code_ty.Ty × Store) NoTyping) → e ≡ K a → x ≡ a.value →
-    Makes (λ r. record { result = type_of r.0; state = state_of r.1 }) part (make (tree_of x) ss env n) →
-    Follows part r (λ p. Makes (λ r. record { result = type_of r.0; state = state_of r.1 }) r (f (type_of p.0) (state_of p.1))) →
-    Makes (λ r. record { result = type_of r.0; state = state_of r.1 }) r (make (tree_of e) ss env n)
+    (e : Expr) (a : Box Expr Global) (x : Expr) (part r : Result (Sketch × Store) NoTyping) → e ≡ K a → x ≡ a.value →
+    Makes (λ r. record { result = sketch_type ps r.0; state = state_of ps r.1 }) part (make (tree_of x) ss env n) →
+    Follows part r (λ p. Makes (λ r. record { result = sketch_type ps r.0; state = state_of ps r.1 }) r (f (sketch_type ps p.0) (state_of ps p.1))) →
+    Makes (λ r. record { result = sketch_type ps r.0; state = state_of ps r.1 }) r (make (tree_of e) ss env n)
 unfolding after
-one_made ss env n K f h e a x part r i j made then =
-    along r (make (tree_of e) ss env n) (after (make (tree_of x) ss env n) (λ s. f s))
+one_made ps ss env n K f h e a x part r i j made then =
+    along ps r (make (tree_of e) ss env n) (after (make (tree_of x) ss env n) (λ s. f s))
     (ap (λ (e : Expr). make (tree_of e) ss env n) i ∙ h a ∙ sym (ap (λ (x : Expr). after (make (tree_of x) ss env n) (λ s. f s)) j))
     (go part (make (tree_of x) ss env n) made then)
   where
-    go : (part : Result (code_ty.Ty × Store) NoTyping) (o : Option (Made Ty)) → Makes (λ r. record { result = type_of r.0; state = state_of r.1 }) part o →
-        Follows part r (λ p. Makes (λ r. record { result = type_of r.0; state = state_of r.1 }) r (f (type_of p.0) (state_of p.1))) →
-        Makes (λ r. record { result = type_of r.0; state = state_of r.1 }) r (after o (λ s. f s))
-    go (Ok p) o h k = along r (after o (λ s. f s)) (f (type_of p.0) (state_of p.1)) (ap (λ (o : Option (Made Ty)). after o (λ s. f s)) h) k
-    go (Err faults.Memory) o h k = subst (λ (r : Result (code_ty.Ty × Store) NoTyping). Makes (λ r. record { result = type_of r.0; state = state_of r.1 }) r (after o (λ s. f s))) (sym k) tt
+    go : (part : Result (Sketch × Store) NoTyping) (o : Option (Made Ty)) → Makes (λ r. record { result = sketch_type ps r.0; state = state_of ps r.1 }) part o →
+        Follows part r (λ p. Makes (λ r. record { result = sketch_type ps r.0; state = state_of ps r.1 }) r (f (sketch_type ps p.0) (state_of ps p.1))) →
+        Makes (λ r. record { result = sketch_type ps r.0; state = state_of ps r.1 }) r (after o (λ s. f s))
+    go (Ok p) o h k = along ps r (after o (λ s. f s)) (f (sketch_type ps p.0) (state_of ps p.1)) (ap (λ (o : Option (Made Ty)). after o (λ s. f s)) h) k
+    go (Err faults.Memory) o h k = subst (λ (r : Result (Sketch × Store) NoTyping). Makes (λ r. record { result = sketch_type ps r.0; state = state_of ps r.1 }) r (after o (λ s. f s))) (sym k) tt
     go (Err faults.NoType) o h k =
-        subst (λ (r : Result (code_ty.Ty × Store) NoTyping). Makes (λ r. record { result = type_of r.0; state = state_of r.1 }) r (after o (λ s. f s))) (sym k)
+        subst (λ (r : Result (Sketch × Store) NoTyping). Makes (λ r. record { result = sketch_type ps r.0; state = state_of ps r.1 }) r (after o (λ s. f s))) (sym k)
         (ap (λ (o : Option (Made Ty)). after o (λ s. f s)) h)
 
-pub two_made : (ss : Schemes) (env : Locals) (n : State) (K : Box Expr Global → Box Expr Global → Expr) (f : Ty → Ty → Making Ty) →
+pub two_made : (ps : List Position) (ss : Schemes) (env : Locals) (n : State) (K : Box Expr Global → Box Expr Global → Expr) (f : Ty → Ty → Making Ty) →
     ((a b : Box Expr Global) → make (tree_of (K a b)) ss env n ≡ after (make_two (tree_of a.value) (tree_of b.value) ss env n) (λ p. f p.0 p.1)) →
-    (e : Expr) (a b : Box Expr Global) (x y : Expr) (parts : Result (code_ty.Ty × code_ty.Ty × Store) NoTyping) (r : Result (code_ty.Ty × Store) NoTyping) →
+    (e : Expr) (a b : Box Expr Global) (x y : Expr) (parts : Result (Sketch × Sketch × Store) NoTyping) (r : Result (Sketch × Store) NoTyping) →
     e ≡ K a b → x ≡ a.value → y ≡ b.value →
-    Makes (λ r. record { result = (type_of r.0, type_of r.1); state = state_of r.2 }) parts (make_two (tree_of x) (tree_of y) ss env n) →
-    Follows parts r (λ p. Makes (λ r. record { result = type_of r.0; state = state_of r.1 }) r (f (type_of p.0) (type_of p.1) (state_of p.2))) →
-    Makes (λ r. record { result = type_of r.0; state = state_of r.1 }) r (make (tree_of e) ss env n)
+    Makes (λ r. record { result = (sketch_type ps r.0, sketch_type ps r.1); state = state_of ps r.2 }) parts (make_two (tree_of x) (tree_of y) ss env n) →
+    Follows parts r (λ p. Makes (λ r. record { result = sketch_type ps r.0; state = state_of ps r.1 }) r (f (sketch_type ps p.0) (sketch_type ps p.1) (state_of ps p.2))) →
+    Makes (λ r. record { result = sketch_type ps r.0; state = state_of ps r.1 }) r (make (tree_of e) ss env n)
 unfolding after
-two_made ss env n K f h e a b x y parts r i j k made then =
-    along r (make (tree_of e) ss env n) (after (make_two (tree_of x) (tree_of y) ss env n) (λ p. f p.0 p.1))
+two_made ps ss env n K f h e a b x y parts r i j k made then =
+    along ps r (make (tree_of e) ss env n) (after (make_two (tree_of x) (tree_of y) ss env n) (λ p. f p.0 p.1))
     (ap (λ (e : Expr). make (tree_of e) ss env n) i ∙ h a b
     ∙ sym (ap (λ (x : Expr). after (make_two (tree_of x) (tree_of y) ss env n) (λ p. f p.0 p.1)) j
     ∙ ap (λ (y : Expr). after (make_two (tree_of a.value) (tree_of y) ss env n) (λ p. f p.0 p.1)) k))
     (go parts (make_two (tree_of x) (tree_of y) ss env n) made then)
   where
-    go : (parts : Result (code_ty.Ty × code_ty.Ty × Store) NoTyping) (o : Option (Made (Ty × Ty))) →
-        Makes (λ r. record { result = (type_of r.0, type_of r.1); state = state_of r.2 }) parts o →
-        Follows parts r (λ p. Makes (λ r. record { result = type_of r.0; state = state_of r.1 }) r (f (type_of p.0) (type_of p.1) (state_of p.2))) →
-        Makes (λ r. record { result = type_of r.0; state = state_of r.1 }) r (after o (λ p. f p.0 p.1))
-    go (Ok p) o h k = along r (after o (λ p. f p.0 p.1)) (f (type_of p.0) (type_of p.1) (state_of p.2)) (ap (λ (o : Option (Made (Ty × Ty))). after o (λ p. f p.0 p.1)) h) k
+    go : (parts : Result (Sketch × Sketch × Store) NoTyping) (o : Option (Made (Ty × Ty))) →
+        Makes (λ r. record { result = (sketch_type ps r.0, sketch_type ps r.1); state = state_of ps r.2 }) parts o →
+        Follows parts r (λ p. Makes (λ r. record { result = sketch_type ps r.0; state = state_of ps r.1 }) r (f (sketch_type ps p.0) (sketch_type ps p.1) (state_of ps p.2))) →
+        Makes (λ r. record { result = sketch_type ps r.0; state = state_of ps r.1 }) r (after o (λ p. f p.0 p.1))
+    go (Ok p) o h k = along ps r (after o (λ p. f p.0 p.1)) (f (sketch_type ps p.0) (sketch_type ps p.1) (state_of ps p.2)) (ap (λ (o : Option (Made (Ty × Ty))). after o (λ p. f p.0 p.1)) h) k
     go (Err faults.Memory) o h k =
-        subst (λ (r : Result (code_ty.Ty × Store) NoTyping). Makes (λ r. record { result = type_of r.0; state = state_of r.1 }) r (after o (λ p. f p.0 p.1))) (sym k) tt
+        subst (λ (r : Result (Sketch × Store) NoTyping). Makes (λ r. record { result = sketch_type ps r.0; state = state_of ps r.1 }) r (after o (λ p. f p.0 p.1))) (sym k) tt
     go (Err faults.NoType) o h k =
-        subst (λ (r : Result (code_ty.Ty × Store) NoTyping). Makes (λ r. record { result = type_of r.0; state = state_of r.1 }) r (after o (λ p. f p.0 p.1))) (sym k)
+        subst (λ (r : Result (Sketch × Store) NoTyping). Makes (λ r. record { result = sketch_type ps r.0; state = state_of ps r.1 }) r (after o (λ p. f p.0 p.1))) (sym k)
         (ap (λ (o : Option (Made (Ty × Ty))). after o (λ p. f p.0 p.1)) h)
 
 -- what holds where the parts were made holds where something came of them

@@ -33,4 +33,4 @@ Follows (Err e) r P = r ≡ Err e
 
 -- a walk over what the code keeps: its positions, its local names and its store
 abbrev pub made_at : {Y : Type 0} → (Schemes → Locals → Making Y) → List Position → List Local → Store → Option (Made Y)
-made_at walk ps env s = walk (schemes_of ps) (locals_of env) (state_of s)
+made_at walk ps env s = walk (schemes_of ps) (locals_of ps env) (state_of ps s)

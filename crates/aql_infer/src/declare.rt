@@ -13,9 +13,10 @@ use aql_infer_steps::numbering::{instance_of, with_places};
 use aql_infer_steps::patterns::pattern;
 use aql_infer_steps::positions::{Position, Positions};
 use aql_infer_steps::readers::{argument_type, has_rank, reader_type};
+use aql_infer_steps::sketch::{Draft, Sketch};
+use aql_infer_steps::solving::solve_store;
 use aql_infer_steps::store::{Store, equal_types, require, use_type};
 use aql_syntax::ast::{Decl, Expr, Pattern, Reader};
-use aql_type_solve::solve::solve;
 use aql_types::fault::UnifyFault;
 use aql_types::ty::Scheme;
 use aql_types::variables::scheme_variables;
@@ -32,14 +33,12 @@ pub(crate) fn infer_declaration(
 ) -> Result<Position, NoTyping>
     ensures { Inferred result (decl_of d.now) (schemes_of positions.now) }
 {
-    let (scheme, s) = constrain(alloc, d, positions, begin(alloc))?;
-    let Store {
-        equations,
-        uses,
-        next: _,
-    } = s;
-    match solve(alloc, equations, uses) {
-        Ok(solution) => sort_of_expression(alloc, d, instance_of(alloc, &solution, &scheme)),
+    let (draft, s) = constrain(alloc, d, positions, begin(alloc, positions))?;
+    match solve_store(alloc, s, positions) {
+        Ok(solution) => {
+            let scheme = instance_of(alloc, &solution, positions, &draft);
+            sort_of_expression(alloc, d, scheme)
+        }
         Err(UnifyFault::Clash) => Err(NoTyping::NoType),
         Err(UnifyFault::Memory) => Err(NoTyping::Memory),
     }
@@ -63,8 +62,8 @@ fn sort_of_expression(
     })
 }
 
-fn begin(alloc: Global) -> Store
-    ensures { state_of result ≡ start }
+fn begin(alloc: Global, positions: &Positions) -> Store
+    ensures { state_of positions.now result ≡ start }
 {
     Store {
         equations: Vec::new(alloc),
@@ -79,8 +78,9 @@ fn constrain(
     d: &Decl,
     positions: &Positions,
     s: Store,
-) -> Result<(Scheme, Store), NoTyping>
-    ensures { MakesSort result (make_decl (decl_of d.now) (schemes_of positions.now) (state_of s)) }
+) -> Result<(Draft, Store), NoTyping>
+    ensures { MakesSort positions.now result (make_decl (decl_of d.now) (schemes_of positions.now)
+        (state_of positions.now s)) }
 {
     match d {
         Decl::Val { name: _, expr } => asked_of_value(alloc, expr, positions, s),
@@ -104,14 +104,15 @@ fn asked_of_value(
     e: &Expr,
     positions: &Positions,
     s: Store,
-) -> Result<(Scheme, Store), NoTyping>
-    ensures { MakesSort result (make_decl (tree.bare (tree_of e.now)) (schemes_of positions.now)
-        (state_of s)) }
+) -> Result<(Draft, Store), NoTyping>
+    ensures { MakesSort positions.now result (make_decl (tree.bare (tree_of e.now))
+        (schemes_of positions.now)
+        (state_of positions.now s)) }
 {
     let mut env = Vec::new(alloc);
     let (t, s) = infer(alloc, e, u64::MAX, positions, &mut env, s)?;
-    let s = use_type(alloc, &t, s)?;
-    Ok((Scheme::Value(t), s))
+    let s = use_type(alloc, &t, positions, s)?;
+    Ok((Draft::Value(t), s))
 }
 
 #[tactic(auto, unfolding(aql_infer_steps::specs::Constraints::after))]
@@ -121,17 +122,18 @@ fn asked_of_macro(
     body: &Expr,
     positions: &Positions,
     s: Store,
-) -> Result<(Scheme, Store), NoTyping>
-    ensures { MakesSort result (make_decl (tree.mac [] (pat_of p.now) (tree_of body.now))
-        (schemes_of positions.now) (state_of s)) }
+) -> Result<(Draft, Store), NoTyping>
+    ensures { MakesSort positions.now result (make_decl (tree.mac [] (pat_of p.now)
+        (tree_of body.now))
+        (schemes_of positions.now) (state_of positions.now s)) }
 {
     let mut env = Vec::new(alloc);
     let (a, s) = pattern(alloc, p, positions, &mut env, s)?;
     let (b, s) = infer(alloc, body, u64::MAX, positions, &mut env, s)?;
-    let s = use_type(alloc, &a, s)?;
-    let s = use_type(alloc, &b, s)?;
+    let s = use_type(alloc, &a, positions, s)?;
+    let s = use_type(alloc, &b, positions, s)?;
     Ok((
-        Scheme::Macro {
+        Draft::Macro {
             argument: a,
             result: b,
         },
@@ -146,17 +148,18 @@ fn asked_of_reader(
     e: &Expr,
     positions: &Positions,
     s: Store,
-) -> Result<(Scheme, Store), NoTyping>
-    ensures { MakesSort result (make_decl (tree.read [] (reader_of reader.now) (tree_of e.now))
-        (schemes_of positions.now) (state_of s)) }
+) -> Result<(Draft, Store), NoTyping>
+    ensures { MakesSort positions.now result (make_decl (tree.read [] (reader_of reader.now)
+        (tree_of e.now))
+        (schemes_of positions.now) (state_of positions.now s)) }
 {
-    let s = require(has_rank(reader), s)?;
+    let s = require(has_rank(reader), positions, s)?;
     let mut env = Vec::new(alloc);
     let (t, s) = infer(alloc, e, u64::MAX, positions, &mut env, s)?;
-    let argument = argument_type(alloc, reader)?;
-    let s = equal_types(alloc, &t, &argument, s)?;
-    let s = use_type(alloc, &argument, s)?;
-    let given = reader_type(alloc, reader)?;
-    let s = use_type(alloc, &given, s)?;
-    Ok((Scheme::Value(given), s))
+    let argument = Sketch::Plain(argument_type(alloc, reader)?);
+    let s = equal_types(alloc, &t, &argument, positions, s)?;
+    let s = use_type(alloc, &argument, positions, s)?;
+    let given = Sketch::Plain(reader_type(alloc, reader)?);
+    let s = use_type(alloc, &given, positions, s)?;
+    Ok((Draft::Value(given), s))
 }

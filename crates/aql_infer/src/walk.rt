@@ -1,14 +1,13 @@
 //! What an expression asks of types, and its own type.
 
 ghost use Rattle.std.specs.Prelude.{◌≡◌, IfOk, OnOk, length};
-ghost use Rattle.aql_types.specs.View.{type_of};
 ghost use Rattle.aql_syntax.specs.Tree as tree;
 ghost use Rattle.aql_syntax.specs.Tree.{no_qual};
 ghost use Rattle.aql_syntax.specs.Typing.{with_indices};
 ghost use Rattle.aql_syntax.specs.View.{pat_of, tree_of, trees_of, quals_of, qual_of, axes_in, defs_in};
 ghost use Rattle.aql_infer_steps.specs.Constraints.{make, make_all, make_each, make_bounds, make_rows, make_binds};
 ghost use Rattle.aql_infer.specs.Pairs.{make_two, choice_of, subscript_of, literal_of, made_at};
-ghost use Rattle.aql_infer_steps.specs.View.{state_of, locals_of, schemes_of, types_in, Makes, Extends, MakesType, MakesState, MakesLocals};
+ghost use Rattle.aql_infer_steps.specs.View.{sketch_type, state_of, locals_of, schemes_of, types_in, Makes, Extends, MakesType, MakesState, MakesLocals};
 
 use crate::steps::{
     arith_of, choose, comparison_of, dimensions_of, either_of, generated_of, grouped_of, headed_of,
@@ -21,6 +20,7 @@ use aql_infer_steps::patterns::{
     index_rank, match_pattern, matched_cell, matched_index, matched_member,
 };
 use aql_infer_steps::positions::Positions;
+use aql_infer_steps::sketch::Sketch;
 use aql_infer_steps::store::{Store, equal_types, new_variable, require};
 use aql_syntax::ast::{Bind, Expr, LetBind, Pattern, Qual};
 use aql_types::ty::Ty;
@@ -39,8 +39,9 @@ pub fn infer(
     positions: &Positions,
     env: &mut Vec<Local>,
     s: Store,
-) -> Result<(Ty, Store), NoTyping>
-    ensures made { MakesType result (made_at (make (tree_of e.now)) positions.now env.old.items s) }
+) -> Result<(Sketch, Store), NoTyping>
+    ensures made { MakesType positions.now result (made_at (make
+        (tree_of e.now)) positions.now env.old.items s) }
     ensures kept { OnOk result (env.new.items ≡ env.old.items) }
 {
     match fuel.checked_sub(1) {
@@ -59,17 +60,21 @@ fn infer_form(
     positions: &Positions,
     env: &mut Vec<Local>,
     s: Store,
-) -> Result<(Ty, Store), NoTyping>
-    ensures made { MakesType result (made_at (make (tree_of e.now)) positions.now env.old.items s) }
+) -> Result<(Sketch, Store), NoTyping>
+    ensures made { MakesType positions.now result (made_at (make
+        (tree_of e.now)) positions.now env.old.items s) }
     ensures kept { OnOk result (env.new.items ≡ env.old.items) }
 {
     match e {
-        Expr::Nat(_) => Ok((Ty::Nat, s)),
-        Expr::Bool(_) => Ok((Ty::Bool, s)),
-        Expr::Text(_) => Ok((Ty::Text, s)),
+        Expr::Nat(_) => Ok((Sketch::Plain(Ty::Nat), s)),
+        Expr::Bool(_) => Ok((Sketch::Plain(Ty::Bool), s)),
+        Expr::Text(_) => Ok((Sketch::Plain(Ty::Text), s)),
         Expr::Name(x) => name_type(alloc, x, positions, env, s),
-        Expr::Row(es) => tuple_of(infer_all(alloc, &es.items, fuel, positions, env, s)),
-        Expr::Empty => empty_set(alloc, s),
+        Expr::Row(es) => tuple_of(
+            infer_all(alloc, &es.items, fuel, positions, env, s),
+            positions,
+        ),
+        Expr::Empty => empty_set(alloc, positions, s),
         Expr::Members(es) => infer_members(alloc, &es.items, fuel, positions, env, s),
         Expr::Comp { head, quals } => {
             infer_comprehension(alloc, head, &quals.items, fuel, positions, env, s)
@@ -85,27 +90,51 @@ fn infer_form(
             alloc, array, &at.items, fuel, positions, env, s,
         ),
         Expr::If(c, a, b) => infer_choice(alloc, c, a, b, fuel, positions, env, s),
-        Expr::And(a, b) => truths_of(alloc, infer_two(alloc, a, b, fuel, positions, env, s)),
-        Expr::Or(a, b) => truths_of(alloc, infer_two(alloc, a, b, fuel, positions, env, s)),
-        Expr::Not(a) => truth_of(alloc, infer(alloc, a, fuel, positions, env, s)),
+        Expr::And(a, b) => truths_of(
+            alloc,
+            infer_two(alloc, a, b, fuel, positions, env, s),
+            positions,
+        ),
+        Expr::Or(a, b) => truths_of(
+            alloc,
+            infer_two(alloc, a, b, fuel, positions, env, s),
+            positions,
+        ),
+        Expr::Not(a) => truth_of(alloc, infer(alloc, a, fuel, positions, env, s), positions),
         Expr::Compare(_, a, b) => comparison_of(
             alloc,
             infer_two(alloc, a, b, fuel, positions, env, s),
+            positions,
         ),
-        Expr::Arith(_, a, b) => arith_of(alloc, infer_two(alloc, a, b, fuel, positions, env, s)),
-        Expr::Union(a, b) => union_of(alloc, infer_two(alloc, a, b, fuel, positions, env, s)),
-        Expr::Gen(a) => generated_of(alloc, infer(alloc, a, fuel, positions, env, s)),
-        Expr::Get(a) => member_of(alloc, infer(alloc, a, fuel, positions, env, s)),
-        Expr::Len(a) => dimensions_of(alloc, 1, infer(alloc, a, fuel, positions, env, s)),
+        Expr::Arith(_, a, b) => arith_of(
+            alloc,
+            infer_two(alloc, a, b, fuel, positions, env, s),
+            positions,
+        ),
+        Expr::Union(a, b) => union_of(
+            alloc,
+            infer_two(alloc, a, b, fuel, positions, env, s),
+            positions,
+        ),
+        Expr::Gen(a) => generated_of(alloc, infer(alloc, a, fuel, positions, env, s), positions),
+        Expr::Get(a) => member_of(alloc, infer(alloc, a, fuel, positions, env, s), positions),
+        Expr::Len(a) => dimensions_of(
+            alloc,
+            1,
+            infer(alloc, a, fuel, positions, env, s),
+            positions,
+        ),
         Expr::Dim { rank, array } => dimensions_of(
             alloc,
             *rank,
             infer(alloc, array, fuel, positions, env, s),
+            positions,
         ),
         Expr::Index { rank, pairs } => grouped_of(
             alloc,
             *rank,
             infer(alloc, pairs, fuel, positions, env, s),
+            positions,
         ),
         Expr::Apply { name, argument } => {
             let part = infer(alloc, argument, fuel, positions, env, s);
@@ -121,7 +150,11 @@ fn infer_form(
             body,
             over,
         } => infer_sum(alloc, body, over, pattern, fuel, positions, env, s),
-        Expr::Default(a, b) => either_of(alloc, infer_two(alloc, a, b, fuel, positions, env, s)),
+        Expr::Default(a, b) => either_of(
+            alloc,
+            infer_two(alloc, a, b, fuel, positions, env, s),
+            positions,
+        ),
     }
 }
 
@@ -136,8 +169,13 @@ fn infer_two(
     positions: &Positions,
     env: &mut Vec<Local>,
     s: Store,
-) -> Result<(Ty, Ty, Store), NoTyping>
-    ensures made { Makes (λ r. record { result = (type_of r.0, type_of r.1); state = state_of r.2 })
+) -> Result<(Sketch, Sketch, Store), NoTyping>
+    ensures made { Makes (λ r. record {
+      result =
+          (sketch_type positions.now r.0, sketch_type positions.now r.1);
+      state = state_of
+          positions.now r.2;
+    })
         result (made_at (make_two (tree_of a.now) (tree_of b.now)) positions.now env.old.items s) }
     ensures kept { OnOk result (env.new.items ≡ env.old.items) }
 {
@@ -158,14 +196,19 @@ fn infer_choice(
     positions: &Positions,
     env: &mut Vec<Local>,
     s: Store,
-) -> Result<(Ty, Store), NoTyping>
-    ensures made { MakesType result
+) -> Result<(Sketch, Store), NoTyping>
+    ensures made { MakesType positions.now result
         (made_at (choice_of (tree_of c.now) (tree_of a.now) (tree_of b.now)) positions.now
         env.old.items s) }
     ensures kept { OnOk result (env.new.items ≡ env.old.items) }
 {
     let (t, s) = infer(alloc, c, fuel, positions, env, s)?;
-    choose(alloc, &t, infer_two(alloc, a, b, fuel, positions, env, s))
+    choose(
+        alloc,
+        &t,
+        infer_two(alloc, a, b, fuel, positions, env, s),
+        positions,
+    )
 }
 
 // A set of members.
@@ -178,14 +221,15 @@ fn infer_members(
     positions: &Positions,
     env: &mut Vec<Local>,
     s: Store,
-) -> Result<(Ty, Store), NoTyping>
-    ensures made { MakesType result (made_at (make (tree.members (trees_of es.now))) positions.now
+) -> Result<(Sketch, Store), NoTyping>
+    ensures made { MakesType positions.now result (made_at (make (tree.members
+        (trees_of es.now))) positions.now
         env.old.items s) }
     ensures kept { OnOk result (env.new.items ≡ env.old.items) }
 {
-    let (t, s) = new_variable(s)?;
+    let (t, s) = new_variable(positions, s)?;
     let s = infer_each(alloc, es, &t, fuel, positions, env, s)?;
-    Ok((set_of(alloc, t)?, s))
+    Ok((set_of(alloc, t, positions)?, s))
 }
 
 // A literal array.
@@ -199,15 +243,15 @@ fn infer_literal(
     positions: &Positions,
     env: &mut Vec<Local>,
     s: Store,
-) -> Result<(Ty, Store), NoTyping>
-    ensures made { MakesType result
+) -> Result<(Sketch, Store), NoTyping>
+    ensures made { MakesType positions.now result
         (made_at (literal_of (length dims.now) (trees_of dims.now) (trees_of cells.now))
         positions.now env.old.items s) }
     ensures kept { OnOk result (env.new.items ≡ env.old.items) }
 {
     let (ds, s) = infer_all(alloc, dims, fuel, positions, env, s)?;
     let (cs, s) = infer_all(alloc, cells, fuel, positions, env, s)?;
-    literal(alloc, &ds, &cs, s)
+    literal(alloc, &ds, &cs, positions, s)
 }
 
 // A subscript.
@@ -221,14 +265,15 @@ fn infer_subscript(
     positions: &Positions,
     env: &mut Vec<Local>,
     s: Store,
-) -> Result<(Ty, Store), NoTyping>
-    ensures made { MakesType result (made_at (subscript_of (tree_of array.now) (trees_of at.now))
+) -> Result<(Sketch, Store), NoTyping>
+    ensures made { MakesType positions.now result (made_at (subscript_of (tree_of array.now)
+        (trees_of at.now))
         positions.now env.old.items s) }
     ensures kept { OnOk result (env.new.items ≡ env.old.items) }
 {
     let (a, s) = infer(alloc, array, fuel, positions, env, s)?;
     let (at, s) = infer_all(alloc, at, fuel, positions, env, s)?;
-    subscript(alloc, &a, &at, s)
+    subscript(alloc, &a, &at, positions, s)
 }
 
 // A comprehension.
@@ -242,8 +287,8 @@ fn infer_comprehension(
     positions: &Positions,
     env: &mut Vec<Local>,
     s: Store,
-) -> Result<(Ty, Store), NoTyping>
-    ensures made { MakesType result
+) -> Result<(Sketch, Store), NoTyping>
+    ensures made { MakesType positions.now result
         (made_at (make (tree.comp (tree_of head.now) (quals_of quals.now))) positions.now
         env.old.items s) }
     ensures kept { OnOk result (env.new.items ≡ env.old.items) }
@@ -252,7 +297,7 @@ fn infer_comprehension(
     let s = infer_rows(alloc, quals, fuel, positions, env, s)?;
     let (t, s) = infer(alloc, head, fuel, positions, env, s)?;
     env.truncate(mark);
-    Ok((set_of(alloc, t)?, s))
+    Ok((set_of(alloc, t, positions)?, s))
 }
 
 // A tabulation. A rank that is none has no type.
@@ -266,20 +311,20 @@ fn infer_tabulation(
     positions: &Positions,
     env: &mut Vec<Local>,
     s: Store,
-) -> Result<(Ty, Store), NoTyping>
-    ensures made { MakesType result
+) -> Result<(Sketch, Store), NoTyping>
+    ensures made { MakesType positions.now result
         (made_at (make (tree.tab (axes_in binds.now) (tree_of body.now)))
         positions.now env.old.items s) }
     ensures kept { OnOk result (env.new.items ≡ env.old.items) }
 {
     let rank = binds.len() as u64;
-    let s = require(1 <= rank && rank <= 8, s)?;
+    let s = require(1 <= rank && rank <= 8, positions, s)?;
     let s = infer_bounds(alloc, binds, fuel, positions, env, s)?;
     let mark = env.len();
-    push_indices(alloc, binds, env)?;
+    push_indices(alloc, binds, positions, env)?;
     let (t, s) = infer(alloc, body, fuel, positions, env, s)?;
     env.truncate(mark);
-    Ok((array_of(alloc, rank, t)?, s))
+    Ok((array_of(alloc, rank, t, positions)?, s))
 }
 
 // What stands inside a let.
@@ -293,8 +338,8 @@ fn infer_let(
     positions: &Positions,
     env: &mut Vec<Local>,
     s: Store,
-) -> Result<(Ty, Store), NoTyping>
-    ensures made { MakesType result
+) -> Result<(Sketch, Store), NoTyping>
+    ensures made { MakesType positions.now result
         (made_at (make (tree.bindings (defs_in binds.now) (tree_of body.now))) positions.now
         env.old.items s) }
     ensures kept { OnOk result (env.new.items ≡ env.old.items) }
@@ -318,8 +363,8 @@ fn infer_function(
     positions: &Positions,
     env: &mut Vec<Local>,
     s: Store,
-) -> Result<(Ty, Store), NoTyping>
-    ensures made { MakesType result
+) -> Result<(Sketch, Store), NoTyping>
+    ensures made { MakesType positions.now result
         (made_at (make (tree.function (pat_of pattern.now) (tree_of body.now)
         (tree_of argument.now))) positions.now env.old.items s) }
     ensures kept { OnOk result (env.new.items ≡ env.old.items) }
@@ -344,8 +389,8 @@ fn infer_sum(
     positions: &Positions,
     env: &mut Vec<Local>,
     s: Store,
-) -> Result<(Ty, Store), NoTyping>
-    ensures made { MakesType result
+) -> Result<(Sketch, Store), NoTyping>
+    ensures made { MakesType positions.now result
         (made_at (make (tree.summap (pat_of pattern.now) (tree_of body.now) (tree_of over.now)))
         positions.now env.old.items s) }
     ensures kept { OnOk result (env.new.items ≡ env.old.items) }
@@ -355,8 +400,8 @@ fn infer_sum(
     let s = matched_member(alloc, pattern, &y, positions, env, s)?;
     let (t, s) = infer(alloc, body, fuel, positions, env, s)?;
     env.truncate(mark);
-    let s = equal_types(alloc, &t, &Ty::Nat, s)?;
-    Ok((Ty::Nat, s))
+    let s = equal_types(alloc, &t, &Sketch::Plain(Ty::Nat), positions, s)?;
+    Ok((Sketch::Plain(Ty::Nat), s))
 }
 
 // The types of expressions, one by one.
@@ -369,8 +414,12 @@ fn infer_all(
     positions: &Positions,
     env: &mut Vec<Local>,
     s: Store,
-) -> Result<(Vec<Ty>, Store), NoTyping>
-    ensures made { Makes (λ r. record { result = types_in r.0.items; state = state_of r.1 }) result
+) -> Result<(Vec<Sketch>, Store), NoTyping>
+    ensures made { Makes
+        (λ r. record {
+          result = types_in positions.now r.0.items;
+          state = state_of positions.now r.1;
+        }) result
         (made_at (make_all (trees_of es.now)) positions.now env.old.items s) }
     ensures kept { OnOk result (env.new.items ≡ env.old.items) }
     ensures count { IfOk result (λ r. length r.0.items ≡ length es.now) }
@@ -391,20 +440,22 @@ fn infer_all(
 fn infer_each(
     alloc: Global,
     es: &[Expr],
-    t: &Ty,
+    t: &Sketch,
     fuel: u64,
     positions: &Positions,
     env: &mut Vec<Local>,
     s: Store,
 ) -> Result<Store, NoTyping>
-    ensures made { MakesState result (make_each (trees_of es.now) (schemes_of positions.now)
-        (locals_of env.old.items) (type_of t.now) (state_of s)) }
+    ensures made { MakesState positions.now result (make_each (trees_of es.now)
+        (schemes_of positions.now)
+        (locals_of positions.now env.old.items) (sketch_type positions.now t.now)
+        (state_of positions.now s)) }
     ensures kept { OnOk result (env.new.items ≡ env.old.items) }
 {
     let mut s = s;
     for e in es {
         let (y, then) = infer(alloc, e, fuel, positions, env, s)?;
-        s = equal_types(alloc, &y, t, then)?;
+        s = equal_types(alloc, &y, t, positions, then)?;
     }
     Ok(s)
 }
@@ -420,14 +471,15 @@ fn infer_bounds(
     env: &mut Vec<Local>,
     s: Store,
 ) -> Result<Store, NoTyping>
-    ensures made { MakesState result (made_at (make_bounds (axes_in binds.now)) positions.now
+    ensures made { MakesState positions.now result (made_at (make_bounds
+        (axes_in binds.now)) positions.now
         env.old.items s) }
     ensures kept { OnOk result (env.new.items ≡ env.old.items) }
 {
     let mut s = s;
     for b in binds {
         let (y, then) = infer(alloc, &b.bound, fuel, positions, env, s)?;
-        s = equal_types(alloc, &y, &Ty::Nat, then)?;
+        s = equal_types(alloc, &y, &Sketch::Plain(Ty::Nat), positions, then)?;
     }
     Ok(s)
 }
@@ -443,7 +495,8 @@ fn infer_rows(
     env: &mut Vec<Local>,
     s: Store,
 ) -> Result<Store, NoTyping>
-    ensures made { MakesLocals env.new.items result (made_at (make_rows (quals_of quals.now))
+    ensures made { MakesLocals positions.now env.new.items result (made_at (make_rows
+        (quals_of quals.now))
         positions.now env.old.items s) }
     ensures extends { OnOk result (Extends env.old.items env.new.items) }
 {
@@ -467,7 +520,8 @@ fn infer_row(
     env: &mut Vec<Local>,
     s: Store,
 ) -> Result<Store, NoTyping>
-    ensures made { MakesLocals env.new.items result (made_at (make_rows (qual_of q.now no_qual))
+    ensures made { MakesLocals positions.now env.new.items result (made_at (make_rows
+        (qual_of q.now no_qual))
         positions.now env.old.items s) }
     ensures extends { OnOk result (Extends env.old.items env.new.items) }
 {
@@ -487,7 +541,7 @@ fn infer_row(
         }
         Qual::Test(e) => {
             let (y, s) = infer(alloc, e, fuel, positions, env, s)?;
-            let s = equal_types(alloc, &y, &Ty::Bool, s)?;
+            let s = equal_types(alloc, &y, &Sketch::Plain(Ty::Bool), positions, s)?;
             Ok(s)
         }
     }
@@ -504,7 +558,8 @@ fn infer_binds(
     env: &mut Vec<Local>,
     s: Store,
 ) -> Result<Store, NoTyping>
-    ensures made { MakesLocals env.new.items result (made_at (make_binds (defs_in binds.now))
+    ensures made { MakesLocals positions.now env.new.items result (made_at (make_binds
+        (defs_in binds.now))
         positions.now env.old.items s) }
     ensures extends { OnOk result (Extends env.old.items env.new.items) }
 {
@@ -518,13 +573,19 @@ fn infer_binds(
 
 // The indices of a tabulation, which are numbers, are added to the local names.
 #[tactic(auto, using(crate::proofs::Walking::indices_steps))]
-fn push_indices(alloc: Global, binds: &[Bind], env: &mut Vec<Local>) -> Result<(), Memory>
-    ensures names { OnOk result (locals_of env.new.items ≡ with_indices (axes_in binds.now)
-        (locals_of env.old.items)) }
+fn push_indices(
+    alloc: Global,
+    binds: &[Bind],
+    positions: &Positions,
+    env: &mut Vec<Local>,
+) -> Result<(), Memory>
+    ensures names { OnOk result (locals_of positions.now env.new.items ≡ with_indices
+        (axes_in binds.now)
+        (locals_of positions.now env.old.items)) }
     ensures extends { OnOk result (Extends env.old.items env.new.items) }
 {
     for b in binds {
-        push_local(alloc, &b.name, &Ty::Nat, env)?;
+        push_local(alloc, &b.name, &Sketch::Plain(Ty::Nat), positions, env)?;
     }
     Ok(())
 }

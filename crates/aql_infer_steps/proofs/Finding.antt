@@ -6,34 +6,37 @@ use Rattle.std.proofs.lemmas.Option.{slice_get-get_or}
 use Rattle.aql_value.specs.Partial.{or_else}
 use Rattle.aql_names.specs.Named.{last_named}
 use Rattle.aql_names.specs.Laws.Named.{last_named_inside}
-use Rattle.aql_types.specs.View.{type_of}
+use Rattle.aql_types.specs.View.{sort_of}
 use Rattle.aql_syntax.specs.Tree.{Name}
 use Rattle.aql_syntax.specs.Names.{names_equal, find}
 use Rattle.aql_syntax.specs.Typing.{Locals}
 use Rattle.aql_infer_steps.specs.Constraints.{Scheme, Schemes}
-use Rattle.aql_infer_steps.specs.View.{locals_onto, locals_of, scheme_of, schemes_onto, schemes_of, names_of}
+use Rattle.aql_infer_steps.specs.View.{sketch_type, locals_onto, locals_of, scheme_of, schemes_onto, schemes_of, names_of}
+use Rattle.aql_infer_steps.specs.Ground.{AreOf, IsLatest, ground_of}
+use Rattle.aql_infer_steps.proofs.Sketching.{sort_here, ground_here}
+use Rattle.aql_infer_steps.specs.declared.positions.Ground.{Ground}
 use Rattle.aql_infer_steps.specs.declared.names.Local.{Local}
 use Rattle.aql_infer_steps.specs.declared.positions.Position.{Position}
 
-locals_onto_last : (ls : List Local) (l : Local) (env : Locals) → locals_onto (ls ++ l ∷ []) env ≡ (l.name, type_of l.ty) ∷ locals_onto ls env
-locals_onto_last [] l env = refl
-locals_onto_last (k ∷ ls) l env = locals_onto_last ls l ((k.name, type_of k.ty) ∷ env)
+locals_onto_last : (ps : List Position) (ls : List Local) (l : Local) (env : Locals) → locals_onto ps (ls ++ l ∷ []) env ≡ (l.name, sketch_type ps l.ty) ∷ locals_onto ps ls env
+locals_onto_last ps [] l env = refl
+locals_onto_last ps (k ∷ ls) l env = locals_onto_last ps ls l ((k.name, sketch_type ps k.ty) ∷ env)
 
 -- the last local name is the innermost
-pub locals_last : (ls : List Local) (l : Local) → locals_of (ls ++ l ∷ []) ≡ (l.name, type_of l.ty) ∷ locals_of ls
-locals_last ls l = locals_onto_last ls l []
+pub locals_last : (ps : List Position) (ls : List Local) (l : Local) → locals_of ps (ls ++ l ∷ []) ≡ (l.name, sketch_type ps l.ty) ∷ locals_of ps ls
+locals_last ps ls l = locals_onto_last ps ls l []
 
-pub local_here : (x : Name) (ls all : List Local) (l : Local) → all ≡ ls ++ l ∷ [] → names_equal x l.name ≡ true →
-    find x (locals_of all) ≡ Some (type_of l.ty)
-local_here x ls all l e h = rw (e, locals_last ls l, h) refl
+pub local_here : (ps : List Position) (x : Name) (ls all : List Local) (l : Local) → all ≡ ls ++ l ∷ [] → names_equal x l.name ≡ true →
+    find x (locals_of ps all) ≡ Some (sketch_type ps l.ty)
+local_here ps x ls all l e h = rw (e, locals_last ps ls l, h) refl
 
-pub local_past : (x : Name) (ls all : List Local) (l : Local) → all ≡ ls ++ l ∷ [] → names_equal x l.name ≡ false →
-    find x (locals_of all) ≡ find x (locals_of ls)
-local_past x ls all l e h = rw (e, locals_last ls l, h) refl
+pub local_past : (ps : List Position) (x : Name) (ls all : List Local) (l : Local) → all ≡ ls ++ l ∷ [] → names_equal x l.name ≡ false →
+    find x (locals_of ps all) ≡ find x (locals_of ps ls)
+local_past ps x ls all l e h = rw (e, locals_last ps ls l, h) refl
 
-pub local_none : (x : Name) (all : List Local) → length all ≡ 0 → find x (locals_of all) ≡ None
-local_none x [] e = refl
-local_none x (l ∷ ls) e = let bad : ⊥ = omega (arith, e) in absurd bad
+pub local_none : (ps : List Position) (x : Name) (all : List Local) → length all ≡ 0 → find x (locals_of ps all) ≡ None
+local_none ps x [] e = refl
+local_none ps x (l ∷ ls) e = let bad : ⊥ = omega (arith, e) in absurd bad
 
 pub ruleset local_steps = (local_here, local_past, local_none)
 
@@ -70,3 +73,20 @@ pub latest-some : (x : Name) (ps : List Position) (names : List Name) (i : ℕ) 
 latest-some x ps names i p e n is =
     find-onto x ps [] ∙ ap (λ k. found_at ps k None) (sym (e ∙ ap (last_named x) n))
     ∙ ap (option_map scheme_of) (slice_get-get_or ps i p (latest-inside x ps names i e n) ∙ ap Some (sym is))
+
+-- the latest position, with its number and what is known of its types
+pub latest-found : (x : Name) (ps : List Position) (names : List Name) (gs : List Ground) (i : ℕ) (p : Position) (g : Ground) → AreOf ps names gs → Some i ≡ last_named x names →
+    p ≡ get_or ps i p → g ≡ get_or gs i g → IsLatest x ps i p g
+latest-found x ps names gs i p g h e is known =
+    let inside = latest-inside x ps names i e h.names in
+    record {
+      found = latest-some x ps names i p e h.names is;
+      here = sort_here ps i p inside ∙ ap (λ (p : Position). sort_of p.scheme) (sym is);
+      ground = known ∙ ap (λ l. get_or l i g) h.ground ∙ ground_here ps i g p inside ∙ ap (λ (p : Position). ground_of (sort_of p.scheme)) (sym is);
+    }
+
+-- what is known of that position is there
+pub latest-known : (x : Name) (ps : List Position) (names : List Name) (gs : List Ground) (i : ℕ) → AreOf ps names gs → Some i ≡ last_named x names → i < length gs
+latest-known x ps names gs i h e =
+    let inside = latest-inside x ps names i e h.names in
+    omega (arith, inside, length-map ps (λ (p : Position). ground_of (sort_of p.scheme)), ap length h.ground)

@@ -1,9 +1,7 @@
 -- Lists of local names that grow, and patterns as the code has them.
 use Rattle.std.proofs.Common.{ℕ, suc, ◌≡◌, ◌+◌, ◌<◌, List, [], ◌∷◌, ◌++◌, Option, Some, None, refl, sym, ap, ◌∙◌, length, take, drop, get_or}
 use Rattle.aql_types.specs.Types.{Ty, Tys, no_type, type, natural, append}
-use Rattle.aql_types.specs.View.{type_of, types_of}
-use Rattle.aql_types.specs.declared.ty.Ty as code_ty
-use Rattle.aql_types.specs.Laws.View.{type_of_row, types_last, append_assoc_types, append_none}
+use Rattle.aql_types.specs.Laws.View.{append_assoc_types, append_none}
 use Rattle.aql_syntax.specs.Tree.{Pats, count_pats, axes}
 use Rattle.aql_syntax.specs.Typing.{Locals}
 use Rattle.aql_syntax.specs.View.{pat_of, pats_of}
@@ -12,7 +10,10 @@ use Rattle.aql_syntax.specs.declared.ast.Pattern as code_pattern
 use Rattle.aql_syntax.specs.declared.ast.Pattern.{Pattern}
 use Rattle.aql_syntax.specs.declared.ast.Patterns.{Patterns}
 use Rattle.aql_infer_steps.specs.Constraints.{State, Made, MatchedAll, Schemes, after, made, equate, make_pat, make_pats, matched_index}
-use Rattle.aql_infer_steps.specs.View.{Extends}
+use Rattle.aql_infer_steps.specs.View.{sketch_type, sketch_types, Extends}
+use Rattle.aql_infer_steps.specs.declared.sketch.Sketch.{Sketch}
+use Rattle.aql_infer_steps.specs.declared.positions.Position.{Position}
+use Rattle.aql_infer_steps.proofs.Sketching.{sketch_row_is, sketches_last}
 use Rattle.aql_infer_steps.specs.declared.names.Local.{Local}
 
 pub extends_itself : (a : List Local) → Extends a a
@@ -37,33 +38,33 @@ count_axes-row ps = ap (λ p. count_pats (axes p)) (pat_of_row ps) ∙ count_pat
 
 pub ruleset index_rank_steps = (count_axes-row)
 
-pub ruleset pattern_steps = (extends_itself, pat_of_row, type_of_row)
+pub ruleset pattern_steps = (extends_itself, pat_of_row, sketch_row_is)
 
-pub ruleset patterns_steps = (extends_itself, extends_extends, pats_from, pats_past, types_last, append_assoc_types, append_none)
+pub ruleset patterns_steps = (extends_itself, extends_extends, pats_from, pats_past, sketches_last, append_assoc_types, append_none)
 
 -- the types of patterns behind others
 abbrev pub behind : Tys → MatchedAll → State → Option (Made MatchedAll)
 behind ts q = made (record { of = append ts q.of; names = q.names })
 
 -- one pattern more
-pub pats_more : (ps : List Pattern) (i : ℕ) (p : Pattern) (ss : Schemes) (env inner : Locals) (n m : State) (parts new : List code_ty.Ty) (t : code_ty.Ty) (all : Option (Made MatchedAll)) →
-    i < length ps → p ≡ get_or ps i p → make_pat (pat_of p) ss env n ≡ Some (record { result = record { of = type_of t; names = inner }; state = m }) →
-    new ≡ parts ++ t ∷ [] → after (make_pats (pats_of (drop i ps)) ss env n) (behind (types_of parts)) ≡ all →
-    after (make_pats (pats_of (drop (i + 1) ps)) ss inner m) (behind (types_of new)) ≡ all
+pub pats_more : (qs : List Position) (ps : List Pattern) (i : ℕ) (p : Pattern) (ss : Schemes) (env inner : Locals) (n m : State) (parts new : List Sketch) (t : Sketch) (all : Option (Made MatchedAll)) →
+    i < length ps → p ≡ get_or ps i p → make_pat (pat_of p) ss env n ≡ Some (record { result = record { of = sketch_type qs t; names = inner }; state = m }) →
+    new ≡ parts ++ t ∷ [] → after (make_pats (pats_of (drop i ps)) ss env n) (behind (sketch_types qs parts)) ≡ all →
+    after (make_pats (pats_of (drop (i + 1) ps)) ss inner m) (behind (sketch_types qs new)) ≡ all
 unfolding after
-pats_more ps i p ss env inner n m parts new t all h e k g total =
+pats_more qs ps i p ss env inner n m parts new t all h e k g total =
     go (make_pats (pats_of (drop (i + 1) ps)) ss inner m)
-    ∙ sym (ap (λ o. after (after o (λ r n. after (make_pats (pats_of (drop (i + 1) ps)) ss r.names n) (λ q. made (record { of = type r.of q.of; names = q.names })))) (behind (types_of parts)))
+    ∙ sym (ap (λ o. after (after o (λ r n. after (make_pats (pats_of (drop (i + 1) ps)) ss r.names n) (λ q. made (record { of = type r.of q.of; names = q.names })))) (behind (sketch_types qs parts)))
     (ap (λ (p : Pattern). make_pat (pat_of p) ss env n) (sym e) ∙ k))
-    ∙ sym (ap (λ (x : Pats). after (make_pats x ss env n) (behind (types_of parts))) (pats_from ps i p h)) ∙ total
+    ∙ sym (ap (λ (x : Pats). after (make_pats x ss env n) (behind (sketch_types qs parts))) (pats_from ps i p h)) ∙ total
   where
-    longer : (ts : Tys) → append (types_of new) ts ≡ append (types_of parts) (type (type_of t) ts)
+    longer : (ts : Tys) → append (sketch_types qs new) ts ≡ append (sketch_types qs parts) (type (sketch_type qs t) ts)
     longer ts =
-        ap (λ (l : List code_ty.Ty). append (types_of l) ts) g ∙ ap (λ (x : Tys). append x ts) (types_last parts t)
-        ∙ append_assoc_types (types_of parts) (type (type_of t) no_type) ts
+        ap (λ (l : List Sketch). append (sketch_types qs l) ts) g ∙ ap (λ (x : Tys). append x ts) (sketches_last qs parts t)
+        ∙ append_assoc_types (sketch_types qs parts) (type (sketch_type qs t) no_type) ts
 
     go : (o : Option (Made MatchedAll)) →
-        after o (behind (types_of new)) ≡ after (after o (λ q. made (record { of = type (type_of t) q.of; names = q.names }))) (behind (types_of parts))
+        after o (behind (sketch_types qs new)) ≡ after (after o (λ q. made (record { of = type (sketch_type qs t) q.of; names = q.names }))) (behind (sketch_types qs parts))
     go None = refl
     go (Some q) = ap (λ (ts : Tys). Some (record { result = record { of = ts; names = q.result.names }; state = q.state })) (longer q.result.of)
 

@@ -1,3 +1,5 @@
 pub mod Finding
 pub mod Growing
 pub mod Lists
+pub mod Noting
+pub mod Sketching

@@ -10,42 +10,45 @@ use Rattle.aql_types.specs.declared.ty.Ty as code
 use Rattle.aql_syntax.specs.Typing.{field_type, field_types, record_type}
 use Rattle.aql_syntax.specs.declared.ast.Kind.{Kind}
 use Rattle.aql_infer_steps.specs.Constraints.{State, Made, after, equate, equate_each, literal_parts}
-use Rattle.aql_infer_steps.specs.View.{types_in}
+use Rattle.aql_infer_steps.specs.View.{sketch_type, sketch_types, types_in}
+use Rattle.aql_infer_steps.proofs.Sketching.{sketches_from}
+use Rattle.aql_infer_steps.specs.declared.sketch.Sketch.{Sketch}
+use Rattle.aql_infer_steps.specs.declared.positions.Position.{Position}
 use Rattle.aql_infer_steps.specs.Rows.{numbers}
 
-pub length_types_in : (ts : List code.Ty) → length (types_in ts) ≡ length ts
-length_types_in [] = refl
-length_types_in (t ∷ ts) = ap suc (length_types_in ts)
+pub length_types_in : (ps : List Position) (ts : List Sketch) → length (types_in ps ts) ≡ length ts
+length_types_in ps [] = refl
+length_types_in ps (t ∷ ts) = ap suc (length_types_in ps ts)
 
-pub tys_of_types_in : (ts : List code.Ty) → tys_of (types_in ts) ≡ types_of ts
-tys_of_types_in [] = refl
-tys_of_types_in (t ∷ ts) = ap (type (type_of t)) (tys_of_types_in ts)
+pub tys_of_types_in : (ps : List Position) (ts : List Sketch) → tys_of (types_in ps ts) ≡ sketch_types ps ts
+tys_of_types_in ps [] = refl
+tys_of_types_in ps (t ∷ ts) = ap (type (sketch_type ps t)) (tys_of_types_in ps ts)
 
-pub types_in_from : (ts : List code.Ty) (i : ℕ) (d : code.Ty) → i < length ts →
-    types_in (drop i ts) ≡ type_of (get_or ts i d) ∷ types_in (drop (i + 1) ts)
-types_in_from ts i d h = rw (add-one, drop-cons ts i d h) refl
+pub types_in_from : (ps : List Position) (ts : List Sketch) (i : ℕ) (d : Sketch) → i < length ts →
+    types_in ps (drop i ts) ≡ sketch_type ps (get_or ts i d) ∷ types_in ps (drop (i + 1) ts)
+types_in_from ps ts i d h = rw (add-one, drop-cons ts i d h) refl
 
-pub types_in_past : (ts : List code.Ty) (i : ℕ) → length ts ≤ i → types_in (drop i ts) ≡ []
-types_in_past ts i h = at_drop_all types_in ts i h
+pub types_in_past : (ps : List Position) (ts : List Sketch) (i : ℕ) → length ts ≤ i → types_in ps (drop i ts) ≡ []
+types_in_past ps ts i h = at_drop_all (types_in ps) ts i h
 
-pub types_in_append : (a b : List code.Ty) → types_in (a ++ b) ≡ types_in a ++ types_in b
-types_in_append [] b = refl
-types_in_append (t ∷ a) b = ap (λ l. type_of t ∷ l) (types_in_append a b)
+pub types_in_append : (ps : List Position) (a b : List Sketch) → types_in ps (a ++ b) ≡ types_in ps a ++ types_in ps b
+types_in_append ps [] b = refl
+types_in_append ps (t ∷ a) b = ap (λ l. sketch_type ps t ∷ l) (types_in_append ps a b)
 
 pub ruleset types_in_steps = (types_in_from, types_in_past)
 
 pub ruleset tuple_steps = (length_types_in, tys_of_types_in)
 
 -- the dimensions of a literal array and then its cells
-pub literal_parts-append : (ds : List code.Ty) (cs : List Ty) (s : Ty) (n : State) →
-    literal_parts (length ds) s (types_in ds ++ cs) n ≡ after (equate_each (types_in ds) natural n) (λ _. equate_each cs s)
+pub literal_parts-append : (ps : List Position) (ds : List Sketch) (cs : List Ty) (s : Ty) (n : State) →
+    literal_parts (length ds) s (types_in ps ds ++ cs) n ≡ after (equate_each (types_in ps ds) natural n) (λ _. equate_each cs s)
 unfolding after
-literal_parts-append [] cs s n = refl
-literal_parts-append (d ∷ ds) cs s n = go (equate (type_of d) natural n) (λ n. literal_parts-append ds cs s n)
+literal_parts-append ps [] cs s n = refl
+literal_parts-append ps (d ∷ ds) cs s n = go (equate (sketch_type ps d) natural n) (λ n. literal_parts-append ps ds cs s n)
   where
     go : (o : Option (Made (Unit {0}))) →
-        ((n : State) → literal_parts (length ds) s (types_in ds ++ cs) n ≡ after (equate_each (types_in ds) natural n) (λ _. equate_each cs s)) →
-        after o (λ _. literal_parts (length ds) s (types_in ds ++ cs)) ≡ after (after o (λ _. equate_each (types_in ds) natural)) (λ _. equate_each cs s)
+        ((n : State) → literal_parts (length ds) s (types_in ps ds ++ cs) n ≡ after (equate_each (types_in ps ds) natural n) (λ _. equate_each cs s)) →
+        after o (λ _. literal_parts (length ds) s (types_in ps ds ++ cs)) ≡ after (after o (λ _. equate_each (types_in ps ds) natural)) (λ _. equate_each cs s)
     go None h = refl
     go (Some m) h = h m.state
 
@@ -104,15 +107,26 @@ apply_more w made new one d ts i all h e f g total =
     ∙ ap (λ (y : Ty). append (types_of made) (type y rest)) (f ∙ ap (λ (d : code.Ty). apply w (type_of d)) e)
     ∙ sym (ap (λ (l : Tys). append (types_of made) (apply_all w l)) (types_from ts i d h)) ∙ total
 
+-- one type under way more under a substitution
+pub written_more : (w : Subst) (ps : List Position) (made new : List code.Ty) (one : code.Ty) (d : Sketch) (ts : List Sketch) (i : ℕ) (all : Tys) → i < length ts → d ≡ get_or ts i d →
+    type_of one ≡ apply w (sketch_type ps d) → new ≡ made ++ one ∷ [] → append (types_of made) (apply_all w (sketch_types ps (drop i ts))) ≡ all →
+    append (types_of new) (apply_all w (sketch_types ps (drop (i + 1) ts))) ≡ all
+written_more w ps made new one d ts i all h e f g total =
+    let rest : Tys = apply_all w (sketch_types ps (drop (i + 1) ts)) in
+    ap (λ (l : List code.Ty). append (types_of l) rest) g ∙ ap (λ (x : Tys). append x rest) (types_last made one)
+    ∙ append_assoc_types (types_of made) (type (type_of one) no_type) rest
+    ∙ ap (λ (y : Ty). append (types_of made) (type y rest)) (f ∙ ap (λ (d : Sketch). apply w (sketch_type ps d)) e)
+    ∙ sym (ap (λ (l : Tys). append (types_of made) (apply_all w l)) (sketches_from ps ts i d h)) ∙ total
+
 -- one of some types more that is to become that one
-pub equate_more : (ts : List code.Ty) (i : ℕ) (d : code.Ty) (t : Ty) (n m : State) (all : Option (Made (Unit {0}))) → i < length ts → d ≡ get_or ts i d →
-    equate (type_of d) t n ≡ Some (record { result = tt; state = m }) → equate_each (types_in (drop i ts)) t n ≡ all →
-    equate_each (types_in (drop (i + 1) ts)) t m ≡ all
+pub equate_more : (ps : List Position) (ts : List Sketch) (i : ℕ) (d : Sketch) (t : Ty) (n m : State) (all : Option (Made (Unit {0}))) → i < length ts → d ≡ get_or ts i d →
+    equate (sketch_type ps d) t n ≡ Some (record { result = tt; state = m }) → equate_each (types_in ps (drop i ts)) t n ≡ all →
+    equate_each (types_in ps (drop (i + 1) ts)) t m ≡ all
 unfolding after
-equate_more ts i d t n m all h e k total =
-    let rest : List Ty = types_in (drop (i + 1) ts) in
+equate_more ps ts i d t n m all h e k total =
+    let rest : List Ty = types_in ps (drop (i + 1) ts) in
     sym (ap (λ (o : Option (Made (Unit {0}))). after o (λ _. equate_each rest t)) k)
-    ∙ sym (ap (λ (l : List Ty). equate_each l t n) (types_in_from ts i d h ∙ ap (λ (d : code.Ty). type_of d ∷ rest) (sym e))) ∙ total
+    ∙ sym (ap (λ (l : List Ty). equate_each l t n) (types_in_from ps ts i d h ∙ ap (λ (d : Sketch). sketch_type ps d ∷ rest) (sym e))) ∙ total
 
 pub naturals_more : (made new : List code.Ty) (k : ℕ) → types_of made ≡ numbers k → new ≡ made ++ code.Nat ∷ [] → types_of new ≡ numbers (k + 1)
 naturals_more made new k e f = ap types_of f ∙ types_of_more made ∙ ap (λ (l : Tys). append l (type natural no_type)) e ∙ numbers_more k

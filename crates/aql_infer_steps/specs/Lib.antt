@@ -1,5 +1,7 @@
 pub mod Constraints
 pub mod Describes
+pub mod Ground
+pub mod Nodes
 pub mod Numbering
 pub mod Principal
 pub mod Rows

@@ -1,18 +1,19 @@
 //! Local names, and what the earlier positions have.
 
 ghost use Rattle.std.specs.Prelude.{◌≡◌, ◌∷◌, IfOk, OnOk, Some};
-ghost use Rattle.aql_types.specs.Types.{apply, apply_all};
-ghost use Rattle.aql_types.specs.View.{type_of, types_of, sort_of};
-ghost use Rattle.aql_types.specs.Answers.{type_in};
+ghost use Rattle.aql_types.specs.Types.{apply};
+ghost use Rattle.aql_types.specs.View.{type_of, sort_of};
 ghost use Rattle.aql_syntax.specs.Names.{names_equal, find};
 ghost use Rattle.aql_infer_steps.specs.Constraints.{raised, opened, make_value, make_global, make_name, make_macro, make_call};
-ghost use Rattle.aql_infer_steps.specs.View.{state_of, locals_of, schemes_of, Extends, MakesType};
+ghost use Rattle.aql_infer_steps.specs.View.{sketch_type, sketch_in, sort_at, part_of, state_of, locals_of, schemes_of, Extends, MakesType};
+ghost use Rattle.aql_infer_steps.specs.Ground.{is_ground, ground_of};
 
 use crate::fault::NoTyping;
-use crate::positions::{Position, Positions};
+use crate::positions::{Ground, Position, Positions};
+use crate::sketch::{Instance, Part, Sketch};
 use crate::store::{Store, equal_types, use_type};
-use aql_types::ty::{Scheme, Ty, row};
-use aql_value::made::{both, make_box};
+use aql_types::ty::{Scheme, Ty};
+use aql_value::made::both;
 use aql_value::{Memory, Str};
 use std::alloc::Global;
 
@@ -20,7 +21,7 @@ use std::alloc::Global;
 #[derive(Drop)]
 pub struct Local {
     pub name: Str,
-    pub ty: Ty,
+    pub ty: Sketch,
 }
 
 /// The type of a name that stands for a value: that of the innermost local name, else an instance
@@ -31,21 +32,27 @@ pub fn name_type(
     positions: &Positions,
     env: &[Local],
     s: Store,
-) -> Result<(Ty, Store), NoTyping>
-    ensures { MakesType result (make_name (schemes_of positions.now)
-        (find x.now (locals_of env.now)) x.now (state_of s)) }
+) -> Result<(Sketch, Store), NoTyping>
+    ensures { MakesType positions.now result (make_name (schemes_of positions.now)
+        (find x.now (locals_of positions.now env.now)) x.now (state_of positions.now s)) }
 {
-    match find_local(alloc, x, env)? {
+    match find_local(alloc, x, positions, env)? {
         Some(t) => Ok((t, s)),
         None => global(alloc, x, positions, s),
     }
 }
 
-fn global(alloc: Global, x: &Str, positions: &Positions, s: Store) -> Result<(Ty, Store), NoTyping>
-    ensures { MakesType result (make_global (find x.now (schemes_of positions.now)) (state_of s)) }
+fn global(
+    alloc: Global,
+    x: &Str,
+    positions: &Positions,
+    s: Store,
+) -> Result<(Sketch, Store), NoTyping>
+    ensures { MakesType positions.now result (make_global (find x.now (schemes_of positions.now))
+        (state_of positions.now s)) }
 {
     match positions.latest(x) {
-        Some(p) => instance(alloc, p, s),
+        Some((number, p, ground)) => instance(alloc, number, p, ground, positions, s),
         None => Err(NoTyping::NoType),
     }
 }
@@ -55,31 +62,41 @@ fn global(alloc: Global, x: &Str, positions: &Positions, s: Store) -> Result<(Ty
 pub fn application_type(
     alloc: Global,
     f: &Str,
-    argument: &Ty,
+    argument: &Sketch,
     positions: &Positions,
     env: &[Local],
     s: Store,
-) -> Result<(Ty, Store), NoTyping>
-    ensures { MakesType result (make_call (find f.now (locals_of env.now))
-        (find f.now (schemes_of positions.now)) (type_of argument.now) (state_of s)) }
+) -> Result<(Sketch, Store), NoTyping>
+    ensures { MakesType positions.now result (make_call (find f.now
+        (locals_of positions.now env.now))
+        (find f.now (schemes_of positions.now)) (sketch_type positions.now argument.now)
+        (state_of positions.now s)) }
 {
-    match find_local(alloc, f, env)? {
+    match find_local(alloc, f, positions, env)? {
         Some(_) => Err(NoTyping::NoType),
         None => match positions.latest(f) {
-            Some(p) => apply_macro(alloc, p, argument, s),
+            Some((number, p, ground)) => {
+                apply_macro(alloc, number, p, ground, argument, positions, s)
+            }
             None => Err(NoTyping::NoType),
         },
     }
 }
 
 #[tactic(auto, using(crate::proofs::Finding::local_steps))]
-fn find_local(alloc: Global, x: &Str, env: &[Local]) -> Result<Option<Ty>, Memory>
-    ensures { IfOk result (λ o. type_in o ≡ find x.now (locals_of env.now)) }
+fn find_local(
+    alloc: Global,
+    x: &Str,
+    positions: &Positions,
+    env: &[Local],
+) -> Result<Option<Sketch>, Memory>
+    ensures { IfOk result (λ o. sketch_in positions.now o ≡ find x.now
+        (locals_of positions.now env.now)) }
 {
     let mut rest = env;
     while let Some((last, before)) = rest.split_last() {
         if same_name(x, &last.name) {
-            let t = last.ty.copy(alloc)?;
+            let t = last.ty.copy(alloc, positions)?;
             return Ok(Some(t));
         }
         rest = before;
@@ -95,26 +112,47 @@ fn same_name(a: &Str, b: &Str) -> bool
 
 /// A local name more, the innermost.
 #[tactic(auto, using(crate::proofs::Finding::locals_last))]
-pub fn push_local(alloc: Global, name: &Str, ty: &Ty, env: &mut Vec<Local>) -> Result<(), Memory>
-    ensures names { OnOk result (locals_of env.new.items ≡ (name.now, type_of ty.now) ∷ locals_of
-        env.old.items) }
+pub fn push_local(
+    alloc: Global,
+    name: &Str,
+    ty: &Sketch,
+    positions: &Positions,
+    env: &mut Vec<Local>,
+) -> Result<(), Memory>
+    ensures names { OnOk result (locals_of positions.now env.new.items
+        ≡ (name.now, sketch_type positions.now ty.now) ∷ locals_of positions.now env.old.items) }
     ensures extends { OnOk result (Extends env.old.items env.new.items) }
 {
-    let (name, ty) = both(name.copy(alloc), ty.copy(alloc))?;
+    let (name, ty) = both(name.copy(alloc), ty.copy(alloc, positions))?;
     env.push(Local { name, ty })?;
     Ok(())
 }
 
-// An instance, with new variables, of what a position has.
+// An instance, with new variables, of what the position of that number has.
 #[tactic(auto, unfolding(crate::specs::Constraints::after))]
-fn instance(alloc: Global, p: &Position, s: Store) -> Result<(Ty, Store), NoTyping>
-    ensures { MakesType result (make_value (sort_of p.now.scheme) p.now.variables (state_of s)) }
+fn instance(
+    alloc: Global,
+    number: usize,
+    p: &Position,
+    ground: Ground,
+    positions: &Positions,
+    s: Store,
+) -> Result<(Sketch, Store), NoTyping>
+    requires here { sort_at positions.now number ≡ sort_of p.now.scheme }
+    requires ground { ground ≡ ground_of (sort_of p.now.scheme) }
+    ensures { MakesType positions.now result (make_value (sort_of p.now.scheme) p.now.variables
+        (state_of positions.now s)) }
 {
     match &p.scheme {
         Scheme::Value(t) => {
-            let (first, s) = open(p.variables, s)?;
-            let t = shift_variables(alloc, t, first)?;
-            let s = use_type(alloc, &t, s)?;
+            let (first, s) = open(p.variables, positions, s)?;
+            let part = Instance {
+                position: number,
+                part: Part::Value,
+                first,
+            };
+            let t = refer(part, t, ground.first, positions);
+            let s = use_type(alloc, &t, positions, s)?;
             Ok((t, s))
         }
         Scheme::Macro {
@@ -124,11 +162,21 @@ fn instance(alloc: Global, p: &Position, s: Store) -> Result<(Ty, Store), NoTypi
     }
 }
 
-// An application of a macro to an argument of that type.
+// An application of a macro, which the position of that number has, to an argument of that type.
 #[tactic(auto, unfolding(crate::specs::Constraints::after))]
-fn apply_macro(alloc: Global, p: &Position, given: &Ty, s: Store) -> Result<(Ty, Store), NoTyping>
-    ensures { MakesType result (make_macro (sort_of p.now.scheme) p.now.variables
-        (type_of given.now) (state_of s)) }
+fn apply_macro(
+    alloc: Global,
+    number: usize,
+    p: &Position,
+    ground: Ground,
+    given: &Sketch,
+    positions: &Positions,
+    s: Store,
+) -> Result<(Sketch, Store), NoTyping>
+    requires here { sort_at positions.now number ≡ sort_of p.now.scheme }
+    requires ground { ground ≡ ground_of (sort_of p.now.scheme) }
+    ensures { MakesType positions.now result (make_macro (sort_of p.now.scheme) p.now.variables
+        (sketch_type positions.now given.now) (state_of positions.now s)) }
 {
     match &p.scheme {
         Scheme::Value(_) => Err(NoTyping::NoType),
@@ -136,14 +184,22 @@ fn apply_macro(alloc: Global, p: &Position, given: &Ty, s: Store) -> Result<(Ty,
             argument: from,
             result: to,
         } => {
-            let (first, s) = open(p.variables, s)?;
-            let (a, b) = both(
-                shift_variables(alloc, from, first),
-                shift_variables(alloc, to, first),
-            )?;
-            let s = use_type(alloc, &a, s)?;
-            let s = use_type(alloc, &b, s)?;
-            let s = equal_types(alloc, given, &a, s)?;
+            let (first, s) = open(p.variables, positions, s)?;
+            let argument = Instance {
+                position: number,
+                part: Part::Argument,
+                first,
+            };
+            let result = Instance {
+                position: number,
+                part: Part::Result,
+                first,
+            };
+            let a = refer(argument, from, ground.first, positions);
+            let b = refer(result, to, ground.result, positions);
+            let s = use_type(alloc, &a, positions, s)?;
+            let s = use_type(alloc, &b, positions, s)?;
+            let s = equal_types(alloc, given, &a, positions, s)?;
             Ok((b, s))
         }
     }
@@ -151,9 +207,9 @@ fn apply_macro(alloc: Global, p: &Position, given: &Ty, s: Store) -> Result<(Ty,
 
 // That many new variables: the first.
 #[tactic(auto, unfolding(crate::specs::Constraints::opened))]
-fn open(count: u64, s: Store) -> Result<(u64, Store), Memory>
-    ensures { IfOk result (λ r. opened count (state_of s) ≡ Some
-        (record { result = raised r.0; state = state_of r.1 })) }
+fn open(count: u64, positions: &Positions, s: Store) -> Result<(u64, Store), Memory>
+    ensures { IfOk result (λ r. opened count (state_of positions.now s) ≡ Some
+        (record { result = raised r.0; state = state_of positions.now r.1 })) }
 {
     let mut s = s;
     let first = s.next;
@@ -166,41 +222,17 @@ fn open(count: u64, s: Store) -> Result<(u64, Store), Memory>
     }
 }
 
-// The type with each variable's number raised.
-#[cycle(shift_variables)]
-#[tactic(auto, unfolding(crate::specs::Constraints::raised), using(aql_types::specs::Laws::View::type_of_row))]
-fn shift_variables(alloc: Global, t: &Ty, by: u64) -> Result<Ty, Memory>
-    ensures { IfOk result (λ made. type_of made ≡ apply (raised by) (type_of t.now)) }
+// The part, whose type is `t`, as a reference. One without variables is the same at each use.
+#[tactic(auto, using(crate::proofs::Sketching::refer_steps))]
+fn refer(i: Instance, t: &Ty, ground: bool, positions: &Positions) -> Sketch
+    requires here { part_of i.part (sort_at positions.now i.position) ≡ type_of t.now }
+    requires ground { ground ≡ is_ground (type_of t.now) }
+    ensures { sketch_type positions.now result ≡ apply (raised i.first) (type_of t.now) }
 {
-    match t {
-        Ty::Nat => Ok(Ty::Nat),
-        Ty::Bool => Ok(Ty::Bool),
-        Ty::Text => Ok(Ty::Text),
-        Ty::Var(x) => match by.checked_add(*x) {
-            None => Err(Memory),
-            Some(y) => Ok(Ty::Var(y)),
-        },
-        Ty::Tuple(ts) => {
-            let items = shifted_all(alloc, &ts.items, by)?;
-            Ok(row(items))
-        }
-        Ty::SetOf(t) => Ok(Ty::SetOf(make_box(alloc, shift_variables(alloc, t, by))?)),
-        Ty::ArrayOf { rank, cell } => Ok(Ty::ArrayOf {
-            rank: *rank,
-            cell: make_box(alloc, shift_variables(alloc, cell, by))?,
-        }),
-    }
-}
-
-#[cycle(shift_variables)]
-#[tactic(auto, using(aql_types::specs::Laws::View::list_steps))]
-fn shifted_all(alloc: Global, ts: &[Ty], by: u64) -> Result<Vec<Ty>, Memory>
-    ensures { IfOk result (λ made. types_of made.items ≡ apply_all (raised by) (types_of ts.now)) }
-{
-    let mut made = Vec::new(alloc);
-    for t in ts {
-        let one = shift_variables(alloc, t, by)?;
-        made.push(one)?;
-    }
-    Ok(made)
+    let first = if ground { 0 } else { i.first };
+    Sketch::Instance(Instance {
+        position: i.position,
+        part: i.part,
+        first,
+    })
 }

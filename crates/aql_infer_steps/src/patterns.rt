@@ -1,20 +1,20 @@
 //! Patterns: the type that one matches, and the local names under it.
 
 ghost use Rattle.std.specs.Prelude.{◌≡◌, OnOk};
-ghost use Rattle.aql_types.specs.View.{type_of, types_of};
 ghost use Rattle.aql_syntax.specs.Tree.{pat, no_pat, axes, count_pats};
 ghost use Rattle.aql_syntax.specs.View.{pat_of, pats_of};
 ghost use Rattle.aql_infer_steps.specs.Constraints as constraints;
 ghost use Rattle.aql_infer_steps.specs.Constraints.{make_pat, make_pats};
-ghost use Rattle.aql_infer_steps.specs.View.{state_of, locals_of, schemes_of, Makes, Extends, MakesLocals};
+ghost use Rattle.aql_infer_steps.specs.View.{sketch_type, sketch_types, state_of, locals_of, schemes_of, Makes, Extends, MakesLocals};
 
 use crate::fault::NoTyping;
 use crate::names::{Local, name_type, push_local};
 use crate::operations::{array_of, set_of};
 use crate::positions::Positions;
+use crate::sketch::{Sketch, tuple_of};
 use crate::store::{Store, becomes, equal_types, new_variable};
 use aql_syntax::ast::Pattern;
-use aql_types::ty::{Ty, row};
+use aql_types::ty::Ty;
 use std::alloc::Global;
 
 /// The type that a pattern matches. The names that it binds are added to the local names.
@@ -26,35 +26,39 @@ pub fn pattern(
     positions: &Positions,
     env: &mut Vec<Local>,
     s: Store,
-) -> Result<(Ty, Store), NoTyping>
+) -> Result<(Sketch, Store), NoTyping>
     ensures made { Makes (λ r. record {
-      result = record { of = type_of r.0; names = locals_of env.new.items };
-      state = state_of
-          r.1;
-    }) result (make_pat (pat_of p.now) (schemes_of positions.now) (locals_of env.old.items)
-        (state_of s)) }
+      result = record {
+        of = sketch_type positions.now r.0;
+        names = locals_of positions.now
+            env.new.items;
+      };
+      state = state_of positions.now r.1;
+    }) result (make_pat (pat_of p.now) (schemes_of positions.now)
+        (locals_of positions.now env.old.items)
+        (state_of positions.now s)) }
     ensures extends { OnOk result (Extends env.old.items env.new.items) }
 {
     match p {
         Pattern::Bind(x) => {
-            let (t, s) = new_variable(s)?;
-            push_local(alloc, x, &t, env)?;
+            let (t, s) = new_variable(positions, s)?;
+            push_local(alloc, x, &t, positions, env)?;
             Ok((t, s))
         }
         Pattern::Any => {
-            let (t, s) = new_variable(s)?;
+            let (t, s) = new_variable(positions, s)?;
             Ok((t, s))
         }
-        Pattern::Nat(_) => Ok((Ty::Nat, s)),
-        Pattern::Bool(_) => Ok((Ty::Bool, s)),
-        Pattern::Text(_) => Ok((Ty::Text, s)),
+        Pattern::Nat(_) => Ok((Sketch::Plain(Ty::Nat), s)),
+        Pattern::Bool(_) => Ok((Sketch::Plain(Ty::Bool), s)),
+        Pattern::Text(_) => Ok((Sketch::Plain(Ty::Text), s)),
         Pattern::Name(x) => {
             let (t, s) = name_type(alloc, x, positions, env, s)?;
             Ok((t, s))
         }
         Pattern::Row(ps) => {
             let (parts, s) = patterns(alloc, &ps.items, positions, env, s)?;
-            Ok((row(parts), s))
+            Ok((tuple_of(parts, positions), s))
         }
     }
 }
@@ -67,17 +71,17 @@ fn patterns(
     positions: &Positions,
     env: &mut Vec<Local>,
     s: Store,
-) -> Result<(Vec<Ty>, Store), NoTyping>
+) -> Result<(Vec<Sketch>, Store), NoTyping>
     ensures made { Makes (λ r. record {
       result = record {
-        of = types_of r.0.items;
-        names = locals_of
-            env.new.items;
+        of = sketch_types positions.now r.0.items;
+        names = locals_of positions.now env.new.items;
       };
-      state = state_of r.1;
+      state = state_of positions.now r.1;
     }) result
-        (make_pats (pats_of ps.now) (schemes_of positions.now) (locals_of env.old.items)
-        (state_of s)) }
+        (make_pats (pats_of ps.now) (schemes_of positions.now)
+        (locals_of positions.now env.old.items)
+        (state_of positions.now s)) }
     ensures extends { OnOk result (Extends env.old.items env.new.items) }
 {
     let mut s = s;
@@ -95,17 +99,19 @@ fn patterns(
 pub fn match_pattern(
     alloc: Global,
     p: &Pattern,
-    t: &Ty,
+    t: &Sketch,
     positions: &Positions,
     env: &mut Vec<Local>,
     s: Store,
 ) -> Result<Store, NoTyping>
-    ensures made { MakesLocals env.new.items result (constraints.matched (pat_of p.now)
-        (schemes_of positions.now) (locals_of env.old.items) (type_of t.now) (state_of s)) }
+    ensures made { MakesLocals positions.now env.new.items result (constraints.matched
+        (pat_of p.now)
+        (schemes_of positions.now) (locals_of positions.now env.old.items)
+        (sketch_type positions.now t.now) (state_of positions.now s)) }
     ensures extends { OnOk result (Extends env.old.items env.new.items) }
 {
     let (of, s) = pattern(alloc, p, positions, env, s)?;
-    let s = becomes(alloc, t, Ok(of), s)?;
+    let s = becomes(alloc, t, Ok(of), positions, s)?;
     Ok(s)
 }
 
@@ -114,17 +120,19 @@ pub fn match_pattern(
 pub fn matched_member(
     alloc: Global,
     p: &Pattern,
-    t: &Ty,
+    t: &Sketch,
     positions: &Positions,
     env: &mut Vec<Local>,
     s: Store,
 ) -> Result<Store, NoTyping>
-    ensures made { MakesLocals env.new.items result (constraints.matched_member (pat_of p.now)
-        (schemes_of positions.now) (locals_of env.old.items) (type_of t.now) (state_of s)) }
+    ensures made { MakesLocals positions.now env.new.items result (constraints.matched_member
+        (pat_of p.now)
+        (schemes_of positions.now) (locals_of positions.now env.old.items)
+        (sketch_type positions.now t.now) (state_of positions.now s)) }
     ensures extends { OnOk result (Extends env.old.items env.new.items) }
 {
     let (of, s) = pattern(alloc, p, positions, env, s)?;
-    let s = becomes(alloc, t, set_of(alloc, of), s)?;
+    let s = becomes(alloc, t, set_of(alloc, of, positions), positions, s)?;
     Ok(s)
 }
 
@@ -135,17 +143,19 @@ pub fn matched_cell(
     alloc: Global,
     q: &Pattern,
     rank: u64,
-    t: &Ty,
+    t: &Sketch,
     positions: &Positions,
     env: &mut Vec<Local>,
     s: Store,
 ) -> Result<Store, NoTyping>
-    ensures made { MakesLocals env.new.items result (constraints.matched_cell (pat_of q.now) rank
-        (schemes_of positions.now) (locals_of env.old.items) (type_of t.now) (state_of s)) }
+    ensures made { MakesLocals positions.now env.new.items result (constraints.matched_cell
+        (pat_of q.now) rank
+        (schemes_of positions.now) (locals_of positions.now env.old.items)
+        (sketch_type positions.now t.now) (state_of positions.now s)) }
     ensures extends { OnOk result (Extends env.old.items env.new.items) }
 {
     let (of, s) = pattern(alloc, q, positions, env, s)?;
-    let s = becomes(alloc, t, array_of(alloc, rank, of), s)?;
+    let s = becomes(alloc, t, array_of(alloc, rank, of, positions), positions, s)?;
     Ok(s)
 }
 
@@ -174,8 +184,10 @@ pub fn matched_index(
     env: &mut Vec<Local>,
     s: Store,
 ) -> Result<Store, NoTyping>
-    ensures made { MakesLocals env.new.items result (constraints.matched_index (axes (pat_of p.now))
-        (schemes_of positions.now) (locals_of env.old.items) (state_of s)) }
+    ensures made { MakesLocals positions.now env.new.items result (constraints.matched_index (axes
+        (pat_of p.now))
+        (schemes_of positions.now) (locals_of positions.now env.old.items)
+        (state_of positions.now s)) }
     ensures extends { OnOk result (Extends env.old.items env.new.items) }
 {
     match p {
@@ -197,13 +209,13 @@ fn index_part(
     env: &mut Vec<Local>,
     s: Store,
 ) -> Result<Store, NoTyping>
-    ensures made { MakesLocals env.new.items result
+    ensures made { MakesLocals positions.now env.new.items result
         (constraints.matched_index (pat (pat_of p.now) no_pat) (schemes_of positions.now)
-        (locals_of env.old.items) (state_of s)) }
+        (locals_of positions.now env.old.items) (state_of positions.now s)) }
     ensures extends { OnOk result (Extends env.old.items env.new.items) }
 {
     let (of, s) = pattern(alloc, p, positions, env, s)?;
-    let s = equal_types(alloc, &of, &Ty::Nat, s)?;
+    let s = equal_types(alloc, &of, &Sketch::Plain(Ty::Nat), positions, s)?;
     Ok(s)
 }
 
@@ -215,14 +227,16 @@ fn index_parts(
     env: &mut Vec<Local>,
     s: Store,
 ) -> Result<Store, NoTyping>
-    ensures made { MakesLocals env.new.items result (constraints.matched_index (pats_of ps.now)
-        (schemes_of positions.now) (locals_of env.old.items) (state_of s)) }
+    ensures made { MakesLocals positions.now env.new.items result (constraints.matched_index
+        (pats_of ps.now)
+        (schemes_of positions.now) (locals_of positions.now env.old.items)
+        (state_of positions.now s)) }
     ensures extends { OnOk result (Extends env.old.items env.new.items) }
 {
     let mut s = s;
     for p in ps {
         let (of, then) = pattern(alloc, p, positions, env, s)?;
-        s = equal_types(alloc, &of, &Ty::Nat, then)?;
+        s = equal_types(alloc, &of, &Sketch::Plain(Ty::Nat), positions, then)?;
     }
     Ok(s)
 }

@@ -9,7 +9,7 @@ ghost use Rattle.aql_syntax.specs.Typing.{field_type, field_types, record_type};
 ghost use Rattle.aql_syntax.specs.View.{reader_of};
 ghost use Rattle.aql_infer_steps.specs.Constraints.{reader_fits};
 
-use crate::operations::{array_of, index, set_of};
+use crate::operations::index;
 use aql_syntax::ast::{Kind, Reader};
 use aql_types::ty::{Ty, row};
 use aql_value::Memory;
@@ -33,15 +33,15 @@ pub fn reader_type(alloc: Global, r: &Reader) -> Result<Ty, Memory>
     ensures { IfOk result (λ t. type_of t ≡ typing.reader_type (reader_of r.now)) }
 {
     match r {
-        Reader::Plain { rank } => array_of(alloc, *rank, Ty::Nat),
+        Reader::Plain { rank } => array_type(alloc, *rank, Ty::Nat),
         Reader::Signed { rank } => {
             let cell = signed_number(alloc)?;
-            array_of(alloc, *rank, cell)
+            array_type(alloc, *rank, cell)
         }
-        Reader::Strided { rank } => array_of(alloc, *rank, Ty::Nat),
+        Reader::Strided { rank } => array_type(alloc, *rank, Ty::Nat),
         Reader::Csv(c) => {
             let of = record(alloc, &c.kinds.items)?;
-            set_of(alloc, of)
+            set_type(alloc, of)
         }
     }
 }
@@ -56,6 +56,23 @@ pub fn argument_type(alloc: Global, r: &Reader) -> Result<Ty, Memory>
         Reader::Strided { rank } => strided_slab(alloc, *rank),
         Reader::Csv(_) => Ok(Ty::Text),
     }
+}
+
+// The type of sets of that type.
+fn set_type(alloc: Global, t: Ty) -> Result<Ty, Memory>
+    ensures { IfOk result (λ made. type_of made ≡ types.set_of (type_of t)) }
+{
+    Ok(Ty::SetOf(Box::new(alloc, t)?))
+}
+
+// The type of arrays of that rank and type.
+fn array_type(alloc: Global, rank: u64, cell: Ty) -> Result<Ty, Memory>
+    ensures { IfOk result (λ made. type_of made ≡ types.array_of rank (type_of cell)) }
+{
+    Ok(Ty::ArrayOf {
+        rank,
+        cell: Box::new(alloc, cell)?,
+    })
 }
 
 fn signed_number(alloc: Global) -> Result<Ty, Memory>

@@ -24,7 +24,7 @@ use Rattle.aql_type_graph.specs.Graphs.{forms_of, SolvedBy}
 use Rattle.aql_type_graph.specs.Laws.Homes.{are_homes}
 use Rattle.aql_type_solve.specs.Pushed.{AreNumbered, Makes}
 use Rattle.aql_type_solve.specs.Solution.{IsSolved, SolvedIn}
-use Rattle.aql_type_solve.proofs.Pushing.{forms_long}
+use Rattle.aql_type_solve.specs.Laws.Pushing.{forms_long}
 
 -- The homes of the variables are their own numbers.
 

@@ -1,6 +1,7 @@
 -- What a graph has more where the nodes of types were pushed: those of the types and of their parts alone.
-use Rattle.std.specs.Prelude.{ℕ, ◌≡◌, ◌<◌, ◌≤◌, List, ◌++◌, length}
+use Rattle.std.specs.Prelude.{ℕ, ◌≡◌, ◌+◌, ◌<◌, ◌≤◌, List, ◌++◌, length}
 use Rattle.aql_value.specs.Lists.{Every}
+use Rattle.aql_types.specs.Types as types
 use Rattle.aql_types.specs.Types.{Ty, Tys, Subst, apply, IsWithin}
 use Rattle.aql_types.specs.Unifiers.{Equations, SidesWithin}
 use Rattle.aql_types.specs.Unifiers as unifiers
@@ -12,6 +13,10 @@ use Rattle.aql_type_graph.specs.Forms as form
 use Rattle.aql_type_graph.specs.Valuations.{AreIn}
 use Rattle.aql_type_graph.specs.Trees.{type_at, equations_of, AllWithin}
 use Rattle.aql_type_graph.specs.Graphs.{forms_of}
+
+-- each variable with its number raised
+abbrev pub shift : ℕ → Subst
+shift n x = types.var (n + x)
 
 -- the first n nodes are the variables, each by its own number
 pub record AreNumbered (n : ℕ) (fs : List Form) : Type 0 where

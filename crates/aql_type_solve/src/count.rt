@@ -16,7 +16,7 @@ pub(crate) fn count_variables(work: &[Equation], uses: &[Ty]) -> Result<u32, Mem
 }
 
 /// The number in 32 bits. `Memory` where they do not hold it.
-pub(crate) fn to_number(n: u64) -> Result<u32, Memory>
+pub fn to_number(n: u64) -> Result<u32, Memory>
     ensures { IfOk result (λ i. i ≡ n) }
 {
     if n > u32::MAX as u64 {

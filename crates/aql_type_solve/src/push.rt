@@ -2,9 +2,10 @@
 
 ghost use Rattle.std.specs.Prelude.{◌∷◌, [], IfOk};
 ghost use Rattle.aql_types.specs.Types as types;
+ghost use Rattle.aql_types.specs.Types.{apply, apply_all};
 ghost use Rattle.aql_types.specs.View.{type_of, types_of, listed};
 ghost use Rattle.aql_type_graph.specs.Graphs.{forms_of};
-ghost use Rattle.aql_type_solve.specs.Pushed.{AreNumbered, IsFresh, Pushes, PushesAll, PushesUses, PushesEquations, Makes};
+ghost use Rattle.aql_type_solve.specs.Pushed.{shift, AreNumbered, IsFresh, Pushes, PushesAll, PushesUses, PushesEquations, Makes};
 
 use crate::count::{count_variables, to_number};
 use aql_type_graph::graph::Graph;
@@ -32,8 +33,8 @@ pub(crate) fn make_graph(
     push_equations(alloc, g, work)
 }
 
-// That many variables, each the node of its own number.
-fn push_variables(alloc: Global, n: u32) -> Result<Graph, Memory>
+/// That many variables, each the node of its own number.
+pub fn push_variables(alloc: Global, n: u32) -> Result<Graph, Memory>
     ensures { IfOk result (λ g. IsFresh n g) }
 {
     let mut g = empty_graph(alloc);
@@ -49,7 +50,7 @@ fn push_uses(alloc: Global, g: Graph, uses: Vec<Ty>) -> Result<Graph, Memory>
     requires { AreNumbered g.variables (forms_of g) }
     ensures { IfOk result (λ made. PushesUses made g (types_of uses.items)) }
 {
-    let (_, made) = push_types(alloc, g, &uses)?;
+    let (_, made) = push_types(alloc, g, &uses, 0)?;
     Ok(made)
 }
 
@@ -76,51 +77,63 @@ fn push_equation(alloc: Global, g: Graph, e: Equation) -> Result<(node::Equation
     requires { AreNumbered g.variables (forms_of g) }
     ensures { IfOk result (λ r. PushesEquations (r.0 ∷ []) r.1 g (listed (e ∷ []))) }
 {
-    let (left, g) = push_type(alloc, g, &e.left)?;
-    let (right, g) = push_type(alloc, g, &e.right)?;
+    let (left, g) = push_type(alloc, g, &e.left, 0)?;
+    let (right, g) = push_type(alloc, g, &e.right, 0)?;
     Ok((node::Equation { left, right }, g))
 }
 
-// A node of a type, behind those of its parts; a variable is the node of its own number.
+/// A node of a type whose variables are raised by a number, behind those of its parts; a variable is the node of its own number.
 #[cycle(push)]
-fn push_type(alloc: Global, g: Graph, t: &Ty) -> Result<(u32, Graph), Memory>
+pub fn push_type(alloc: Global, g: Graph, t: &Ty, by: u64) -> Result<(u32, Graph), Memory>
     requires { AreNumbered g.variables (forms_of g) }
-    ensures { IfOk result (λ r. Pushes r.0 r.1 g (type_of t.now)) }
+    ensures { IfOk result (λ r. Pushes r.0 r.1 g (apply (shift by) (type_of t.now))) }
 {
     match t {
         Ty::Nat => push_natural(g),
         Ty::Bool => push_truth(g),
         Ty::Text => push_text(g),
-        Ty::Var(x) => find_variable(g, *x),
+        Ty::Var(x) => raised_variable(g, *x, by),
         Ty::Tuple(ts) => {
-            let (parts, g) = push_types(alloc, g, &ts.items)?;
+            let (parts, g) = push_types(alloc, g, &ts.items, by)?;
             push_tuple(g, &parts)
         }
         Ty::SetOf(t) => {
-            let (member, g) = push_type(alloc, g, t)?;
+            let (member, g) = push_type(alloc, g, t, by)?;
             push_set(g, member)
         }
         Ty::ArrayOf { rank, cell } => {
             let rank = to_number(*rank)?;
-            let (cell, g) = push_type(alloc, g, cell)?;
+            let (cell, g) = push_type(alloc, g, cell, by)?;
             push_array(g, rank, cell)
         }
     }
 }
 
 #[cycle(push)]
-fn push_types(alloc: Global, g: Graph, ts: &[Ty]) -> Result<(Vec<u32>, Graph), Memory>
+fn push_types(alloc: Global, g: Graph, ts: &[Ty], by: u64) -> Result<(Vec<u32>, Graph), Memory>
     requires { AreNumbered g.variables (forms_of g) }
-    ensures { IfOk result (λ r. PushesAll r.0.items r.1 g (types_of ts.now)) }
+    ensures { IfOk result (λ r. PushesAll r.0.items r.1 g (apply_all (shift by)
+        (types_of ts.now))) }
 {
     let mut g = g;
     let mut made = Vec::new(alloc);
     for t in ts {
-        let (i, more) = push_type(alloc, g, t)?;
+        let (i, more) = push_type(alloc, g, t, by)?;
         g = more;
         made.push(i)?;
     }
     Ok((made, g))
+}
+
+// The node of a variable that is raised by a number.
+fn raised_variable(g: Graph, x: u64, by: u64) -> Result<(u32, Graph), Memory>
+    requires { AreNumbered g.variables (forms_of g) }
+    ensures { IfOk result (λ r. Pushes r.0 r.1 g (shift by x)) }
+{
+    match by.checked_add(x) {
+        None => Err(Memory),
+        Some(y) => find_variable(g, y),
+    }
 }
 
 // The node of a variable. There is one for each number below that of the variables.

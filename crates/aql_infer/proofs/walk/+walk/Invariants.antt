@@ -1,7 +1,6 @@
 use Rattle.aql_infer_steps.specs.Constraints.{after, made, make_all, make_binds, make_bounds, make_each, make_rows}
-use Rattle.aql_infer_steps.specs.View.{Extends, locals_of, schemes_of, state_of, types_in}
+use Rattle.aql_infer_steps.specs.View.{Extends, locals_of, schemes_of, sketch_type, state_of, types_in}
 use Rattle.aql_syntax.specs.View.{axes_in, defs_in, quals_of, trees_of}
-use Rattle.aql_types.specs.View.{type_of}
 use Rattle.std.proofs.Common.{◌+◌, ◌*◌, drop, length, ◌++◌, ◌≡◌}
 use Rattle.aql_infer.proofs.walk.+walk.Given as goal
 
@@ -61,36 +60,36 @@ decreases-infer_binds l = 8 * l.fuel + 1
 
 abbrev pub invariant-infer_all-loop-e : goal.invariant-infer_all-loop-e
 invariant-infer_all-loop-e l = record {
-  made : after (make_all (trees_of (drop l.e-index l.es)) (schemes_of l.positions) (locals_of l.env.items) (state_of l.s)) (λ ts. made (types_in l.made.items ++ ts))
-      ≡ make_all (trees_of l.es) (schemes_of l.positions) (locals_of l.initial.env.items) (state_of l.fn.s);
+  made : after (make_all (trees_of (drop l.e-index l.es)) (schemes_of l.positions) (locals_of l.positions l.env.items) (state_of l.positions l.s)) (λ ts. made (types_in l.positions l.made.items ++ ts))
+      ≡ make_all (trees_of l.es) (schemes_of l.positions) (locals_of l.positions l.initial.env.items) (state_of l.positions l.fn.s);
   count : length l.made.items ≡ l.e-index;
   kept : l.env.items ≡ l.initial.env.items;
 }
 
 abbrev pub invariant-infer_binds-loop-b : goal.invariant-infer_binds-loop-b
 invariant-infer_binds-loop-b l = record {
-  made : make_binds (defs_in (drop l.b-index l.binds)) (schemes_of l.positions) (locals_of l.env.items) (state_of l.s)
-      ≡ make_binds (defs_in l.binds) (schemes_of l.positions) (locals_of l.initial.env.items) (state_of l.fn.s);
+  made : make_binds (defs_in (drop l.b-index l.binds)) (schemes_of l.positions) (locals_of l.positions l.env.items) (state_of l.positions l.s)
+      ≡ make_binds (defs_in l.binds) (schemes_of l.positions) (locals_of l.positions l.initial.env.items) (state_of l.positions l.fn.s);
   extends : Extends l.initial.env.items l.env.items;
 }
 
 abbrev pub invariant-infer_bounds-loop-b : goal.invariant-infer_bounds-loop-b
 invariant-infer_bounds-loop-b l = record {
-  made : make_bounds (axes_in (drop l.b-index l.binds)) (schemes_of l.positions) (locals_of l.env.items) (state_of l.s)
-      ≡ make_bounds (axes_in l.binds) (schemes_of l.positions) (locals_of l.initial.env.items) (state_of l.fn.s);
+  made : make_bounds (axes_in (drop l.b-index l.binds)) (schemes_of l.positions) (locals_of l.positions l.env.items) (state_of l.positions l.s)
+      ≡ make_bounds (axes_in l.binds) (schemes_of l.positions) (locals_of l.positions l.initial.env.items) (state_of l.positions l.fn.s);
   kept : l.env.items ≡ l.initial.env.items;
 }
 
 abbrev pub invariant-infer_each-loop-e : goal.invariant-infer_each-loop-e
 invariant-infer_each-loop-e l = record {
-  made : make_each (trees_of (drop l.e-index l.es)) (schemes_of l.positions) (locals_of l.env.items) (type_of l.t) (state_of l.s)
-      ≡ make_each (trees_of l.es) (schemes_of l.positions) (locals_of l.initial.env.items) (type_of l.t) (state_of l.fn.s);
+  made : make_each (trees_of (drop l.e-index l.es)) (schemes_of l.positions) (locals_of l.positions l.env.items) (sketch_type l.positions l.t) (state_of l.positions l.s)
+      ≡ make_each (trees_of l.es) (schemes_of l.positions) (locals_of l.positions l.initial.env.items) (sketch_type l.positions l.t) (state_of l.positions l.fn.s);
   kept : l.env.items ≡ l.initial.env.items;
 }
 
 abbrev pub invariant-infer_rows-loop-q : goal.invariant-infer_rows-loop-q
 invariant-infer_rows-loop-q l = record {
-  made : make_rows (quals_of (drop l.q-index l.quals)) (schemes_of l.positions) (locals_of l.env.items) (state_of l.s)
-      ≡ make_rows (quals_of l.quals) (schemes_of l.positions) (locals_of l.initial.env.items) (state_of l.fn.s);
+  made : make_rows (quals_of (drop l.q-index l.quals)) (schemes_of l.positions) (locals_of l.positions l.env.items) (state_of l.positions l.s)
+      ≡ make_rows (quals_of l.quals) (schemes_of l.positions) (locals_of l.positions l.initial.env.items) (state_of l.positions l.fn.s);
   extends : Extends l.initial.env.items l.env.items;
 }

@@ -6,6 +6,6 @@ use Rattle.aql_infer.proofs.walk.push_indices.Given as goal
 
 abbrev pub invariant-loop-b : goal.invariant-loop-b
 invariant-loop-b l = record {
-  names : with_indices (axes_in (drop l.b-index l.binds)) (locals_of l.env.items) ≡ with_indices (axes_in l.binds) (locals_of l.initial.env.items);
+  names : with_indices (axes_in (drop l.b-index l.binds)) (locals_of l.positions l.env.items) ≡ with_indices (axes_in l.binds) (locals_of l.positions l.initial.env.items);
   extends : Extends l.initial.env.items l.env.items;
 }

@@ -6,7 +6,7 @@ use Rattle.aql_infer_steps.proofs.patterns.index_parts.Given as goal
 
 abbrev pub invariant-loop-p : goal.invariant-loop-p
 invariant-loop-p l = record {
-  made : matched_index (pats_of (drop l.p-index l.ps)) (schemes_of l.positions) (locals_of l.env.items) (state_of l.s)
-      ≡ matched_index (pats_of l.ps) (schemes_of l.positions) (locals_of l.initial.env.items) (state_of l.fn.s);
+  made : matched_index (pats_of (drop l.p-index l.ps)) (schemes_of l.positions) (locals_of l.positions l.env.items) (state_of l.positions l.s)
+      ≡ matched_index (pats_of l.ps) (schemes_of l.positions) (locals_of l.positions l.initial.env.items) (state_of l.positions l.fn.s);
   extends : Extends l.initial.env.items l.env.items;
 }

@@ -1,4 +1,4 @@
-use Rattle.aql_type_solve.proofs.Pushing.{found}
+use Rattle.aql_type_solve.specs.Laws.Pushing.{found}
 use Rattle.aql_type_solve.proofs.push.find_variable.Goals as goal
 
 pub returns-then-x-g : goal.returns-then-x-g

@@ -1,5 +1,5 @@
 use Rattle.aql_types.specs.View.{types_of, listed}
-use Rattle.aql_type_solve.proofs.Pushing.{made_ok}
+use Rattle.aql_type_solve.specs.Laws.Pushing.{made_ok}
 use Rattle.aql_type_solve.proofs.push.make_graph.Goals as goal
 
 pub returns : goal.returns

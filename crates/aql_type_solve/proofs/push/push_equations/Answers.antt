@@ -1,4 +1,4 @@
-use Rattle.aql_type_solve.proofs.Pushing.{kept_numbered, next_equation}
+use Rattle.aql_type_solve.specs.Laws.Pushing.{kept_numbered, next_equation}
 use Rattle.aql_type_solve.proofs.push.push_equations.Goals as goal
 
 pub loop-e-preserved : goal.loop-e-preserved

@@ -10,7 +10,7 @@ use Rattle.aql_types.specs.Types as types
 use Rattle.aql_types.specs.Types.{Ty, Tys, no_type, type, Subst, apply, apply_all, IsWithin, append}
 use Rattle.aql_types.specs.Unifiers.{Equations, SidesWithin}
 use Rattle.aql_types.specs.Unifiers as unifiers
-use Rattle.aql_types.specs.Laws.Types.{PartsWithin, parts_within, first_within, rest_within, member_within, cell_within, row_is}
+use Rattle.aql_types.specs.Laws.Types.{PartsWithin, parts_within, first_within, rest_within, member_within, cell_within, row_is, apply_same, apply_all_same, apply_var, apply_all_var, apply_all-append}
 use Rattle.aql_types.specs.declared.ty.Ty as code
 use Rattle.aql_types.specs.declared.equation.Equation as code_equation
 use Rattle.aql_types.specs.View.{type_of, types_of, listed}
@@ -26,7 +26,14 @@ use Rattle.aql_type_graph.specs.Trees.{grown, type_at, equations_of, AllWithin}
 use Rattle.aql_type_graph.specs.Graphs.{forms_of, Adds}
 use Rattle.aql_type_graph.specs.Laws.Shapes.{types_same, whole_same}
 use Rattle.aql_type_graph.specs.Laws.Trees.{type_grown, at_first, at_last, kept_type}
-use Rattle.aql_type_solve.specs.Pushed.{AreNumbered, IsFresh, Extends, Pushes, PushesAll, PushesUses, PushesEquations, Makes}
+use Rattle.aql_type_solve.specs.Pushed.{shift, AreNumbered, IsFresh, Extends, Pushes, PushesAll, PushesUses, PushesEquations, Makes}
+
+-- a type with no number raised
+pub shift_none : (t : Ty) → apply (shift 0) t ≡ t
+shift_none t = apply_same (shift 0) types.var (λ x. let e : 0 + x ≡ x = omega arith in ap types.var e) t ∙ apply_var t
+
+pub shift_none_all : (ts : Tys) → apply_all (shift 0) ts ≡ ts
+shift_none_all ts = apply_all_same (shift 0) types.var (λ x. let e : 0 + x ≡ x = omega arith in ap types.var e) ts ∙ apply_all_var ts
 
 pub forms_long : (g : Graph) → length (forms_of g) ≡ length g.nodes.items
 forms_long g = length-map g.nodes.items (form_of g.parts.items)
@@ -61,7 +68,7 @@ kept_numbered new old e h =
 
 -- One node more.
 
-added : (i : ℕ) (new old : Graph) (s : Shape) → Adds i new old (form.made s) → Extends new old
+pub added : (i : ℕ) (new old : Graph) (s : Shape) → Adds i new old (form.made s) → Extends new old
 added i new old s a = record { behind = (form.made s ∷ [], a.forms); variables = a.variables ∙ (let z : old.variables + 0 ≡ old.variables = omega arith in z) }
 
 added_at : (i : ℕ) (new old : Graph) (s : Shape) → Adds i new old (form.made s) → at (forms_of new) i ≡ form.made s
@@ -174,12 +181,15 @@ one_more ps i new mid old ts t h k =
     }
 
 -- the next type of a list
-pub next_type : (ps qs : List ℕ) (i n : ℕ) (new mid old : Graph) (ts : List code.Ty) (x d : code.Ty) → qs ≡ ps ++ i ∷ [] → n < length ts → x ≡ get_or ts n d → PushesAll ps mid old (types_of (take n ts)) → Pushes i new mid (type_of x) → PushesAll qs new old (types_of (take (n + 1) ts))
-next_type ps qs i n new mid old ts x d e lt q h k =
+pub next_type : (u : Subst) (ps qs : List ℕ) (i n : ℕ) (new mid old : Graph) (ts : List code.Ty) (x d : code.Ty) → qs ≡ ps ++ i ∷ [] → n < length ts → x ≡ get_or ts n d →
+    PushesAll ps mid old (apply_all u (types_of (take n ts))) → Pushes i new mid (apply u (type_of x)) → PushesAll qs new old (apply_all u (types_of (take (n + 1) ts)))
+next_type u ps qs i n new mid old ts x d e lt q h k =
     let y = get_or ts n d in
-    let more = one_more ps i new mid old (types_of (take n ts)) (type_of y) h (subst (λ z. Pushes i new mid (type_of z)) q k) in
-    let last : types_of (take (n + 1) ts) ≡ append (types_of (take n ts)) (type (type_of y) no_type) = ap types_of (take_more ts n d lt) ∙ types_last (take n ts) y in
-    subst (PushesAll qs new old) (sym last) (subst (λ is. PushesAll is new old (append (types_of (take n ts)) (type (type_of y) no_type))) (sym e) more)
+    let more = one_more ps i new mid old (apply_all u (types_of (take n ts))) (apply u (type_of y)) h (subst (λ z. Pushes i new mid (apply u (type_of z))) q k) in
+    let last : apply_all u (types_of (take (n + 1) ts)) ≡ append (apply_all u (types_of (take n ts))) (type (apply u (type_of y)) no_type) =
+    ap (apply_all u) (ap types_of (take_more ts n d lt) ∙ types_last (take n ts) y) ∙ apply_all-append u (types_of (take n ts)) (type (type_of y) no_type)
+    in
+    subst (PushesAll qs new old) (sym last) (subst (λ is. PushesAll is new old (append (apply_all u (types_of (take n ts))) (type (apply u (type_of y)) no_type))) (sym e) more)
 
 uses_of : (u : Subst) (fs : List Form) (n : ℕ) (ps : List ℕ) → n ≡ length fs → Every (λ p. p < n) ps → AllWithin u fs → unifiers.AllWithin u (types_at (type_at fs) ps)
 uses_of u fs n [] e h k = tt
