@@ -10,6 +10,7 @@ use Rattle.aql_value.specs.Operations.{as_natural, as_truth}
 use Rattle.aql_value.specs.Laws.Operations.{each-naturals}
 use Rattle.aql_value.specs.Partial.{◌>>=◌, each}
 use Rattle.aql_value.specs.Laws.Partial.{then-none, each-append_none}
+use Rattle.nrca_array.specs.Groups.{numbers_set}
 use Rattle.nrca_array.specs.Places.{natural_of}
 use Rattle.nrca_array.specs.Packing.{width_for, spelled, truth_byte, naturals_packing, truths_packing, pairs_packing, first, packing, as_pair, parts_pair, pair_datum}
 
@@ -132,7 +133,13 @@ truths-lent bs bytes h f = (λ i. Some (8, f i)) ∙ sym (truths-pack bs h)
 pub pairs-lent : (ps : List (Bool × ℕ)) (bytes : List ℕ) (w : ℕ) → 1 ≤ length ps → w ≡ (pairs_packing ps).0 → bytes ≡ (pairs_packing ps).1 → Some (w, bytes) ≡ packing (map pair_datum ps)
 pairs-lent ps bytes w h e f = (λ i. Some (e i, f i)) ∙ sym (pairs-pack ps h)
 
-pub ruleset lent = (naturals-lent, truths-lent, pairs-lent)
+-- sets are not packed
+pub sets-pack : (gs : List (List ℕ)) → None ≡ packing (map numbers_set gs)
+unfolding packing
+sets-pack [] = refl
+sets-pack (g ∷ gs) = refl
+
+pub ruleset lent = (naturals-lent, truths-lent, pairs-lent, sets-pack)
 
 -- of cells that are not all naturals no cell is a natural among naturals
 pub plain-others : (cs : List Datum) (i : ℕ) → i < length cs → packing cs ≡ None → None ≡ natural_of cs i
@@ -154,4 +161,8 @@ naturals-at ns i n h e =
     ∙ sym (slice_get-map natural ns i)
     ∙ ap (λ o. o >>= λ ms. slice_get (map natural ns) i) (sym (each-naturals ns))
 
-pub ruleset others = (plain-others, truths-others, pairs-others, naturals-at)
+pub sets-others : (gs : List (List ℕ)) (i : ℕ) → i < length (map numbers_set gs) → None ≡ natural_of (map numbers_set gs) i
+sets-others [] i h = absurd (omega (arith, h))
+sets-others (g ∷ gs) i h = refl
+
+pub ruleset others = (plain-others, truths-others, pairs-others, sets-others, naturals-at)

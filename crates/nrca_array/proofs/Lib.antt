@@ -6,3 +6,4 @@ pub mod Steps
 pub mod Places
 pub mod RunsWritten
 pub mod Fitting
+pub mod GroupsKept

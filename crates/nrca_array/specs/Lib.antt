@@ -4,3 +4,5 @@ pub mod Stored
 pub mod Held
 pub mod Places
 pub mod Runs
+pub mod Groups
+pub mod Laws

@@ -3,6 +3,7 @@ use Rattle.std.specs.Prelude.{◌≡◌, ℕ, ◌≤◌, Bool, List, length, map
 use Rattle.aql_value.specs.Datum.{Datum, Table, natural, truth}
 use Rattle.nrca_array.specs.Packing.{pair_datum, packing}
 use Rattle.nrca_array.specs.Kept.{paired_up}
+use Rattle.nrca_array.specs.Groups.{numbers_set}
 use Rattle.nrca_array.specs.declared.builder.Store.{Store}
 use Rattle.nrca_array.specs.declared.builder.Store.TheVariants as store
 use Rattle.nrca_array.specs.declared.flat.Kept.{Kept}
@@ -32,13 +33,15 @@ kept_cells (kept.Plain items) = items
 kept_cells (kept.Naturals ns) = map natural ns
 kept_cells (kept.Truths bs) = map truth bs
 kept_cells (kept.Pairs ps) = map pair_datum ps
+kept_cells (kept.Groups gs) = map numbers_set gs
 
--- cells that are packed where they can be
+-- cells that are packed where they can be, as no sets can
 abbrev pub IsKept : Kept → Type 0
 IsKept (kept.Plain items) = packing items ≡ None
 IsKept (kept.Naturals ns) = 1 ≤ length ns
 IsKept (kept.Truths bs) = 1 ≤ length bs
 IsKept (kept.Pairs ps) = 1 ≤ length ps
+IsKept (kept.Groups gs) = Unit {0}
 
 -- the array of these dimensions and cells
 abbrev pub kept_table : List ℕ → Kept → Table

@@ -1,13 +1,17 @@
 ghost use Rattle.std.specs.Prelude.{◌≡◌, ◌<◌, ◌≤◌, length, IfOk, slice_get, slice_range, Some, option_map};
+ghost use Rattle.std.specs.List.Sorted.{IsStrictlySortedBy};
 ghost use Rattle.aql_value.specs.Meaning.{datum};
 ghost use Rattle.aql_value.specs.Indices.{cell, IsTable};
 ghost use Rattle.aql_value.specs.Datum.{natural, data_of};
 ghost use Rattle.aql_value.specs.Valid.{AreValues};
+ghost use Rattle.nrca_sets.specs.Pairs.{pair_cmp};
+ghost use Rattle.nrca_array.specs.Groups.{seconds_table};
 ghost use Rattle.nrca_array.specs.Packing.{packing};
 ghost use Rattle.nrca_array.specs.Places.{IsPlaceOf, natural_cell, natural_of};
 ghost use Rattle.nrca_array.specs.Stored.{kept_cells, IsKept};
 
 use crate::builder::Builder;
+use crate::groups::Groups;
 use crate::numbers::Numbers;
 use crate::pairs::Pairs;
 use crate::truths::Truths;
@@ -18,8 +22,9 @@ use std::alloc::Global;
 use std::marker::Model;
 
 /// An array, its cells in row-major order. One cell or more that are all naturals, all truth
-/// values or all pairs of a truth value and a natural are packed. Contracts see the dimensions
-/// and the cells.
+/// values or all pairs of a truth value and a natural are packed. Of an array of sets of naturals
+/// that is made of pairs the members are kept one after the other. Contracts see the dimensions and
+/// the cells.
 #[derive(Drop)]
 pub struct Flat {
     dims: Dims,
@@ -33,6 +38,7 @@ pub(crate) enum Kept {
     Naturals(Numbers),
     Truths(Truths),
     Pairs(Pairs),
+    Groups(Groups),
 }
 
 impl Model for Flat {
@@ -72,6 +78,17 @@ impl Flat {
             packed = packed.push(alloc, value)?;
         }
         packed.shaped(dims)
+    }
+
+    /// The array of rank 1 that has so many cells: at an index the set of the second numbers of the
+    /// pairs with that first number. It takes 8 bytes a pair and 8 a cell.
+    pub fn of_pairs(alloc: Global, pairs: &[(u64, u64)], count: usize) -> Result<Flat, Memory>
+        requires { IsStrictlySortedBy pair_cmp pairs.now }
+        ensures { IfOk result (λ flat. flat ≡ seconds_table count pairs.now) }
+    {
+        let cells = Groups::of_pairs(alloc, pairs, count)?;
+        let dims = vec![in alloc; count as u128]?;
+        Ok(Flat::new(Dims { dims }, Kept::Groups(cells)))
     }
 
     /// The dimensions, of which there are 1 to 8. It takes no memory.
@@ -199,6 +216,7 @@ impl Kept {
             Kept::Naturals(numbers) => numbers.len(),
             Kept::Truths(truths) => truths.len(),
             Kept::Pairs(pairs) => pairs.len(),
+            Kept::Groups(groups) => groups.len(),
         }
     }
 
@@ -215,6 +233,7 @@ impl Kept {
                 let (b, n) = pairs.get(at);
                 pair_value(alloc, b, n)
             }
+            Kept::Groups(groups) => groups.get(alloc, at),
         }
     }
 
@@ -242,6 +261,7 @@ impl Kept {
             Kept::Naturals(numbers) => Some(numbers.lend()),
             Kept::Truths(truths) => Some((8, truths.lend())),
             Kept::Pairs(pairs) => Some(pairs.lend()),
+            Kept::Groups(_) => None,
         }
     }
 
@@ -255,6 +275,7 @@ impl Kept {
             Kept::Naturals(numbers) => numbers.fit(),
             Kept::Truths(_) => (),
             Kept::Pairs(pairs) => pairs.fit(),
+            Kept::Groups(groups) => groups.valid(),
         }
     }
 
@@ -268,6 +289,7 @@ impl Kept {
             Kept::Naturals(numbers) => Kept::Naturals(numbers.copy(alloc)?),
             Kept::Truths(truths) => Kept::Truths(truths.copy(alloc)?),
             Kept::Pairs(pairs) => Kept::Pairs(pairs.copy(alloc)?),
+            Kept::Groups(groups) => Kept::Groups(groups.copy(alloc)?),
         })
     }
 }

@@ -6,14 +6,15 @@
 //! `specs/Packing.antt` defines. A `Builder` takes cells one at a time and packs as it goes.
 //! `valid_held` shows that what is held is a value of the language.
 //!
-//! Read `flat.rt` and `builder.rt` beside `specs/Packing.antt`, then `held.rt`; what is kept
-//! stands in `numbers.rt`, `truths.rt` and `pairs.rt`, over `bytes.rt` and `width.rt`; `run.rt` and
-//! `put_runs.rt` take numbers out of the bytes of a file (`specs/Runs.antt`).
+//! Read `flat.rt` and `builder.rt` beside `specs/Packing.antt`, then `held.rt`; what is kept stands in `numbers.rt`,
+//! `truths.rt` and `pairs.rt`, over `bytes.rt` and `width.rt`, and in `groups.rt`, sets of naturals one after the other
+//! (`specs/Groups.antt`); `run.rt` and `put_runs.rt` take numbers out of the bytes of a file (`specs/Runs.antt`).
 #![tactic(auto)]
 
 mod builder;
 mod bytes;
 mod flat;
+mod groups;
 mod held;
 mod numbers;
 mod pairs;
