@@ -4,3 +4,4 @@ pub mod Grouping
 pub mod Extents
 pub mod Arrays
 pub mod Members
+pub mod Packed

@@ -1,3 +1,4 @@
 pub mod Indexing
 pub mod Made
+pub mod Packed
 pub mod Laws

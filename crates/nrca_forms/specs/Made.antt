@@ -27,9 +27,9 @@ IsFreed value r = MatchResult r (λ d. IsOkAnd value (λ v. d.answer ≡ v) × (
 abbrev pub held_pair : Option (Held × Held) → Option (Datum × Datum)
 held_pair o = option_map (λ p. (held_datum p.0, held_datum p.1)) o
 
--- the cell of a kept array at the index that kept values are
-abbrev pub kept_cell : Held → Option (Vec Held Global) → Option Datum
-kept_cell a at = cell_in (held_datum a) (numbers_in (parts_value at))
+-- the cell of an array at the index that kept values are
+abbrev pub kept_cell : Datum → Option (Vec Held Global) → Option Datum
+kept_cell a at = cell_in a (numbers_in (parts_value at))
 
 -- the dimensions as one value, where they are as many as the rank
 abbrev pub dims_datum : (rank : ℕ) → List ℕ → Option Datum

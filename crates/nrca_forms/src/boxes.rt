@@ -1,7 +1,8 @@
 //! What forms make of their parts' values, on the heap.
 
-ghost use Rattle.std.specs.Prelude.{◌≡◌, IfOk};
-ghost use Rattle.aql_value.specs.Operations.{dim_of, part_of};
+ghost use Rattle.std.specs.Prelude.{◌≡◌, Some, IfOk};
+ghost use Rattle.aql_value.specs.Meaning.{datum};
+ghost use Rattle.aql_value.specs.Operations.{dim_of};
 ghost use Rattle.nrca_array.specs.Held.{held_datum};
 ghost use Rattle.nrca_loops.specs.Parts.{parts_value};
 ghost use Rattle.nrca_loops.specs.Scope.{boxed_value};
@@ -10,8 +11,8 @@ ghost use Rattle.nrca_forms.specs.Made.{kept_cell};
 ghost use Rattle.nrca_loops.specs.Evaluates.{Applies, strict_form};
 
 use crate::forms::strict;
-use crate::operations::{cell_of_parts, dim, part_lent};
-use aql_value::Memory;
+use crate::operations::{cell_of_parts, dim, value_cell_of_parts, value_dim};
+use aql_value::{Memory, Value};
 use nrca_array::Held;
 use nrca_loops::{Counted, to_box};
 use nrca_par::EvalFault;
@@ -25,9 +26,22 @@ pub fn cell_boxed(
     array: &Held,
     at: Option<Vec<Held>>,
 ) -> Result<Option<Box<Held>>, Memory>
-    ensures { IfOk result (λ v. boxed_value v ≡ kept_cell array.now at) }
+    ensures { IfOk result (λ v. boxed_value v ≡ kept_cell (held_datum array.now) at) }
 {
     let cell = cell_of_parts(alloc, array, at)?;
+    to_box(alloc, cell)
+}
+
+/// The same of an array that is kept as a value.
+#[inline(never)]
+pub fn value_cell_boxed(
+    alloc: Global,
+    array: &Value,
+    at: Option<Vec<Held>>,
+) -> Result<Option<Box<Held>>, Memory>
+    ensures { IfOk result (λ v. boxed_value v ≡ kept_cell (datum array.now) at) }
+{
+    let cell = value_cell_of_parts(alloc, array, at)?;
     to_box(alloc, cell)
 }
 
@@ -48,20 +62,35 @@ pub fn dim_boxed(
     })
 }
 
-/// The part of a tuple that is lent, the parts counted from 1, on the heap and without turns.
+/// The same of an array that is kept as a value.
 #[inline(never)]
-pub fn part_boxed(
+pub fn value_dim_boxed(
     alloc: Global,
-    tuple: &Held,
-    at: u64,
-    of: u64,
+    array: &Value,
+    rank: u64,
     budget: u64,
 ) -> Result<Counted<Option<Box<Held>>>, EvalFault>
-    ensures { Within boxed_value budget (part_of at of (held_datum tuple.now)) 0 result }
+    ensures { Within boxed_value budget (dim_of rank (datum array.now)) 0 result }
 {
-    let part = part_lent(alloc, tuple, at, of)?;
+    let dims = value_dim(alloc, array, rank)?;
     Ok(Counted {
-        answer: to_box(alloc, part)?,
+        answer: to_box(alloc, dims)?,
+        turns: 0,
+    })
+}
+
+/// A copy of a value, on the heap and without turns.
+#[inline(never)]
+pub fn copy_boxed(
+    alloc: Global,
+    value: &Value,
+    budget: u64,
+) -> Result<Counted<Option<Box<Held>>>, EvalFault>
+    ensures { Within boxed_value budget (Some (datum value.now)) 0 result }
+{
+    let copy = Held::Value(value.copy(alloc)?);
+    Ok(Counted {
+        answer: to_box(alloc, Some(copy))?,
         turns: 0,
     })
 }

@@ -16,6 +16,7 @@ ghost use Rattle.aql_value.specs.Strict.{Strict};
 ghost use Rattle.nrca_loops.specs.Evaluates.{Applies};
 
 use crate::operations::{free, table_of};
+use crate::runs::{index_packed, packed_pairs};
 use aql_value::{Dims, Items, Memory, Value, canon, is_below, place, saturating_product};
 use nrca_array::{Builder, Held};
 use nrca_loops::{Counted, set_of, with_cell};
@@ -47,14 +48,32 @@ pub(crate) fn index_set(
     if count > budget {
         return Err(EvalFault::Spent);
     }
-    let pairs = index_run(alloc, rank, &set, 0, count);
-    drop(set);
-    let pairs = pairs?;
-    let made = index_pairs(alloc, rank, pairs, budget - count)?;
+    let made = index_members(alloc, rank, set, budget - count)?;
     Ok(Counted {
         answer: made.answer,
         turns: count + made.turns,
     })
+}
+
+// The array that the members of a set make, a turn for each cell. Packed pairs are not read one by one.
+fn index_members(
+    alloc: Global,
+    rank: u64,
+    set: Set,
+    budget: u64,
+) -> Result<Counted<Option<Held>>, EvalFault>
+    ensures { MakesArray budget rank (pairs_run rank set 0 (length set)) result }
+{
+    if let Some(pairs) = packed_pairs(rank, &set) {
+        let made = index_packed(alloc, pairs, budget);
+        drop(set);
+        return made;
+    }
+    let count = set.count() as u64;
+    let pairs = index_run(alloc, rank, &set, 0, count);
+    drop(set);
+    let pairs = pairs?;
+    index_pairs(alloc, rank, pairs, budget)
 }
 
 /// The pairs that the members of a set are, from one place up to another: none where one is no

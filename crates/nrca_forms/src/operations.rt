@@ -4,7 +4,7 @@ ghost use Rattle.std.specs.Prelude.{◌≡◌, ◌<◌, ◌≤◌, ◌∷◌, []
 ghost use Rattle.std.specs.Option.{option_map};
 ghost use Rattle.aql_value.specs.Datum.{natural, set, data_of};
 ghost use Rattle.aql_value.specs.Meaning.{datum};
-ghost use Rattle.aql_value.specs.Operations.{as_tuple, part_of, get_of, dim_of, arith_of, compare_of, union_of as union_datum, tuple_of, set_of, literal_of, cell_of, only, nth};
+ghost use Rattle.aql_value.specs.Operations.{part_of, get_of, dim_of, arith_of, compare_of, union_of as union_datum, tuple_of, set_of, literal_of, cell_of, only, nth};
 ghost use Rattle.aql_value.specs.Indices.{cell};
 ghost use Rattle.aql_value.specs.Ops.{compare_by};
 ghost use Rattle.aql_value.specs.Order.{datum_cmp};
@@ -20,7 +20,7 @@ use aql_value::{
     ArithOp, Cells, CompareOp, Dims, Index, Items, Memory, Parts, Value, compare as compare_values,
 };
 use nrca_array::{Builder, Flat, Held};
-use nrca_loops::{Counted, into_value, item, merge_sets, natural, row_of, set_of, with_cell};
+use nrca_loops::{Counted, into_value, merge_sets, natural, row_of, set_of, with_cell};
 use nrca_par::EvalFault;
 use nrca_sets::{Gather, Set};
 use std::alloc::Global;
@@ -127,57 +127,25 @@ fn take_item(items: Items, i: usize) -> Value
     list.swap_remove(i)
 }
 
-// The part of a tuple that is lent, the parts counted from 1: it alone is copied.
-#[tactic(auto, using(crate::proofs::Strictly::parts))]
-pub(crate) fn part_lent(alloc: Global, v: &Held, at: u64, of: u64) -> Result<Option<Held>, Memory>
-    ensures { IfOk result (λ r. held_value r ≡ part_of at of (held_datum v.now)) }
-{
-    let Some(items) = row_lent(v) else {
-        return Ok(None);
-    };
-    if items.items.len() as u64 != of {
-        return Ok(None);
-    }
-    item_lent(alloc, items, at)
-}
-
-// The parts of the tuple that a value is.
-#[tactic(auto, using(aql_value::specs::Laws::Datum::data_lists))]
-fn row_lent(v: &Held) -> Option<&Items>
-    ensures { option_map (λ items. items.now) result ≡ as_tuple (held_datum v.now) }
-{
-    match v {
-        Held::Value(Value::Row(parts)) => Some(parts.items()),
-        _ => None,
-    }
-}
-
-// A copy of the item of a number counted from 1.
-#[tactic(auto, using(crate::proofs::Strictly::parts))]
-fn item_lent(alloc: Global, items: &Items, at: u64) -> Result<Option<Held>, Memory>
-    ensures { IfOk result (λ r. held_value r ≡ nth at items.now) }
-{
-    if at == 0 {
-        return Ok(None);
-    }
-    let i = (at - 1) as usize;
-    if i < items.items.len() {
-        Ok(Some(Held::Value(item(alloc, items, i)?)))
-    } else {
-        Ok(None)
-    }
-}
-
 pub(crate) fn dim(alloc: Global, v: &Held, rank: u64) -> Result<Option<Held>, Memory>
     ensures { IfOk result (λ r. held_value r ≡ dim_of rank (held_datum v.now)) }
 {
     match v {
-        Held::Value(Value::Grid(cells)) => {
+        Held::Value(value) => value_dim(alloc, value, rank),
+        Held::Flat(flat) => dims_value(alloc, flat.dims(), rank),
+        _ => Ok(None),
+    }
+}
+
+pub(crate) fn value_dim(alloc: Global, v: &Value, rank: u64) -> Result<Option<Held>, Memory>
+    ensures { IfOk result (λ r. held_value r ≡ dim_of rank (datum v.now)) }
+{
+    match v {
+        Value::Grid(cells) => {
             // That the cells are a table says that there is a dimension.
             let _cells = cells.items();
             dims_value(alloc, cells.dims(), rank)
         }
-        Held::Flat(flat) => dims_value(alloc, flat.dims(), rank),
         _ => Ok(None),
     }
 }
@@ -288,7 +256,7 @@ pub(crate) fn cell_of_parts(
     array: &Held,
     at: Option<Vec<Held>>,
 ) -> Result<Option<Held>, Memory>
-    ensures { IfOk result (λ r. held_value r ≡ kept_cell array.now at) }
+    ensures { IfOk result (λ r. held_value r ≡ kept_cell (held_datum array.now) at) }
 {
     match numbers(alloc, at)? {
         Some(at) => cell_at(alloc, array, &at),
@@ -308,12 +276,46 @@ fn cell(alloc: Global, array: &Held, at: &Index) -> Result<Option<Held>, Memory>
     ensures { IfOk result (λ r. held_value r ≡ cell_of (held_datum array.now) at.now.items) }
 {
     match array {
-        Held::Value(Value::Grid(cells)) => {
-            let found = grid_cell(alloc, cells, at)?;
+        Held::Value(value) => {
+            let found = value_cell(alloc, value, at)?;
             Ok(found)
         }
         Held::Flat(flat) => {
             let found = flat_cell(alloc, flat, at)?;
+            Ok(found)
+        }
+        _ => Ok(None),
+    }
+}
+
+// The same of an array that is kept as a value.
+pub(crate) fn value_cell_of_parts(
+    alloc: Global,
+    array: &Value,
+    at: Option<Vec<Held>>,
+) -> Result<Option<Held>, Memory>
+    ensures { IfOk result (λ r. held_value r ≡ kept_cell (datum array.now) at) }
+{
+    match numbers(alloc, at)? {
+        Some(at) => value_cell_at(alloc, array, &at),
+        None => Ok(None),
+    }
+}
+
+fn value_cell_at(alloc: Global, array: &Value, at: &Dims) -> Result<Option<Held>, Memory>
+    ensures { IfOk result (λ r. held_value r ≡ cell_of (datum array.now) at.now) }
+{
+    let at = Index::from_slice(alloc, at.dims.as_slice())?;
+    value_cell(alloc, array, &at)
+}
+
+#[tactic(auto, using(aql_value::specs::Laws::Datum::data_lists))]
+fn value_cell(alloc: Global, array: &Value, at: &Index) -> Result<Option<Held>, Memory>
+    ensures { IfOk result (λ r. held_value r ≡ cell_of (datum array.now) at.now.items) }
+{
+    match array {
+        Value::Grid(cells) => {
+            let found = grid_cell(alloc, cells, at)?;
             Ok(found)
         }
         _ => Ok(None),

@@ -1,3 +1,5 @@
+pub mod Choices
 pub mod Few
+pub mod Lending
 pub mod Quick
 pub mod Laws

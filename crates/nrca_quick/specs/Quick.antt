@@ -3,8 +3,6 @@ use Rattle.std.specs.Prelude.{◌≡◌, ℕ, Bool, List, length, nat_eq, Option
 use Rattle.aql_value.specs.Datum.{Datum, natural, truth}
 use Rattle.aql_value.specs.Operations.{nth}
 use Rattle.aql_value.specs.Partial.{each, total}
-use Rattle.nrca_array.specs.declared.held.Held.{Held}
-use Rattle.nrca_array.specs.Held.{held_datum}
 use Rattle.nrca_term.specs.declared.term.Core.{Core}
 use Rattle.nrca_term.specs.declared.term.Terms.{Terms}
 use Rattle.nrca_term.specs.Meaning.{Outcomes, cden}
@@ -23,8 +21,8 @@ abbrev pub IsTruth : Outcomes → Env → Core → Bool → Type 0
 IsTruth V env t b = cden V (values env) (term_of t) ≡ Some (truth b)
 
 -- the cell of the array at the index that the terms are worth is the number
-abbrev pub IsCell : Outcomes → Env → Held → Terms → ℕ → Type 0
-IsCell V env a at n = cell_in (held_datum a) (numbers_in (each (cden V (values env)) (terms_of at))) ≡ Some (natural n)
+abbrev pub IsCell : Outcomes → Env → Datum → Terms → ℕ → Type 0
+IsCell V env a at n = cell_in a (numbers_in (each (cden V (values env)) (terms_of at))) ≡ Some (natural n)
 
 -- none of the terms takes turns
 abbrev pub TakeNone : Outcomes → Env → Terms → Type 0

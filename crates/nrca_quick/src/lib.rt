@@ -7,9 +7,13 @@
 //! Read `numbers.rt` beside `specs/Quick.antt`, then `small.rt`; `sets.rt` beside `specs/Few.antt`.
 #![tactic(auto)]
 
+mod choices;
+mod lending;
 mod numbers;
 mod sets;
-mod small;
+pub mod small;
 
-pub use numbers::quick;
+pub use choices::chosen;
+pub use lending::{Lent, lent_part, lent_value, part_lent};
+pub use numbers::{quick, quick_test, quick_truth};
 pub use sets::{AtMostOne, Small, few, members_and_few};

@@ -2,18 +2,19 @@
 
 ghost use Rattle.std.specs.Prelude.{IfSome};
 ghost use Rattle.nrca_loops.specs.Evaluates.{TakesNone};
+ghost use Rattle.nrca_quick.specs.Lending.{lent_datum};
 ghost use Rattle.nrca_quick.specs.Quick.{IsNumber, IsTruth, IsCell, TakeNone};
 
+use crate::lending::{Lent, lent_part, lent_value};
 use crate::small::{
-    small, small_arith, small_cell, small_compare, small_dim, small_held, small_part,
-    small_variable,
+    lent_cell, lent_dim, small, small_arith, small_compare, small_held, small_value, small_variable,
 };
-use nrca_array::Held;
 use nrca_loops::{Env, Globals, lent};
 use nrca_term::{Core, Terms};
 
-/// The number that a term is, where it is found so; it takes no turns then. Of an array only cells
-/// that are packed numbers, and the one dimension of an array of rank 1, are read.
+/// The number that a term is, where it is found so; it takes no turns then. Of arrays that are lent
+/// the cells that are numbers, and the one dimension of an array of rank 1, are read, and the parts of
+/// tuples that are lent.
 #[cycle(quick)]
 pub fn quick(term: &Core, globals: &Globals, env: &Env) -> Option<u64>
     ensures value { IfSome result (λ n. IsNumber globals.now env.now term.now n) }
@@ -54,25 +55,22 @@ pub fn quick(term: &Core, globals: &Globals, env: &Env) -> Option<u64>
                 None => None,
             },
         },
-        Core::Proj { at, of, part } => match lent(part, &*globals, &*env) {
-            Some(held) => small_part(held, *at, *of),
+        Core::Proj { .. } => quick_part(term, globals, env),
+        Core::Sub { array, at } => match lent_part(array, &*globals, &*env) {
+            Some(array) => quick_cell(array, at, &*globals, &*env),
             None => None,
         },
-        Core::Sub { array, at } => match lent(array, &*globals, &*env) {
-            Some(held) => quick_cell(held, at, &*globals, &*env),
-            None => None,
-        },
-        Core::Dim { rank, array } => match lent(array, &*globals, &*env) {
-            Some(held) => small_dim(held, *rank),
+        Core::Dim { rank, array } => match lent_part(array, &*globals, &*env) {
+            Some(array) => lent_dim(array, *rank),
             None => None,
         },
         _ => None,
     }
 }
 
-// The truth value that a term is, where it is found so.
+/// The truth value that a term is, where it is found so; it takes no turns then.
 #[cycle(quick)]
-pub(crate) fn quick_truth(term: &Core, globals: &Globals, env: &Env) -> Option<bool>
+pub fn quick_truth(term: &Core, globals: &Globals, env: &Env) -> Option<bool>
     ensures value { IfSome result (λ b. IsTruth globals.now env.now term.now b) }
     ensures turns { IfSome result (λ b. TakesNone globals.now env.now term.now) }
 {
@@ -100,8 +98,9 @@ pub(crate) fn quick_truth(term: &Core, globals: &Globals, env: &Env) -> Option<b
 // dimensions. The index stands here, so that a level of the recursion keeps little on the stack.
 #[cycle(quick)]
 #[inline(never)]
-fn quick_cell(array: &Held, at: &Terms, globals: &Globals, env: &Env) -> Option<u64>
-    ensures value { IfSome result (λ n. IsCell globals.now env.now array.now at.now n) }
+fn quick_cell(array: Lent, at: &Terms, globals: &Globals, env: &Env) -> Option<u64>
+    ensures value { IfSome result (λ n. IsCell globals.now env.now (lent_datum array.entry) at.now
+        n) }
     ensures turns { IfSome result (λ n. TakeNone globals.now env.now at.now) }
 {
     let mut index = [0u128; 8];
@@ -116,5 +115,63 @@ fn quick_cell(array: &Held, at: &Terms, globals: &Globals, env: &Env) -> Option<
         index[count] = u128::from(n);
         count += 1;
     }
-    small_cell(array, &index[..count])
+    lent_cell(array, &index[..count])
+}
+
+// The number that a part of a tuple that is lent is.
+#[inline(never)]
+fn quick_part(term: &Core, globals: &Globals, env: &Env) -> Option<u64>
+    ensures value { IfSome result (λ n. IsNumber globals.now env.now term.now n) }
+    ensures turns { IfSome result (λ n. TakesNone globals.now env.now term.now) }
+{
+    match lent_value(term, globals, env) {
+        Some(value) => small_value(value),
+        None => None,
+    }
+}
+
+/// The truth value that the test of a choice is, where it is found so without a choice within it.
+/// A choice in a test is left to its own evaluation: so where tests are nested, and none is found so,
+/// each is walked once, and not once for each around it.
+pub fn quick_test(test: &Core, globals: &Globals, env: &Env) -> Option<bool>
+    ensures value { IfSome result (λ b. IsTruth globals.now env.now test.now b) }
+    ensures turns { IfSome result (λ b. TakesNone globals.now env.now test.now) }
+{
+    match test {
+        Core::Compare(_, first, second) => {
+            if is_plain(first) && is_plain(second) {
+                quick_truth(test, globals, env)
+            } else {
+                None
+            }
+        }
+        Core::Bool(b) => Some(*b),
+        _ => None,
+    }
+}
+
+// Whether the term is one that `quick` looks at whole, and holds no choice.
+#[cycle(plain)]
+fn is_plain(term: &Core) -> bool {
+    match term {
+        Core::Nat(_) => true,
+        Core::Var(_) => true,
+        Core::Global(_) => true,
+        Core::Arith(_, first, second) => is_plain(first) && is_plain(second),
+        Core::Let(bound, body) => is_plain(bound) && is_plain(body),
+        Core::Proj { part, .. } => is_plain(part),
+        Core::Sub { array, at } => is_plain(array) && are_plain(at),
+        Core::Dim { array, .. } => is_plain(array),
+        _ => false,
+    }
+}
+
+#[cycle(plain)]
+fn are_plain(terms: &Terms) -> bool {
+    for term in &terms.0 {
+        if !is_plain(term) {
+            return false;
+        }
+    }
+    true
 }

@@ -1,4 +1,4 @@
-use Rattle.std.proofs.Common.{sym, ap, ◌∙◌, get_or, arith}
+use Rattle.std.proofs.Common.{sym, ◌∙◌, get_or, arith}
 use Rattle.std.proofs.lemmas.Option.{slice_get-get_or}
 use Rattle.aql_value.specs.Datum.{natural}
 use Rattle.nrca_forms.specs.Indexing.{pairs_with}
