@@ -7,24 +7,29 @@ ghost use Rattle.nrca_term.specs.View.{term_of, terms_of};
 ghost use Rattle.nrca_loops.specs.Runs.{member_list};
 ghost use Rattle.nrca_eval.specs.Parts.{is_strict_form, part_terms};
 ghost use Rattle.nrca_loops.specs.Evaluates.{Evaluates, EvaluatesAll, EvaluatesHeld, EvaluatesSet, default_of, if_of, let_of, sum_loop, tab_of, union_loop};
-ghost use Rattle.nrca_eval.specs.Loops.{Collects, EvaluatesCell, Fills, Sums, Unites};
+ghost use Rattle.nrca_quick.specs.Lending.{lent_datum};
+ghost use Rattle.nrca_eval.specs.Added.{EvaluatesAdded};
+ghost use Rattle.nrca_eval.specs.Loops.{Adds, Collects, EvaluatesCell, Extends, Fills, Sums, Unites};
 
+use crate::blocks::{Span, block_cells, block_end, block_sets, block_sum, in_rows, row_end};
 use crate::index::strict_kept;
 use crate::joins::{joined_cells, joined_sets, joined_sums};
-use crate::members::{finished, members_and};
+use crate::lending::{cell_of_lent, dim_of_lent};
+use crate::members::{Added, all_members, finished, members_and, one_member};
 use crate::pieces::in_pieces;
 use crate::scope::{Mode, Scope};
 use aql_outside::Gate;
 use aql_value::{Dims, Value, saturating_product};
 use nrca_array::{Builder, Held};
-use nrca_forms::{cell_boxed, dim_boxed, numbers, part_boxed, sum_of, table_of, union_of};
+use nrca_blocks::{add_cells, add_sets, in_blocks};
+use nrca_forms::{copy_boxed, numbers, sum_of, table_of, union_of};
 use nrca_loops::{
-    Counted, Env, Members, Next, as_members, cells_and, from_box, join_done, keep_part, lent,
+    Counted, Env, Members, Next, as_members, cells_and, from_box, join_done, join_sums, keep_part,
     members_below, members_of_both, parts_kept, position, set_index, sum_and, to_box, truth_kept,
     variable, zeros,
 };
 use nrca_par::EvalFault;
-use nrca_quick::{few, members_and_few, quick};
+use nrca_quick::{Lent, chosen, few, lent_part, lent_value, members_and_few, quick, quick_test};
 use nrca_sets::{Gather, Set};
 use nrca_term::{Core, Terms};
 use std::alloc::Global;
@@ -53,37 +58,38 @@ pub(crate) fn node<R: Threads + Sync, G: Gate>(
         Core::BigUnion { over, body } => eval_union(scope, over, body, env, budget),
         Core::Sum { over, body } => eval_sum(scope, over, body, env, budget),
         Core::Tab { bounds, body } => eval_tab(scope, bounds, body, env, budget),
-        Core::Sub { array, at } => match lent(array, scope.globals, &*env) {
+        Core::Sub { array, at } => match lent_part(array, scope.globals, &*env) {
             Some(array) => eval_cell(scope, array, at, env, budget),
             None => eval_strict(scope, term, env, budget),
         },
-        Core::Dim { rank, array } => match lent(array, scope.globals, &*env) {
-            Some(array) => dim_boxed(scope.alloc, array, *rank, budget),
+        Core::Dim { rank, array } => match lent_part(array, scope.globals, &*env) {
+            Some(array) => dim_of_lent(scope.alloc, array, *rank, budget),
             None => eval_strict(scope, term, env, budget),
         },
-        Core::Proj { at, of, part } => match lent(part, scope.globals, &*env) {
-            Some(tuple) => part_boxed(scope.alloc, tuple, *at, *of, budget),
+        Core::Proj { .. } => match lent_value(term, scope.globals, &*env) {
+            Some(part) => copy_boxed(scope.alloc, part, budget),
             None => eval_strict(scope, term, env, budget),
         },
         _ => eval_strict(scope, term, env, budget),
     }
 }
 
-// The cell of an array that stands in a variable or a position, and is not copied.
+// The cell of an array that is lent, and is not copied.
 #[cycle(eval)]
 #[inline(never)]
 fn eval_cell<R: Threads + Sync, G: Gate>(
     scope: &Scope<R, G>,
-    array: &Held,
+    array: Lent,
     at: &Terms,
     env: &Env,
     budget: u64,
 ) -> Result<Counted<Option<Box<Held>>>, EvalFault>
-    ensures { EvaluatesCell budget scope.now.globals.now env.now array.now at.now result }
+    ensures { EvaluatesCell budget scope.now.globals.now env.now (lent_datum array.entry) at.now
+        result }
 {
     let at = eval_all(scope, at, env, budget)?;
     Ok(Counted {
-        answer: cell_boxed(scope.alloc, array, at.answer)?,
+        answer: cell_of_lent(scope.alloc, array, at.answer)?,
         turns: at.turns,
     })
 }
@@ -189,9 +195,31 @@ fn eval_let<R: Threads + Sync, G: Gate>(
     }
 }
 
+// A choice, whose test is tried in 64 bits first: such a test makes no values on the heap.
 #[cycle(eval)]
 #[inline(never)]
 fn eval_if<R: Threads + Sync, G: Gate>(
+    scope: &Scope<R, G>,
+    test: &Core,
+    yes: &Core,
+    no: &Core,
+    env: &Env,
+    budget: u64,
+) -> Result<Counted<Option<Box<Held>>>, EvalFault>
+    ensures { Evaluates budget scope.now.globals.now env.now (if_of test.now yes.now no.now)
+        result }
+{
+    match quick_test(test, scope.globals, &*env) {
+        Some(true) => node(scope, yes, env, budget),
+        Some(false) => node(scope, no, env, budget),
+        None => eval_choice(scope, test, yes, no, env, budget),
+    }
+}
+
+// A choice, whose test is evaluated as any other term.
+#[cycle(eval)]
+#[inline(never)]
+fn eval_choice<R: Threads + Sync, G: Gate>(
     scope: &Scope<R, G>,
     test: &Core,
     yes: &Core,
@@ -530,10 +558,94 @@ fn body_value<R: Threads + Sync, G: Gate>(
     }
 }
 
+// The members of the set that the body of a big union is worth. A set of one member is not made.
+#[cycle(eval)]
+#[inline(never)]
+fn body_members<R: Threads + Sync, G: Gate>(
+    scope: &Scope<R, G>,
+    body: &Core,
+    env: &Env,
+    budget: u64,
+) -> Result<Counted<Option<Added>>, EvalFault>
+    ensures { EvaluatesAdded budget scope.now.globals.now env.now (term_of body.now) result }
+{
+    match body {
+        Core::Single(of) => {
+            let done = node(scope, of, env, budget)?;
+            Ok(Counted {
+                answer: one_member(scope.alloc, from_box(done.answer))?,
+                turns: done.turns,
+            })
+        }
+        _ => {
+            let done = node(scope, body, env, budget)?;
+            Ok(Counted {
+                answer: all_members(from_box(done.answer)),
+                turns: done.turns,
+            })
+        }
+    }
+}
+
 // The sum of a body over the members from one number up to another, and what the body takes
-// there. The members themselves are not counted.
+// there. The members themselves are not counted. Packed members are looked at in blocks.
 #[cycle(eval)]
 fn sum_run<R: Threads + Sync, G: Gate>(
+    scope: &Scope<R, G>,
+    body: &Core,
+    env: &Env,
+    members: &Members,
+    from: u64,
+    to: u64,
+    budget: u64,
+) -> Result<Counted<Option<u128>>, EvalFault>
+    requires order { from ≤ to }
+    requires within { to ≤ length (member_list members.now) }
+    ensures { Sums budget scope.now.globals.now env.now body.now members.now from to result }
+{
+    if !in_blocks(members) {
+        return sum_each(scope, body, env, members, from, to, budget);
+    }
+    let mut sum = Some(0);
+    let mut turns = 0;
+    let mut at = from;
+    'by_blocks: while at < to {
+        let end = block_end(at, to);
+        let done = sum_block(scope, body, env, members, at, end, budget - turns)?;
+        sum = join_sums(sum, done.answer);
+        turns += done.turns;
+        at = end;
+    }
+    Ok(Counted { answer: sum, turns })
+}
+
+// The same over a block of members, all at once where its body is a number for each of them.
+#[cycle(eval)]
+fn sum_block<R: Threads + Sync, G: Gate>(
+    scope: &Scope<R, G>,
+    body: &Core,
+    env: &Env,
+    members: &Members,
+    from: u64,
+    to: u64,
+    budget: u64,
+) -> Result<Counted<Option<u128>>, EvalFault>
+    requires order { from ≤ to }
+    requires within { to ≤ length (member_list members.now) }
+    ensures { Sums budget scope.now.globals.now env.now body.now members.now from to result }
+{
+    match block_sum(scope.alloc, body, scope.globals, env, members, from, to)? {
+        Some(sum) => Ok(Counted {
+            answer: Some(sum),
+            turns: 0,
+        }),
+        None => sum_each(scope, body, env, members, from, to, budget),
+    }
+}
+
+// The same, one member after another.
+#[cycle(eval)]
+fn sum_each<R: Threads + Sync, G: Gate>(
     scope: &Scope<R, G>,
     body: &Core,
     env: &Env,
@@ -566,7 +678,8 @@ fn sum_run<R: Threads + Sync, G: Gate>(
 }
 
 // The members that a body gives at the members from one number up to another, gathered as they
-// come, and what the body takes there. The members of the loop are not counted.
+// come, and what the body takes there. The members of the loop are not counted. Packed members are
+// looked at in blocks.
 #[cycle(eval)]
 fn members_run<R: Threads + Sync, G: Gate>(
     scope: &Scope<R, G>,
@@ -582,31 +695,100 @@ fn members_run<R: Threads + Sync, G: Gate>(
     ensures { Collects budget scope.now.globals.now env.now body.now members.now from to result }
 {
     let mut all = Some(Gather::new(scope.alloc));
+    if !in_blocks(members) {
+        return members_each(scope, body, env, members, Span { from, to }, all, budget);
+    }
     let mut turns = 0;
-    let mut sides = members.sides(from);
-    for i in from..to {
+    let mut at = from;
+    'by_blocks: while at < to {
+        let span = Span {
+            from: at,
+            to: block_end(at, to),
+        };
+        let done = members_block(scope, body, env, members, span, all, budget - turns)?;
+        all = done.answer;
+        turns += done.turns;
+        at = span.to;
+    }
+    Ok(Counted { answer: all, turns })
+}
+
+// The members so far, and those that a body gives at a block of members: all at once where its body is a
+// small set for each of them.
+#[cycle(eval)]
+fn members_block<R: Threads + Sync, G: Gate>(
+    scope: &Scope<R, G>,
+    body: &Core,
+    env: &Env,
+    members: &Members,
+    span: Span,
+    all: Option<Gather>,
+    budget: u64,
+) -> Result<Counted<Option<Gather>>, EvalFault>
+    requires order { span.from ≤ span.to }
+    requires within { span.to ≤ length (member_list members.now) }
+    ensures { Adds budget scope.now.globals.now env.now body.now members.now span all result }
+{
+    match block_sets(scope.alloc, body, scope.globals, env, members, span) {
+        Ok(Some(sets)) => {
+            let all = add_sets(scope.alloc, all, sets.as_slice());
+            drop(sets);
+            Ok(Counted {
+                answer: all?,
+                turns: 0,
+            })
+        }
+        Ok(None) => members_each(scope, body, env, members, span, all, budget),
+        Err(fault) => {
+            drop(all);
+            Err(EvalFault::from(fault))
+        }
+    }
+}
+
+// The same, one member after another.
+#[cycle(eval)]
+fn members_each<R: Threads + Sync, G: Gate>(
+    scope: &Scope<R, G>,
+    body: &Core,
+    env: &Env,
+    members: &Members,
+    span: Span,
+    all: Option<Gather>,
+    budget: u64,
+) -> Result<Counted<Option<Gather>>, EvalFault>
+    requires order { span.from ≤ span.to }
+    requires within { span.to ≤ length (member_list members.now) }
+    ensures { Adds budget scope.now.globals.now env.now body.now members.now span all result }
+{
+    let mut all = all;
+    let mut turns = 0;
+    let mut sides = members.sides(span.from);
+    for i in span.from..span.to {
         let Next {
             member,
             sides: after,
         } = members.get(scope.alloc, i, sides)?;
         sides = after;
         let inner = Env::Bound(&member, &*env);
-        if let Some(set) = few(body, scope.globals, &inner) {
+        let branch = chosen(body, scope.globals, &inner);
+        if let Some(set) = few(branch, scope.globals, &inner) {
             drop(member);
             all = members_and_few(scope.alloc, all, set)?;
             continue;
         }
-        let done = node(scope, body, &inner, budget - turns);
+        let done = body_members(scope, branch, &inner, budget - turns);
         drop(member);
         let done = done?;
-        all = members_and(scope.alloc, all, from_box(done.answer))?;
+        all = members_and(scope.alloc, all, done.answer)?;
         turns += done.turns;
     }
     Ok(Counted { answer: all, turns })
 }
 
 // The values of a body at the indices below the dimensions, from one row-major number up to
-// another, and what the body takes there. The cells are not counted. They are packed as they come.
+// another, and what the body takes there. The cells are not counted. They are packed as they come, and
+// looked at in blocks where the rows are not short.
 #[cycle(eval)]
 fn cells_run<R: Threads + Sync, G: Gate>(
     scope: &Scope<R, G>,
@@ -621,10 +803,80 @@ fn cells_run<R: Threads + Sync, G: Gate>(
     requires within { to ≤ product dims.now }
     ensures { Fills budget scope.now.globals.now env.now body.now dims.now from to result }
 {
-    let mut at = zeros(scope.alloc, dims.dims.len())?;
     let mut cells = Some(Builder::new(scope.alloc));
+    if !in_rows(dims) {
+        return cells_each(scope, body, env, dims, Span { from, to }, cells, budget);
+    }
     let mut turns = 0;
-    for place in from..to {
+    let mut at = from;
+    'by_blocks: while at < to {
+        let span = Span {
+            from: at,
+            to: row_end(dims, at, to),
+        };
+        let done = cells_block(scope, body, env, dims, span, cells, budget - turns)?;
+        cells = done.answer;
+        turns += done.turns;
+        at = span.to;
+    }
+    Ok(Counted {
+        answer: cells,
+        turns,
+    })
+}
+
+// The cells so far, and the values of a body at a block of cells: all at once where its body is a number
+// for each of them.
+#[cycle(eval)]
+fn cells_block<R: Threads + Sync, G: Gate>(
+    scope: &Scope<R, G>,
+    body: &Core,
+    env: &Env,
+    dims: &Dims,
+    span: Span,
+    cells: Option<Builder>,
+    budget: u64,
+) -> Result<Counted<Option<Builder>>, EvalFault>
+    requires order { span.from ≤ span.to }
+    requires within { span.to ≤ product dims.now }
+    ensures { Extends budget scope.now.globals.now env.now body.now dims.now span cells result }
+{
+    match block_cells(scope.alloc, body, scope.globals, env, dims, span) {
+        Ok(Some(numbers)) => {
+            let cells = add_cells(scope.alloc, cells, numbers.as_slice());
+            drop(numbers);
+            Ok(Counted {
+                answer: cells?,
+                turns: 0,
+            })
+        }
+        Ok(None) => cells_each(scope, body, env, dims, span, cells, budget),
+        Err(fault) => {
+            drop(cells);
+            Err(EvalFault::from(fault))
+        }
+    }
+}
+
+// The same, one cell after another.
+#[cycle(eval)]
+fn cells_each<R: Threads + Sync, G: Gate>(
+    scope: &Scope<R, G>,
+    body: &Core,
+    env: &Env,
+    dims: &Dims,
+    span: Span,
+    cells: Option<Builder>,
+    budget: u64,
+) -> Result<Counted<Option<Builder>>, EvalFault>
+    requires order { span.from ≤ span.to }
+    requires within { span.to ≤ product dims.now }
+    ensures { Extends budget scope.now.globals.now env.now body.now dims.now span cells result }
+{
+    let mut at = zeros(scope.alloc, dims.dims.len())?;
+    let mut cells = cells;
+    let mut turns = 0;
+    for place in span.from..span.to {
         set_index(dims.dims.as_slice(), u128::from(place), at.as_mut_slice());
         let inner = Env::Indices(at.as_slice(), &*env);
         let done = body_value(scope, body, &inner, budget - turns);

@@ -1,12 +1,17 @@
-//! What the forms that evaluate all their parts make of them: the members of `index` run in pieces.
+//! What the forms that evaluate all their parts make of them: the members of `index` run in pieces, and with one worker packed pairs
+//! are read in one pass.
 
-ghost use Rattle.std.specs.Prelude.{◌≡◌, ◌≤◌, ◌∷◌, [], None, length};
+ghost use Rattle.std.specs.Prelude.{◌≡◌, ◌≤◌, ◌∷◌, [], None, Some, IfSome, length};
+ghost use Rattle.std.specs.List.Sorted.{IsStrictlySortedBy};
 ghost use Rattle.aql_value.specs.Operations.{only};
 ghost use Rattle.nrca_array.specs.Held.{held_datum};
 ghost use Rattle.nrca_loops.specs.Parts.{held_values, parts_value};
 ghost use Rattle.nrca_loops.specs.Scope.{boxed_value, held_value};
 ghost use Rattle.aql_value.specs.Strict.{Strict};
 ghost use Rattle.nrca_loops.specs.Evaluates.{Applies, strict_form};
+ghost use Rattle.nrca_sets.specs.Pairs.{pair_cmp};
+ghost use Rattle.nrca_forms.specs.Indexing.{pairs_run, MakesArray};
+ghost use Rattle.nrca_forms.specs.Packed.{indexed_numbers};
 ghost use Rattle.nrca_eval.specs.Gathered.{ReadsPairs};
 
 use crate::joins::joined_pairs;
@@ -14,7 +19,9 @@ use crate::pieces::in_pieces;
 use crate::scope::{Mode, Pool, Scope};
 use aql_outside::Gate;
 use nrca_array::Held;
-use nrca_forms::{Indexed, index_pairs, index_run, strict, strict_boxed};
+use nrca_forms::{
+    Indexed, index_packed, index_pairs, index_run, packed_pairs, strict, strict_boxed,
+};
 use nrca_loops::{Counted, set_of, to_box};
 use nrca_par::EvalFault;
 use nrca_sets::Set;
@@ -44,7 +51,7 @@ pub(crate) fn strict_kept<R: Threads + Sync, G: Gate>(
     }
 }
 
-// The same as `strict` answers it. The members that `index` reads run in pieces.
+// The same as `strict` answers it. The members that `index` reads run in pieces, where they are no packed pairs.
 fn strict_pieces<R: Threads + Sync, G: Gate>(
     pool: &Pool<R, G>,
     alloc: Global,
@@ -116,14 +123,47 @@ fn index_value<R: Threads + Sync, G: Gate>(
     if count > budget {
         return Err(EvalFault::Spent);
     }
-    let pairs = index_pieces(pool, alloc, rank, &set, count);
-    drop(set);
-    let pairs = pairs?;
-    let made = index_pairs(alloc, rank, pairs, budget - count)?;
+    let made = index_members(pool, alloc, rank, set, budget - count)?;
     Ok(Counted {
         answer: made.answer,
         turns: count + made.turns,
     })
+}
+
+// The packed pairs that `index` of rank 1 reads in one pass: with one worker. More of them read the members in pieces.
+fn pairs_at_once(workers: u64, rank: u64, set: &Set) -> Option<&[(u64, u64)]>
+    ensures rank { IfSome result (λ ps. rank ≡ 1) }
+    ensures ascending { IfSome result (λ ps. IsStrictlySortedBy pair_cmp ps.now) }
+    ensures members { IfSome result
+        (λ ps. pairs_run rank set.now 0 (length set.now) ≡ Some (indexed_numbers ps.now)) }
+{
+    if workers == 1 {
+        packed_pairs(rank, set)
+    } else {
+        None
+    }
+}
+
+// The array that the members of a set make, a turn for each cell.
+fn index_members<R: Threads + Sync, G: Gate>(
+    pool: &Pool<R, G>,
+    alloc: Global,
+    rank: u64,
+    set: Set,
+    budget: u64,
+) -> Result<Counted<Option<Held>>, EvalFault>
+    ensures { MakesArray budget rank (pairs_run rank set 0 (length set)) result }
+{
+    if let Some(pairs) = pairs_at_once(pool.workers, rank, &set) {
+        let made = index_packed(alloc, pairs, budget);
+        drop(set);
+        return made;
+    }
+    let count = set.count() as u64;
+    let pairs = index_pieces(pool, alloc, rank, &set, count);
+    drop(set);
+    let pairs = pairs?;
+    index_pairs(alloc, rank, pairs, budget)
 }
 
 // The pairs that the first members of a set are: none where one is no pair of an index of that

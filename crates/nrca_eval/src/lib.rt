@@ -9,9 +9,11 @@
 //! stand in `specs/Laws/Form`, and `members`; then `specs/Gathered` with `pieces`, `joins` and `index`.
 #![tactic(auto)]
 
+mod blocks;
 mod evaluator;
 mod index;
 mod joins;
+mod lending;
 mod members;
 mod pieces;
 mod scope;

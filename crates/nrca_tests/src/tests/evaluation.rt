@@ -260,7 +260,7 @@ fn arrays(rt: HostRuntime) -> Result<(), Fail> {
     meets(&rt, rt.alloc(), &ARRAYS)
 }
 
-const INDICES: [Row; 8] = [
+const INDICES: [Row; 16] = [
     (
         "0 5 tup2 one 2 7 tup2 one u 0 6 tup2 one u idx1",
         "3 5 6 set2 set0 7 set1 arr1.3",
@@ -274,6 +274,28 @@ const INDICES: [Row; 8] = [
     ("8 gen v0 3 % v0 tup2 one U idx1 2 sub1", "2 5 set2", 27),
     ("8 gen v0 3 % v0 tup2 one U idx1 3 sub1", "undefined", 27),
     ("2 gen 5 v0 tup2 one U idx1 dim1", "6", 12),
+    // one index alone, one pair, and members of several kinds
+    ("0 5 tup2 one 0 6 tup2 one u idx1 dim1", "1", 3),
+    ("1 9 tup2 one idx1", "2 set0 9 set1 arr1.2", 3),
+    (
+        "0 T tup2 one 1 7 tup2 one u idx1",
+        "2 T set1 7 set1 arr1.2",
+        4,
+    ),
+    ("1 max tup2 one idx1", "2 set0 max set1 arr1.2", 3),
+    // cells of packed pairs compared with written ones, walked as a loop's set, and put into a tuple
+    (
+        "0 5 tup2 one 1 6 tup2 one u idx1 2 5 one 6 one lit1.2 =",
+        "T",
+        4,
+    ),
+    ("0 5 tup2 one 0 6 tup2 one u idx1 0 sub1 v0 S", "11", 5),
+    (
+        "0 5 tup2 one 1 6 tup2 one u idx1 2 gen v1 v0 sub1 U let",
+        "5 6 set2",
+        8,
+    ),
+    ("1 5 tup2 one idx1 7 tup2", "2 set0 5 set1 arr1.2 7 tup2", 3),
 ];
 
 #[test]
@@ -289,8 +311,14 @@ fn is_spent<R: Threads + Sync>(rt: &R, alloc: Global, words: &'static str, budge
 }
 
 #[test]
-fn the_greatest_gen_is_spent(rt: HostRuntime) -> Result<(), Fail> {
-    for words in ["max gen", "max gen v0 S", "max v0 tab1", "bot max gen tup2"] {
+fn the_greatest_loops_are_spent(rt: HostRuntime) -> Result<(), Fail> {
+    for words in [
+        "max gen",
+        "max gen v0 S",
+        "max v0 tab1",
+        "bot max gen tup2",
+        "18446744073709551615 1 tup2 one idx1",
+    ] {
         for budget in [0, 1, 50_000_000] {
             let spent = is_spent(&rt, rt.alloc(), words, budget);
             assert!(rt; spent, "{words} in {budget}");
@@ -330,13 +358,14 @@ impl Gate for Meeting {
     }
 }
 
+// Packed pairs take no pieces, so the pairs here have truth values.
 const LOOPS: [Row; 4] = [
     ("2 v0 tab1", "2 0 1 arr1.2", 2),
     ("2 gen v0 S", "1", 4),
     ("2 gen v0 1 + one U", "1 2 set2", 4),
     (
-        "0 5 tup2 one 1 7 tup2 one u idx1",
-        "2 5 set1 7 set1 arr1.2",
+        "0 T tup2 one 1 F tup2 one u idx1",
+        "2 T set1 F set1 arr1.2",
         4,
     ),
 ];
@@ -408,8 +437,8 @@ const LOOPS_OF_THREE_PIECES: [Row; 7] = [
     ("5 gen v0 S", "10", 10),
     ("5 gen v0 one U", "0 1 2 3 4 set5", 10),
     (
-        "0 5 tup2 one 1 7 tup2 one u 2 9 tup2 one u idx1",
-        "3 5 set1 7 set1 9 set1 arr1.3",
+        "0 T tup2 one 1 F tup2 one u 2 T tup2 one u idx1",
+        "3 T set1 F set1 T set1 arr1.3",
         6,
     ),
     ("3 2 gen v0 S v0 + tab1", "3 1 2 3 arr1.3", 15),
@@ -430,4 +459,150 @@ fn each_piece_passes_the_gate_once(rt: HostRuntime) -> Result<(), Fail> {
         assert_eq!(rt; found, (wanted(row, 100), [1, 1, 0, 0]), "{}", row.0);
     }
     Ok(())
+}
+
+const PARTS_AND_TESTS: [Row; 21] = [
+    // an array in a tuple, read in its range and past it
+    ("3 v0 10 * tab1 7 tup2 v0 p1/2 2 sub1 let", "20", 3),
+    ("3 v0 10 * tab1 7 tup2 v0 p1/2 3 sub1 let", "undefined", 3),
+    ("3 v0 10 * tab1 7 tup2 v0 p1/2 dim1 let", "3", 3),
+    ("3 v0 10 * tab1 7 tup2 v0 p1/2 dim2 let", "undefined", 3),
+    ("3 v0 10 * tab1 7 tup2 3 gen v1 p1/2 v0 sub1 S let", "30", 9),
+    // a part past the end, of a number, within a part
+    ("3 v0 10 * tab1 7 tup2 v0 p1/3 let", "undefined", 3),
+    ("5 v0 p1/2 let", "undefined", 0),
+    ("1 3 v0 tab1 'ab tup2 tup2 v0 p2/2 p2/2 let", "'ab", 3),
+    (
+        "1 3 v0 tab1 'ab tup2 tup2 v0 p2/2 p1/2 2 gen v0 S sub1 let",
+        "1",
+        7,
+    ),
+    // an array of arrays
+    (
+        "2 3 v0 v1 + tab1 tab1 5 tup2 v0 p1/2 1 sub1 2 sub1 let",
+        "3",
+        8,
+    ),
+    // tests past 64 bits, undefined, of other kinds, and within tests
+    ("max max = 1 2 if", "1", 0),
+    ("max 1 + 3 = 1 2 if", "undefined", 0),
+    ("1 2 < 3 = 1 2 if", "2", 0),
+    ("'ab 'b < 1 2 if", "1", 0),
+    ("1 1 = 0 1 if 0 = 5 6 if", "5", 0),
+    ("2 1 < 0 1 if 0 = 5 6 if", "6", 0),
+    ("2 1 < bot 6 if", "6", 0),
+    // members of sets that are not made, of one kind and of several, and one that is undefined
+    (
+        "6 gen v0 2 % 0 = 'even one v0 3 % 0 = 'three one 'odd one if if U",
+        "'even 'odd 'three set3",
+        12,
+    ),
+    (
+        "3 gen v0 1 = 1 one v0 2 = 'a one {} if if U",
+        "1 'a set2",
+        6,
+    ),
+    ("3 gen v0 1 = bot one 'a one if U", "undefined", 6),
+    ("2 gen 2 gen one U", "0 1 set2 set1", 8),
+];
+
+#[test]
+fn parts_and_tests(rt: HostRuntime) -> Result<(), Fail> {
+    meets(&rt, rt.alloc(), &PARTS_AND_TESTS)
+}
+
+const BLOCKS: [Row; 34] = [
+    // sums that end in a block, with one and behind one
+    ("511 gen v0 v0 * 97 % S", "24343", 1022),
+    ("512 gen v0 v0 * 97 % S", "24437", 1024),
+    ("513 gen v0 v0 * 97 % S", "24487", 1026),
+    ("1024 gen v0 v0 * 97 % S", "49293", 2048),
+    ("1025 gen v0 v0 * 97 % S", "49299", 2050),
+    // numbers at 2^64-1, and one past it
+    (
+        "600 gen 18446744073709551615 v0 - S 18446744073709551615 %",
+        "18446744073709371915",
+        1200,
+    ),
+    (
+        "600 gen 18446744073709551615 v0 - 1 + S 18446744073709551615 %",
+        "18446744073709372515",
+        1200,
+    ),
+    // undefined in the middle
+    ("600 gen v0 300 = max max * 1 if S", "undefined", 1200),
+    ("600 gen 1 v0 300 = 0 1 if / S", "undefined", 1200),
+    // branches that are not taken, and undefined there
+    ("600 gen v0 0 = 7 1 v0 / if S", "8", 1200),
+    ("600 gen v0 599 <= v0 bot if S", "179700", 1200),
+    // variables within and without
+    ("5 600 gen v0 v1 + S let", "182700", 1200),
+    ("600 gen v0 3 * v0 v1 + let S", "718800", 1200),
+    // sets of numbers, of pairs and of both, and two sets
+    ("600 gen v0 2 * one U v0 S", "359400", 1800),
+    (
+        "600 gen v0 10 % v0 tup2 one U v0 p1/2 v0 p2/2 * S",
+        "813600",
+        1800,
+    ),
+    (
+        "600 gen v0 10 % v0 tup2 one U v0 v0 p2/2 v1 p1/2 - let S",
+        "177000",
+        1800,
+    ),
+    ("600 gen v0 10 % v0 tup2 one U v0 p1/3 S", "undefined", 1800),
+    (
+        "600 gen v0 300 < v0 one v0 1 tup2 one if U v0 v0 = 1 0 if S",
+        "600",
+        1800,
+    ),
+    ("600 gen 700 gen u v0 S", "244650", 2000),
+    // big unions of one member, of none, and of pairs
+    ("1025 gen v0 100 % one U v0 S", "4950", 2150),
+    ("1025 gen v0 3 % 0 = v0 one {} if U v0 S", "174933", 2392),
+    (
+        "600 gen v0 7 % v0 5 % tup2 one U v0 p1/2 10 * v0 p2/2 + S",
+        "1120",
+        1235,
+    ),
+    ("5 gen 600 gen v1 v0 + one U U v0 S", "182106", 6614),
+    (
+        "100 gen v0 10 % v0 tup2 one U 100 gen v1 p1/2 v0 10 % = v1 p2/2 1000 * v0 + one {} if U U v0 S",
+        "49549500",
+        21300,
+    ),
+    // tabulations of rank 1 to 3, read by cells
+    ("1025 v0 v0 * tab1 700 sub1", "490000", 1025),
+    (
+        "1025 v0 2 * tab1 1025 gen v1 v0 sub1 S let",
+        "1049600",
+        3075,
+    ),
+    (
+        "1025 v0 2 * tab1 1025 gen v1 v0 1 + sub1 S let",
+        "undefined",
+        3075,
+    ),
+    (
+        "30 600 v1 1000 * v0 + tab2 30 gen 600 gen v2 v1 v0 sub2 S S let",
+        "266391000",
+        54060,
+    ),
+    (
+        "3 4 20 v2 100 * v1 10 * + v0 + tab3 2 3 19 sub3",
+        "249",
+        240,
+    ),
+    ("3 4 5 v2 100 * v1 10 * + v0 + tab3 2 3 4 sub3", "234", 60),
+    ("3 600 5 v2 v1 * v0 + tab3 2 599 3 sub3", "1201", 9000),
+    // dimensions 0
+    ("600 0 v0 tab2", "600 0 arr2.0", 0),
+    ("0 600 v0 tab2", "0 600 arr2.0", 0),
+    // an undefined cell in a row
+    ("3 600 v0 599 = 1 0 / v0 if tab2", "undefined", 1800),
+];
+
+#[test]
+fn loops_over_blocks(rt: HostRuntime) -> Result<(), Fail> {
+    meets(&rt, rt.alloc(), &BLOCKS)
 }

@@ -151,3 +151,57 @@ fn sets_of_at_most_one_are_found(rt: HostRuntime) -> Result<(), Fail> {
     }
     Ok(())
 }
+
+// The number that is found of a term, where variable 0 is ([[3; 5, 6, 7]], (8, [[2, 1; 9, 2^128-1]])).
+fn found_in_parts(alloc: Global, words: &str) -> Result<Option<u64>, Memory> {
+    let parts = "3 5 6 7 arr1.3 8 2 1 9 max arr2.2 tup2 tup2";
+    let (term, held) = both(term(alloc, words), position(alloc, parts))?;
+    let globals = Globals {
+        list: Vec::new(alloc),
+    };
+    let number = match &held {
+        Some(tuple) => quick(&term, &globals, &Env::Bound(tuple, &Env::Empty)),
+        None => None,
+    };
+    drop(term);
+    drop(held);
+    drop(globals);
+    Ok(number)
+}
+
+const PARTS: [(&str, Option<u64>); 24] = [
+    ("v0 p2/2 p1/2", Some(8)),
+    ("v0 p1/2 1 sub1", Some(6)),
+    ("v0 p1/2 v0 p2/2 p1/2 6 - sub1", Some(7)),
+    ("v0 p1/2 dim1", Some(3)),
+    ("v0 p2/2 p2/2 0 0 sub2", Some(9)),
+    // past the end, past 64 bits, of another rank, of another kind
+    ("v0 p1/2 3 sub1", None),
+    ("v0 p2/2 p2/2 0 1 sub2", None),
+    ("v0 p2/2 p2/2 1 0 sub2", None),
+    ("v0 p1/2 1 1 sub2", None),
+    ("v0 p1/2 dim2", None),
+    ("v0 p2/2 p2/2 dim2", None),
+    ("v0 p1/3", None),
+    ("v0 p1/2", None),
+    ("v0 p1/2 p1/2", None),
+    ("v0 p2/2 p1/2 p1/2", None),
+    ("v0 p2/2 p1/2 0 sub1", None),
+    ("v0 p2/2 p1/2 dim1", None),
+    // the greatest number, and past it
+    ("18446744073709551615 1 *", Some(18446744073709551615)),
+    ("18446744073709551615 2 *", None),
+    ("0 18446744073709551615 -", Some(0)),
+    ("18446744073709551615 18446744073709551614 /", Some(1)),
+    ("18446744073709551615 10 %", Some(5)),
+    ("4294967297 4294967295 *", Some(18446744073709551615)),
+    ("9223372036854775808 9223372036854775808 +", None),
+];
+
+#[test]
+fn parts_are_found(rt: HostRuntime) -> Result<(), Fail> {
+    for row in &PARTS {
+        assert_eq!(rt; found_in_parts(rt.alloc(), row.0), Ok(row.1), "{}", row.0);
+    }
+    Ok(())
+}

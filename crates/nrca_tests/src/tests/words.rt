@@ -55,9 +55,10 @@ enum OfList {
     Literal(usize, usize),
 }
 
-const FORMS: [(&str, Form); 43] = [
+const FORMS: [(&str, Form); 46] = [
     ("v0", Form::Alone(Alone::Var(0))),
     ("v1", Form::Alone(Alone::Var(1))),
+    ("v2", Form::Alone(Alone::Var(2))),
     ("g1", Form::Alone(Alone::Global(1))),
     ("g2", Form::Alone(Alone::Global(2))),
     ("g3", Form::Alone(Alone::Global(3))),
@@ -95,8 +96,10 @@ const FORMS: [(&str, Form); 43] = [
     ("tup2", Form::OfList(OfList::Tuple(2))),
     ("tab1", Form::OfList(OfList::Tab(1))),
     ("tab2", Form::OfList(OfList::Tab(2))),
+    ("tab3", Form::OfList(OfList::Tab(3))),
     ("sub1", Form::OfList(OfList::Sub(1))),
     ("sub2", Form::OfList(OfList::Sub(2))),
+    ("sub3", Form::OfList(OfList::Sub(3))),
     ("lit1.2", Form::OfList(OfList::Literal(1, 2))),
     ("lit2.0", Form::OfList(OfList::Literal(2, 0))),
 ];

@@ -1,5 +1,5 @@
 -- The arms of the cycle.
-use Rattle.std.proofs.Common.{◌≡◌, ◌<◌, ◌∷◌, ◌++◌, [], length, Some, ℕ, List, drop, refl, sym, ap, ◌∙◌, arith, rules}
+use Rattle.std.proofs.Common.{◌≡◌, ◌<◌, ◌≤◌, ◌∷◌, ◌++◌, [], length, Some, ℕ, List, drop, refl, sym, ap, ◌∙◌, arith, rules}
 use Rattle.std.specs.Option.{option_map}
 use Rattle.std.specs.Prelude.{slice_get}
 use Rattle.std.proofs.lemmas.Option.{slice_get_within}
@@ -20,18 +20,20 @@ use Rattle.nrca_term.specs.Laws.Variants.{settle-tab}
 use Rattle.nrca_term.specs.View.{term_of, terms_of}
 use Rattle.nrca_term.specs.Laws.WellFormed.{well_formed-Core}
 use Rattle.nrca_loops.specs.Parts.{numbers_in, parts_value, strict_of, strict_in, table_in}
-use Rattle.nrca_loops.specs.Laws.Run.{range_whole, each-range_more, each-range_split, total-range_more, sum_value-with, sum_value-join, union_value-join}
+use Rattle.nrca_loops.specs.Laws.Run.{range_none, range_whole, each-range_more, each-range_split, total-range_more, total-range_split, sum_value-with, sum_value-join, union_value-join}
 use Rattle.nrca_loops.specs.Runs.{member_list, members_value, list_with, lists_join, sets_join, sum_value, sum_with, sums_join, union_value}
 use Rattle.nrca_loops.specs.Scope.{values, boxed_value, held_value, set_in}
 use Rattle.nrca_loops.specs.Within.{itself}
 use Rattle.nrca_loops.specs.Laws.Within.{err_within, same_within}
-use Rattle.nrca_eval.specs.Laws.Union.{union_value-with}
+use Rattle.nrca_blocks.specs.Laws.Union.{sets_more, sets_nothing}
 use Rattle.nrca_eval.specs.Laws.Form.{count-children, child_of-children, strict_whole, strict_taken, sum_whole, sum_taken, union_whole, union_taken, tab_none, tab_whole, tab_idle, tab_taken}
 use Rattle.nrca_eval.specs.Parts.{children}
 use Rattle.nrca_eval.specs.Runs.{run_values, run_turns, cell_values, cell_turns}
 use Rattle.nrca_eval.proofs.Evaluated.{at_answer, at_fault, member_weight, sub_weight, tab_weight, strict_form, spent_within, spent_whole, written}
+use Rattle.nrca_eval.proofs.Gathering.{spent_block, sets_first, lists_nothing, lists_first, lists_more}
 use Rattle.nrca_eval.proofs.Joined.{total_wider, whole_within}
 use Rattle.nrca_quick.specs.Laws.Few.{few_in}
+use Rattle.nrca_quick.specs.Lending.{lent_datum}
 use Rattle.nrca_quick.specs.Laws.Lent.{term_at, sub_lent, sub_free}
 use denote.Param.Send.{sendable}
 use Rattle.std.proofs.Crossing.{crosses}
@@ -66,7 +68,7 @@ node-returns-in-Some g t c =
     let vals = values c.args.env.now in
     let a = term_of c.in-Sub.array.value in
     let ts = terms_of c.in-Sub.at in
-    let v = held_datum c.in-Some.array.now in
+    let v = lent_datum c.in-Some.array in
     let whole = ap term_of c.in-Sub.is ∙ term_of-Sub c.in-Sub.array c.in-Sub.at in
     let same = ap term_of c.deref-in-Sub.ensures in
     let holds : cden V vals a ≡ Some v = ap (cden V vals) (sym same) ∙ c.in-Some.ensures.value in
@@ -309,14 +311,104 @@ sum_run-returns-in_err-done g t c =
     let ms = member_list c.args.members.now in
     let f = λ (m : Datum). cden V (m ∷ vals) b in
     let g = λ (m : Datum). settle V (m ∷ vals) b in
+    let inv = c.by_blocks.invariant in
+    err_within itself _ _ _ _ c.in_err-done.field-0.0 c.from_residual.ensures.0 c.from_residual.ensures.1
+    (λ s. spent_block g ms c.args.from c.by_blocks.at c.block_end-end.result c.args.to c.args.budget c.by_blocks.turns inv.3 (omega (arith, c.block_end-end.ensures)) (omega (arith, c.block_end-end.ensures)) inv.1 inv.2 (c.in_err-done.ensures s))
+
+pub sum_run-by_blocks-preserved : goal.sum_run-by_blocks-preserved
+sum_run-by_blocks-preserved g t c =
+    let V = c.args.scope.now.globals.now in
+    let vals = values c.args.env.now in
+    let b = term_of c.args.body.now in
+    let ms = member_list c.args.members.now in
+    let f = λ (m : Datum). cden V (m ∷ vals) b in
+    let g = λ (m : Datum). settle V (m ∷ vals) b in
+    let inv = c.by_blocks.invariant in
+    let done = c.in_ok-done.ensures in
+    let mid : c.by_blocks.at ≤ c.block_end-end.result = omega (arith, c.block_end-end.ensures) in (
+      c.join_sums-sum.ensures ∙ (λ k. sums_join (inv.0 k) (done.0 k)) ∙ sum_value-join (run_values V vals b ms c.args.from c.by_blocks.at) (run_values V vals b ms c.by_blocks.at c.block_end-end.result) ∙ ap sum_value (each-range_split ms c.args.from c.by_blocks.at c.block_end-end.result inv.3 mid f),
+      omega (arith, total-range_split ms c.args.from c.by_blocks.at c.block_end-end.result inv.3 mid g, inv.1, done.1),
+      omega (arith, inv.2, done.1, done.2),
+      omega (arith, inv.3, c.block_end-end.ensures),
+      omega (arith, c.block_end-end.ensures),
+    )
+
+pub members_run-returns-in_err-done : goal.members_run-returns-in_err-done
+members_run-returns-in_err-done g t c =
+    let V = c.args.scope.now.globals.now in
+    let vals = values c.args.env.now in
+    let b = term_of c.args.body.now in
+    let ms = member_list c.args.members.now in
+    let f = λ (m : Datum). cden V (m ∷ vals) b in
+    let g = λ (m : Datum). settle V (m ∷ vals) b in
+    let inv = c.by_blocks.invariant in
+    err_within (option_map canon) _ _ _ _ c.in_err-done.field-0.0 c.from_residual.ensures.0 c.from_residual.ensures.1
+    (λ s. spent_block g ms c.args.from c.by_blocks.at c.block_end.result c.args.to c.args.budget c.by_blocks.turns inv.3 (omega (arith, c.block_end.ensures)) (omega (arith, c.block_end.ensures)) inv.1 inv.2 (c.in_err-done.ensures s))
+
+pub members_run-by_blocks-preserved : goal.members_run-by_blocks-preserved
+members_run-by_blocks-preserved g t c =
+    let V = c.args.scope.now.globals.now in
+    let vals = values c.args.env.now in
+    let b = term_of c.args.body.now in
+    let ms = member_list c.args.members.now in
+    let f = λ (m : Datum). cden V (m ∷ vals) b in
+    let g = λ (m : Datum). settle V (m ∷ vals) b in
+    let inv = c.by_blocks.invariant in
+    let done = c.in_ok-done.ensures in
+    let mid : c.by_blocks.at ≤ c.block_end.result = omega (arith, c.block_end.ensures) in (
+      done.0 ∙ (λ k. sets_join (inv.0 k) (union_value (run_values V vals b ms c.by_blocks.at c.block_end.result))) ∙ union_value-join (run_values V vals b ms c.args.from c.by_blocks.at) (run_values V vals b ms c.by_blocks.at c.block_end.result) ∙ ap union_value (each-range_split ms c.args.from c.by_blocks.at c.block_end.result inv.3 mid f),
+      omega (arith, total-range_split ms c.args.from c.by_blocks.at c.block_end.result inv.3 mid g, inv.1, done.1),
+      omega (arith, inv.2, done.1, done.2),
+      omega (arith, inv.3, c.block_end.ensures),
+      omega (arith, c.block_end.ensures),
+    )
+
+pub cells_run-returns-in_err-done : goal.cells_run-returns-in_err-done
+cells_run-returns-in_err-done g t c =
+    let V = c.args.scope.now.globals.now in
+    let vals = values c.args.env.now in
+    let b = term_of c.args.body.now in
+    let is = indices c.args.dims.now in
+    let f = λ (at : List ℕ). cden V (walked at [] ++ vals) b in
+    let g = λ (at : List ℕ). settle V (walked at [] ++ vals) b in
+    let inv = c.by_blocks.invariant in
+    err_within itself _ _ _ _ c.in_err-done.field-0.0 c.from_residual.ensures.0 c.from_residual.ensures.1
+    (λ s. spent_block g is c.args.from c.by_blocks.at c.row_end.result c.args.to c.args.budget c.by_blocks.turns inv.3 (omega (arith, c.row_end.ensures)) (omega (arith, c.row_end.ensures)) inv.1 inv.2 (c.in_err-done.ensures s))
+
+pub cells_run-by_blocks-preserved : goal.cells_run-by_blocks-preserved
+cells_run-by_blocks-preserved g t c =
+    let V = c.args.scope.now.globals.now in
+    let vals = values c.args.env.now in
+    let b = term_of c.args.body.now in
+    let is = indices c.args.dims.now in
+    let f = λ (at : List ℕ). cden V (walked at [] ++ vals) b in
+    let g = λ (at : List ℕ). settle V (walked at [] ++ vals) b in
+    let inv = c.by_blocks.invariant in
+    let done = c.in_ok-done.ensures in
+    let mid : c.by_blocks.at ≤ c.row_end.result = omega (arith, c.row_end.ensures) in (
+      done.0 ∙ (λ k. lists_join (inv.0 k) (cell_values V vals b c.args.dims.now c.by_blocks.at c.row_end.result)) ∙ each-range_split is c.args.from c.by_blocks.at c.row_end.result inv.3 mid f,
+      omega (arith, total-range_split is c.args.from c.by_blocks.at c.row_end.result inv.3 mid g, inv.1, done.1),
+      omega (arith, inv.2, done.1, done.2),
+      omega (arith, inv.3, c.row_end.ensures),
+      omega (arith, c.row_end.ensures),
+    )
+
+pub sum_each-returns-in_err-done : goal.sum_each-returns-in_err-done
+sum_each-returns-in_err-done g t c =
+    let V = c.args.scope.now.globals.now in
+    let vals = values c.args.env.now in
+    let b = term_of c.args.body.now in
+    let ms = member_list c.args.members.now in
+    let f = λ (m : Datum). cden V (m ∷ vals) b in
+    let g = λ (m : Datum). settle V (m ∷ vals) b in
     let m = held_datum c.in_ok-member.field-0.member in
     let inv = c.loop-i.invariant in
     let at = c.in_ok-member.ensures.0 in
     err_within itself _ _ _ _ c.in_err-done.field-0.0 c.from_residual-in_err-done.ensures.0 c.from_residual-in_err-done.ensures.1
     (λ s. spent_within g ms c.args.from c.loop-i.i c.args.to m c.args.budget c.loop-i.turns (omega arith) (omega arith) at inv.1 inv.2 (c.in_err-done.ensures s))
 
-pub sum_run-loop-i-preserved : goal.sum_run-loop-i-preserved
-sum_run-loop-i-preserved g t c =
+pub sum_each-loop-i-preserved : goal.sum_each-loop-i-preserved
+sum_each-loop-i-preserved g t c =
     let V = c.args.scope.now.globals.now in
     let vals = values c.args.env.now in
     let b = term_of c.args.body.now in
@@ -333,22 +425,13 @@ sum_run-loop-i-preserved g t c =
       c.in_ok-member.ensures.1,
     )
 
-pub members_run-returns-in_err-done : goal.members_run-returns-in_err-done
-members_run-returns-in_err-done g t c =
-    let V = c.args.scope.now.globals.now in
-    let vals = values c.args.env.now in
-    let b = term_of c.args.body.now in
-    let ms = member_list c.args.members.now in
-    let f = λ (m : Datum). cden V (m ∷ vals) b in
-    let g = λ (m : Datum). settle V (m ∷ vals) b in
-    let m = held_datum c.in_ok-member.field-0.member in
-    let inv = c.loop-i.invariant in
-    let at = c.in_ok-member.ensures.0 in
-    err_within (option_map canon) _ _ _ _ c.in_err-done.field-0.0 c.from_residual-in_err-done.ensures.0 c.from_residual-in_err-done.ensures.1
-    (λ s. spent_within g ms c.args.from c.loop-i.i c.args.to m c.args.budget c.loop-i.turns (omega arith) (omega arith) at inv.1 inv.2 (c.in_err-done.ensures s))
+pub members_run-returns-then-not-in_blocks : goal.members_run-returns-then-not-in_blocks
+members_run-returns-then-not-in_blocks g t c =
+    let run = run_values c.args.scope.now.globals.now (values c.args.env.now) (term_of c.args.body.now) (member_list c.args.members.now) c.args.from c.args.to in
+    same_within (option_map canon) c.members_each.result c.args.budget _ _ _ _ ((λ k. sets_join (option_map canon (Some (c.new.ensures k))) (union_value run)) ∙ sets_first run) refl c.members_each.ensures
 
-pub members_run-loop-i-preserved : goal.members_run-loop-i-preserved
-members_run-loop-i-preserved g t c =
+pub members_each-returns-in_err-done : goal.members_each-returns-in_err-done
+members_each-returns-in_err-done g t c =
     let V = c.args.scope.now.globals.now in
     let vals = values c.args.env.now in
     let b = term_of c.args.body.now in
@@ -358,15 +441,34 @@ members_run-loop-i-preserved g t c =
     let m = held_datum c.in_ok-member.field-0.member in
     let inv = c.loop-i.invariant in
     let at = c.in_ok-member.ensures.0 in
+    let turns : settle V (m ∷ vals) (term_of c.chosen-branch.result.now) ≡ settle V (m ∷ vals) b = c.chosen-branch.ensures.turns in
+    err_within (option_map canon) _ _ _ _ c.in_err-done.field-0.0 c.from_residual-in_err-done.ensures.0 c.from_residual-in_err-done.ensures.1
+    (λ s. spent_within g ms c.args.span.from c.loop-i.i c.args.span.to m c.args.budget c.loop-i.turns (omega arith) (omega arith) at inv.1 inv.2 (let h = c.in_err-done.ensures s in omega (arith, h, turns)))
+
+pub members_each-loop-i-preserved : goal.members_each-loop-i-preserved
+members_each-loop-i-preserved g t c =
+    let all = option_map canon c.args.all in
+    let V = c.args.scope.now.globals.now in
+    let vals = values c.args.env.now in
+    let b = term_of c.args.body.now in
+    let ms = member_list c.args.members.now in
+    let f = λ (m : Datum). cden V (m ∷ vals) b in
+    let g = λ (m : Datum). settle V (m ∷ vals) b in
+    let m = held_datum c.in_ok-member.field-0.member in
+    let inv = c.loop-i.invariant in
+    let at = c.in_ok-member.ensures.0 in
+    let turns : settle V (m ∷ vals) (term_of c.chosen-branch.result.now) ≡ settle V (m ∷ vals) b = c.chosen-branch.ensures.turns in
     let done = c.in_ok-done.ensures in (
-      c.in_ok-all-2.ensures ∙ (λ k. sets_join (inv.0 k) (set_in ((c.from_box.ensures ∙ done.0) k))) ∙ sym (union_value-with (run_values V vals b ms c.args.from c.loop-i.i) (f m)) ∙ ap union_value (sym (each-range_more f g ms c.args.from c.loop-i.i m (omega arith) at)),
-      omega (arith, total-range_more f g ms c.args.from c.loop-i.i m (omega arith) at, inv.1, done.1),
+      sets_more all (run_values V vals b ms c.args.span.from c.loop-i.i) _ _ _ (f m) inv.0 c.in_ok-all-2.ensures (done.0 ∙ ap set_in c.chosen-branch.ensures.value)
+          ∙ ap (λ o. sets_join all (union_value o)) (sym (each-range_more f g ms c.args.span.from c.loop-i.i m (omega arith) at)),
+      omega (arith, total-range_more f g ms c.args.span.from c.loop-i.i m (omega arith) at, inv.1, done.1, turns),
       omega (arith, inv.2, done.1, done.2),
       c.in_ok-member.ensures.1,
     )
 
-pub members_run-loop-i-preserved-in-Some : goal.members_run-loop-i-preserved-in-Some
-members_run-loop-i-preserved-in-Some g t c =
+pub members_each-loop-i-preserved-in-Some : goal.members_each-loop-i-preserved-in-Some
+members_each-loop-i-preserved-in-Some g t c =
+    let all = option_map canon c.args.all in
     let V = c.args.scope.now.globals.now in
     let vals = values c.args.env.now in
     let b = term_of c.args.body.now in
@@ -375,15 +477,17 @@ members_run-loop-i-preserved-in-Some g t c =
     let g = λ (m : Datum). settle V (m ∷ vals) b in
     let m = held_datum c.in_ok-member.field-0.member in
     let inv = c.loop-i.invariant in
-    let at = c.in_ok-member.ensures.0 in (
-      c.in_ok-all.ensures ∙ (λ k. sets_join (inv.0 k) ((few_in c.in-Some.set ∙ ap set_in (sym c.in-Some.ensures.value)) k)) ∙ sym (union_value-with (run_values V vals b ms c.args.from c.loop-i.i) (f m)) ∙ ap union_value (sym (each-range_more f g ms c.args.from c.loop-i.i m (omega arith) at)),
-      omega (arith, total-range_more f g ms c.args.from c.loop-i.i m (omega arith) at, inv.1, c.in-Some.ensures.turns),
+    let at = c.in_ok-member.ensures.0 in
+    let turns : settle V (m ∷ vals) (term_of c.chosen-branch.result.now) ≡ settle V (m ∷ vals) b = c.chosen-branch.ensures.turns in (
+      sets_more all (run_values V vals b ms c.args.span.from c.loop-i.i) _ _ _ (f m) inv.0 c.in_ok-all.ensures (few_in c.in-Some.set ∙ ap set_in (sym c.in-Some.ensures.value ∙ c.chosen-branch.ensures.value))
+          ∙ ap (λ o. sets_join all (union_value o)) (sym (each-range_more f g ms c.args.span.from c.loop-i.i m (omega arith) at)),
+      omega (arith, total-range_more f g ms c.args.span.from c.loop-i.i m (omega arith) at, inv.1, c.in-Some.ensures.turns, turns),
       omega (arith, inv.2),
       c.in_ok-member.ensures.1,
     )
 
-pub cells_run-returns-in_err-kept : goal.cells_run-returns-in_err-kept
-cells_run-returns-in_err-kept g t c =
+pub cells_each-returns-in_err-kept : goal.cells_each-returns-in_err-kept
+cells_each-returns-in_err-kept g t c =
     let V = c.args.scope.now.globals.now in
     let vals = values c.args.env.now in
     let b = term_of c.args.body.now in
@@ -397,10 +501,10 @@ cells_run-returns-in_err-kept g t c =
     (λ k. slice_get (indices ((sym c.dims.view_is ∙ sym c.as_slice.ensures.value) k)) (sym c.from.ensures k)) ∙ c.set_index.ensures in
     err_within itself _ _ _ _ c.in_err-kept.field-0.0 c.from_residual-in_err-kept.ensures.0 c.from_residual-in_err-kept.ensures.1
     (λ s. let h = at_fault held_value c.body_value-done.result _ _ _ _ c.body_value-done.ensures c.in_err-kept.ensures s in
-    spent_within g (indices c.args.dims.now) c.args.from c.loop-place.place c.args.to here c.args.budget c.loop-place.turns (omega arith) (omega arith) at inv.1 inv.2 (omega (arith, h, ap g seen)))
+    spent_within g (indices c.args.dims.now) c.args.span.from c.loop-place.place c.args.span.to here c.args.budget c.loop-place.turns (omega arith) (omega arith) at inv.1 inv.2 (omega (arith, h, ap g seen)))
 
-pub cells_run-loop-place-preserved : goal.cells_run-loop-place-preserved
-cells_run-loop-place-preserved g t c =
+pub cells_each-loop-place-preserved : goal.cells_each-loop-place-preserved
+cells_each-loop-place-preserved g t c =
     let V = c.args.scope.now.globals.now in
     let vals = values c.args.env.now in
     let b = term_of c.args.body.now in
@@ -413,10 +517,26 @@ cells_run-loop-place-preserved g t c =
     let at : slice_get (indices c.args.dims.now) c.loop-place.place ≡ Some here =
     (λ k. slice_get (indices ((sym c.dims.view_is ∙ sym c.as_slice.ensures.value) k)) (sym c.from.ensures k)) ∙ c.set_index.ensures in
     let done = at_answer held_value c.body_value-done.result _ _ _ _ c.body_value-done.ensures c.in_ok-kept.ensures.1 in (
-      c.in_ok-cells.ensures ∙ (λ k. list_with ((c.in_ok-kept.ensures.0 ∙ inv.0) k) ((done.0 ∙ ap f seen) k)) ∙ sym (each-range_more f g (indices c.args.dims.now) c.args.from c.loop-place.place here (omega arith) at),
-      omega (arith, total-range_more f g (indices c.args.dims.now) c.args.from c.loop-place.place here (omega arith) at, inv.1, done.1, ap g seen),
+      c.in_ok-cells.ensures ∙ (λ k. list_with ((c.in_ok-kept.ensures.0 ∙ inv.0) k) ((done.0 ∙ ap f seen) k)) ∙ lists_more c.args.cells (cell_values V vals b c.args.dims.now c.args.span.from c.loop-place.place) (f here)
+          ∙ ap (lists_join c.args.cells) (sym (each-range_more f g (indices c.args.dims.now) c.args.span.from c.loop-place.place here (omega arith) at)),
+      omega (arith, total-range_more f g (indices c.args.dims.now) c.args.span.from c.loop-place.place here (omega arith) at, inv.1, done.1, ap g seen),
       omega (arith, inv.2, done.1, done.2),
       ap length whole ∙ omega (arith, c.set_index.auto.at, c.as_mut_slice.ensures.value, inv.3),
+    )
+
+pub members_each-loop-i-init : goal.members_each-loop-i-init
+members_each-loop-i-init g t c =
+    let V = c.args.scope.now.globals.now in
+    let vals = values c.args.env.now in
+    let b = term_of c.args.body.now in
+    let ms = member_list c.args.members.now in
+    let f = λ (m : Datum). cden V (m ∷ vals) b in
+    let g = λ (m : Datum). settle V (m ∷ vals) b in
+    let all = option_map canon c.args.all in (
+      sets_nothing c.args.all ∙ ap (λ l. sets_join all (union_value (each f l))) (sym (range_none ms c.args.span.from)),
+      sym (ap (total g) (range_none ms c.args.span.from)),
+      omega arith,
+      c.sides-sides.ensures,
     )
 
 pub sum_members-returns-in_err-sums : goal.sum_members-returns-in_err-sums

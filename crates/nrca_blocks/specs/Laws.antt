@@ -1,0 +1,2 @@
+-- The laws of this crate: what follows from its definitions.
+pub mod Union
