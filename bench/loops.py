@@ -144,8 +144,8 @@ def workers(runs):
     with tempfile.TemporaryDirectory() as folder:
         path = Path(folder) / "script"
         for name, query in {
-            "sum": "summap(fn \\i => i*i%97)!(gen!50000000);",
-            "tabulation": "len!([[summap(fn \\j => i*j%97)!(gen!50) | \\i<1000000]]);",
+            "sum": "summap(fn \\i => (i*i%97)*(i*i%89)+(i*i%83)*(i*i%79))!(gen!24000000);",
+            "tabulation": "let val \\a = [[summap(fn \\j => (i*j%97)*(i*j%89)+(i*j%83)*(i*j%79))!(gen!50) | \\i<400000]] in a[5]+a[7] end;",
             "few": "count!({x%100 | \\x <- gen!20000000});",
         }.items():
             path.write_text(query)
