@@ -1,7 +1,7 @@
 //! What a declaration asks of types, as equations.
 //!
 //! `specs/Constraints` walks over a tree and writes equations, and types that are to be within the limits; it solves nothing.
-//! `specs/Sound`, `specs/Complete` and `specs/Principal` say what that is for: whatever solves the equations gives a typing,
+//! `Sound`, `Complete` and `Principal` of `specs/Laws` say what that is for: whatever solves the equations gives a typing,
 //! each typing comes from such a solution, and a most general solution gives the principal type. The code makes the same
 //! steps: `store`, `positions`, `names`, `operations`, `patterns`, `readers`, on the types of `sketch`, in which what an earlier
 //! position has stands as a reference. `solving` solves it in a graph that `nodes` makes; `numbering` writes out what comes of it.

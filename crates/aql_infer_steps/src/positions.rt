@@ -93,7 +93,7 @@ impl Positions {
         }
     }
 
-    /// The type of that part of that position: none where there is no such part.
+    /// The type of that part of that position. None where there is no such part, for which a number stands.
     pub fn part(&self, i: Instance) -> Option<&Ty>
         ensures { MatchOption result (part_of i.part (sort_at self.now i.position) ≡ natural)
             (λ t. part_of i.part (sort_at self.now i.position) ≡ type_of t.now) }

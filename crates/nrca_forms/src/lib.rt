@@ -5,7 +5,7 @@
 //! turns pass the budget (`Applies` of `nrca_loops`). Of `index` the pairs that members are can be
 //! read a run at a time: `index_run` reads a run, `join_pairs` joins runs that follow each other,
 //! by the laws in `specs/Laws/Index.antt`, and `index_pairs` makes the array of them; of packed pairs (`packed_pairs`)
-//! `index_packed` makes it in one pass. No term within a term is evaluated here.
+//! `index_packed` makes it packed, without regrouping. No term within a term is evaluated here.
 //!
 //! Read `specs/Made.antt`, `Indexing` and `Packed`; then `forms.rt`, `operations.rt`, `index.rt`, `runs.rt` and `boxes.rt`.
 #![tactic(auto)]
