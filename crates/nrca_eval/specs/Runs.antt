@@ -9,7 +9,7 @@ use Rattle.nrca_term.specs.Term.{Term}
 use Rattle.nrca_term.specs.Meaning.{Outcomes, cden}
 use Rattle.nrca_term.specs.Turns.{settle}
 
--- the body at each member from one number up to another, and what it takes there
+-- the body at each member from one number up to another
 abbrev pub run_values : Outcomes → List Datum → Term → List Datum → ℕ → ℕ → Option (List Datum)
 run_values V vals t ms a b = each (λ m. cden V (m ∷ vals) t) (slice_range ms a b)
 
@@ -17,7 +17,7 @@ run_values V vals t ms a b = each (λ m. cden V (m ∷ vals) t) (slice_range ms 
 abbrev pub run_turns : Outcomes → List Datum → Term → List Datum → ℕ → ℕ → ℕ
 run_turns V vals t ms a b = total (λ m. settle V (m ∷ vals) t) (slice_range ms a b)
 
--- the body at each index from one row-major number up to another, and what it takes there
+-- the body at each index from one row-major number up to another
 abbrev pub cell_values : Outcomes → List Datum → Term → List ℕ → ℕ → ℕ → Option (List Datum)
 cell_values V vals t ds a b = each (λ at. cden V (walked at [] ++ vals) t) (slice_range (indices ds) a b)
 

@@ -1,5 +1,5 @@
-//! What the forms that evaluate all their parts make of them: the members of `index` run in pieces, and with one worker packed pairs
-//! are read in one pass.
+//! What the forms that evaluate all their parts make of them: the members of `index` run in pieces. With one worker packed pairs are
+//! one piece, which is read as it stands.
 
 ghost use Rattle.std.specs.Prelude.{◌≡◌, ◌≤◌, ◌∷◌, [], None, Some, IfSome, length};
 ghost use Rattle.std.specs.List.Sorted.{IsStrictlySortedBy};
@@ -130,7 +130,7 @@ fn index_value<R: Threads + Sync, G: Gate>(
     })
 }
 
-// The packed pairs that `index` of rank 1 reads in one pass: with one worker. More of them read the members in pieces.
+// The packed pairs that `index` of rank 1 reads as they stand, in one piece: with one worker. More of them read the members as values.
 fn pairs_at_once(workers: u64, rank: u64, set: &Set) -> Option<&[(u64, u64)]>
     ensures rank { IfSome result (λ ps. rank ≡ 1) }
     ensures ascending { IfSome result (λ ps. IsStrictlySortedBy pair_cmp ps.now) }
@@ -155,6 +155,9 @@ fn index_members<R: Threads + Sync, G: Gate>(
     ensures { MakesArray budget rank (pairs_run rank set 0 (length set)) result }
 {
     if let Some(pairs) = pairs_at_once(pool.workers, rank, &set) {
+        if !pairs.is_empty() {
+            pool.gate.pass(0);
+        }
         let made = index_packed(alloc, pairs, budget);
         drop(set);
         return made;

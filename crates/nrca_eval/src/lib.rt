@@ -5,8 +5,9 @@
 //! not inside a piece is cut into pieces, each of which runs in a thread of its own; a loop inside
 //! a piece runs there. `eval` runs every loop where it stands.
 //!
-//! Read `specs/Parts`, `Runs` and `Loops` with `scope` and `evaluator`, one function a form and one a kind of loop, whose laws
-//! stand in `specs/Laws/Form`, and `members`; then `specs/Gathered` with `pieces`, `joins` and `index`.
+//! Read `specs/Parts`, `Runs` and `Loops` with `scope`; then the one recursion of `evaluator`, one
+//! function a form, whose laws stand in `specs/Laws/Form`, and of `loops`, with `members`; and last
+//! `specs/Gathered` with `pieces`, `joins` and `index`.
 #![tactic(auto)]
 
 mod blocks;
@@ -14,6 +15,7 @@ mod evaluator;
 mod index;
 mod joins;
 mod lending;
+mod loops;
 mod members;
 mod pieces;
 mod scope;
@@ -62,9 +64,9 @@ pub fn evaluate<R: Threads + Sync, G: Gate>(
 }
 
 /// The value of a term and its turns, among the outcomes of the positions and the values of the
-/// variables. Spent exactly where the turns pass the budget; a loop, tabulation or `index` whose
-/// members or cells pass what is left is Spent before its first turn. No thread is started: the type
-/// of a runtime is named alone.
+/// variables. Spent exactly where the turns pass the budget; a loop or tabulation whose members or
+/// cells pass what is left is Spent before its first turn, and so is an `index` whose members do. No
+/// thread is started: the type of a runtime is named alone.
 pub fn eval<R: Threads + Sync>(
     alloc: Global,
     term: &Core,

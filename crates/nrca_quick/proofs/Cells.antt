@@ -1,6 +1,7 @@
 -- The numbers of an index, one more, and the cell there.
 use Rattle.std.proofs.Common.{◌≡◌, ℕ, List, ◌∷◌, ◌++◌, [], map, Option, Some, None, ◌∙◌, sym, ap}
 use Rattle.std.specs.Prelude.{IfSome}
+use Rattle.std.specs.Option.{option_map}
 use Rattle.std.proofs.lemmas.List.{map-append}
 use Rattle.aql_value.specs.Datum.{Datum, natural}
 use Rattle.aql_value.specs.Laws.Operations.{each-naturals}
@@ -23,16 +24,16 @@ turns_of None m k e h = tt
 turns_of (Some n) m k e h = e ∙ h
 
 -- one number more of an index
-pub index_with : (o : Option (List Datum)) (p : Option Datum) (at more : List ℕ) (m n : ℕ) → o ≡ Some (map natural at) → p ≡ Some (natural n) → more ≡ at ++ m ∷ [] → m ≡ n →
+pub index_with : (o : Option (List Datum)) (p : Option Datum) (at more : List ℕ) (n : ℕ) → o ≡ Some (map natural at) → p ≡ Some (natural n) → more ≡ at ++ n ∷ [] →
     list_with o p ≡ Some (map natural more)
-index_with o p at more m n e f g h =
-    (λ k. list_with (e k) (f k)) ∙ ap Some (sym (ap (map natural) (g ∙ ap (λ j. at ++ j ∷ []) h) ∙ map-append natural at (n ∷ [])))
+index_with o p at more n e f g =
+    (λ k. list_with (e k) (f k)) ∙ ap Some (sym (ap (map natural) g ∙ map-append natural at (n ∷ [])))
 
 cell_there : (o : Option (List ℕ)) (p : Option Datum) (v : Datum) → Some v ≡ (o >>= λ ns. p) → p ≡ Some v
 cell_there None p v e = cc
 cell_there (Some ns) p v e = sym e
 
 -- the number that a cell of an array of naturals is
-pub flat_number : (r : Option ℕ) (n : ℕ) (o : Option (List ℕ)) (p : Option Datum) → Some (natural n) ≡ (o >>= λ ns. p) → IfSome r (λ m. n ≡ m) → IfSome r (λ m. p ≡ Some (natural m))
-flat_number None n o p e h = tt
-flat_number (Some m) n o p e h = cell_there o p (natural n) e ∙ ap (λ k. Some (natural k)) h
+pub flat_number : (r : Option ℕ) (o : Option (List ℕ)) (p : Option Datum) → option_map natural r ≡ (o >>= λ ns. p) → IfSome r (λ n. p ≡ Some (natural n))
+flat_number None o p e = tt
+flat_number (Some n) o p e = cell_there o p (natural n) e

@@ -1,4 +1,4 @@
-//! The branch of a choice that a test found in 64 bits comes to.
+//! The branch that a choice comes to, where its test is found without memory, turns or faults.
 
 ghost use Rattle.nrca_quick.specs.Choices.{AreWorthTheSame, IsNoHeavier, TakeTheSame};
 

@@ -1,4 +1,4 @@
-//! Terms that are numbers of 64 bits or truth values.
+//! Terms that are numbers or truth values.
 
 ghost use Rattle.std.specs.Prelude.{IfSome};
 ghost use Rattle.nrca_loops.specs.Evaluates.{TakesNone};
@@ -6,8 +6,8 @@ ghost use Rattle.nrca_quick.specs.Lending.{lent_datum};
 ghost use Rattle.nrca_quick.specs.Quick.{IsNumber, IsTruth, IsCell, TakeNone};
 
 use crate::lending::{Lent, lent_part, lent_value};
-use crate::small::{
-    lent_cell, lent_dim, small, small_arith, small_compare, small_held, small_value, small_variable,
+use crate::naturals::{
+    held_number, lent_cell, lent_dim, number_compare, value_number, variable_number,
 };
 use nrca_loops::{Env, Globals, lent};
 use nrca_term::{Core, Terms};
@@ -16,15 +16,15 @@ use nrca_term::{Core, Terms};
 /// the cells that are numbers, and the one dimension of an array of rank 1, are read, and the parts of
 /// tuples that are lent.
 #[cycle(quick)]
-pub fn quick(term: &Core, globals: &Globals, env: &Env) -> Option<u64>
+pub fn quick(term: &Core, globals: &Globals, env: &Env) -> Option<u128>
     ensures value { IfSome result (λ n. IsNumber globals.now env.now term.now n) }
     ensures turns { IfSome result (λ n. TakesNone globals.now env.now term.now) }
 {
     match term {
-        Core::Nat(n) => small(*n),
-        Core::Var(at) => small_variable(env, *at),
+        Core::Nat(n) => Some(*n),
+        Core::Var(at) => variable_number(env, *at),
         Core::Global(_) => match lent(term, &*globals, &*env) {
-            Some(held) => small_held(held),
+            Some(held) => held_number(held),
             None => None,
         },
         Core::Arith(op, first, second) => {
@@ -34,7 +34,7 @@ pub fn quick(term: &Core, globals: &Globals, env: &Env) -> Option<u64>
             let Some(b) = quick(second, globals, env) else {
                 return None;
             };
-            small_arith(*op, a, b)
+            op.apply(a, b)
         }
         Core::If(test, yes, no) => match quick_truth(test, globals, env) {
             Some(true) => quick(yes, globals, env),
@@ -48,7 +48,7 @@ pub fn quick(term: &Core, globals: &Globals, env: &Env) -> Option<u64>
             }
             None => match quick(bound, &*globals, &*env) {
                 Some(number) => {
-                    let numbers = [u128::from(number)];
+                    let numbers = [number];
                     let inner = Env::Indices(&numbers, &*env);
                     quick(body, &*globals, &inner)
                 }
@@ -83,7 +83,7 @@ pub fn quick_truth(term: &Core, globals: &Globals, env: &Env) -> Option<bool>
             let Some(b) = quick(second, globals, env) else {
                 return None;
             };
-            Some(small_compare(*op, a, b))
+            Some(number_compare(*op, a, b))
         }
         Core::If(test, yes, no) => match quick_truth(test, globals, env) {
             Some(true) => quick_truth(yes, globals, env),
@@ -98,7 +98,7 @@ pub fn quick_truth(term: &Core, globals: &Globals, env: &Env) -> Option<bool>
 // dimensions. The index stands here, so that a level of the recursion keeps little on the stack.
 #[cycle(quick)]
 #[inline(never)]
-fn quick_cell(array: Lent, at: &Terms, globals: &Globals, env: &Env) -> Option<u64>
+fn quick_cell(array: Lent, at: &Terms, globals: &Globals, env: &Env) -> Option<u128>
     ensures value { IfSome result (λ n. IsCell globals.now env.now (lent_datum array.entry) at.now
         n) }
     ensures turns { IfSome result (λ n. TakeNone globals.now env.now at.now) }
@@ -112,7 +112,7 @@ fn quick_cell(array: Lent, at: &Terms, globals: &Globals, env: &Env) -> Option<u
         if count == 8 {
             return None;
         }
-        index[count] = u128::from(n);
+        index[count] = n;
         count += 1;
     }
     lent_cell(array, &index[..count])
@@ -120,12 +120,12 @@ fn quick_cell(array: Lent, at: &Terms, globals: &Globals, env: &Env) -> Option<u
 
 // The number that a part of a tuple that is lent is.
 #[inline(never)]
-fn quick_part(term: &Core, globals: &Globals, env: &Env) -> Option<u64>
+fn quick_part(term: &Core, globals: &Globals, env: &Env) -> Option<u128>
     ensures value { IfSome result (λ n. IsNumber globals.now env.now term.now n) }
     ensures turns { IfSome result (λ n. TakesNone globals.now env.now term.now) }
 {
     match lent_value(term, globals, env) {
-        Some(value) => small_value(value),
+        Some(value) => value_number(value),
         None => None,
     }
 }
@@ -150,7 +150,7 @@ pub fn quick_test(test: &Core, globals: &Globals, env: &Env) -> Option<bool>
     }
 }
 
-// Whether the term is one that `quick` looks at whole, and holds no choice.
+// Whether each form in the term is one that `quick` knows, and none of them is a choice.
 #[cycle(plain)]
 fn is_plain(term: &Core) -> bool {
     match term {

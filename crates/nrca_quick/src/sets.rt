@@ -4,9 +4,10 @@ ghost use Rattle.std.specs.Prelude.{◌≡◌, ◌++◌, Some, IfSome, IfOk};
 ghost use Rattle.aql_value.specs.Canon.{canon};
 ghost use Rattle.nrca_loops.specs.Evaluates.{TakesNone};
 ghost use Rattle.nrca_quick.specs.Few.{AddsSet, AreTwo, IsFew, IsSmall, few_members};
-ghost use Rattle.nrca_quick.specs.Quick.{TakeNone};
+ghost use Rattle.nrca_quick.specs.Quick.{IsNumber, TakeNone};
 
 use crate::numbers::{quick, quick_truth};
+use crate::small::small;
 use aql_value::Memory;
 use nrca_loops::{Env, Globals, lent};
 use nrca_sets::Gather;
@@ -51,7 +52,7 @@ pub fn few(term: &Core, globals: &Globals, env: &Env) -> Option<AtMostOne>
             }
             None => match quick(bound, &*globals, &*env) {
                 Some(number) => {
-                    let numbers = [u128::from(number)];
+                    let numbers = [number];
                     let inner = Env::Indices(&numbers, &*env);
                     few(body, &*globals, &inner)
                 }
@@ -72,7 +73,7 @@ fn quick_member(term: &Core, globals: &Globals, env: &Env) -> Option<Small>
             Some((m, n)) => Some(Small::Pair(m, n)),
             None => None,
         },
-        _ => match quick(term, globals, env) {
+        _ => match small_number(term, globals, env) {
             Some(number) => Some(Small::Number(number)),
             None => None,
         },
@@ -87,13 +88,21 @@ fn quick_pair(parts: &Terms, globals: &Globals, env: &Env) -> Option<(u64, u64)>
     if parts.0.len() != 2 {
         return None;
     }
-    let Some(m) = quick(&parts.0[0], globals, env) else {
+    let Some(m) = small_number(&parts.0[0], globals, env) else {
         return None;
     };
-    let Some(n) = quick(&parts.0[1], globals, env) else {
+    let Some(n) = small_number(&parts.0[1], globals, env) else {
         return None;
     };
     Some((m, n))
+}
+
+// The number that a term is, where it is found and has 64 bits.
+fn small_number(term: &Core, globals: &Globals, env: &Env) -> Option<u64>
+    ensures value { IfSome result (λ n. IsNumber globals.now env.now term.now n) }
+    ensures turns { IfSome result (λ n. TakesNone globals.now env.now term.now) }
+{
+    small(quick(term, globals, env)?)
 }
 
 /// The members so far, and those of such a set.

@@ -1,5 +1,6 @@
 mod arrays;
 mod evaluation;
+mod gates;
 mod numbers;
 mod pieces;
 mod serial;

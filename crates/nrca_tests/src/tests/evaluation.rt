@@ -1,5 +1,4 @@
-//! Terms with their values and turns, worked out by hand, for each number of workers, and that two
-//! pieces of each kind of loop run beside each other.
+//! Terms with their values and turns, worked out by hand, for each number of workers.
 
 ghost use Rattle.std.specs.Prelude.{◌≤◌};
 
@@ -13,7 +12,6 @@ use nrca_par::EvalFault;
 use nrca_term::Core;
 use std::alloc::Global;
 use std::process::Abort;
-use std::sync::atomic::{AtomicBool, AtomicU64, Ordering};
 use std::test::Fail;
 use std::thread::Threads;
 
@@ -80,7 +78,7 @@ fn evaluated<R: Threads + Sync, G: Gate>(
     found
 }
 
-fn found<R: Threads + Sync, G: Gate>(
+pub(crate) fn found<R: Threads + Sync, G: Gate>(
     rt: &R,
     alloc: Global,
     row: &Row,
@@ -323,140 +321,6 @@ fn the_greatest_loops_are_spent(rt: HostRuntime) -> Result<(), Fail> {
             let spent = is_spent(&rt, rt.alloc(), words, budget);
             assert!(rt; spent, "{words} in {budget}");
         }
-    }
-    Ok(())
-}
-
-/// Holds the pieces 0 and 1 until each has seen that the other came, or has looked often enough.
-#[derive(Drop)]
-struct Meeting {
-    first: AtomicBool,
-    second: AtomicBool,
-    first_saw: AtomicBool,
-    second_saw: AtomicBool,
-}
-
-const LOADS: u64 = 100_000_000;
-
-fn meet(mine: &AtomicBool, other: &AtomicBool, saw: &AtomicBool) {
-    mine.store(true, Ordering::SeqCst);
-    for _ in 0..LOADS {
-        if other.load(Ordering::SeqCst) {
-            saw.store(true, Ordering::SeqCst);
-            return;
-        }
-    }
-}
-
-impl Gate for Meeting {
-    fn pass(&self, piece: u64) {
-        if piece == 0 {
-            meet(&self.first, &self.second, &self.first_saw);
-        } else if piece == 1 {
-            meet(&self.second, &self.first, &self.second_saw);
-        }
-    }
-}
-
-// Packed pairs take no pieces, so the pairs here have truth values.
-const LOOPS: [Row; 4] = [
-    ("2 v0 tab1", "2 0 1 arr1.2", 2),
-    ("2 gen v0 S", "1", 4),
-    ("2 gen v0 1 + one U", "1 2 set2", 4),
-    (
-        "0 T tup2 one 1 F tup2 one u idx1",
-        "2 T set1 F set1 arr1.2",
-        4,
-    ),
-];
-
-// The outcome of a loop of two pieces, and whether the first piece saw the second, and the second the first.
-fn pieces<R: Threads + Sync>(rt: &R, alloc: Global, row: &Row) -> (Outcome, bool, bool) {
-    let gate = Meeting {
-        first: AtomicBool::new(false),
-        second: AtomicBool::new(false),
-        first_saw: AtomicBool::new(false),
-        second_saw: AtomicBool::new(false),
-    };
-    let outcome = found(rt, alloc, row, 100, 2, &gate);
-    let first = gate.first_saw.load(Ordering::SeqCst);
-    (outcome, first, gate.second_saw.load(Ordering::SeqCst))
-}
-
-#[test]
-fn two_pieces_run_beside_each_other(rt: HostRuntime) -> Result<(), Fail> {
-    for row in &LOOPS {
-        let found = pieces(&rt, rt.alloc(), row);
-        assert_eq!(rt; found, (wanted(row, 100), true, true), "{}", row.0);
-    }
-    Ok(())
-}
-
-/// Counts how often each of the pieces 0 to 2 passes, and how often any other does.
-#[derive(Drop)]
-struct Counting {
-    first: AtomicU64,
-    second: AtomicU64,
-    third: AtomicU64,
-    others: AtomicU64,
-}
-
-impl Gate for Counting {
-    fn pass(&self, piece: u64) {
-        let count = match piece {
-            0 => &self.first,
-            1 => &self.second,
-            2 => &self.third,
-            _ => &self.others,
-        };
-        count.fetch_add(1, Ordering::SeqCst);
-    }
-}
-
-// The outcome of a loop by three workers, and how often the pieces 0, 1, 2 and any other passed the gate.
-fn passes<R: Threads + Sync>(rt: &R, alloc: Global, row: &Row) -> (Outcome, [u64; 4]) {
-    let gate = Counting {
-        first: AtomicU64::new(0),
-        second: AtomicU64::new(0),
-        third: AtomicU64::new(0),
-        others: AtomicU64::new(0),
-    };
-    let outcome = found(rt, alloc, row, 100, 3, &gate);
-    let counts = [
-        gate.first.load(Ordering::SeqCst),
-        gate.second.load(Ordering::SeqCst),
-        gate.third.load(Ordering::SeqCst),
-        gate.others.load(Ordering::SeqCst),
-    ];
-    (outcome, counts)
-}
-
-// A loop of each kind, of three members or more, and then ones with another loop in their body.
-const LOOPS_OF_THREE_PIECES: [Row; 7] = [
-    ("3 v0 tab1", "3 0 1 2 arr1.3", 3),
-    ("5 gen v0 S", "10", 10),
-    ("5 gen v0 one U", "0 1 2 3 4 set5", 10),
-    (
-        "0 T tup2 one 1 F tup2 one u 2 T tup2 one u idx1",
-        "3 T set1 F set1 T set1 arr1.3",
-        6,
-    ),
-    ("3 2 gen v0 S v0 + tab1", "3 1 2 3 arr1.3", 15),
-    ("5 gen 4 gen v1 v0 * S S", "60", 50),
-    ("3 gen 2 gen v1 v0 + one U U", "0 1 2 3 set4", 18),
-];
-
-// Each piece of a loop passes the gate once, and a loop in the body of another not at all. Refused here: pieces that pass twice, as
-// by `gate.pass(number); gate.pass(number);` in `map_pieces` of nrca_par.
-#[test]
-fn each_piece_passes_the_gate_once(rt: HostRuntime) -> Result<(), Fail> {
-    for row in &LOOPS_OF_THREE_PIECES {
-        let found = passes(&rt, rt.alloc(), row);
-        assert_eq!(rt; found, (wanted(row, 100), [1, 1, 1, 0]), "{}", row.0);
-    }
-    for row in &LOOPS {
-        let found = passes(&rt, rt.alloc(), row);
-        assert_eq!(rt; found, (wanted(row, 100), [1, 1, 0, 0]), "{}", row.0);
     }
     Ok(())
 }

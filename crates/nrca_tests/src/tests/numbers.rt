@@ -1,4 +1,4 @@
-//! The terms that are found as numbers of 64 bits or as sets of at most one of them, and those that are not.
+//! The terms that are found as numbers, or as sets of at most one number of 64 bits, and those that are not.
 
 use crate::tests::words::{pushed, term, value};
 use aql_value::made::both;
@@ -28,7 +28,7 @@ fn position(alloc: Global, words: &str) -> Result<Option<Held>, Memory> {
 }
 
 // The number that is found of a term, where variable 0 is 4 and variable 1 is 9.
-fn found(alloc: Global, words: &str) -> Result<Option<u64>, Memory> {
+fn found(alloc: Global, words: &str) -> Result<Option<u128>, Memory> {
     let (term, globals) = both(term(alloc, words), positions(alloc))?;
     let nine = Held::Value(Value::Nat(9));
     let outer = Env::Bound(&nine, &Env::Empty);
@@ -39,19 +39,25 @@ fn found(alloc: Global, words: &str) -> Result<Option<u64>, Memory> {
     Ok(number)
 }
 
-const ROWS: [(&str, Option<u64>); 41] = [
+// The greatest number.
+const MOST: u128 = 340282366920938463463374607431768211455;
+
+const ROWS: [(&str, Option<u128>); 43] = [
     ("7", Some(7)),
     ("18446744073709551615", Some(18446744073709551615)),
-    ("max", None),
+    ("max", Some(MOST)),
     ("v0", Some(4)),
     ("v1", Some(9)),
     ("v0 v1 *", Some(36)),
     ("18446744073709551614 1 +", Some(18446744073709551615)),
-    ("18446744073709551615 1 +", None),
+    ("18446744073709551615 1 +", Some(18446744073709551616)),
+    // past the greatest number
+    ("max 1 +", None),
+    ("max max *", None),
     // a number that passes 64 bits on the way
-    ("18446744073709551615 1 + 1 -", None),
+    ("18446744073709551615 1 + 1 -", Some(18446744073709551615)),
     ("4294967296 4294967295 *", Some(18446744069414584320)),
-    ("4294967296 4294967296 *", None),
+    ("4294967296 4294967296 *", Some(18446744073709551616)),
     ("3 5 -", Some(0)),
     ("17 5 /", Some(3)),
     ("17 5 %", Some(2)),
@@ -74,7 +80,7 @@ const ROWS: [(&str, Option<u64>); 41] = [
     ("g1", Some(7)),
     ("bot", None),
     ("g3 p1/2", Some(3)),
-    ("g3 p2/2", None),
+    ("g3 p2/2", Some(MOST)),
     ("g3 p1/3", None),
     ("g2 1 sub1", Some(6)),
     ("g2 3 sub1", None),
@@ -153,7 +159,7 @@ fn sets_of_at_most_one_are_found(rt: HostRuntime) -> Result<(), Fail> {
 }
 
 // The number that is found of a term, where variable 0 is ([[3; 5, 6, 7]], (8, [[2, 1; 9, 2^128-1]])).
-fn found_in_parts(alloc: Global, words: &str) -> Result<Option<u64>, Memory> {
+fn found_in_parts(alloc: Global, words: &str) -> Result<Option<u128>, Memory> {
     let parts = "3 5 6 7 arr1.3 8 2 1 9 max arr2.2 tup2 tup2";
     let (term, held) = both(term(alloc, words), position(alloc, parts))?;
     let globals = Globals {
@@ -169,16 +175,17 @@ fn found_in_parts(alloc: Global, words: &str) -> Result<Option<u64>, Memory> {
     Ok(number)
 }
 
-const PARTS: [(&str, Option<u64>); 24] = [
+const PARTS: [(&str, Option<u128>); 24] = [
     ("v0 p2/2 p1/2", Some(8)),
     ("v0 p1/2 1 sub1", Some(6)),
     ("v0 p1/2 v0 p2/2 p1/2 6 - sub1", Some(7)),
     ("v0 p1/2 dim1", Some(3)),
     ("v0 p2/2 p2/2 0 0 sub2", Some(9)),
-    // past the end, past 64 bits, of another rank, of another kind
+    // past 64 bits
+    ("v0 p2/2 p2/2 1 0 sub2", Some(MOST)),
+    // past the end, of another rank, of another kind
     ("v0 p1/2 3 sub1", None),
     ("v0 p2/2 p2/2 0 1 sub2", None),
-    ("v0 p2/2 p2/2 1 0 sub2", None),
     ("v0 p1/2 1 1 sub2", None),
     ("v0 p1/2 dim2", None),
     ("v0 p2/2 p2/2 dim2", None),
@@ -188,14 +195,17 @@ const PARTS: [(&str, Option<u64>); 24] = [
     ("v0 p2/2 p1/2 p1/2", None),
     ("v0 p2/2 p1/2 0 sub1", None),
     ("v0 p2/2 p1/2 dim1", None),
-    // the greatest number, and past it
+    // about the greatest number of 64 bits
     ("18446744073709551615 1 *", Some(18446744073709551615)),
-    ("18446744073709551615 2 *", None),
+    ("18446744073709551615 2 *", Some(36893488147419103230)),
     ("0 18446744073709551615 -", Some(0)),
     ("18446744073709551615 18446744073709551614 /", Some(1)),
     ("18446744073709551615 10 %", Some(5)),
     ("4294967297 4294967295 *", Some(18446744073709551615)),
-    ("9223372036854775808 9223372036854775808 +", None),
+    (
+        "9223372036854775808 9223372036854775808 +",
+        Some(18446744073709551616),
+    ),
 ];
 
 #[test]

@@ -56,13 +56,14 @@ quick_cell-loop-term-preserved t c =
     let x = term_of c.term-item.result in
     let inv = c.loop-term.invariant in
     let n = c.loop-term.count in
-    let more = set c.loop-term.index n c.from.result in
+    let k = c.in-Some.n in
+    let more = set c.loop-term.index n k in
     let there : n < length c.loop-term.index = omega (arith, inv.2, inv.3, c.if-count-eq8.false) in
     let at = term_at c.deref-term-items.result.now c.args.at.now.0.items i c.term-item.result c.deref-term-items.ensures.value (omega arith) c.term-item.is in (
       each-range_more f g ts 0 i x (omega arith) at
-          ∙ index_with (each f (slice_range ts 0 i)) (f x) (take n c.loop-term.index) (take (n + 1) more) _ c.in-Some.n inv.0 c.in-Some.ensures.value
-          (take_more_set c.loop-term.index n c.from.result there) c.from.ensures,
+          ∙ index_with (each f (slice_range ts 0 i)) (f x) (take n c.loop-term.index) (take (n + 1) more) k inv.0 c.in-Some.ensures.value
+          (take_more_set c.loop-term.index n k there),
       omega (arith, total-range_more f g ts 0 i x (omega arith) at, inv.1, c.in-Some.ensures.turns),
       omega (arith, there, inv.3),
-      length-set c.loop-term.index n c.from.result ∙ inv.3,
+      length-set c.loop-term.index n k ∙ inv.3,
     )

@@ -1,7 +1,7 @@
 use Rattle.std.proofs.Common.{ap, sym, ◌∙◌, arith}
 use Rattle.nrca_array.proofs.Places.{place_within, cell_inside, cell_outside}
 use Rattle.std.specs.Prelude.{slice_get}
-use Rattle.nrca_quick.proofs.small.grid_place.Goals as goal
+use Rattle.nrca_quick.proofs.naturals.grid_place.Goals as goal
 
 pub overflow_cast-result : goal.overflow_cast-result
 overflow_cast-result c =

@@ -39,31 +39,31 @@ use denote.Param.Send.{sendable}
 use Rattle.std.proofs.Crossing.{crosses}
 use Rattle.nrca_loops.proofs.Crosses.{env-sync, globals-sync, members-sync}
 use Rattle.nrca_term.proofs.term.Core.TheLaws.TheKnot.{sync-Core}
-use Rattle.nrca_eval.proofs.evaluator.+eval.Goals as goal
+use Rattle.nrca_eval.proofs.+eval.Goals as goal
 use Rattle.nrca_term.specs.Laws.Entering.{child-there}
 
-pub node-eval_tab-requires : goal.node-eval_tab-requires
-node-eval_tab-requires g t c κs within =
+pub evaluator::node-eval_tab-requires : goal.evaluator::node-eval_tab-requires
+evaluator::node-eval_tab-requires g t c κs within =
     let w = ap (λ x. weight_of (term_of x)) c.in-Tab.is ∙ ap weight_of (term_of-Tab c.in-Tab.bounds c.in-Tab.body) in
     (omega (arith, c.decreases, w, tab_weight (terms_of c.in-Tab.bounds) (term_of c.in-Tab.body.value), ap (λ x. weight_of (term_of x)) c.deref-in-Tab.ensures), search rules)
 
-pub node-returns-in-BigUnion : goal.node-returns-in-BigUnion
-node-returns-in-BigUnion g t c =
+pub evaluator::node-returns-in-BigUnion : goal.evaluator::node-returns-in-BigUnion
+evaluator::node-returns-in-BigUnion g t c =
     let whole = ap term_of c.in-BigUnion.is ∙ term_of-BigUnion c.in-BigUnion.over c.in-BigUnion.body ∙ (λ k. big_union_term (term_of (sym c.deref-in-BigUnion.ensures k)) (term_of (sym c.deref-in-BigUnion-2.ensures k))) in
     same_within boxed_value c.eval_union.result c.args.budget _ _ _ _ (ap (cden c.args.scope.now.globals.now (values c.args.env.now)) (sym whole)) (ap (settle c.args.scope.now.globals.now (values c.args.env.now)) (sym whole)) c.eval_union.ensures
 
-pub node-returns-in-Sum : goal.node-returns-in-Sum
-node-returns-in-Sum g t c =
+pub evaluator::node-returns-in-Sum : goal.evaluator::node-returns-in-Sum
+evaluator::node-returns-in-Sum g t c =
     let whole = ap term_of c.in-Sum.is ∙ term_of-Sum c.in-Sum.over c.in-Sum.body ∙ (λ k. sum_term (term_of (sym c.deref-in-Sum.ensures k)) (term_of (sym c.deref-in-Sum-2.ensures k))) in
     same_within boxed_value c.eval_sum.result c.args.budget _ _ _ _ (ap (cden c.args.scope.now.globals.now (values c.args.env.now)) (sym whole)) (ap (settle c.args.scope.now.globals.now (values c.args.env.now)) (sym whole)) c.eval_sum.ensures
 
-pub node-eval_cell-requires : goal.node-eval_cell-requires
-node-eval_cell-requires g t c κs within =
+pub evaluator::node-eval_cell-requires : goal.evaluator::node-eval_cell-requires
+evaluator::node-eval_cell-requires g t c κs within =
     let w = ap (λ x. weight_of (term_of x)) c.in-Sub.is ∙ ap weight_of (term_of-Sub c.in-Sub.array c.in-Sub.at) in
     (omega (arith, c.decreases, w, sub_weight (term_of c.in-Sub.array.value) (terms_of c.in-Sub.at)), search rules)
 
-pub node-returns-in-Some : goal.node-returns-in-Some
-node-returns-in-Some g t c =
+pub evaluator::node-returns-in-Some : goal.evaluator::node-returns-in-Some
+evaluator::node-returns-in-Some g t c =
     let V = c.args.scope.now.globals.now in
     let vals = values c.args.env.now in
     let a = term_of c.in-Sub.array.value in
@@ -76,12 +76,12 @@ node-returns-in-Some g t c =
     same_within boxed_value c.eval_cell.result c.args.budget _ _ _ _
     (sym (ap (cden V vals) whole ∙ sub_lent V vals a v holds free ts)) (sym (ap (settle V vals) whole ∙ sub_free V vals a v holds free ts)) c.eval_cell.ensures
 
-pub eval_all-node-requires : goal.eval_all-node-requires
-eval_all-node-requires g t c κs within =
+pub evaluator::eval_all-node-requires : goal.evaluator::eval_all-node-requires
+evaluator::eval_all-node-requires g t c κs within =
     (omega (arith, c.decreases, member_weight c.deref-term-items.result.now c.args.terms.now.0.items c.loop-term.term-index c.term-item.result c.deref-term-items.ensures.value (omega arith) c.term-item.is), search rules)
 
-pub eval_all-returns-in_err-done : goal.eval_all-returns-in_err-done
-eval_all-returns-in_err-done g t c =
+pub evaluator::eval_all-returns-in_err-done : goal.evaluator::eval_all-returns-in_err-done
+evaluator::eval_all-returns-in_err-done g t c =
     let V = c.args.scope.now.globals.now in
     let vals = values c.args.env.now in
     let inv = c.loop-term.invariant in
@@ -90,8 +90,8 @@ eval_all-returns-in_err-done g t c =
     err_within parts_value _ _ _ _ c.in_err-done.field-0.0 c.from_residual.ensures.0 c.from_residual.ensures.1
     (λ s. spent_whole (settle V vals) (terms_of c.args.terms.now) c.loop-term.term-index (term_of c.term-item.result) c.args.budget c.loop-term.turns high at inv.1 inv.2 (c.in_err-done.ensures s))
 
-pub eval_all-loop-term-preserved : goal.eval_all-loop-term-preserved
-eval_all-loop-term-preserved g t c =
+pub evaluator::eval_all-loop-term-preserved : goal.evaluator::eval_all-loop-term-preserved
+evaluator::eval_all-loop-term-preserved g t c =
     let f = cden c.args.scope.now.globals.now (values c.args.env.now) in
     let g = settle c.args.scope.now.globals.now (values c.args.env.now) in
     let inv = c.loop-term.invariant in
@@ -102,16 +102,16 @@ eval_all-loop-term-preserved g t c =
       omega (arith, inv.2, done.1, done.2),
     )
 
-pub eval_parts-node-requires : goal.eval_parts-node-requires
-eval_parts-node-requires g t c κs within =
+pub evaluator::eval_parts-node-requires : goal.evaluator::eval_parts-node-requires
+evaluator::eval_parts-node-requires g t c κs within =
     (omega (arith, c.decreases, weight_of-child (term_of c.args.term.now) c.loop-i.i (term_of c.in-Some.part.now) (sym c.in-Some.ensures)), search rules)
 
-pub eval_parts-unreachable-requires : goal.eval_parts-unreachable-requires
-eval_parts-unreachable-requires g t c =
+pub evaluator::eval_parts-unreachable-requires : goal.evaluator::eval_parts-unreachable-requires
+evaluator::eval_parts-unreachable-requires g t c =
     child-there (parts_of (term_of c.args.term.now)) c.loop-i.i (omega (arith, c.parts-i-end.ensures)) c.in-None.ensures
 
-pub eval_parts-returns-in_err-done-in-Some : goal.eval_parts-returns-in_err-done-in-Some
-eval_parts-returns-in_err-done-in-Some g t c =
+pub evaluator::eval_parts-returns-in_err-done-in-Some : goal.evaluator::eval_parts-returns-in_err-done-in-Some
+evaluator::eval_parts-returns-in_err-done-in-Some g t c =
     let V = c.args.scope.now.globals.now in
     let vals = values c.args.env.now in
     let inv = c.loop-i.invariant in
@@ -120,8 +120,8 @@ eval_parts-returns-in_err-done-in-Some g t c =
     err_within parts_value _ _ _ _ c.in_err-done-in-Some.field-0.0 c.from_residual.ensures.0 c.from_residual.ensures.1
     (λ s. spent_whole (settle V vals) ts c.loop-i.i (term_of c.in-Some.part.now) c.args.budget c.loop-i.turns (slice_get_within ts c.loop-i.i (term_of c.in-Some.part.now) at) at inv.1 inv.2 (c.in_err-done-in-Some.ensures s))
 
-pub eval_parts-loop-i-preserved : goal.eval_parts-loop-i-preserved
-eval_parts-loop-i-preserved g t c =
+pub evaluator::eval_parts-loop-i-preserved : goal.evaluator::eval_parts-loop-i-preserved
+evaluator::eval_parts-loop-i-preserved g t c =
     let f = cden c.args.scope.now.globals.now (values c.args.env.now) in
     let g = settle c.args.scope.now.globals.now (values c.args.env.now) in
     let inv = c.loop-i.invariant in
@@ -133,8 +133,8 @@ eval_parts-loop-i-preserved g t c =
       omega (arith, inv.2, done.1, done.2),
     )
 
-pub eval_parts-returns : goal.eval_parts-returns
-eval_parts-returns g t c =
+pub evaluator::eval_parts-returns : goal.evaluator::eval_parts-returns
+evaluator::eval_parts-returns g t c =
     let V = c.args.scope.now.globals.now in
     let vals = values c.args.env.now in
     let inv = c.loop-i.invariant in
@@ -142,8 +142,8 @@ eval_parts-returns g t c =
     let whole = range_whole ts c.loop-i.i (omega (arith, c.parts-i-end.ensures, count-children (parts_of (term_of c.args.term.now)))) in
     (inv.0 ∙ ap (each (cden V vals)) whole, inv.1 ∙ ap (total (settle V vals)) whole, omega (arith, inv.1, inv.2, ap (total (settle V vals)) whole))
 
-pub eval_strict-returns-in_err-parts : goal.eval_strict-returns-in_err-parts
-eval_strict-returns-in_err-parts g t c =
+pub evaluator::eval_strict-returns-in_err-parts : goal.evaluator::eval_strict-returns-in_err-parts
+evaluator::eval_strict-returns-in_err-parts g t c =
     let V = c.args.scope.now.globals.now in
     let vals = values c.args.env.now in
     let s = strict_of (form_of (term_of c.args.term.now)) in
@@ -151,8 +151,8 @@ eval_strict-returns-in_err-parts g t c =
     let taken = strict_taken V vals (term_of c.args.term.now) s (well_formed-Core c.args.term.now) form in
     err_within boxed_value _ _ _ _ c.in_err-parts.field-0.0 c.from_residual.ensures.0 c.from_residual.ensures.1 (λ e. let h = c.in_err-parts.ensures e in omega (arith, h, taken))
 
-pub eval_strict-returns : goal.eval_strict-returns
-eval_strict-returns g t c =
+pub evaluator::eval_strict-returns : goal.evaluator::eval_strict-returns
+evaluator::eval_strict-returns g t c =
     let V = c.args.scope.now.globals.now in
     let vals = values c.args.env.now in
     let s = strict_of (form_of (term_of c.args.term.now)) in
@@ -165,8 +165,8 @@ eval_strict-returns g t c =
       omega (arith, whole.1, whole.2, ap (strict_turns s) parts.0, parts.1, parts.2, taken),
     )
 
-pub eval_sum-returns-in_err-run : goal.eval_sum-returns-in_err-run
-eval_sum-returns-in_err-run g t c =
+pub evaluator::eval_sum-returns-in_err-run : goal.evaluator::eval_sum-returns-in_err-run
+evaluator::eval_sum-returns-in_err-run g t c =
     let V = c.args.scope.now.globals.now in
     let vals = values c.args.env.now in
     let e = term_of c.args.over.now in
@@ -180,8 +180,8 @@ eval_sum-returns-in_err-run g t c =
     err_within boxed_value _ _ _ _ c.in_err-run.field-0.0 c.from_residual-in_err-run.ensures.0 c.from_residual-in_err-run.ensures.1
     (λ s. let h = c.in_err-run.ensures s in omega (arith, h, taken, inner, found.1, found.2, c.len-count.ensures, c.in_ok-answer.turns-is, c.if-count-from.false, c.from.ensures))
 
-pub eval_sum-returns : goal.eval_sum-returns
-eval_sum-returns g t c =
+pub evaluator::eval_sum-returns : goal.evaluator::eval_sum-returns
+evaluator::eval_sum-returns g t c =
     let V = c.args.scope.now.globals.now in
     let vals = values c.args.env.now in
     let e = term_of c.args.over.now in
@@ -198,8 +198,8 @@ eval_sum-returns g t c =
       omega (arith, run.1, run.2, taken, inner, found.1, found.2, c.len-count.ensures, c.in_ok-answer.turns-is, c.if-count-from.false, c.from.ensures),
     )
 
-pub eval_union-returns-in_err-run : goal.eval_union-returns-in_err-run
-eval_union-returns-in_err-run g t c =
+pub evaluator::eval_union-returns-in_err-run : goal.evaluator::eval_union-returns-in_err-run
+evaluator::eval_union-returns-in_err-run g t c =
     let V = c.args.scope.now.globals.now in
     let vals = values c.args.env.now in
     let e = term_of c.args.over.now in
@@ -213,8 +213,8 @@ eval_union-returns-in_err-run g t c =
     err_within boxed_value _ _ _ _ c.in_err-run.field-0.0 c.from_residual-in_err-run.ensures.0 c.from_residual-in_err-run.ensures.1
     (λ s. let h = c.in_err-run.ensures s in omega (arith, h, taken, inner, found.1, found.2, c.len-count.ensures, c.in_ok-answer.turns-is, c.if-count-from.false, c.from.ensures))
 
-pub eval_union-returns : goal.eval_union-returns
-eval_union-returns g t c =
+pub evaluator::eval_union-returns : goal.evaluator::eval_union-returns
+evaluator::eval_union-returns g t c =
     let V = c.args.scope.now.globals.now in
     let vals = values c.args.env.now in
     let e = term_of c.args.over.now in
@@ -231,8 +231,8 @@ eval_union-returns g t c =
       omega (arith, run.1, run.2, taken, inner, found.1, found.2, c.len-count.ensures, c.in_ok-answer.turns-is, c.if-count-from.false, c.from.ensures),
     )
 
-pub eval_tab-returns-in_err-answer : goal.eval_tab-returns-in_err-answer
-eval_tab-returns-in_err-answer g t c =
+pub evaluator::eval_tab-returns-in_err-answer : goal.evaluator::eval_tab-returns-in_err-answer
+evaluator::eval_tab-returns-in_err-answer g t c =
     let V = c.args.scope.now.globals.now in
     let vals = values c.args.env.now in
     let ds = terms_of c.args.bounds.now in
@@ -240,8 +240,8 @@ eval_tab-returns-in_err-answer g t c =
     err_within boxed_value _ _ _ _ c.in_err-answer.field-0.0 c.from_residual.ensures.0 c.from_residual.ensures.1
     (λ s. let h = c.in_err-answer.ensures s in omega (arith, h, settle-tab V vals ds b))
 
-pub eval_tab-returns-in_default : goal.eval_tab-returns-in_default
-eval_tab-returns-in_default g t c =
+pub evaluator::eval_tab-returns-in_default : goal.evaluator::eval_tab-returns-in_default
+evaluator::eval_tab-returns-in_default g t c =
     let V = c.args.scope.now.globals.now in
     let vals = values c.args.env.now in
     let ds = terms_of c.args.bounds.now in
@@ -252,8 +252,8 @@ eval_tab-returns-in_default g t c =
     let idle = tab_idle V vals ds b is in
     (sym (tab_none V vals ds b is), omega (arith, idle, found.1), omega (arith, idle, found.2))
 
-pub eval_tab-returns-then-count-from : goal.eval_tab-returns-then-count-from
-eval_tab-returns-then-count-from g t c =
+pub evaluator::eval_tab-returns-then-count-from : goal.evaluator::eval_tab-returns-then-count-from
+evaluator::eval_tab-returns-then-count-from g t c =
     let V = c.args.scope.now.globals.now in
     let vals = values c.args.env.now in
     let ds = terms_of c.args.bounds.now in
@@ -266,8 +266,8 @@ eval_tab-returns-then-count-from g t c =
     let all = ap product (c.as_slice.ensures.value ∙ c.dims.view_is) in
     λ s. omega (arith, taken, all, found.1, found.2, c.saturating_product-count.ensures, c.in_ok-answer.turns-is, c.if-count-from.true, c.from.ensures)
 
-pub eval_tab-returns-in_err-run : goal.eval_tab-returns-in_err-run
-eval_tab-returns-in_err-run g t c =
+pub evaluator::eval_tab-returns-in_err-run : goal.evaluator::eval_tab-returns-in_err-run
+evaluator::eval_tab-returns-in_err-run g t c =
     let V = c.args.scope.now.globals.now in
     let vals = values c.args.env.now in
     let ds = terms_of c.args.bounds.now in
@@ -283,8 +283,8 @@ eval_tab-returns-in_err-run g t c =
     err_within boxed_value _ _ _ _ c.in_err-run.field-0.0 c.from_residual-in_err-run.ensures.0 c.from_residual-in_err-run.ensures.1
     (λ s. let h = c.in_err-run.ensures s in omega (arith, h, taken, inner, count, found.1, found.2, c.in_ok-answer.turns-is, c.if-count-from.false, c.from.ensures))
 
-pub eval_tab-returns : goal.eval_tab-returns
-eval_tab-returns g t c =
+pub evaluator::eval_tab-returns : goal.evaluator::eval_tab-returns
+evaluator::eval_tab-returns g t c =
     let V = c.args.scope.now.globals.now in
     let vals = values c.args.env.now in
     let ds = terms_of c.args.bounds.now in
@@ -303,8 +303,8 @@ eval_tab-returns g t c =
       omega (arith, run.1, run.2, taken, inner, count, found.1, found.2, c.in_ok-answer.turns-is, c.if-count-from.false, c.from.ensures),
     )
 
-pub sum_run-returns-in_err-done : goal.sum_run-returns-in_err-done
-sum_run-returns-in_err-done g t c =
+pub loops::sum_run-returns-in_err-done : goal.loops::sum_run-returns-in_err-done
+loops::sum_run-returns-in_err-done g t c =
     let V = c.args.scope.now.globals.now in
     let vals = values c.args.env.now in
     let b = term_of c.args.body.now in
@@ -315,8 +315,8 @@ sum_run-returns-in_err-done g t c =
     err_within itself _ _ _ _ c.in_err-done.field-0.0 c.from_residual.ensures.0 c.from_residual.ensures.1
     (λ s. spent_block g ms c.args.from c.by_blocks.at c.block_end-end.result c.args.to c.args.budget c.by_blocks.turns inv.3 (omega (arith, c.block_end-end.ensures)) (omega (arith, c.block_end-end.ensures)) inv.1 inv.2 (c.in_err-done.ensures s))
 
-pub sum_run-by_blocks-preserved : goal.sum_run-by_blocks-preserved
-sum_run-by_blocks-preserved g t c =
+pub loops::sum_run-by_blocks-preserved : goal.loops::sum_run-by_blocks-preserved
+loops::sum_run-by_blocks-preserved g t c =
     let V = c.args.scope.now.globals.now in
     let vals = values c.args.env.now in
     let b = term_of c.args.body.now in
@@ -333,8 +333,8 @@ sum_run-by_blocks-preserved g t c =
       omega (arith, c.block_end-end.ensures),
     )
 
-pub members_run-returns-in_err-done : goal.members_run-returns-in_err-done
-members_run-returns-in_err-done g t c =
+pub loops::members_run-returns-in_err-done : goal.loops::members_run-returns-in_err-done
+loops::members_run-returns-in_err-done g t c =
     let V = c.args.scope.now.globals.now in
     let vals = values c.args.env.now in
     let b = term_of c.args.body.now in
@@ -345,8 +345,8 @@ members_run-returns-in_err-done g t c =
     err_within (option_map canon) _ _ _ _ c.in_err-done.field-0.0 c.from_residual.ensures.0 c.from_residual.ensures.1
     (λ s. spent_block g ms c.args.from c.by_blocks.at c.block_end.result c.args.to c.args.budget c.by_blocks.turns inv.3 (omega (arith, c.block_end.ensures)) (omega (arith, c.block_end.ensures)) inv.1 inv.2 (c.in_err-done.ensures s))
 
-pub members_run-by_blocks-preserved : goal.members_run-by_blocks-preserved
-members_run-by_blocks-preserved g t c =
+pub loops::members_run-by_blocks-preserved : goal.loops::members_run-by_blocks-preserved
+loops::members_run-by_blocks-preserved g t c =
     let V = c.args.scope.now.globals.now in
     let vals = values c.args.env.now in
     let b = term_of c.args.body.now in
@@ -363,8 +363,8 @@ members_run-by_blocks-preserved g t c =
       omega (arith, c.block_end.ensures),
     )
 
-pub cells_run-returns-in_err-done : goal.cells_run-returns-in_err-done
-cells_run-returns-in_err-done g t c =
+pub loops::cells_run-returns-in_err-done : goal.loops::cells_run-returns-in_err-done
+loops::cells_run-returns-in_err-done g t c =
     let V = c.args.scope.now.globals.now in
     let vals = values c.args.env.now in
     let b = term_of c.args.body.now in
@@ -375,8 +375,8 @@ cells_run-returns-in_err-done g t c =
     err_within itself _ _ _ _ c.in_err-done.field-0.0 c.from_residual.ensures.0 c.from_residual.ensures.1
     (λ s. spent_block g is c.args.from c.by_blocks.at c.row_end.result c.args.to c.args.budget c.by_blocks.turns inv.3 (omega (arith, c.row_end.ensures)) (omega (arith, c.row_end.ensures)) inv.1 inv.2 (c.in_err-done.ensures s))
 
-pub cells_run-by_blocks-preserved : goal.cells_run-by_blocks-preserved
-cells_run-by_blocks-preserved g t c =
+pub loops::cells_run-by_blocks-preserved : goal.loops::cells_run-by_blocks-preserved
+loops::cells_run-by_blocks-preserved g t c =
     let V = c.args.scope.now.globals.now in
     let vals = values c.args.env.now in
     let b = term_of c.args.body.now in
@@ -393,8 +393,8 @@ cells_run-by_blocks-preserved g t c =
       omega (arith, c.row_end.ensures),
     )
 
-pub sum_each-returns-in_err-done : goal.sum_each-returns-in_err-done
-sum_each-returns-in_err-done g t c =
+pub loops::sum_each-returns-in_err-done : goal.loops::sum_each-returns-in_err-done
+loops::sum_each-returns-in_err-done g t c =
     let V = c.args.scope.now.globals.now in
     let vals = values c.args.env.now in
     let b = term_of c.args.body.now in
@@ -407,8 +407,8 @@ sum_each-returns-in_err-done g t c =
     err_within itself _ _ _ _ c.in_err-done.field-0.0 c.from_residual-in_err-done.ensures.0 c.from_residual-in_err-done.ensures.1
     (λ s. spent_within g ms c.args.from c.loop-i.i c.args.to m c.args.budget c.loop-i.turns (omega arith) (omega arith) at inv.1 inv.2 (c.in_err-done.ensures s))
 
-pub sum_each-loop-i-preserved : goal.sum_each-loop-i-preserved
-sum_each-loop-i-preserved g t c =
+pub loops::sum_each-loop-i-preserved : goal.loops::sum_each-loop-i-preserved
+loops::sum_each-loop-i-preserved g t c =
     let V = c.args.scope.now.globals.now in
     let vals = values c.args.env.now in
     let b = term_of c.args.body.now in
@@ -425,13 +425,13 @@ sum_each-loop-i-preserved g t c =
       c.in_ok-member.ensures.1,
     )
 
-pub members_run-returns-then-not-in_blocks : goal.members_run-returns-then-not-in_blocks
-members_run-returns-then-not-in_blocks g t c =
+pub loops::members_run-returns-then-not-in_blocks : goal.loops::members_run-returns-then-not-in_blocks
+loops::members_run-returns-then-not-in_blocks g t c =
     let run = run_values c.args.scope.now.globals.now (values c.args.env.now) (term_of c.args.body.now) (member_list c.args.members.now) c.args.from c.args.to in
     same_within (option_map canon) c.members_each.result c.args.budget _ _ _ _ ((λ k. sets_join (option_map canon (Some (c.new.ensures k))) (union_value run)) ∙ sets_first run) refl c.members_each.ensures
 
-pub members_each-returns-in_err-done : goal.members_each-returns-in_err-done
-members_each-returns-in_err-done g t c =
+pub loops::members_each-returns-in_err-done : goal.loops::members_each-returns-in_err-done
+loops::members_each-returns-in_err-done g t c =
     let V = c.args.scope.now.globals.now in
     let vals = values c.args.env.now in
     let b = term_of c.args.body.now in
@@ -445,8 +445,8 @@ members_each-returns-in_err-done g t c =
     err_within (option_map canon) _ _ _ _ c.in_err-done.field-0.0 c.from_residual-in_err-done.ensures.0 c.from_residual-in_err-done.ensures.1
     (λ s. spent_within g ms c.args.span.from c.loop-i.i c.args.span.to m c.args.budget c.loop-i.turns (omega arith) (omega arith) at inv.1 inv.2 (let h = c.in_err-done.ensures s in omega (arith, h, turns)))
 
-pub members_each-loop-i-preserved : goal.members_each-loop-i-preserved
-members_each-loop-i-preserved g t c =
+pub loops::members_each-loop-i-preserved : goal.loops::members_each-loop-i-preserved
+loops::members_each-loop-i-preserved g t c =
     let all = option_map canon c.args.all in
     let V = c.args.scope.now.globals.now in
     let vals = values c.args.env.now in
@@ -466,8 +466,8 @@ members_each-loop-i-preserved g t c =
       c.in_ok-member.ensures.1,
     )
 
-pub members_each-loop-i-preserved-in-Some : goal.members_each-loop-i-preserved-in-Some
-members_each-loop-i-preserved-in-Some g t c =
+pub loops::members_each-loop-i-preserved-in-Some : goal.loops::members_each-loop-i-preserved-in-Some
+loops::members_each-loop-i-preserved-in-Some g t c =
     let all = option_map canon c.args.all in
     let V = c.args.scope.now.globals.now in
     let vals = values c.args.env.now in
@@ -486,8 +486,8 @@ members_each-loop-i-preserved-in-Some g t c =
       c.in_ok-member.ensures.1,
     )
 
-pub cells_each-returns-in_err-kept : goal.cells_each-returns-in_err-kept
-cells_each-returns-in_err-kept g t c =
+pub loops::cells_each-returns-in_err-kept : goal.loops::cells_each-returns-in_err-kept
+loops::cells_each-returns-in_err-kept g t c =
     let V = c.args.scope.now.globals.now in
     let vals = values c.args.env.now in
     let b = term_of c.args.body.now in
@@ -503,8 +503,8 @@ cells_each-returns-in_err-kept g t c =
     (λ s. let h = at_fault held_value c.body_value-done.result _ _ _ _ c.body_value-done.ensures c.in_err-kept.ensures s in
     spent_within g (indices c.args.dims.now) c.args.span.from c.loop-place.place c.args.span.to here c.args.budget c.loop-place.turns (omega arith) (omega arith) at inv.1 inv.2 (omega (arith, h, ap g seen)))
 
-pub cells_each-loop-place-preserved : goal.cells_each-loop-place-preserved
-cells_each-loop-place-preserved g t c =
+pub loops::cells_each-loop-place-preserved : goal.loops::cells_each-loop-place-preserved
+loops::cells_each-loop-place-preserved g t c =
     let V = c.args.scope.now.globals.now in
     let vals = values c.args.env.now in
     let b = term_of c.args.body.now in
@@ -524,8 +524,8 @@ cells_each-loop-place-preserved g t c =
       ap length whole ∙ omega (arith, c.set_index.auto.at, c.as_mut_slice.ensures.value, inv.3),
     )
 
-pub members_each-loop-i-init : goal.members_each-loop-i-init
-members_each-loop-i-init g t c =
+pub loops::members_each-loop-i-init : goal.loops::members_each-loop-i-init
+loops::members_each-loop-i-init g t c =
     let V = c.args.scope.now.globals.now in
     let vals = values c.args.env.now in
     let b = term_of c.args.body.now in
@@ -539,15 +539,15 @@ members_each-loop-i-init g t c =
       c.sides-sides.ensures,
     )
 
-pub sum_members-returns-in_err-sums : goal.sum_members-returns-in_err-sums
-sum_members-returns-in_err-sums g t c =
+pub loops::sum_members-returns-in_err-sums : goal.loops::sum_members-returns-in_err-sums
+loops::sum_members-returns-in_err-sums g t c =
     err_within itself _ _ _ _ c.in_err-sums.field-0.0 c.from_residual.ensures.0 c.from_residual.ensures.1
     (λ s. let ran = c.in_err-sums.ensures.ran s in
     let passed = ran.4 refl in
     omega (arith, passed, total_wider (λ (m : Datum). settle c.args.scope.now.globals.now (m ∷ values c.args.env.now) (term_of c.args.body.now)) (member_list c.args.members.now) ran.0 ran.1 c.args.count (omega (arith, ran.2)) ran.3))
 
-pub sum_members-returns : goal.sum_members-returns
-sum_members-returns g t c =
+pub loops::sum_members-returns : goal.loops::sum_members-returns
+loops::sum_members-returns g t c =
     let V = c.args.scope.now.globals.now in
     let vals = values c.args.env.now in
     let b = term_of c.args.body.now in
@@ -557,15 +557,15 @@ sum_members-returns g t c =
     (λ i m j low high. sum_value-join (run_values V vals b ms i m) (run_values V vals b ms m j) ∙ ap sum_value (each-range_split ms i m j low high f))
     (Some 0) refl c.deref.result.now c.in_ok-sums.sums.items c.deref.ensures.value c.in_ok-sums.ensures.joined c.joined_sums.result c.joined_sums.ensures
 
-pub union_members-returns-in_err-sets : goal.union_members-returns-in_err-sets
-union_members-returns-in_err-sets g t c =
+pub loops::union_members-returns-in_err-sets : goal.loops::union_members-returns-in_err-sets
+loops::union_members-returns-in_err-sets g t c =
     err_within itself _ _ _ _ c.in_err-sets.field-0.0 c.from_residual-in_err-sets.ensures.0 c.from_residual-in_err-sets.ensures.1
     (λ s. let ran = c.in_err-sets.ensures.ran s in
     let passed = ran.4 refl in
     omega (arith, passed, total_wider (λ (m : Datum). settle c.args.scope.now.globals.now (m ∷ values c.args.env.now) (term_of c.args.body.now)) (member_list c.args.members.now) ran.0 ran.1 c.args.count (omega (arith, ran.2)) ran.3))
 
-pub union_members-returns : goal.union_members-returns
-union_members-returns g t c =
+pub loops::union_members-returns : goal.loops::union_members-returns
+loops::union_members-returns g t c =
     let V = c.args.scope.now.globals.now in
     let vals = values c.args.env.now in
     let b = term_of c.args.body.now in
@@ -575,15 +575,15 @@ union_members-returns g t c =
     (λ i m j low high. union_value-join (run_values V vals b ms i m) (run_values V vals b ms m j) ∙ ap union_value (each-range_split ms i m j low high f))
     (Some []) refl c.in_ok-sets.sets.items c.in_ok-sets.sets.items refl c.in_ok-sets.ensures.joined c.joined_sets.result c.joined_sets.ensures
 
-pub fill_cells-returns-in_err-runs : goal.fill_cells-returns-in_err-runs
-fill_cells-returns-in_err-runs g t c =
+pub loops::fill_cells-returns-in_err-runs : goal.loops::fill_cells-returns-in_err-runs
+loops::fill_cells-returns-in_err-runs g t c =
     err_within itself _ _ _ _ c.in_err-runs.field-0.0 c.from_residual.ensures.0 c.from_residual.ensures.1
     (λ s. let ran = c.in_err-runs.ensures.ran s in
     let passed = ran.4 refl in
     omega (arith, passed, total_wider (λ (at : List ℕ). settle c.args.scope.now.globals.now (walked at [] ++ values c.args.env.now) (term_of c.args.body.now)) (indices c.args.dims.now) ran.0 ran.1 c.args.count (omega (arith, ran.2)) ran.3))
 
-pub fill_cells-returns : goal.fill_cells-returns
-fill_cells-returns g t c =
+pub loops::fill_cells-returns : goal.loops::fill_cells-returns
+loops::fill_cells-returns g t c =
     let V = c.args.scope.now.globals.now in
     let vals = values c.args.env.now in
     let b = term_of c.args.body.now in
@@ -594,11 +594,11 @@ fill_cells-returns g t c =
     (Some []) refl c.in_ok-runs.runs.items c.in_ok-runs.runs.items refl c.in_ok-runs.ensures.joined c.joined_cells.result c.joined_cells.ensures
 
 -- what a piece is lent may be lent to several threads
-pub sum_members-in_pieces-requires-sync-F : goal.sum_members-in_pieces-requires-sync-F
-sum_members-in_pieces-requires-sync-F g t c κs within = search (globals-sync, members-sync, env-sync, sendable, crosses, sync-Core) depth 40 fits 5000
+pub loops::sum_members-in_pieces-requires-sync-F : goal.loops::sum_members-in_pieces-requires-sync-F
+loops::sum_members-in_pieces-requires-sync-F g t c κs within = search (globals-sync, members-sync, env-sync, sendable, crosses, sync-Core) depth 40 fits 5000
 
-pub union_members-in_pieces-requires-sync-F : goal.union_members-in_pieces-requires-sync-F
-union_members-in_pieces-requires-sync-F g t c κs within = search (globals-sync, members-sync, env-sync, sendable, crosses, sync-Core) depth 40 fits 5000
+pub loops::union_members-in_pieces-requires-sync-F : goal.loops::union_members-in_pieces-requires-sync-F
+loops::union_members-in_pieces-requires-sync-F g t c κs within = search (globals-sync, members-sync, env-sync, sendable, crosses, sync-Core) depth 40 fits 5000
 
-pub fill_cells-in_pieces-requires-sync-F : goal.fill_cells-in_pieces-requires-sync-F
-fill_cells-in_pieces-requires-sync-F g t c κs within = search (globals-sync, env-sync, sendable, crosses, sync-Core) depth 40 fits 5000
+pub loops::fill_cells-in_pieces-requires-sync-F : goal.loops::fill_cells-in_pieces-requires-sync-F
+loops::fill_cells-in_pieces-requires-sync-F g t c κs within = search (globals-sync, env-sync, sendable, crosses, sync-Core) depth 40 fits 5000
