@@ -12,6 +12,7 @@ mod added;
 mod blocks;
 mod columns;
 mod lanes;
+mod recent;
 mod runs;
 
 pub use added::{add_cells, add_sets, sum_all};
