@@ -67,8 +67,8 @@ LOOPS = {
         "s = [(x, x * x) for x in range(1500)]\nt = [(x, 2 * x) for x in range(1500)]\no = set()\nfor a, b in s:\n  for d, c in t:\n"
         "    if a == d: o.add((b, c))\nr = len(sorted(o))", 1, 2 * MB),
     "part": (
-        "val \\p = ([[i | \\i<10000]], 7); summap(fn \\i => (fst!p)[i])!(gen!10000);",
-        "p = (list(range(10000)), 7)\nr = 0\nfor i in range(10000): r += p[0][i]", 3, None),
+        "val \\p = ([[i | \\i<10000]], 7); summap(fn \\i => (fst!p)[i%10000])!(gen!1000000);",
+        "p = (list(range(10000)), 7)\nr = 0\nfor i in range(1000000): r += p[0][i % 10000]", 3, None),
     "strings": (
         'count!({if x%2=0 then "even" else if x%3=0 then "three" else "odd" | \\x <- gen!300000});',
         's = set()\nfor x in range(300000): s.add("even" if x % 2 == 0 else "three" if x % 3 == 0 else "odd")\nr = len(sorted(s))',
@@ -147,6 +147,8 @@ def workers(runs):
             "sum": "summap(fn \\i => (i*i%97)*(i*i%89)+(i*i%83)*(i*i%79))!(gen!24000000);",
             "tabulation": "let val \\a = [[summap(fn \\j => (i*j%97)*(i*j%89)+(i*j%83)*(i*j%79))!(gen!50) | \\i<400000]] in a[5]+a[7] end;",
             "few": "count!({x%100 | \\x <- gen!20000000});",
+            "pairs": "count!({(x%10,x) | \\x <- gen!8000000});",
+            "index": "len!(index_1!({(x%10,x) | \\x <- gen!4000000}));",
         }.items():
             path.write_text(query)
             took = {w: min(program(path, (), w)[2] for _ in range(runs)) for w in (1, 2, 4)}
