@@ -38,7 +38,7 @@ abbrev mutual
   pats_nodes no_pat = 0
   pats_nodes (pat p ps) = pat_nodes p + pats_nodes ps
 
--- how many qualifiers, and how many bindings
+-- the number of qualifiers
 abbrev pub count_quals : Quals → ℕ
 count_quals no_qual = 0
 count_quals (from p e rest) = suc (count_quals rest)

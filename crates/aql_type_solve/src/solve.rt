@@ -111,8 +111,8 @@ fn apply_all(alloc: Global, s: &Solution, ts: &[Ty], by: u64) -> Result<Vec<Ty>,
     Ok(made)
 }
 
-/// What stands for a variable.
-pub fn value_of(alloc: Global, s: &Solution, x: u64) -> Result<Ty, Memory>
+// What stands for a variable.
+fn value_of(alloc: Global, s: &Solution, x: u64) -> Result<Ty, Memory>
     ensures { IfOk result (λ made. type_of made ≡ subst_in s.now x) }
 {
     if x < s.variables as u64 {

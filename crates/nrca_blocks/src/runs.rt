@@ -17,7 +17,8 @@ use nrca_quick::AtMostOne;
 use nrca_term::Core;
 use std::alloc::Global;
 
-/// Whether the members of a loop are packed, so that blocks of them can be looked at.
+/// Whether the members of a loop are packed, so that blocks of them can be looked at: what a loop comes to
+/// does not rest on it, only how it goes about it.
 pub fn in_blocks(members: &Members) -> bool {
     match members {
         Members::Below(_) => true,

@@ -23,7 +23,7 @@ pub use done::{Counted, Done, join_done};
 pub use env::{Env, Globals, index_variable, lent, lookup, position, variable};
 pub use joins::{join_cells, join_sets, join_sums, merge_sets};
 pub use members::{
-    Members, Next, as_members, item, members_below, members_of_both, natural, row_of, set_of, truth,
+    Members, Next, as_members, members_below, members_of_both, natural, row_of, set_of, truth,
 };
 pub use runs::{cells_and, into_value, parts_and, set_index, sum_and, with_cell, zeros};
 pub use walk::Sides;

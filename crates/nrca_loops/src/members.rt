@@ -1,7 +1,6 @@
 //! The members of a loop.
 
-ghost use Rattle.std.specs.Prelude.{◌≡◌, ◌<◌, IfOk, slice_get, Some, length, option_map};
-ghost use Rattle.aql_value.specs.Meaning.{datum};
+ghost use Rattle.std.specs.Prelude.{◌≡◌, ◌<◌, IfOk, Some, length, option_map};
 ghost use Rattle.aql_value.specs.Operations.{as_set, as_tuple};
 ghost use Rattle.nrca_array.specs.Held.{held_datum};
 ghost use Rattle.nrca_loops.specs.Scope.{held_value, set_in, natural_in, truth_in, united};
@@ -81,14 +80,6 @@ impl Members {
             }
         }
     }
-}
-
-/// A copy of the item at a place.
-pub fn item(alloc: Global, items: &Items, at: usize) -> Result<Value, Memory>
-    requires { at < length items.now }
-    ensures { IfOk result (λ v. slice_get items.now at ≡ Some (datum v)) }
-{
-    items.items[at].copy(alloc)
 }
 
 /// The members of the set that a value is.

@@ -30,7 +30,7 @@ use Rattle.nrca_eval.specs.Laws.Form.{count-children, child_of-children, strict_
 use Rattle.nrca_eval.specs.Parts.{children}
 use Rattle.nrca_eval.specs.Runs.{run_values, run_turns, cell_values, cell_turns}
 use Rattle.nrca_eval.proofs.Evaluated.{at_answer, at_fault, member_weight, sub_weight, tab_weight, strict_form, spent_within, spent_whole, written}
-use Rattle.nrca_eval.proofs.Gathering.{spent_block, sets_first, lists_nothing, lists_first, lists_more}
+use Rattle.nrca_eval.proofs.Gathering.{spent_block, sets_first, lists_more}
 use Rattle.nrca_eval.proofs.Joined.{total_wider, whole_within}
 use Rattle.nrca_quick.specs.Laws.Few.{few_in}
 use Rattle.nrca_quick.specs.Lending.{lent_datum}
