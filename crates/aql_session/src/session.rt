@@ -12,7 +12,6 @@ ghost use Rattle.aql_session.specs.Known.{HasShapeThere};
 
 use crate::shapes::shape_of_outcome;
 use aql_names::names::Names;
-use aql_value::made::both;
 use aql_value::{Memory, Str};
 use nrca_array::Held;
 use nrca_encoded::value_of;
@@ -131,9 +130,13 @@ fn entry_of(alloc: Global, value: Option<Held>) -> Result<Entry, Memory>
     ensures value { IfOk result (λ e. held_value e.value ≡ held_value value) }
     ensures shape { IfOk result (λ e. HasShapeThere (bounds_there e.shape) (held_value value)) }
 {
-    let shape = shape_of_outcome(alloc, &value);
-    let (value, shape) = both(Ok(value), shape)?;
-    Ok(Entry { value, shape })
+    match shape_of_outcome(alloc, &value) {
+        Ok(shape) => Ok(Entry { value, shape }),
+        Err(Memory) => {
+            drop(value);
+            Err(Memory)
+        }
+    }
 }
 
 // One outcome more, and what is known of it.

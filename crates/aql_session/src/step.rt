@@ -15,7 +15,6 @@ ghost use Rattle.aql_session.specs.Runs.{StandsAt, AreNamesAt, HasWorkers, budge
 ghost use Rattle.aql_session.specs.Step.{OutcomesFit, IsOverTurns};
 
 use crate::answer::{Answer, StepFault};
-use crate::queries::Planned;
 use crate::runs::{Position, Run, declaration, run_declaration};
 use crate::session::Session;
 use aql_infer_steps::typed::Typed;
@@ -143,9 +142,13 @@ impl Session {
         ensures as_before { OnErr result (self.new ≡ self.old) }
     {
         let (answer, value) = answer_of(alloc, at, run)?;
-        let bound = self.bind(alloc, &answer.name, value);
-        let (answer, _) = both(Ok(answer), bound)?;
-        Ok(answer)
+        match self.bind(alloc, &answer.name, value) {
+            Ok(()) => Ok(answer),
+            Err(Memory) => {
+                drop(answer);
+                Err(Memory)
+            }
+        }
     }
 }
 
@@ -158,44 +161,37 @@ fn answer_of(alloc: Global, at: &Position, run: Run) -> Result<(Answer, Option<H
     ensures name { IfOk result (λ x. IsNameAt at.now x.0.name) }
     ensures value { IfOk result (λ x. held_value x.1 ≡ held_value run.value) }
 {
-    let Run {
-        start,
-        plan,
-        trace,
-        moved,
-        graph,
-        by,
-        turns,
-        value,
-    } = run;
     let name = declaration(at.decls, at.n).name_copy(alloc);
-    let head = both(name, scheme(at.typed, at.n).copy(alloc));
-    let terms = Planned {
-        start,
-        plan,
-        trace,
-        moved,
-    };
-    let parts = both(Ok(terms), both(Ok(graph), both(Ok(value), head)));
-    let (terms, (graph, (value, (name, ty)))) = parts?;
-    let Planned {
-        start,
-        plan,
-        trace,
-        moved,
-    } = terms;
-    let answer = Answer {
-        name,
-        ty,
-        start,
-        plan,
-        trace,
-        moved,
-        graph,
-        by,
-        turns,
-    };
-    Ok((answer, value))
+    match both(name, scheme(at.typed, at.n).copy(alloc)) {
+        Ok((name, ty)) => {
+            let Run {
+                start,
+                plan,
+                trace,
+                moved,
+                graph,
+                by,
+                turns,
+                value,
+            } = run;
+            let answer = Answer {
+                name,
+                ty,
+                start,
+                plan,
+                trace,
+                moved,
+                graph,
+                by,
+                turns,
+            };
+            Ok((answer, value))
+        }
+        Err(Memory) => {
+            drop(run);
+            Err(Memory)
+        }
+    }
 }
 
 // The scheme of declaration n.
