@@ -57,6 +57,7 @@ pub(crate) fn answer_each<R: Threads + Sync, O: Sink, F: Files, G: Gate>(
     ensures files { BlamesFiles F.Files files.old files.new (IsOfDevice result) }
     ensures output { BlamesSink O.Sink output.old output.new (IsErrOf result Halt.Sink) }
 {
+    make_room(answers, prepared.decls.items.len());
     answer_all(
         machine.rt,
         machine.alloc,
@@ -67,4 +68,12 @@ pub(crate) fn answer_each<R: Threads + Sync, O: Sink, F: Files, G: Gate>(
         machine.gate,
         answers,
     )
+}
+
+// Room for so many answers at once, where there is memory for it, so that none is moved when others
+// come.
+fn make_room(answers: &mut Vec<Answer>, count: usize)
+    ensures { answers.new.items ≡ answers.old.items }
+{
+    let _ = answers.reserve(count);
 }
