@@ -1,4 +1,5 @@
 mod devices;
+mod same;
 mod system;
 mod types;
 mod values;

@@ -1,4 +1,5 @@
 // Each object in memory once, through its trait.
+use crate::tests::same::assert_same;
 use aql_outside::{
     Failed, Files, MemFiles, MemSink, MemSource, Sink, Source, SureFiles, SureSink, SureSource,
 };
@@ -54,21 +55,22 @@ fn plain_source(alloc: Global, fails: &[u64]) -> Result<MemSource, Memory> {
     Ok(MemSource::new(content, fails))
 }
 
+// The pieces that a source is cut into, the reads that fail, what five reads answer, and how many
+// failed.
+const SOURCES: &[(&[u64], &[u64], [usize; 5], u64)] = &[
+    (&[], &[], [4, 4, 2, 0, 0], 0),
+    (&[], &[1, 3], [9, 4, 9, 4, 2], 2),
+    (&[1, 2, 7], &[], [1, 2, 4, 3, 0], 0),
+    (&[0, 1], &[2], [1, 9, 4, 4, 1], 1),
+    (&[3], &[0, 5], [3, 4, 3, 0, 9], 1),
+];
+
 #[test]
-fn sources(rt: HostRuntime) -> Result<(), Memory> {
-    let cases: [(&[u64], &[u64], [usize; 5], u64); 5] = [
-        (&[], &[], [4, 4, 2, 0, 0], 0),
-        (&[], &[1, 3], [9, 4, 9, 4, 2], 2),
-        (&[1, 2, 7], &[], [1, 2, 4, 3, 0], 0),
-        (&[0, 1], &[2], [1, 9, 4, 4, 1], 1),
-        (&[3], &[0, 5], [3, 4, 3, 0, 9], 1),
-    ];
-    for (pieces, fails, counts, faults) in cases {
-        let (read, failed) = reads_of(cut_source(rt.alloc(), pieces, fails))?;
-        assert_eq!(rt; read, counts);
-        assert_eq!(rt; failed, faults);
+fn sources(rt: HostRuntime) {
+    for row in SOURCES {
+        let read = reads_of(cut_source(rt.alloc(), row.0, row.1));
+        assert_same(&rt, read, Ok((row.2, row.3)));
     }
-    Ok(())
 }
 
 fn sure_reads(alloc: Global) -> Result<[usize; 5], Memory> {
@@ -79,11 +81,10 @@ fn sure_reads(alloc: Global) -> Result<[usize; 5], Memory> {
 }
 
 #[test]
-fn uncut_sources(rt: HostRuntime) -> Result<(), Memory> {
-    let (read, _) = reads_of(plain_source(rt.alloc(), &[1]))?;
-    assert_eq!(rt; read, [9, 4, 4, 2, 0]);
-    assert_eq!(rt; sure_reads(rt.alloc())?, [4, 4, 2, 0, 0]);
-    Ok(())
+fn uncut_sources(rt: HostRuntime) {
+    let read = reads_of(plain_source(rt.alloc(), &[1]));
+    assert_same(&rt, read, Ok(([9, 4, 4, 2, 0], 1)));
+    assert_same(&rt, sure_reads(rt.alloc()), Ok([4, 4, 2, 0, 0]));
 }
 
 fn room(alloc: Global, size: usize) -> Result<Vec<u8>, Memory> {
@@ -114,22 +115,21 @@ fn writes_of(
     Ok((counts, faults, is_written))
 }
 
+// A room, the pieces that a sink is cut into, the writes that fail, what five writes answer, what
+// is written, and how many failed.
+const SINKS: &[(usize, &[u64], &[u64], [usize; 5], &[u8], u64)] = &[
+    (20, &[], &[], [3, 3, 3, 3, 3], b"abcabcabcabcabc", 0),
+    (7, &[], &[2], [3, 9, 3, 1, 9], b"abcabca", 2),
+    (20, &[1, 0, 2], &[], [1, 1, 2, 3, 3], b"aaababcabc", 0),
+    (0, &[], &[], [9, 9, 9, 9, 9], b"", 5),
+];
+
 #[test]
-fn sinks(rt: HostRuntime) -> Result<(), Memory> {
-    let cases: [(usize, &[u64], &[u64], [usize; 5], &[u8], u64); 4] = [
-        (20, &[], &[], [3, 3, 3, 3, 3], b"abcabcabcabcabc", 0),
-        (7, &[], &[2], [3, 9, 3, 1, 9], b"abcabca", 2),
-        (20, &[1, 0, 2], &[], [1, 1, 2, 3, 3], b"aaababcabc", 0),
-        (0, &[], &[], [9, 9, 9, 9, 9], b"", 5),
-    ];
-    for (size, pieces, fails, counts, written, faults) in cases {
-        let sink = cut_sink(rt.alloc(), size, pieces, fails);
-        let (taken, failed, is_written) = writes_of(sink, written)?;
-        assert_eq!(rt; taken, counts);
-        assert_eq!(rt; failed, faults);
-        assert!(rt; is_written);
+fn sinks(rt: HostRuntime) {
+    for row in SINKS {
+        let sink = cut_sink(rt.alloc(), row.0, row.1, row.2);
+        assert_same(&rt, writes_of(sink, row.4), Ok((row.3, row.5, true)));
     }
-    Ok(())
 }
 
 fn sure_writes() -> [usize; 5] {
@@ -138,12 +138,10 @@ fn sure_writes() -> [usize; 5] {
 }
 
 #[test]
-fn uncut_sinks(rt: HostRuntime) -> Result<(), Memory> {
-    let plain = plain_sink(rt.alloc(), 4, &[1]);
-    let (taken, _, _) = writes_of(plain, b"abca")?;
-    assert_eq!(rt; taken, [9, 3, 1, 9, 9]);
-    assert_eq!(rt; sure_writes(), [3, 3, 3, 3, 3]);
-    Ok(())
+fn uncut_sinks(rt: HostRuntime) {
+    let taken = writes_of(plain_sink(rt.alloc(), 4, &[1]), b"abca");
+    assert_same(&rt, taken, Ok(([9, 3, 1, 9, 9], 3, true)));
+    assert_same(&rt, sure_writes(), [3, 3, 3, 3, 3]);
 }
 
 type Answers = [Result<Option<u64>, Failed>; 4];
@@ -162,10 +160,16 @@ fn name(alloc: Global) -> Result<String, Memory> {
     Ok(String::from_str(alloc, "ten")?)
 }
 
-fn told_files(alloc: Global, fails: &[u64]) -> Result<MemFiles, Memory> {
-    let (name, (digits, fails)) = both(name(alloc), both(digits(alloc), list(alloc, fails)))?;
+// The one file `ten`.
+fn folder(alloc: Global) -> Result<BTreeMap<String, Vec<u8>>, Memory> {
+    let (name, digits) = both(name(alloc), digits(alloc))?;
     let mut content = BTreeMap::new(alloc);
     content.insert(name, digits)?;
+    Ok(content)
+}
+
+fn told_files(alloc: Global, fails: &[u64]) -> Result<MemFiles, Memory> {
+    let (content, fails) = both(folder(alloc), list(alloc, fails))?;
     Ok(MemFiles::new(content, fails))
 }
 
@@ -178,21 +182,22 @@ fn answers_of(files: Result<MemFiles, Memory>) -> Result<(Answers, u64), Memory>
     Ok((answers, faults))
 }
 
+// The calls that fail, what is answered, and how many failed.
+const FILES: &[(&[u64], Answers, u64)] = &[
+    (&[], [Ok(Some(10)), Ok(None), Ok(Some(2)), Ok(Some(0))], 0),
+    (
+        &[2, 3],
+        [Ok(Some(10)), Err(Failed), Err(Failed), Ok(Some(0))],
+        2,
+    ),
+];
+
 #[test]
-fn files(rt: HostRuntime) -> Result<(), Memory> {
-    let cases: [(&[u64], Answers); 2] = [
-        (&[], [Ok(Some(10)), Ok(None), Ok(Some(2)), Ok(Some(0))]),
-        (
-            &[2, 3],
-            [Ok(Some(10)), Err(Failed), Err(Failed), Ok(Some(0))],
-        ),
-    ];
-    for (fails, answers) in cases {
-        let (found, failed) = answers_of(told_files(rt.alloc(), fails))?;
-        assert_eq!(rt; found, answers);
-        assert_eq!(rt; failed, fails.len() as u64);
+fn files(rt: HostRuntime) {
+    for row in FILES {
+        let found = answers_of(told_files(rt.alloc(), row.0));
+        assert_same(&rt, found, Ok((row.1, row.2)));
     }
-    Ok(())
 }
 
 fn sure_answers(alloc: Global) -> Answers {
@@ -205,5 +210,5 @@ fn sure_answers(alloc: Global) -> Answers {
 #[test]
 fn no_files(rt: HostRuntime) {
     let answers = [Ok(None), Ok(None), Ok(Some(0)), Ok(Some(0))];
-    assert_eq!(rt; sure_answers(rt.alloc()), answers);
+    assert_same(&rt, sure_answers(rt.alloc()), answers);
 }

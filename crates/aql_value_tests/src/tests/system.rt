@@ -1,4 +1,5 @@
 // Each adapter once, over what a test can hold.
+use crate::tests::same::assert_same;
 use aql_outside::{Failed, Files, Sink, Source};
 use aql_system::{FileSystem, InputStream, OutputStream, read_full};
 use std::alloc::Global;
@@ -59,12 +60,12 @@ fn read_of_a_failing_reader() -> (u64, Result<usize, Failed>, u64) {
 
 #[test]
 fn streams(rt: HostRuntime) {
-    let (counts, front) = reads();
-    assert_eq!(rt; counts, [Ok(3), Ok(2), Ok(0)]);
-    assert_eq!(rt; front, *b"hel");
-    assert_eq!(rt; writes(rt.alloc()), [Ok(5), Ok(0)]);
-    assert_eq!(rt; writes_past_the_room(), [(Ok(2), 0), (Err(Failed), 1)]);
-    assert_eq!(rt; read_of_a_failing_reader(), (0, Err(Failed), 1));
+    assert_same(&rt, reads(), ([Ok(3), Ok(2), Ok(0)], *b"hel"));
+    assert_same(&rt, writes(rt.alloc()), [Ok(5), Ok(0)]);
+    let past = [(Ok(2), 0), (Err(Failed), 1)];
+    assert_same(&rt, writes_past_the_room(), past);
+    let failing = (0, Err(Failed), 1);
+    assert_same(&rt, read_of_a_failing_reader(), failing);
 }
 
 // A reader that gives one byte at a time.
@@ -86,61 +87,111 @@ impl Read for OneByteReader<'_> {
     }
 }
 
-#[test]
-fn full_reads(rt: HostRuntime) -> Result<(), Fail> {
+// How many bytes three full reads of a piece of seven give, of ten that come one at a time, and
+// what the first two read.
+fn three_full_reads() -> ([Option<usize>; 3], [u8; 7], [u8; 3]) {
     let mut reader = OneByteReader {
         left: b"0123456789",
     };
     let mut piece = [0u8; 7];
-    assert_eq!(rt; read_full(&mut reader, &mut piece)?, 7);
-    assert_eq!(rt; piece, *b"0123456");
-    assert_eq!(rt; read_full(&mut reader, &mut piece)?, 3);
-    assert_eq!(rt; &piece[..3], b"789".as_slice());
-    assert_eq!(rt; read_full(&mut reader, &mut piece)?, 0);
-    Ok(())
+    let first = read_full(&mut reader, &mut piece).ok();
+    let front = piece;
+    let second = read_full(&mut reader, &mut piece).ok();
+    let [a, b, c, ..] = piece;
+    let third = read_full(&mut reader, &mut piece).ok();
+    ([first, second, third], front, [a, b, c])
 }
 
-// A file of ten bytes with that name, and the folder that it is in.
-fn assert_files<R: rt::Files + Abort>(rt: &R, folder: &str, name: &str) -> Result<(), Fail> {
-    fs::write(rt, name, "0123456789")?;
-    let mut files = FileSystem::new(rt);
+#[test]
+fn full_reads(rt: HostRuntime) {
+    let wanted = ([Some(7), Some(3), Some(0)], *b"0123456", *b"789");
+    assert_same(&rt, three_full_reads(), wanted);
+}
+
+type Size = Result<Option<u64>, Failed>;
+
+type Count = Result<usize, Failed>;
+
+type Told = (Size, Count, [u8; 3], Count);
+
+type OfAFile = (bool, Told, bool, (Size, u64));
+
+type Refused = ((Size, u64), (Count, u64), Size, (Size, u64));
+
+// Of a file of ten bytes: its size, what a read of four from its byte 7 on answers, the three that
+// it has there, and what a read behind them answers.
+fn told<R: rt::Files>(files: &mut FileSystem<R>, name: &str) -> Told {
     let mut piece = [0u8; 4];
-    assert_eq!(rt; files.size(name), Ok(Some(10)));
-    assert_eq!(rt; files.read_at(name, 7, &mut piece), Ok(3));
-    assert_eq!(rt; &piece[..3], b"789".as_slice());
-    assert_eq!(rt; files.read_at(name, 10, &mut piece), Ok(0));
-    fs::remove_file(rt, name)?;
-    assert_eq!(rt; files.size(name), Ok(None));
-    assert_eq!(rt; files.faults(), 0);
-    assert_eq!(rt; files.size(folder), Err(Failed));
-    assert_eq!(rt; files.faults(), 1);
-    assert_eq!(rt; files.read_at(folder, 0, &mut piece), Err(Failed));
-    assert_eq!(rt; files.faults(), 2);
-    assert_eq!(rt; files.size("a\0b"), Err(Failed));
-    assert_eq!(rt; files.size("/dev/null"), Err(Failed));
-    assert_eq!(rt; files.faults(), 4);
-    Ok(())
+    let size = files.size(name);
+    let last = files.read_at(name, 7, &mut piece);
+    let [a, b, c, _] = piece;
+    (size, last, [a, b, c], files.read_at(name, 10, &mut piece))
+}
+
+// The size of what has the name, and the count of faults behind it.
+fn size_and_faults<R: rt::Files>(files: &mut FileSystem<R>, name: &str) -> (Size, u64) {
+    let size = files.size(name);
+    (size, files.faults())
+}
+
+// What a read of it answers, and the count of faults behind it.
+fn read_and_faults<R: rt::Files>(files: &mut FileSystem<R>, name: &str) -> (Count, u64) {
+    let read = files.read_at(name, 0, &mut [0u8; 4]);
+    (read, files.faults())
+}
+
+// What is answered of a file of ten bytes, and of its name once it is removed; whether it was
+// written and removed.
+fn of_a_file<R: rt::Files>(files: &mut FileSystem<R>, rt: &R, name: &str) -> OfAFile {
+    let is_written = fs::write(rt, name, "0123456789").is_ok();
+    let there = told(files, name);
+    let is_removed = fs::remove_file(rt, name).is_ok();
+    (is_written, there, is_removed, size_and_faults(files, name))
+}
+
+// What is answered of a folder, of a name with a zero byte and of a device, each of which fails.
+fn refused<R: rt::Files>(files: &mut FileSystem<R>, folder: &str) -> Refused {
+    let size = size_and_faults(files, folder);
+    let read = read_and_faults(files, folder);
+    let zero = files.size("a\0b");
+    (size, read, zero, size_and_faults(files, "/dev/null"))
+}
+
+fn answers<R: rt::Files>(rt: &R, folder: &str, name: &str) -> (OfAFile, Refused) {
+    let mut files = FileSystem::new(rt);
+    let of_a_file = of_a_file(&mut files, rt, name);
+    let refused = refused(&mut files, folder);
+    drop(files);
+    (of_a_file, refused)
+}
+
+// A file of ten bytes with that name, which is removed, and the folder that it is in.
+fn assert_files<R: rt::Files + Abort>(rt: &R, folder: &str, name: &str) {
+    let (of_a_file, refused) = answers(rt, folder, name);
+    let there = (Ok(Some(10)), Ok(3), *b"789", Ok(0));
+    assert_same(rt, of_a_file, (true, there, true, (Ok(None), 0)));
+    let (size, read) = ((Err(Failed), 1), (Err(Failed), 2));
+    assert_same(rt, refused, (size, read, Err(Failed), (Err(Failed), 4)));
 }
 
 // The same of a file with this number in its name.
 fn assert_numbered<R: rt::Files + Abort>(
     rt: &R,
     alloc: Global,
-    folder: Option<&str>,
+    folder: &str,
     number: u32,
 ) -> Result<(), Fail> {
-    let folder = folder.ok_or("the folder has a name")?;
     let name = format!(in alloc; "{folder}/aql_adapter_of_files_{number}")?;
-    let found = assert_files(rt, folder, name.as_str());
-    drop(name);
-    found
+    assert_files(rt, folder, name.as_str());
+    Ok(())
 }
 
 #[test]
 fn files(rt: HostRuntime) -> Result<(), Fail> {
     let folder = env::temp_dir(&rt)?;
     let number = process::id(rt.process());
-    let found = assert_numbered(&rt, rt.alloc(), folder.to_str(), number);
-    drop(folder);
-    found
+    match folder.to_str() {
+        Some(folder) => assert_numbered(&rt, rt.alloc(), folder, number),
+        None => Err(Fail::new("the folder has a name")),
+    }
 }

@@ -1,12 +1,12 @@
 //! Worked types: what unifies and what does not, and the limits at their edge.
 
+use crate::tests::same::assert_same;
 use aql_types::fault::UnifyFault;
 use aql_types::solve::unify;
 use aql_types::ty::{Ty, row};
 use aql_value::Memory;
 use aql_value::made::{both, make_box, make_pair_list};
 use std::alloc::Global;
-use std::test::Fail;
 
 // A type as it was made.
 type Made = Result<Ty, Memory>;
@@ -67,19 +67,30 @@ fn clashes(alloc: Global, a: Made, b: Made) -> Result<bool, Memory> {
     }
 }
 
+// A variable, and the set of it.
+fn cycle_clashes(alloc: Global) -> Result<bool, Memory> {
+    clashes(alloc, Ok(Ty::Var(0)), set_of(alloc, Ok(Ty::Var(0))))
+}
+
+// Arrays of numbers of two ranks.
+fn ranks_clash(alloc: Global) -> Result<bool, Memory> {
+    let one = array(alloc, 1, Ok(Ty::Nat));
+    clashes(alloc, one, array(alloc, 2, Ok(Ty::Nat)))
+}
+
+// Arrays of one rank, of a variable and of truth values.
+fn cells_clash(alloc: Global) -> Result<bool, Memory> {
+    let any = array(alloc, 2, Ok(Ty::Var(3)));
+    clashes(alloc, any, array(alloc, 2, Ok(Ty::Bool)))
+}
+
 #[test]
-fn clash_where_no_unifier_is(rt: HostRuntime) -> Result<(), Memory> {
+fn clash_where_no_unifier_is(rt: HostRuntime) {
     let alloc = rt.alloc();
-    assert!(rt; clashes(alloc, Ok(Ty::Var(0)), set_of(alloc, Ok(Ty::Var(0))))?);
-    assert!(rt; clashes(alloc, Ok(Ty::Nat), Ok(Ty::Text))?);
-    let (one, two) = (array(alloc, 1, Ok(Ty::Nat)), array(alloc, 2, Ok(Ty::Nat)));
-    assert!(rt; clashes(alloc, one, two)?);
-    let (any, bools) = (
-        array(alloc, 2, Ok(Ty::Var(3))),
-        array(alloc, 2, Ok(Ty::Bool)),
-    );
-    assert!(rt; !clashes(alloc, any, bools)?);
-    Ok(())
+    assert_same(&rt, cycle_clashes(alloc), Ok(true));
+    assert_same(&rt, clashes(alloc, Ok(Ty::Nat), Ok(Ty::Text)), Ok(true));
+    assert_same(&rt, ranks_clash(alloc), Ok(true));
+    assert_same(&rt, cells_clash(alloc), Ok(false));
 }
 
 fn deep_clashes(alloc: Global, depth: u64) -> Result<bool, Memory> {
@@ -91,19 +102,21 @@ fn wide_clashes(alloc: Global, n: u64) -> Result<bool, Memory> {
 }
 
 #[test]
-fn clash_past_a_limit(rt: HostRuntime) -> Result<(), Memory> {
-    let alloc = rt.alloc();
-    for (depth, expected) in [(399, false), (400, true)] {
-        assert_eq!(rt; deep_clashes(alloc, depth)?, expected);
+fn clash_past_a_depth(rt: HostRuntime) {
+    for row in &[(399, false), (400, true)] {
+        assert_same(&rt, deep_clashes(rt.alloc(), row.0), Ok(row.1));
     }
-    for (n, expected) in [(11, false), (12, true), (300, true)] {
-        assert_eq!(rt; wide_clashes(alloc, n)?, expected);
+}
+
+#[test]
+fn clash_past_a_width(rt: HostRuntime) {
+    for row in &[(11, false), (12, true), (300, true)] {
+        assert_same(&rt, wide_clashes(rt.alloc(), row.0), Ok(row.1));
     }
-    Ok(())
 }
 
 // What the most general unifier puts in the place of a variable.
-fn instance(alloc: Global, a: Made, b: Made, variable: u64) -> Result<Ty, Fail> {
+fn instance(alloc: Global, a: Made, b: Made, variable: u64) -> Result<Ty, UnifyFault> {
     let (a, b) = both(a, b)?;
     let found = unify(alloc, &a, &b);
     drop(a);
@@ -114,30 +127,39 @@ fn instance(alloc: Global, a: Made, b: Made, variable: u64) -> Result<Ty, Fail> 
     Ok(made?)
 }
 
-#[test]
-fn instances(rt: HostRuntime) -> Result<(), Fail> {
-    let alloc = rt.alloc();
+// What stands for the variable of the second part, where (x, {x}) and ([text], y) are one type.
+fn set_of_arrays(alloc: Global) -> Result<Ty, UnifyFault> {
     let left = pair(alloc, Ok(Ty::Var(0)), set_of(alloc, Ok(Ty::Var(0))));
     let right = pair(alloc, array(alloc, 1, Ok(Ty::Text)), Ok(Ty::Var(7)));
-    let made = instance(alloc, left, right, 7)?;
-    let (levels, nodes) = (made.levels(), made.nodes());
-    let is_set = matches!(made, Ty::SetOf(_));
-    drop(made);
-    assert_eq!(rt; levels, 3);
-    assert_eq!(rt; nodes, 3);
-    assert!(rt; is_set);
-    Ok(())
+    instance(alloc, left, right, 7)
+}
+
+// Whether a type is a set, its levels and its nodes: nothing where there is no type.
+fn counts_of(t: Result<Ty, UnifyFault>) -> Option<(bool, u64, u64)> {
+    match t {
+        Ok(t) => Some((matches!(t, Ty::SetOf(_)), t.levels(), t.nodes())),
+        Err(_) => None,
+    }
 }
 
 #[test]
-fn counts(rt: HostRuntime) -> Result<(), Memory> {
-    let deep = nested(rt.alloc(), 512)?;
-    let (levels, nodes, fits) = (deep.levels(), deep.nodes(), deep.fits());
+fn instances(rt: HostRuntime) {
+    let found = counts_of(set_of_arrays(rt.alloc()));
+    assert_same(&rt, found, Some((true, 3, 3)));
+}
+
+// The levels and the nodes of so many sets, and whether it fits.
+fn counts_of_sets(alloc: Global, depth: u64) -> Result<(u64, u64, bool), Memory> {
+    let deep = nested(alloc, depth)?;
+    let counts = (deep.levels(), deep.nodes(), deep.fits());
     drop(deep);
-    assert_eq!(rt; levels, 513);
-    assert_eq!(rt; nodes, 513);
-    assert!(rt; !fits);
-    Ok(())
+    Ok(counts)
+}
+
+#[test]
+fn counts(rt: HostRuntime) {
+    let found = counts_of_sets(rt.alloc(), 512);
+    assert_same(&rt, found, Ok((513, 513, false)));
 }
 
 fn copied(alloc: Global, t: Made) -> Made {
@@ -147,12 +169,16 @@ fn copied(alloc: Global, t: Made) -> Made {
     made
 }
 
+// The levels and the nodes of a copy.
+fn counts_in_copy(alloc: Global, t: Made) -> Result<(u64, u64), Memory> {
+    let copy = copied(alloc, t)?;
+    let counts = (copy.levels(), copy.nodes());
+    drop(copy);
+    Ok(counts)
+}
+
 #[test]
-fn counts_of_a_copy(rt: HostRuntime) -> Result<(), Memory> {
-    let wide = copied(rt.alloc(), doubled(rt.alloc(), 10))?;
-    let (levels, nodes) = (wide.levels(), wide.nodes());
-    drop(wide);
-    assert_eq!(rt; levels, 3);
-    assert_eq!(rt; nodes, 31);
-    Ok(())
+fn counts_of_a_copy(rt: HostRuntime) {
+    let found = counts_in_copy(rt.alloc(), doubled(rt.alloc(), 10));
+    assert_same(&rt, found, Ok((3, 31)));
 }

@@ -1,5 +1,6 @@
 ghost use Rattle.std.specs.Prelude.{◌≡◌, ◌≤◌, length, IfOk};
 
+use crate::tests::same::assert_same;
 use aql_value::made::both;
 use aql_value::{
     ArithOp, Ascending, Cells, CompareOp, Dims, Index, Items, Memory, Parts, Str, Value, add,
@@ -35,10 +36,16 @@ fn text(alloc: Global, all: &[u8]) -> Result<Value, Memory> {
     Ok(Value::Text(Str { bytes }))
 }
 
+// Puts what was made behind the others.
+fn pushed(all: &mut Vec<Value>, made: Result<Value, Memory>) -> Result<(), Memory> {
+    all.push(made?)?;
+    Ok(())
+}
+
 fn texts(alloc: Global, all: &[&[u8]]) -> Result<Items, Memory> {
     let mut items = Vec::new(alloc);
     for bytes in all {
-        items.push(text(alloc, bytes)?)?;
+        pushed(&mut items, text(alloc, bytes))?;
     }
     Ok(Items { items })
 }
@@ -54,7 +61,7 @@ fn set(alloc: Global, all: &[u128]) -> Result<Value, Memory> {
 fn sets(alloc: Global, all: &[&[u128]]) -> Result<Items, Memory> {
     let mut items = Vec::new(alloc);
     for members in all {
-        items.push(set(alloc, members)?)?;
+        pushed(&mut items, set(alloc, members))?;
     }
     Ok(Items { items })
 }
@@ -75,42 +82,48 @@ fn array(alloc: Global, lengths: &[u128], cells: &[u128]) -> Result<Option<Cells
     Ok(Cells::new(dims, cells))
 }
 
-fn grid(alloc: Global, lengths: &[u128], cells: &[u128]) -> Result<Value, Memory>
-    requires some { 1 ≤ length lengths.now }
-    requires few { length lengths.now ≤ 8 }
-{
+fn grid(alloc: Global, lengths: &[u128], cells: &[u128]) -> Result<Value, Memory> {
+    if lengths.is_empty() || lengths.len() > 8 {
+        return Err(Memory);
+    }
     Ok(Value::Grid(array(alloc, lengths, cells)?.ok_or(Memory)?))
 }
 
 fn are_equal(a: &Items, b: &Items) -> bool {
-    a.items.len() == b.items.len() && a.items.iter().zip(b.items.iter()).all(|(x, y)| x == y)
+    a.items.as_slice() == b.items.as_slice()
+}
+
+// An operation, its operands, and its result where there is one.
+const OPERATIONS: &[(ArithOp, u128, u128, Option<u128>)] = &[
+    (ArithOp::Add, 2, 3, Some(5)),
+    (ArithOp::Add, GREATEST, 0, Some(GREATEST)),
+    (ArithOp::Add, GREATEST, 1, None),
+    (ArithOp::Monus, 3, 5, Some(0)),
+    (ArithOp::Monus, 5, 3, Some(2)),
+    (ArithOp::Mul, HALF, 1, Some(HALF)),
+    (ArithOp::Mul, HALF, 2, None),
+    (ArithOp::Quotient, 7, 2, Some(3)),
+    (ArithOp::Quotient, 7, 0, None),
+    (ArithOp::Remainder, 7, 2, Some(1)),
+    (ArithOp::Remainder, 7, 0, None),
+];
+
+// What the function of the operation itself answers.
+fn direct(op: ArithOp, a: u128, b: u128) -> Option<u128> {
+    match op {
+        ArithOp::Add => add(a, b),
+        ArithOp::Monus => Some(monus(a, b)),
+        ArithOp::Mul => mul(a, b),
+        ArithOp::Quotient => quotient(a, b),
+        ArithOp::Remainder => remainder(a, b),
+    }
 }
 
 #[test]
 fn numbers_end_at_128_bits(rt: HostRuntime) {
-    let rows = [
-        (ArithOp::Add, 2, 3, Some(5)),
-        (ArithOp::Add, GREATEST, 0, Some(GREATEST)),
-        (ArithOp::Add, GREATEST, 1, None),
-        (ArithOp::Monus, 3, 5, Some(0)),
-        (ArithOp::Monus, 5, 3, Some(2)),
-        (ArithOp::Mul, HALF, 1, Some(HALF)),
-        (ArithOp::Mul, HALF, 2, None),
-        (ArithOp::Quotient, 7, 2, Some(3)),
-        (ArithOp::Quotient, 7, 0, None),
-        (ArithOp::Remainder, 7, 2, Some(1)),
-        (ArithOp::Remainder, 7, 0, None),
-    ];
-    for (op, a, b, want) in rows {
-        let direct = match op {
-            ArithOp::Add => add(a, b),
-            ArithOp::Monus => Some(monus(a, b)),
-            ArithOp::Mul => mul(a, b),
-            ArithOp::Quotient => quotient(a, b),
-            ArithOp::Remainder => remainder(a, b),
-        };
-        assert_eq!(rt; direct, want);
-        assert_eq!(rt; op.apply(a, b), want);
+    for row in OPERATIONS {
+        let found = [direct(row.0, row.1, row.2), row.0.apply(row.1, row.2)];
+        assert_same(&rt, found, [row.3; 2]);
     }
 }
 
@@ -123,28 +136,31 @@ fn merged(
     merge(alloc, a, b)
 }
 
+// Whether a set lends these members, and whether it gives them.
+fn holds(
+    set: Result<Ascending, Memory>,
+    expected: Result<Items, Memory>,
+) -> Result<[bool; 2], Memory> {
+    let (set, expected) = both(set, expected)?;
+    let lends_members = are_equal(set.items(), &expected);
+    Ok([lends_members, are_equal(&set.into_items(), &expected)])
+}
+
 fn assert_members(
     rt: &impl Abort,
     set: Result<Ascending, Memory>,
     expected: Result<Items, Memory>,
-) -> Result<(), Memory> {
-    let (set, expected) = both(set, expected)?;
-    let lends_members = are_equal(set.items(), &expected);
-    let members = set.into_items();
-    let gives_members = are_equal(&members, &expected);
-    drop(members);
-    drop(expected);
-    assert!(rt; lends_members && gives_members);
-    Ok(())
+) {
+    assert_same(rt, holds(set, expected), Ok([true; 2]));
 }
 
 #[test]
-fn sets_have_each_member_once(rt: HostRuntime) -> Result<(), Memory> {
+fn sets_have_each_member_once(rt: HostRuntime) {
     let alloc = rt.alloc();
     let strings = members(alloc, texts(alloc, &[b"b", b"a", b"b"]));
-    assert_members(&rt, strings, texts(alloc, &[b"a", b"b"]))?;
+    assert_members(&rt, strings, texts(alloc, &[b"a", b"b"]));
     let squares = members(alloc, numbers(alloc, &[9, 0, 4, 1, 4, 0]));
-    assert_members(&rt, squares, numbers(alloc, &[0, 1, 4, 9]))
+    assert_members(&rt, squares, numbers(alloc, &[0, 1, 4, 9]));
 }
 
 // The squares below 10, and 2, 4 and 11.
@@ -154,121 +170,136 @@ fn squares_and_others(alloc: Global) -> Result<Ascending, Memory> {
 }
 
 #[test]
-fn merged_sets_have_each_member_once(rt: HostRuntime) -> Result<(), Memory> {
+fn merged_sets_have_each_member_once(rt: HostRuntime) {
     let alloc = rt.alloc();
     let expected = &[0, 1, 2, 4, 9, 11];
-    assert_members(&rt, squares_and_others(alloc), numbers(alloc, expected))?;
+    assert_members(&rt, squares_and_others(alloc), numbers(alloc, expected));
     let none = members(alloc, numbers(alloc, &[]));
     let all = merged(alloc, none, squares_and_others(alloc));
-    assert_members(&rt, all, numbers(alloc, expected))
+    assert_members(&rt, all, numbers(alloc, expected));
 }
 
 #[test]
-fn sets_of_sets_ascend(rt: HostRuntime) -> Result<(), Memory> {
+fn sets_of_sets_ascend(rt: HostRuntime) {
     let alloc = rt.alloc();
     let nested = members(alloc, sets(alloc, &[&[0, 1], &[0], &[]]));
-    assert_members(&rt, nested, sets(alloc, &[&[], &[0], &[0, 1]]))
+    assert_members(&rt, nested, sets(alloc, &[&[], &[0], &[0, 1]]));
 }
 
-fn put(v: Result<Value, Memory>, all: &mut Vec<Value>) -> Result<(), Memory> {
-    all.push(v?)?;
-    Ok(())
+// A value by what it is made of: an array by its lengths and its cells.
+#[derive(Clone, Copy)]
+enum Made {
+    Nat(u128),
+    Bool(bool),
+    Text(&'static [u8]),
+    Tuple(&'static [u128]),
+    Set(&'static [u128]),
+    Array(&'static [u128], &'static [u128]),
 }
 
-fn put_plain(all: &mut Vec<Value>) -> Result<(), Memory> {
-    put(Ok(Value::Nat(7)), all)?;
-    put(Ok(Value::Nat(GREATEST)), all)?;
-    put(Ok(Value::Bool(false)), all)?;
-    put(Ok(Value::Bool(true)), all)
-}
-
-fn put_texts(alloc: Global, all: &mut Vec<Value>) -> Result<(), Memory> {
-    let rows: [&[u8]; 4] = [b"", b"a", b"ab", b"b"];
-    for bytes in rows {
-        put(text(alloc, bytes), all)?;
+fn make(alloc: Global, made: Made) -> Result<Value, Memory> {
+    match made {
+        Made::Nat(n) => Ok(Value::Nat(n)),
+        Made::Bool(b) => Ok(Value::Bool(b)),
+        Made::Text(bytes) => text(alloc, bytes),
+        Made::Tuple(parts) => row(alloc, parts),
+        Made::Set(members) => set(alloc, members),
+        Made::Array(lengths, cells) => grid(alloc, lengths, cells),
     }
-    Ok(())
 }
 
-fn put_tuples(alloc: Global, all: &mut Vec<Value>) -> Result<(), Memory> {
-    let rows: [&[u128]; 3] = [&[1, 2], &[1, 2, 0], &[2, 0]];
-    for parts in rows {
-        put(row(alloc, parts), all)?;
-    }
-    Ok(())
-}
+// Values of each kind, and of each kind several, each above those before it.
+const ASCENDING: &[Made] = &[
+    Made::Nat(7),
+    Made::Nat(GREATEST),
+    Made::Bool(false),
+    Made::Bool(true),
+    Made::Text(b""),
+    Made::Text(b"a"),
+    Made::Text(b"ab"),
+    Made::Text(b"b"),
+    Made::Tuple(&[1, 2]),
+    Made::Tuple(&[1, 2, 0]),
+    Made::Tuple(&[2, 0]),
+    Made::Set(&[]),
+    Made::Set(&[0]),
+    Made::Set(&[0, 1]),
+    Made::Set(&[1]),
+    Made::Array(&[1], &[9]),
+    Made::Array(&[1, 2], &[0, 0]),
+    Made::Array(&[2], &[0, 0]),
+    Made::Array(&[2], &[0, 1]),
+];
 
-fn put_sets(alloc: Global, all: &mut Vec<Value>) -> Result<(), Memory> {
-    let rows: [&[u128]; 4] = [&[], &[0], &[0, 1], &[1]];
-    for members in rows {
-        put(set(alloc, members), all)?;
-    }
-    Ok(())
-}
-
-fn put_arrays(alloc: Global, all: &mut Vec<Value>) -> Result<(), Memory> {
-    put(grid(alloc, &[1], &[9]), all)?;
-    put(grid(alloc, &[1, 2], &[0, 0]), all)?;
-    put(grid(alloc, &[2], &[0, 0]), all)?;
-    put(grid(alloc, &[2], &[0, 1]), all)
-}
-
-// One value of each kind, and of each kind several.
 fn ascending_values(alloc: Global) -> Result<Vec<Value>, Memory> {
     let mut all = Vec::new(alloc);
-    put_plain(&mut all)?;
-    put_texts(alloc, &mut all)?;
-    put_tuples(alloc, &mut all)?;
-    put_sets(alloc, &mut all)?;
-    put_arrays(alloc, &mut all)?;
+    for made in ASCENDING {
+        pushed(&mut all, make(alloc, *made))?;
+    }
     Ok(all)
 }
 
-// The order of two of them is that of their places.
-fn assert_order(rt: &impl Abort, (i, x): (usize, &Value), (j, y): (usize, &Value)) {
-    let order = i.cmp(&j);
-    assert!(rt; compare(x, y) == order);
-    assert!(rt; x.cmp(y) == order);
-    assert!(rt; (x == y) == (i == j));
+// The order of two values by each call that tells it, and what each comparison of them says.
+type Compared = ([Ordering; 2], bool, [bool; 6]);
+
+fn compared(x: &Value, y: &Value) -> Compared {
     let holding = [
-        (CompareOp::Equal, i == j),
-        (CompareOp::Unequal, i != j),
-        (CompareOp::Less, i < j),
-        (CompareOp::LessEqual, i <= j),
-        (CompareOp::Greater, i > j),
-        (CompareOp::GreaterEqual, i >= j),
+        CompareOp::Equal.holds(x, y),
+        CompareOp::Unequal.holds(x, y),
+        CompareOp::Less.holds(x, y),
+        CompareOp::LessEqual.holds(x, y),
+        CompareOp::Greater.holds(x, y),
+        CompareOp::GreaterEqual.holds(x, y),
     ];
-    for (op, holds) in holding {
-        assert!(rt; op.holds(x, y) == holds);
+    ([compare(x, y), x.cmp(y)], x == y, holding)
+}
+
+// The same of their places.
+fn compared_places(i: usize, j: usize) -> Compared {
+    let holding = [i == j, i != j, i < j, i <= j, i > j, i >= j];
+    ([i.cmp(&j); 2], i == j, holding)
+}
+
+// The order of a value with each is that of their places.
+fn assert_order(rt: &impl Abort, i: usize, x: &Value, all: &[Value]) {
+    for (j, y) in all.iter().enumerate() {
+        assert_same(rt, compared(x, y), compared_places(i, j));
+    }
+}
+
+fn assert_ascending(rt: &impl Abort, all: &[Value]) {
+    assert_same(rt, all.len(), 19);
+    for (i, x) in all.iter().enumerate() {
+        assert_order(rt, i, x, all);
     }
 }
 
 #[test]
 fn values_ascend_by_kind_and_content(rt: HostRuntime) -> Result<(), Memory> {
     let all = ascending_values(rt.alloc())?;
-    assert_eq!(rt; all.len(), 19);
-    for x in all.iter().enumerate() {
-        for y in all.iter().enumerate() {
-            assert_order(&rt, x, y);
-        }
-    }
+    assert_ascending(&rt, all.as_slice());
     Ok(())
 }
 
-fn assert_copies(rt: &impl Abort, alloc: Global, all: &[Value]) -> Result<(), Memory> {
+// The order of a value and its copy.
+fn order_of_copy(alloc: Global, x: &Value) -> Result<Ordering, Memory> {
+    let copied = x.copy(alloc)?;
+    let order = compare(x, &copied);
+    drop(copied);
+    Ok(order)
+}
+
+fn assert_copies(rt: &impl Abort, alloc: Global, all: &[Value]) {
     for x in all {
-        let copied = x.copy(alloc)?;
-        let order = compare(x, &copied);
-        drop(copied);
-        assert!(rt; order == Ordering::Equal);
+        assert_same(rt, order_of_copy(alloc, x), Ok(Ordering::Equal));
     }
-    Ok(())
 }
 
 #[test]
 fn values_equal_their_copies(rt: HostRuntime) -> Result<(), Memory> {
     let all = ascending_values(rt.alloc())?;
-    assert_copies(&rt, rt.alloc(), &all)
+    assert_copies(&rt, rt.alloc(), all.as_slice());
+    Ok(())
 }
 
 fn is_array(alloc: Global, lengths: &[u128], cells: &[u128]) -> Result<bool, Memory>
@@ -282,13 +313,12 @@ fn is_array(alloc: Global, lengths: &[u128], cells: &[u128]) -> Result<bool, Mem
 }
 
 #[test]
-fn arrays_have_a_cell_for_each_index(rt: HostRuntime) -> Result<(), Memory> {
+fn arrays_have_a_cell_for_each_index(rt: HostRuntime) {
     let alloc = rt.alloc();
-    assert!(rt; !is_array(alloc, &[2, 3], &[1, 2])?);
-    assert!(rt; is_array(alloc, &[0, 3], &[])?);
-    assert!(rt; is_array(alloc, &[HALF, 4, 0], &[])?);
-    assert!(rt; !is_array(alloc, &[HALF, 2], &[])?);
-    Ok(())
+    assert_same(&rt, is_array(alloc, &[2, 3], &[1, 2]), Ok(false));
+    assert_same(&rt, is_array(alloc, &[0, 3], &[]), Ok(true));
+    assert_same(&rt, is_array(alloc, &[HALF, 4, 0], &[]), Ok(true));
+    assert_same(&rt, is_array(alloc, &[HALF, 2], &[]), Ok(false));
 }
 
 fn two_by_three(alloc: Global) -> Result<Cells, Memory> {
@@ -306,45 +336,55 @@ fn number_at(alloc: Global, table: &Cells, at: &[u128]) -> Result<Option<u128>, 
     Ok(found)
 }
 
+// An index into it, and the number there where it has such a cell.
+const CELLS: &[(&[u128], Option<u128>)] = &[
+    (&[0, 0], Some(10)),
+    (&[0, 2], Some(12)),
+    (&[1, 0], Some(13)),
+    (&[1, 2], Some(15)),
+    (&[0, 3], None),
+    (&[2, 0], None),
+    (&[GREATEST, 0], None),
+    (&[1], None),
+];
+
+fn assert_cells(rt: &impl Abort, alloc: Global, table: &Cells) {
+    for row in CELLS {
+        assert_same(rt, number_at(alloc, table, row.0), Ok(row.1));
+    }
+}
+
 #[test]
 fn cells_by_index(rt: HostRuntime) -> Result<(), Memory> {
     let table = two_by_three(rt.alloc())?;
-    assert_cells(&rt, rt.alloc(), &table)
+    assert_cells(&rt, rt.alloc(), &table);
+    Ok(())
 }
 
-fn assert_cells(rt: &impl Abort, alloc: Global, table: &Cells) -> Result<(), Memory> {
-    let rows: [(&[u128], Option<u128>); 8] = [
-        (&[0, 0], Some(10)),
-        (&[0, 2], Some(12)),
-        (&[1, 0], Some(13)),
-        (&[1, 2], Some(15)),
-        (&[0, 3], None),
-        (&[2, 0], None),
-        (&[GREATEST, 0], None),
-        (&[1], None),
-    ];
-    for (at, expected) in rows {
-        assert_eq!(rt; number_at(alloc, table, at)?, expected);
-    }
-    Ok(())
+// Whether these are the lengths and the cells.
+fn are_parts(lengths: &Dims, cells: &Items, expected: &Items) -> [bool; 2] {
+    let are_lengths = lengths.dims.as_slice() == [2, 3].as_slice();
+    [are_lengths, are_equal(cells, expected)]
+}
+
+// Whether an array gives its lengths and its cells.
+fn gives_parts(table: Cells, expected: &Items) -> [bool; 2] {
+    let (lengths, cells) = table.into_parts();
+    are_parts(&lengths, &cells, expected)
+}
+
+// Whether it lends them, and whether it gives them.
+fn has_parts(alloc: Global) -> Result<([bool; 2], [bool; 2]), Memory> {
+    let expected = numbers(alloc, &[10, 11, 12, 13, 14, 15]);
+    let (table, expected) = both(two_by_three(alloc), expected)?;
+    let lends = are_parts(table.dims(), table.items(), &expected);
+    Ok((lends, gives_parts(table, &expected)))
 }
 
 #[test]
-fn parts_of_an_array(rt: HostRuntime) -> Result<(), Memory> {
-    let alloc = rt.alloc();
-    let expected = numbers(alloc, &[10, 11, 12, 13, 14, 15]);
-    let (table, expected) = both(two_by_three(alloc), expected)?;
-    let lends_lengths = table.dims().dims.as_slice() == [2, 3].as_slice();
-    let lends_cells = are_equal(table.items(), &expected);
-    let (lengths, cells) = table.into_parts();
-    let gives_lengths = lengths.dims.as_slice() == [2, 3].as_slice();
-    let gives_cells = are_equal(&cells, &expected);
-    drop(lengths);
-    drop(cells);
-    drop(expected);
-    assert!(rt; lends_lengths && lends_cells);
-    assert!(rt; gives_lengths && gives_cells);
-    Ok(())
+fn parts_of_an_array(rt: HostRuntime) {
+    let found = has_parts(rt.alloc());
+    assert_same(&rt, found, Ok(([true; 2], [true; 2])));
 }
 
 fn pair(alloc: Global) -> Result<Parts, Memory> {
@@ -358,17 +398,17 @@ fn is_tuple(alloc: Global, all: &[u128]) -> Result<bool, Memory> {
     Ok(found)
 }
 
-#[test]
-fn tuples_have_two_parts_or_more(rt: HostRuntime) -> Result<(), Memory> {
-    let alloc = rt.alloc();
-    assert!(rt; !is_tuple(alloc, &[])?);
-    assert!(rt; !is_tuple(alloc, &[1])?);
+// Whether a pair lends its parts, and whether it gives them.
+fn holds_parts(alloc: Global) -> Result<[bool; 2], Memory> {
     let (pair, expected) = both(pair(alloc), numbers(alloc, &[1, 2]))?;
     let lends_parts = are_equal(pair.items(), &expected);
-    let parts = pair.into_items();
-    let gives_parts = are_equal(&parts, &expected);
-    drop(parts);
-    drop(expected);
-    assert!(rt; lends_parts && gives_parts);
-    Ok(())
+    Ok([lends_parts, are_equal(&pair.into_items(), &expected)])
+}
+
+#[test]
+fn tuples_have_two_parts_or_more(rt: HostRuntime) {
+    let alloc = rt.alloc();
+    assert_same(&rt, is_tuple(alloc, &[]), Ok(false));
+    assert_same(&rt, is_tuple(alloc, &[1]), Ok(false));
+    assert_same(&rt, holds_parts(alloc), Ok([true; 2]));
 }

@@ -1,128 +1,160 @@
+use crate::tests::same::assert_same;
 use aql_words::{Options, WordFault, read_words};
-use std::alloc::AllocError;
+use std::alloc::{AllocError, Global};
+
+fn pushed(alloc: Global, all: &mut Vec<String>, word: &str) -> Result<(), AllocError> {
+    let word = String::from_str(alloc, word)?;
+    all.push(word)?;
+    Ok(())
+}
+
+// The program's name and these words.
+fn command_line(alloc: Global, words: &[&str]) -> Result<Vec<String>, AllocError> {
+    let mut all = Vec::new(alloc);
+    pushed(alloc, &mut all, "aql")?;
+    for word in words {
+        pushed(alloc, &mut all, word)?;
+    }
+    Ok(all)
+}
 
 // The options that words after the program's name ask for, or why they have no reading.
-fn read(rt: &impl AllocGlobal, words: &[&str]) -> Result<Result<Options, WordFault>, AllocError> {
-    let mut all = Vec::new(rt.alloc());
-    all.push(String::from_str(rt.alloc(), "aql")?)?;
-    for word in words {
-        all.push(String::from_str(rt.alloc(), word)?)?;
-    }
-    Ok(read_words(rt.alloc(), all.as_slice()))
+fn read(alloc: Global, words: &[&str]) -> Result<Result<Options, WordFault>, AllocError> {
+    let all = command_line(alloc, words)?;
+    Ok(read_words(alloc, all.as_slice()))
 }
 
-// A row: the words, and then workers, budget, plan, sample, motion and graph.
-#[test]
-fn words_are_read(rt: HostRuntime) -> Result<(), AllocError> {
-    let rows: [(&[&str], u64, u64, bool, Option<u64>, bool, bool); 13] = [
-        (&[], 1, 10_000_000, false, None, false, false),
-        (
-            &["--workers", "8"],
-            8,
-            10_000_000,
-            false,
-            None,
-            false,
-            false,
-        ),
-        (&["--workers=8"], 8, 10_000_000, false, None, false, false),
-        (&["--budget", "1"], 1, 1, false, None, false, false),
-        (&["--plan"], 1, 10_000_000, true, None, false, false),
-        (
-            &["--sample", "1"],
-            1,
-            10_000_000,
-            false,
-            Some(1),
-            false,
-            false,
-        ),
-        (
-            &["--sample=1000000"],
-            1,
-            10_000_000,
-            false,
-            Some(1_000_000),
-            false,
-            false,
-        ),
-        (
-            &["--workers", "64", "--budget", "50000000"],
-            64,
-            50_000_000,
-            false,
-            None,
-            false,
-            false,
-        ),
-        (
-            &["--sample", "7", "--plan", "--budget=2", "--workers=3"],
-            3,
-            2,
-            true,
-            Some(7),
-            false,
-            false,
-        ),
-        (&["--motion"], 1, 10_000_000, false, None, true, false),
-        (
-            &["--motion", "--sample=7", "--plan"],
-            1,
-            10_000_000,
-            true,
-            Some(7),
-            true,
-            false,
-        ),
-        (&["--graph"], 1, 10_000_000, false, None, false, true),
-        (
-            &["--graph", "--motion", "--budget=9"],
-            1,
-            9,
-            false,
-            None,
-            true,
-            true,
-        ),
-    ];
-    for (words, workers, budget, plan, sample, motion, graph) in rows {
-        let wanted = Options {
-            workers,
-            budget,
-            plan,
-            sample,
-            motion,
-            graph,
-        };
-        assert_eq!(rt; read(&rt, words)?, Ok(wanted));
-    }
-    Ok(())
-}
+// What no word asks for.
+const PLAIN: Options = Options {
+    workers: 1,
+    budget: 10_000_000,
+    plan: false,
+    sample: None,
+    motion: false,
+    graph: false,
+};
+
+const ROWS: &[(&[&str], Options)] = &[
+    (&[], PLAIN),
+    (
+        &["--workers", "8"],
+        Options {
+            workers: 8,
+            ..PLAIN
+        },
+    ),
+    (
+        &["--workers=8"],
+        Options {
+            workers: 8,
+            ..PLAIN
+        },
+    ),
+    (&["--budget", "1"], Options { budget: 1, ..PLAIN }),
+    (
+        &["--plan"],
+        Options {
+            plan: true,
+            ..PLAIN
+        },
+    ),
+    (
+        &["--sample", "1"],
+        Options {
+            sample: Some(1),
+            ..PLAIN
+        },
+    ),
+    (
+        &["--sample=1000000"],
+        Options {
+            sample: Some(1_000_000),
+            ..PLAIN
+        },
+    ),
+    (
+        &["--workers", "64", "--budget", "50000000"],
+        Options {
+            workers: 64,
+            budget: 50_000_000,
+            ..PLAIN
+        },
+    ),
+    (
+        &["--sample", "7", "--plan", "--budget=2", "--workers=3"],
+        Options {
+            workers: 3,
+            budget: 2,
+            plan: true,
+            sample: Some(7),
+            ..PLAIN
+        },
+    ),
+    (
+        &["--motion"],
+        Options {
+            motion: true,
+            ..PLAIN
+        },
+    ),
+    (
+        &["--motion", "--sample=7", "--plan"],
+        Options {
+            plan: true,
+            sample: Some(7),
+            motion: true,
+            ..PLAIN
+        },
+    ),
+    (
+        &["--graph"],
+        Options {
+            graph: true,
+            ..PLAIN
+        },
+    ),
+    (
+        &["--graph", "--motion", "--budget=9"],
+        Options {
+            budget: 9,
+            motion: true,
+            graph: true,
+            ..PLAIN
+        },
+    ),
+];
 
 #[test]
-fn words_without_a_reading(rt: HostRuntime) -> Result<(), AllocError> {
-    let rows: [&[&str]; 18] = [
-        &["--workers", "0"],
-        &["--workers", "65"],
-        &["--budget", "0"],
-        &["--budget", "50000001"],
-        &["--sample", "0"],
-        &["--sample", "1000001"],
-        &["--sample", "many"],
-        &["--workers"],
-        &["--plan=yes"],
-        &["--help"],
-        &["--version"],
-        &["more"],
-        &["--faster"],
-        &["--plan", "--plan"],
-        &["--motion=true"],
-        &["--motion", "--motion"],
-        &["--graph=true"],
-        &["--graph", "--graph"],
-    ];
-    for words in rows {
-        assert_eq!(rt; read(&rt, words)?, Err(WordFault::Usage));
+fn words_are_read(rt: HostRuntime) {
+    for row in ROWS {
+        assert_same(&rt, read(rt.alloc(), row.0), Ok(Ok(row.1)));
     }
-    Ok(())
+}
+
+const REFUSED: &[&[&str]] = &[
+    &["--workers", "0"],
+    &["--workers", "65"],
+    &["--budget", "0"],
+    &["--budget", "50000001"],
+    &["--sample", "0"],
+    &["--sample", "1000001"],
+    &["--sample", "many"],
+    &["--workers"],
+    &["--plan=yes"],
+    &["--help"],
+    &["--version"],
+    &["more"],
+    &["--faster"],
+    &["--plan", "--plan"],
+    &["--motion=true"],
+    &["--motion", "--motion"],
+    &["--graph=true"],
+    &["--graph", "--graph"],
+];
+
+#[test]
+fn words_without_a_reading(rt: HostRuntime) {
+    for words in REFUSED {
+        assert_same(&rt, read(rt.alloc(), words), Ok(Err(WordFault::Usage)));
+    }
 }
