@@ -4,3 +4,4 @@ mod headers;
 mod hyperslabs;
 mod limits;
 mod reads;
+mod same;

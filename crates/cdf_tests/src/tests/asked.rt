@@ -5,6 +5,7 @@ ghost use Rattle.cdf_slab.specs.Slab.{most_cells};
 
 use crate::tests::files::{index_of, name_of};
 use aql_outside::{Files, SureFiles};
+use aql_value::made::both;
 use aql_value::{Memory, saturating_product};
 use cdf_header::{CdfFault, Header};
 use cdf_slab::read_slab;
@@ -28,10 +29,9 @@ pub fn read_over<F: Files>(
     request: Asked,
 ) -> Result<Flat, CdfFault> {
     let header = header?;
-    match find(alloc, &header, variable)? {
-        Some(v) => read_asked(alloc, files, &header, v, request),
-        None => Err(CdfFault::NoVariable),
-    }
+    let found = read_found(alloc, files, &header, variable, request);
+    drop(header);
+    found
 }
 
 /// The same, where the files are sure.
@@ -44,6 +44,19 @@ pub fn read_sure(
 ) -> Result<Flat, CdfFault> {
     let mut files = files?;
     read_over(alloc, &mut files, header, variable, request)
+}
+
+fn read_found<F: Files>(
+    alloc: Global,
+    files: &mut F,
+    header: &Header,
+    variable: &[u8],
+    request: Asked,
+) -> Result<Flat, CdfFault> {
+    match find(alloc, header, variable)? {
+        Some(v) => read_asked(alloc, files, header, v, request),
+        None => Err(CdfFault::NoVariable),
+    }
 }
 
 fn find(alloc: Global, header: &Header, variable: &[u8]) -> Result<Option<u64>, Memory>
@@ -101,16 +114,12 @@ fn read<F: Files>(
     if !is_asked(start, count, stride) {
         return Err(CdfFault::Memory);
     }
-    let name = name_of(alloc, b"s");
-    let start = index_of(alloc, start);
-    let count = index_of(alloc, count);
-    let stride = index_of(alloc, stride);
-    match (&name, &start, &count, &stride) {
-        (Ok(name), Ok(start), Ok(count), Ok(stride)) => {
-            read_slab(alloc, files, name, header, v, start, count, stride, signed)
-        }
-        _ => Err(CdfFault::Memory),
-    }
+    let steps = both(index_of(alloc, count), index_of(alloc, stride));
+    let lists = both(index_of(alloc, start), steps);
+    let (name, (start, (count, stride))) = both(name_of(alloc, b"s"), lists)?;
+    read_slab(
+        alloc, files, &name, header, v, &start, &count, &stride, signed,
+    )
 }
 
 /// What is answered: the width and the bytes of the packed cells, 0 and none where there is no cell; or the fault.

@@ -10,20 +10,20 @@ use std::alloc::Global;
 use std::collections::BTreeMap;
 
 /// One variable `v` of shorts over the record dimension `x` and `y` of length 3, with two records.
-pub const ONE_RECORD_VARIABLE: [u32; 27] = [
+pub const ONE_RECORD_VARIABLE: &[u32] = &[
     0x43444601, 2, 0xa, 2, 1, 0x78000000, 0, 1, 0x79000000, 3, 0, 0, 0xb, 1, 1, 0x76000000, 2, 0,
     1, 0, 0, 3, 8, 0x60, 0x00010002, 0x00030004, 0x00050006,
 ];
 
 /// A record variable `v` of shorts, with three in a record, and one `w` of single bytes.
-pub const TWO_RECORD_VARIABLES: [u32; 39] = [
+pub const TWO_RECORD_VARIABLES: &[u32] = &[
     0x43444601, 2, 0xa, 2, 1, 0x78000000, 0, 1, 0x79000000, 3, 0, 0, 0xb, 2, 1, 0x76000000, 2, 0,
     1, 0, 0, 3, 8, 0x84, 1, 0x77000000, 1, 0, 0, 0, 1, 4, 0x8c, 0x00010002, 0x00030000, 0xff000000,
     0x00040005, 0x00060000, 0x02000000,
 ];
 
 /// Times, latitudes and longitudes, and temperatures over all three with an attribute.
-pub const TEMPERATURES: [u32; 87] = [
+pub const TEMPERATURES: &[u32] = &[
     0x43444601, 4, 0xa, 3, 4, 0x74696d65, 0, 3, 0x6c617400, 2, 3, 0x6c6f6e00, 3, 0, 0, 0xb, 4, 4,
     0x74696d65, 1, 0, 0, 0, 6, 8, 0x10c, 3, 0x6c617400, 1, 1, 0, 0, 5, 8, 0xf8, 3, 0x6c6f6e00, 1,
     2, 0, 0, 5, 0xc, 0x100, 4, 0x74656d70, 3, 0, 1, 2, 0xc, 1, 0xc, 0x7363616c, 0x655f6661,
@@ -33,7 +33,7 @@ pub const TEMPERATURES: [u32; 87] = [
 ];
 
 /// A variable `u` of three unsigned numbers of 64 bits, in version 5.
-pub const VERSION_5: [u32; 38] = [
+pub const VERSION_5: &[u32] = &[
     0x43444605, 0, 0, 0xa, 0, 1, 0, 1, 0x78000000, 0, 3, 0, 0, 0, 0xb, 0, 1, 0, 1, 0x75000000, 0,
     1, 0, 0, 0, 0, 0, 0xb, 0, 0x18, 0, 0x80, 0, 1, 0xffffffff, 0xffffffff, 0, 7,
 ];

@@ -3,22 +3,22 @@ use crate::tests::files::{
     ONE_RECORD_VARIABLE, TEMPERATURES, TWO_RECORD_VARIABLES, VERSION_5, bytes_of, changed, failing,
     few_bytes, header_of, header_over, index_of, name_of,
 };
+use crate::tests::same::assert_same;
 use aql_value::made::both;
 use aql_value::{Index, Str};
 use cdf_header::{CdfFault, Header};
 use std::alloc::Global;
 use std::process::Abort;
-use std::test::*;
 
 const WHOLE: usize = usize::MAX;
 
-const S: &[u32] = &ONE_RECORD_VARIABLE;
+const S: &[u32] = ONE_RECORD_VARIABLE;
 
-const P: &[u32] = &TWO_RECORD_VARIABLES;
+const P: &[u32] = TWO_RECORD_VARIABLES;
 
-const T: &[u32] = &TEMPERATURES;
+const T: &[u32] = TEMPERATURES;
 
-const V: &[u32] = &VERSION_5;
+const V: &[u32] = VERSION_5;
 
 fn header_in(
     alloc: Global,
@@ -64,7 +64,7 @@ fn told(alloc: Global, words: &[u32], name: &[u8], at: &[u128]) -> Result<Told, 
 }
 
 // A file's words, a variable, an index, the file's bytes, and the variable's first length, kind and place there.
-const PLACES: [(&[u32], &[u8], &[u128], u64, u128, u32, u128); 7] = [
+const PLACES: &[(&[u32], &[u8], &[u128], u64, u128, u32, u128)] = &[
     (S, b"v", &[1, 1], 108, 2, 3, 104),
     (P, b"v", &[1, 1], 156, 2, 3, 146),
     (P, b"w", &[1], 156, 2, 1, 152),
@@ -75,14 +75,20 @@ const PLACES: [(&[u32], &[u8], &[u128], u64, u128, u32, u128); 7] = [
 ];
 
 #[test]
-fn places(rt: HostRuntime) -> Result<(), Fail> {
-    let alloc = rt.alloc();
-    for (words, name, at, size, length, kind, place) in PLACES {
-        let wanted = (size, Some(length), Some(kind), Some(place));
-        assert_eq!(rt; told(alloc, words, name, at)?, wanted);
-        assert_eq!(rt; told(alloc, words, b"none", at)?, (size, None, None, None));
+fn places(rt: HostRuntime) {
+    for row in PLACES {
+        let found = told(rt.alloc(), row.0, row.1, row.2);
+        let wanted = (row.3, Some(row.4), Some(row.5), Some(row.6));
+        assert_same(&rt, found, Ok(wanted));
     }
-    Ok(())
+}
+
+#[test]
+fn no_places_of_other_names(rt: HostRuntime) {
+    for row in PLACES {
+        let found = told(rt.alloc(), row.0, b"none", row.2);
+        assert_same(&rt, found, Ok((row.3, None, None, None)));
+    }
 }
 
 // A file's words, the changed words, how many bytes are left, and the fault.
@@ -94,11 +100,10 @@ fn fault(alloc: Global, case: &Case) -> Option<CdfFault> {
 }
 
 // Each case has its fault.
-fn meet(rt: &impl Abort, alloc: Global, cases: &[Case]) -> Result<(), Fail> {
+fn meet(rt: &impl Abort, alloc: Global, cases: &[Case]) {
     for case in cases {
-        assert_eq!(rt; fault(alloc, case), case.3);
+        assert_same(rt, fault(alloc, case), case.3);
     }
-    Ok(())
 }
 
 fn cut(size: usize) -> Case<'static> {
@@ -114,7 +119,7 @@ fn cut(size: usize) -> Case<'static> {
     (S, &[], size, fault)
 }
 
-const CUT: [Case; 2] = [
+const CUT: &[Case] = &[
     (V, &[], 122, Some(CdfFault::Malformed { at: 120 })),
     (
         &[0x43444603],
@@ -125,14 +130,14 @@ const CUT: [Case; 2] = [
 ];
 
 #[test]
-fn cut_files(rt: HostRuntime) -> Result<(), Fail> {
+fn cut_files(rt: HostRuntime) {
     for size in 0..108 {
-        meet(&rt, rt.alloc(), &[cut(size)])?;
+        meet(&rt, rt.alloc(), &[cut(size)]);
     }
-    meet(&rt, rt.alloc(), &CUT)
+    meet(&rt, rt.alloc(), CUT);
 }
 
-const CHANGED_WORDS: [Case; 16] = [
+const CHANGED_WORDS: &[Case] = &[
     (
         S,
         &[(0, 0x43444600)],
@@ -187,12 +192,12 @@ const CHANGED_WORDS: [Case; 16] = [
 ];
 
 #[test]
-fn changed_words(rt: HostRuntime) -> Result<(), Fail> {
-    meet(&rt, rt.alloc(), &CHANGED_WORDS)
+fn changed_words(rt: HostRuntime) {
+    meet(&rt, rt.alloc(), CHANGED_WORDS);
 }
 
 // Attributes of a variable, and the wide fields of version 5.
-const CHANGED_FIELDS: [Case; 10] = [
+const CHANGED_FIELDS: &[Case] = &[
     (T, &[(50, 0)], WHOLE, Some(CdfFault::Malformed { at: 204 })),
     (
         T,
@@ -216,8 +221,8 @@ const CHANGED_FIELDS: [Case; 10] = [
 ];
 
 #[test]
-fn changed_fields(rt: HostRuntime) -> Result<(), Fail> {
-    meet(&rt, rt.alloc(), &CHANGED_FIELDS)
+fn changed_fields(rt: HostRuntime) {
+    meet(&rt, rt.alloc(), CHANGED_FIELDS);
 }
 
 fn streamed(
@@ -236,7 +241,7 @@ fn streamed(
 type Streamed<'a> = (&'a [u32], &'a [(usize, u32)], &'a [u8], usize, u128);
 
 // In the last a record is longer than the file.
-const STREAMED: [Streamed; 6] = [
+const STREAMED: &[Streamed] = &[
     (S, &[(1, 0xffffffff)], b"v", 108, 2),
     (S, &[(1, 0xffffffff)], b"v", 107, 1),
     (S, &[(1, 0xffffffff)], b"v", 96, 0),
@@ -246,12 +251,11 @@ const STREAMED: [Streamed; 6] = [
 ];
 
 #[test]
-fn streaming(rt: HostRuntime) -> Result<(), Fail> {
-    for (words, changes, name, size, records) in STREAMED {
-        let found = streamed(rt.alloc(), words, changes, name, size)?;
-        assert_eq!(rt; found, Some(records));
+fn streaming(rt: HostRuntime) {
+    for row in STREAMED {
+        let found = streamed(rt.alloc(), row.0, row.1, row.2, row.3);
+        assert_same(&rt, found, Ok(Some(row.4)));
     }
-    Ok(())
 }
 
 fn kind_of(alloc: Global, words: &[u32], changes: &[(usize, u32)], name: &[u8]) -> Option<u32> {
@@ -266,15 +270,17 @@ fn kind_of(alloc: Global, words: &[u32], changes: &[(usize, u32)], name: &[u8]) 
 
 // Of two variables of one name the first counts.
 #[test]
-fn equal_names(rt: HostRuntime) -> Result<(), Fail> {
+fn equal_names(rt: HostRuntime) {
     let renamed = [(25, 0x76000000)];
-    assert_eq!(rt; kind_of(rt.alloc(), P, &[], b"w"), Some(1));
-    assert_eq!(rt; kind_of(rt.alloc(), P, &renamed, b"w"), None);
-    assert_eq!(rt; kind_of(rt.alloc(), P, &renamed, b"v"), Some(3));
-    Ok(())
+    let found = [
+        kind_of(rt.alloc(), P, &[], b"w"),
+        kind_of(rt.alloc(), P, &renamed, b"w"),
+        kind_of(rt.alloc(), P, &renamed, b"v"),
+    ];
+    assert_same(&rt, found, [Some(1), None, Some(3)]);
 }
 
-const DEVICES: [(u64, &[u8], Option<CdfFault>); 5] = [
+const DEVICES: &[(u64, &[u8], Option<CdfFault>)] = &[
     (1, b"s", Some(CdfFault::Device)),
     (2, b"s", Some(CdfFault::Device)),
     (3, b"s", None),
@@ -290,11 +296,11 @@ fn fault_failing(alloc: Global, fails: u64, name: &[u8]) -> Option<CdfFault> {
 }
 
 #[test]
-fn devices(rt: HostRuntime) -> Result<(), Fail> {
-    for (fails, name, wanted) in DEVICES {
-        assert_eq!(rt; fault_failing(rt.alloc(), fails, name), wanted);
+fn devices(rt: HostRuntime) {
+    for row in DEVICES {
+        let found = fault_failing(rt.alloc(), row.0, row.1);
+        assert_same(&rt, found, row.2);
     }
-    Ok(())
 }
 
 fn fault_of_few(alloc: Global, most: usize) -> Option<CdfFault> {
@@ -304,16 +310,15 @@ fn fault_of_few(alloc: Global, most: usize) -> Option<CdfFault> {
     }
 }
 
-const FEW_BYTES: [(usize, Option<CdfFault>); 3] = [
+const FEW_BYTES: &[(usize, Option<CdfFault>)] = &[
     (3, Some(CdfFault::NotClassic)),
     (50, Some(CdfFault::Malformed { at: 48 })),
     (97, None),
 ];
 
 #[test]
-fn few_bytes_at_a_time(rt: HostRuntime) -> Result<(), Fail> {
-    for (most, wanted) in FEW_BYTES {
-        assert_eq!(rt; fault_of_few(rt.alloc(), most), wanted);
+fn few_bytes_at_a_time(rt: HostRuntime) {
+    for row in FEW_BYTES {
+        assert_same(&rt, fault_of_few(rt.alloc(), row.0), row.1);
     }
-    Ok(())
 }

@@ -4,14 +4,14 @@ use crate::tests::files::{
     ONE_RECORD_VARIABLE, TEMPERATURES, TWO_RECORD_VARIABLES, VERSION_5, bytes_of, changed,
     header_of, sure,
 };
+use crate::tests::same::assert_same;
 use aql_value::Memory;
 use cdf_header::CdfFault;
 use std::alloc::Global;
-use std::test::*;
 
 // A variable `c` of characters over the record dimension and seven dimensions of length 2, with two
 // records; behind the header stand the bytes 0 to 255.
-const EIGHT_DIMENSIONS: [u32; 48] = [
+const EIGHT_DIMENSIONS: &[u32] = &[
     0x43444601, 2, 0xa, 8, 1, 0x61000000, 0, 1, 0x62000000, 2, 1, 0x63000000, 2, 1, 0x64000000, 2,
     1, 0x65000000, 2, 1, 0x66000000, 2, 1, 0x67000000, 2, 1, 0x68000000, 2, 0, 0, 0xb, 1, 1,
     0x63000000, 8, 0, 1, 2, 3, 4, 5, 6, 7, 0, 0, 2, 128, 192,
@@ -47,16 +47,16 @@ fn first_other(alloc: Global, cases: &[Case]) -> Option<usize> {
     None
 }
 
-const S: &[u32] = &ONE_RECORD_VARIABLE;
+const S: &[u32] = ONE_RECORD_VARIABLE;
 
-const P: &[u32] = &TWO_RECORD_VARIABLES;
+const P: &[u32] = TWO_RECORD_VARIABLES;
 
-const T: &[u32] = &TEMPERATURES;
+const T: &[u32] = TEMPERATURES;
 
-const V: &[u32] = &VERSION_5;
+const V: &[u32] = VERSION_5;
 
 // A variable `v` of bytes of version 5, three times over one dimension of 2^64-2.
-const HUGE_CUBE: [u32; 36] = [
+const HUGE_CUBE: &[u32] = &[
     0x43444605, 0, 0, 0xa, 0, 1, 0, 1, 0x78000000, 0xffffffff, 0xfffffffe, 0, 0, 0, 0xb, 0, 1, 0,
     1, 0x76000000, 0, 3, 0, 0, 0, 0, 0, 0, 0, 0, 0, 1, 0, 0, 0, 144,
 ];
@@ -65,7 +65,7 @@ const FAR: u128 = 18446744073709551613;
 
 const HUGE: u128 = 340282366920938463463374607431768211455;
 
-const ANSWERED: [Case; 10] = [
+const ANSWERED: &[Case] = &[
     (
         S,
         &[],
@@ -160,14 +160,13 @@ const ANSWERED: [Case; 10] = [
 ];
 
 #[test]
-fn hyperslabs(rt: HostRuntime) -> Result<(), Fail> {
-    assert_eq!(rt; first_other(rt.alloc(), &ANSWERED), None);
-    Ok(())
+fn hyperslabs(rt: HostRuntime) {
+    assert_same(&rt, first_other(rt.alloc(), ANSWERED), None);
 }
 
-const REFUSED: [Case; 12] = [
+const REFUSED: &[Case] = &[
     (
-        &HUGE_CUBE,
+        HUGE_CUBE,
         &[],
         144,
         b"v",
@@ -175,7 +174,7 @@ const REFUSED: [Case; 12] = [
         Err(CdfFault::Cut { at: HUGE }),
     ),
     (
-        &HUGE_CUBE,
+        HUGE_CUBE,
         &[],
         144,
         b"v",
@@ -265,13 +264,12 @@ const REFUSED: [Case; 12] = [
 ];
 
 #[test]
-fn refused_hyperslabs(rt: HostRuntime) -> Result<(), Fail> {
-    assert_eq!(rt; first_other(rt.alloc(), &REFUSED), None);
-    Ok(())
+fn refused_hyperslabs(rt: HostRuntime) {
+    assert_same(&rt, first_other(rt.alloc(), REFUSED), None);
 }
 
 // Changed words, cut files, and faults that stand together.
-const FAULTS: [Case; 15] = [
+const FAULTS: &[Case] = &[
     (S, &[(10, 0xc)], 108, b"v", ALL, Ok((8, CELLS))),
     (
         S,
@@ -385,33 +383,42 @@ fn cut(size: usize) -> Case<'static> {
     (S, &[], size, b"v", ALL, Err(CdfFault::Cut { at }))
 }
 
-#[test]
-fn faults_in_order(rt: HostRuntime) -> Result<(), Fail> {
-    assert_eq!(rt; first_other(rt.alloc(), &FAULTS), None);
+// The first size that is answered otherwise, where the file is cut behind its header.
+fn first_other_cut(alloc: Global) -> Option<usize> {
     for size in 96..108 {
-        assert!(rt; case_agrees(rt.alloc(), &cut(size)), "{size}");
+        if !case_agrees(alloc, &cut(size)) {
+            return Some(size);
+        }
     }
-    Ok(())
+    None
+}
+
+#[test]
+fn faults_in_order(rt: HostRuntime) {
+    assert_same(&rt, first_other(rt.alloc(), FAULTS), None);
+    assert_same(&rt, first_other_cut(rt.alloc()), None);
 }
 
 fn eight_dimensional(alloc: Global) -> Result<Vec<u8>, Memory> {
-    let mut bytes = bytes_of(alloc, &EIGHT_DIMENSIONS)?;
+    let mut bytes = bytes_of(alloc, EIGHT_DIMENSIONS)?;
     for i in 0..256u32 {
         bytes.push(i as u8)?;
     }
     Ok(bytes)
 }
 
-// The last cell of each dimension but the first, and every second one of the last.
-#[test]
-fn eight_dimensions(rt: HostRuntime) -> Result<(), Fail> {
-    let alloc = rt.alloc();
+fn eight_dimensions_agree(alloc: Global) -> bool {
     let start: [u128; 8] = [0, 1, 1, 1, 1, 1, 1, 0];
     let count: [u128; 8] = [2, 1, 1, 1, 1, 1, 1, 2];
     let request = Asked::Naturals(&start, &count, &[1; 8]);
     let files = sure(alloc, eight_dimensional(alloc));
     let header = header_of(alloc, eight_dimensional(alloc));
     let found = read_sure(alloc, files, header, b"c", request);
-    assert!(rt; agrees(&found, Ok((8, &[126, 127, 254, 255]))));
-    Ok(())
+    agrees(&found, Ok((8, &[126, 127, 254, 255])))
+}
+
+// The last cell of each dimension but the first, and every second one of the last.
+#[test]
+fn eight_dimensions(rt: HostRuntime) {
+    assert_same(&rt, eight_dimensions_agree(rt.alloc()), true);
 }

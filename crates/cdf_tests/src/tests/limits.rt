@@ -1,9 +1,10 @@
 // Headers as long as they may be, and lists that have as many items as they may have.
 use crate::tests::files::{bytes_of, header_of, name_of};
+use crate::tests::same::assert_same;
 use aql_value::Memory;
 use cdf_header::CdfFault;
 use std::alloc::Global;
-use std::test::*;
+use std::process::Abort;
 
 const MOST_BYTES: u64 = 16_777_216;
 
@@ -23,10 +24,8 @@ fn with_attribute(alloc: Global, count: u32) -> Result<Vec<u8>, Memory> {
     let len = bytes.len().saturating_add(count as usize);
     bytes.resize(len, 0x20)?;
     let begin = count.saturating_add(112);
-    put(
-        &mut bytes,
-        &[0xb, 1, 1, 0x76000000, 2, 0, 1, 0, 0, 3, 8, begin],
-    )?;
+    let back = [0xb, 1, 1, 0x76000000, 2, 0, 1, 0, 0, 3, 8, begin];
+    put(&mut bytes, &back)?;
     Ok(bytes)
 }
 
@@ -45,31 +44,47 @@ fn cut_fault(alloc: Global, count: u32, size: usize) -> Result<Option<CdfFault>,
     Ok(header_of(alloc, Ok(bytes)).err())
 }
 
+// An attribute of so many characters, where the variable's place begins, and the last field's
+// offset.
+type LongHeader = (u32, u64, u64);
+
+const LONG_HEADERS: &[LongHeader] = &[
+    (3984, 4096, 4092),
+    (3988, 4100, 4096),
+    (8000, 8112, 8108),
+    (300000, 300112, 300108),
+];
+
+fn assert_long_header(rt: &impl Abort, alloc: Global, row: &LongHeader) {
+    assert_same(rt, begin_in(alloc, row.0), Ok(Some(row.1)));
+    let in_last = cut_fault(alloc, row.0, (row.2 as usize).saturating_add(3));
+    let in_attribute = cut_fault(alloc, row.0, (row.0 as usize).saturating_add(63));
+    assert_same(
+        rt,
+        [in_last, in_attribute],
+        [malformed(row.2), malformed(64)],
+    );
+}
+
+fn malformed(at: u64) -> Result<Option<CdfFault>, Memory> {
+    Ok(Some(CdfFault::Malformed { at }))
+}
+
 // Headers that are longer than what is read first or at once, whole and cut.
 #[test]
-fn long_headers(rt: HostRuntime) -> Result<(), Fail> {
-    let alloc = rt.alloc();
-    for count in [3984, 3988, 8000, 300000] {
-        let begin = u64::from(count) + 112;
-        assert_eq!(rt; begin_in(alloc, count), Ok(Some(begin)));
-        let last = u64::from(count) + 108;
-        let cut = Some(CdfFault::Malformed { at: last });
-        assert_eq!(rt; cut_fault(alloc, count, last as usize + 3)?, cut);
-        let cut = Some(CdfFault::Malformed { at: 64 });
-        assert_eq!(rt; cut_fault(alloc, count, 64 + count as usize - 1)?, cut);
+fn long_headers(rt: HostRuntime) {
+    for row in LONG_HEADERS {
+        assert_long_header(&rt, rt.alloc(), row);
     }
-    Ok(())
 }
 
 // A header may end where its greatest length does, and no field may pass that.
 #[test]
-fn longest_header(rt: HostRuntime) -> Result<(), Fail> {
-    let alloc = rt.alloc();
+fn longest_header(rt: HostRuntime) {
     let count = (MOST_BYTES - 112) as u32;
-    assert_eq!(rt; begin_in(alloc, count), Ok(Some(MOST_BYTES)));
+    let found = [begin_in(rt.alloc(), count), begin_in(rt.alloc(), count + 4)];
     let past = Err(CdfFault::Malformed { at: MOST_BYTES });
-    assert_eq!(rt; begin_in(alloc, count + 4), past);
-    Ok(())
+    assert_same(&rt, found, [Ok(Some(MOST_BYTES)), past]);
 }
 
 // So many dimensions of length 1, attributes, and bytes as variables over so many of the dimensions, none with a name.
@@ -82,19 +97,33 @@ struct Counts {
 }
 
 fn with_counts(alloc: Global, counts: Counts) -> Result<Vec<u8>, Memory> {
-    let mut bytes = bytes_of(alloc, &[0x43444601, 0, 0xa, counts.dims])?;
-    for _ in 0..counts.dims {
-        put(&mut bytes, &[0, 1])?;
-    }
-    put(&mut bytes, &[0xc, counts.attributes])?;
-    for _ in 0..counts.attributes {
-        put(&mut bytes, &[0, 1, 0])?;
-    }
-    put(&mut bytes, &[0xb, counts.vars])?;
-    for _ in 0..counts.vars {
-        put_variable(&mut bytes, counts.ids)?;
-    }
+    let mut bytes = bytes_of(alloc, &[0x43444601, 0])?;
+    put_lists(&mut bytes, counts)?;
     Ok(bytes)
+}
+
+fn put_lists(bytes: &mut Vec<u8>, counts: Counts) -> Result<(), Memory> {
+    put_list(bytes, &[0xa, counts.dims], counts.dims, &[0, 1])?;
+    put_list(
+        bytes,
+        &[0xc, counts.attributes],
+        counts.attributes,
+        &[0, 1, 0],
+    )?;
+    put(bytes, &[0xb, counts.vars])?;
+    for _ in 0..counts.vars {
+        put_variable(bytes, counts.ids)?;
+    }
+    Ok(())
+}
+
+// The head of a list, and so many times the same item.
+fn put_list(bytes: &mut Vec<u8>, head: &[u32], count: u32, item: &[u32]) -> Result<(), Memory> {
+    put(bytes, head)?;
+    for _ in 0..count {
+        put(bytes, item)?;
+    }
+    Ok(())
 }
 
 fn put_variable(bytes: &mut Vec<u8>, ids: u32) -> Result<(), Memory> {
@@ -109,49 +138,52 @@ fn fault_with(alloc: Global, counts: Counts) -> Option<CdfFault> {
     header_of(alloc, with_counts(alloc, counts)).err()
 }
 
-fn too_many(list: u8) -> Option<CdfFault> {
-    Some(CdfFault::TooMany { list })
-}
+const MOST: Counts = Counts {
+    dims: 1024,
+    attributes: 8192,
+    vars: 8192,
+    ids: 1,
+};
+
+const LISTS: &[(Counts, Option<CdfFault>)] = &[
+    (MOST, None),
+    (
+        Counts { dims: 1025, ..MOST },
+        Some(CdfFault::TooMany { list: 1 }),
+    ),
+    (
+        Counts {
+            attributes: 8193,
+            ..MOST
+        },
+        Some(CdfFault::TooMany { list: 2 }),
+    ),
+    (
+        Counts { vars: 8193, ..MOST },
+        Some(CdfFault::TooMany { list: 3 }),
+    ),
+    (
+        Counts {
+            vars: 2,
+            ids: 1024,
+            ..MOST
+        },
+        None,
+    ),
+    (
+        Counts {
+            vars: 2,
+            ids: 1025,
+            ..MOST
+        },
+        Some(CdfFault::TooMany { list: 4 }),
+    ),
+];
 
 // Each list with as many items as it may have, and with one more.
 #[test]
-fn longest_lists(rt: HostRuntime) -> Result<(), Fail> {
-    let most = Counts {
-        dims: 1024,
-        attributes: 8192,
-        vars: 8192,
-        ids: 1,
-    };
-    let cases: [(Counts, Option<CdfFault>); 6] = [
-        (most, None),
-        (Counts { dims: 1025, ..most }, too_many(1)),
-        (
-            Counts {
-                attributes: 8193,
-                ..most
-            },
-            too_many(2),
-        ),
-        (Counts { vars: 8193, ..most }, too_many(3)),
-        (
-            Counts {
-                vars: 2,
-                ids: 1024,
-                ..most
-            },
-            None,
-        ),
-        (
-            Counts {
-                vars: 2,
-                ids: 1025,
-                ..most
-            },
-            too_many(4),
-        ),
-    ];
-    for (counts, wanted) in cases {
-        assert_eq!(rt; fault_with(rt.alloc(), counts), wanted);
+fn longest_lists(rt: HostRuntime) {
+    for row in LISTS {
+        assert_same(&rt, fault_with(rt.alloc(), row.0), row.1);
     }
-    Ok(())
 }

@@ -1,66 +1,109 @@
-// Hyperslabs over devices that fail or give few bytes, the bytes that are asked for, and rows longer than what is read at once.
+// Hyperslabs over devices that fail or give few bytes, the bytes that are asked for, and rows longer
+// than what is read at once.
 use crate::tests::asked::{ALL, Answer, Asked, CELLS, agrees, read_over, read_sure};
 use crate::tests::files::{
-    ONE_RECORD_VARIABLE, TWO_RECORD_VARIABLES, bytes_of, failing, few_bytes, header_of, sure,
+    FewBytes, ONE_RECORD_VARIABLE, TWO_RECORD_VARIABLES, bytes_of, failing, few_bytes, header_of,
+    sure,
 };
+use crate::tests::same::assert_same;
+use aql_outside::MemFiles;
 use aql_value::Memory;
-use cdf_header::CdfFault;
+use cdf_header::{CdfFault, Header};
 use nrca_array::Flat;
 use std::alloc::Global;
-use std::test::*;
 
-fn failing_agrees(alloc: Global, fails: u64, expected: Answer) -> Result<bool, Memory> {
-    let mut files = failing(alloc, bytes_of(alloc, &ONE_RECORD_VARIABLE), fails)?;
-    let header = header_of(alloc, bytes_of(alloc, &ONE_RECORD_VARIABLE));
-    let found = read_over(alloc, &mut files, header, b"v", ALL);
-    Ok(agrees(&found, expected))
+fn read_failing(
+    alloc: Global,
+    files: Result<MemFiles, Memory>,
+    header: Result<Header, CdfFault>,
+) -> Result<Flat, CdfFault> {
+    let mut files = files?;
+    read_over(alloc, &mut files, header, b"v", ALL)
 }
 
-fn few_agrees(alloc: Global, most: usize, expected: Answer) -> Result<bool, Memory> {
-    let mut files = few_bytes(alloc, bytes_of(alloc, &ONE_RECORD_VARIABLE), most)?;
-    let header = header_of(alloc, bytes_of(alloc, &ONE_RECORD_VARIABLE));
-    let found = read_over(alloc, &mut files, header, b"v", ALL);
-    Ok(agrees(&found, expected))
+fn failing_agrees(alloc: Global, fails: u64, expected: Answer) -> bool {
+    let files = failing(alloc, bytes_of(alloc, ONE_RECORD_VARIABLE), fails);
+    let header = header_of(alloc, bytes_of(alloc, ONE_RECORD_VARIABLE));
+    let found = read_failing(alloc, files, header);
+    agrees(&found, expected)
 }
 
-#[test]
-fn devices(rt: HostRuntime) -> Result<(), Fail> {
-    let alloc = rt.alloc();
-    for (fails, expected) in [(1, Err(CdfFault::Device)), (2, Ok((8, CELLS)))] {
-        assert!(rt; failing_agrees(alloc, fails, expected)?);
-    }
-    for (most, expected) in [(5, Err(CdfFault::Cut { at: 100 })), (12, Ok((8, CELLS)))] {
-        assert!(rt; few_agrees(alloc, most, expected)?);
-    }
-    Ok(())
+// A hyperslab of the variable `v`, the furthest byte that was asked for, and how many were.
+#[derive(Drop)]
+struct ReadByFew {
+    flat: Flat,
+    furthest: u64,
+    asked: u64,
 }
 
-// The furthest byte that is asked for, where the hyperslab is read.
-fn furthest(alloc: Global, words: &[u32], request: Asked) -> Result<Option<u64>, Memory> {
-    let mut files = few_bytes(alloc, bytes_of(alloc, words), 1000)?;
-    let header = header_of(alloc, bytes_of(alloc, words));
-    let found = read_over(alloc, &mut files, header, b"v", request);
-    Ok(if found.is_ok() {
-        Some(files.furthest())
-    } else {
-        None
+fn read_few(
+    alloc: Global,
+    files: Result<FewBytes, Memory>,
+    header: Result<Header, CdfFault>,
+    request: Asked,
+) -> Result<ReadByFew, CdfFault> {
+    let mut files = files?;
+    let flat = read_over(alloc, &mut files, header, b"v", request);
+    let (furthest, asked) = (files.furthest(), files.asked());
+    drop(files);
+    let flat = flat?;
+    Ok(ReadByFew {
+        flat,
+        furthest,
+        asked,
     })
 }
 
-const FURTHEST: [(&[u32], Asked, u64); 4] = [
-    (&ONE_RECORD_VARIABLE, ALL, 108),
+fn few_agrees(alloc: Global, most: usize, expected: Answer) -> bool {
+    let files = few_bytes(alloc, bytes_of(alloc, ONE_RECORD_VARIABLE), most);
+    let header = header_of(alloc, bytes_of(alloc, ONE_RECORD_VARIABLE));
+    let found = match read_few(alloc, files, header, ALL) {
+        Ok(read) => Ok(read.flat),
+        Err(fault) => Err(fault),
+    };
+    agrees(&found, expected)
+}
+
+#[test]
+fn failing_devices(rt: HostRuntime) {
+    let alloc = rt.alloc();
+    let first = failing_agrees(alloc, 1, Err(CdfFault::Device));
+    let second = failing_agrees(alloc, 2, Ok((8, CELLS)));
+    assert_same(&rt, [first, second], [true; 2]);
+}
+
+#[test]
+fn devices_that_give_few_bytes(rt: HostRuntime) {
+    let alloc = rt.alloc();
+    let five = few_agrees(alloc, 5, Err(CdfFault::Cut { at: 100 }));
+    let twelve = few_agrees(alloc, 12, Ok((8, CELLS)));
+    assert_same(&rt, [five, twelve], [true; 2]);
+}
+
+// The furthest byte that is asked for, where the hyperslab is read.
+fn furthest(alloc: Global, words: &[u32], request: Asked) -> Option<u64> {
+    let files = few_bytes(alloc, bytes_of(alloc, words), 1000);
+    let header = header_of(alloc, bytes_of(alloc, words));
+    match read_few(alloc, files, header, request) {
+        Ok(read) => Some(read.furthest),
+        Err(_) => None,
+    }
+}
+
+const FURTHEST: &[(&[u32], Asked, u64)] = &[
+    (ONE_RECORD_VARIABLE, ALL, 108),
     (
-        &ONE_RECORD_VARIABLE,
+        ONE_RECORD_VARIABLE,
         Asked::Naturals(&[0, 0], &[1, 2], &[1, 1]),
         100,
     ),
     (
-        &ONE_RECORD_VARIABLE,
+        ONE_RECORD_VARIABLE,
         Asked::Naturals(&[0, 2], &[2, 0], &[1, 1]),
         0,
     ),
     (
-        &TWO_RECORD_VARIABLES,
+        TWO_RECORD_VARIABLES,
         Asked::Naturals(&[0, 0], &[2, 2], &[1, 1]),
         148,
     ),
@@ -68,20 +111,22 @@ const FURTHEST: [(&[u32], Asked, u64); 4] = [
 
 // No byte behind the last cell is asked for.
 #[test]
-fn furthest_bytes(rt: HostRuntime) -> Result<(), Fail> {
-    for (words, request, wanted) in FURTHEST {
-        assert_eq!(rt; furthest(rt.alloc(), words, request)?, Some(wanted));
+fn furthest_bytes(rt: HostRuntime) {
+    for row in FURTHEST {
+        let found = furthest(rt.alloc(), row.0, row.1);
+        assert_same(&rt, found, Some(row.2));
     }
-    Ok(())
 }
 
-// One variable `v` of 40,000 shorts over one dimension; the one at i is i * 40503 modulo 32768, but that at `below` is -1.
+// The header of one variable `v` of 40,000 shorts over one dimension.
+const ROW_OF_SHORTS: &[u32] = &[
+    0x43444601, 0, 0xa, 1, 1, 0x78000000, 40000, 0, 0, 0xb, 1, 1, 0x76000000, 1, 0, 0, 0, 3, 80000,
+    80,
+];
+
+// A file of it; the short at i is i * 40503 modulo 32768, but that at `below` is -1.
 fn long_row(alloc: Global, below: u32) -> Result<Vec<u8>, Memory> {
-    let words: [u32; 20] = [
-        0x43444601, 0, 0xa, 1, 1, 0x78000000, 40000, 0, 0, 0xb, 1, 1, 0x76000000, 1, 0, 0, 0, 3,
-        80000, 80,
-    ];
-    let mut bytes = bytes_of(alloc, &words)?;
+    let mut bytes = bytes_of(alloc, ROW_OF_SHORTS)?;
     for i in 0..40000u32 {
         let short = if i == below { 0xffff } else { short_at(i) };
         bytes.extend_from_slice(&short.to_be_bytes())?;
@@ -118,49 +163,56 @@ fn row_agrees(alloc: Global, stride: u32, count: u32) -> Result<bool, Memory> {
 }
 
 // How many bytes are asked for, where every so many-th short is read.
-fn asked(alloc: Global, stride: u128, count: u128) -> Result<Option<u64>, Memory> {
+fn asked(alloc: Global, stride: u128, count: u128) -> Option<u64> {
     let (count, stride) = ([count], [stride]);
     let request = Asked::Naturals(&[0], &count, &stride);
-    let mut files = few_bytes(alloc, long_row(alloc, 40000), usize::MAX)?;
+    let files = few_bytes(alloc, long_row(alloc, 40000), usize::MAX);
     let header = header_of(alloc, long_row(alloc, 40000));
-    let found = read_over(alloc, &mut files, header, b"v", request);
-    Ok(if found.is_ok() {
-        Some(files.asked())
-    } else {
-        None
-    })
+    match read_few(alloc, files, header, request) {
+        Ok(read) => Some(read.asked),
+        Err(_) => None,
+    }
 }
+
+// A stride, a count, and how many bytes are asked for.
+const ASKED_FOR: &[(u128, u128, u64)] = &[
+    (1, 40000, 80000),
+    (2048, 2, 4098),
+    (2049, 2, 4),
+    (4000, 10, 20),
+    (39999, 2, 4),
+];
 
 // Numbers that stand far from each other are read alone, others with what is between them.
 #[test]
-fn bytes_asked_for(rt: HostRuntime) -> Result<(), Fail> {
-    let cases: [(u128, u128, u64); 5] = [
-        (1, 40000, 80000),
-        (2048, 2, 4098),
-        (2049, 2, 4),
-        (4000, 10, 20),
-        (39999, 2, 4),
-    ];
-    for (stride, count, bytes) in cases {
-        assert_eq!(rt; asked(rt.alloc(), stride, count)?, Some(bytes));
+fn bytes_asked_for(rt: HostRuntime) {
+    for row in ASKED_FOR {
+        let found = asked(rt.alloc(), row.0, row.1);
+        assert_same(&rt, found, Some(row.2));
     }
-    Ok(())
 }
 
-// Rows that are longer than what is read or decoded at once, and the first number below 0 behind it.
+// A stride and a count.
+const LONG_ROWS: &[(u32, u32)] = &[(1, 40000), (7, 5714), (4000, 10), (39999, 2)];
+
+// Rows that are longer than what is read or decoded at once.
 #[test]
-fn long_rows(rt: HostRuntime) -> Result<(), Fail> {
-    let alloc = rt.alloc();
-    let cases: [(u32, u32); 4] = [(1, 40000), (7, 5714), (4000, 10), (39999, 2)];
-    for (stride, count) in cases {
-        assert!(rt; row_agrees(alloc, stride, count)?);
+fn long_rows(rt: HostRuntime) {
+    for row in LONG_ROWS {
+        assert_same(&rt, row_agrees(rt.alloc(), row.0, row.1), Ok(true));
     }
-    let negatives: [(u32, u128, u128, u64); 2] = [(39998, 40000, 1, 39998), (21000, 5714, 7, 3000)];
-    for (below, count, stride, cell) in negatives {
-        let fault = read_row(alloc, below, count, stride).err();
-        assert_eq!(rt; fault, Some(CdfFault::Negative { cell }));
+}
+
+// Which short is below 0, the count, the stride, and the cell that the fault names.
+const NEGATIVES: &[(u32, u128, u128, u64)] = &[(39998, 40000, 1, 39998), (21000, 5714, 7, 3000)];
+
+// The first number below 0 in such rows.
+#[test]
+fn long_rows_with_a_number_below_0(rt: HostRuntime) {
+    for row in NEGATIVES {
+        let found = read_row(rt.alloc(), row.0, row.1, row.2).err();
+        assert_same(&rt, found, Some(CdfFault::Negative { cell: row.3 }));
     }
-    Ok(())
 }
 
 // The short at i of 40,000, each below 256 but perhaps the last.
@@ -170,11 +222,7 @@ fn narrow_at(i: u32, last: u16) -> u16 {
 
 // The same file with these shorts.
 fn narrow_row(alloc: Global, last: u16) -> Result<Vec<u8>, Memory> {
-    let words: [u32; 20] = [
-        0x43444601, 0, 0xa, 1, 1, 0x78000000, 40000, 0, 0, 0xb, 1, 1, 0x76000000, 1, 0, 0, 0, 3,
-        80000, 80,
-    ];
-    let mut bytes = bytes_of(alloc, &words)?;
+    let mut bytes = bytes_of(alloc, ROW_OF_SHORTS)?;
     for i in 0..40000u32 {
         bytes.extend_from_slice(&narrow_at(i, last).to_be_bytes())?;
     }
@@ -194,18 +242,23 @@ fn narrow_bytes(alloc: Global, last: u16, width: u64) -> Result<Vec<u8>, Memory>
     Ok(bytes)
 }
 
+fn read_narrow(alloc: Global, last: u16) -> Result<Flat, CdfFault> {
+    let files = sure(alloc, narrow_row(alloc, last));
+    let header = header_of(alloc, narrow_row(alloc, last));
+    let request = Asked::Naturals(&[0], &[40000], &[1]);
+    read_sure(alloc, files, header, b"v", request)
+}
+
+fn narrow_agrees(alloc: Global, last: u16, width: u64) -> Result<bool, Memory> {
+    let expected = narrow_bytes(alloc, last, width)?;
+    let found = read_narrow(alloc, last);
+    Ok(agrees(&found, Ok((width, &expected))))
+}
+
 // Shorts that fit in a byte are kept in one, and in two where one behind all others does not.
 #[test]
-fn narrow_rows(rt: HostRuntime) -> Result<(), Fail> {
+fn narrow_rows(rt: HostRuntime) {
     let alloc = rt.alloc();
-    let cases: [(u16, u64); 2] = [(255, 8), (256, 16)];
-    for (last, width) in cases {
-        let files = sure(alloc, narrow_row(alloc, last));
-        let header = header_of(alloc, narrow_row(alloc, last));
-        let request = Asked::Naturals(&[0], &[40000], &[1]);
-        let found = read_sure(alloc, files, header, b"v", request);
-        let expected = narrow_bytes(alloc, last, width)?;
-        assert!(rt; agrees(&found, Ok((width, &expected))));
-    }
-    Ok(())
+    let found = [narrow_agrees(alloc, 255, 8), narrow_agrees(alloc, 256, 16)];
+    assert_same(&rt, found, [Ok(true); 2]);
 }
