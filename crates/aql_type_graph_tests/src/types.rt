@@ -1,5 +1,6 @@
 //! Equations between types: what solves and what does not, and instances that are written out.
 
+use crate::same::assert_same;
 use aql_type_solve::solve::{Solution, solve};
 use aql_types::equation::Equation;
 use aql_types::fault::UnifyFault;
@@ -7,7 +8,6 @@ use aql_types::ty::{Ty, row};
 use aql_value::Memory;
 use aql_value::made::{both, make_box, make_list, make_pair_list};
 use std::alloc::Global;
-use std::test::Fail;
 
 // A type as it was made.
 type Made = Result<Ty, Memory>;
@@ -63,51 +63,47 @@ fn usable(alloc: Global, t: Made) -> Result<bool, Memory> {
     Ok(s.is_some())
 }
 
-#[test]
-fn forms_and_cycles(rt: HostRuntime) -> Result<(), Fail> {
-    let alloc = rt.alloc();
-    assert!(rt; unifies(alloc, Ok(Ty::Var(3)), Ok(Ty::Text))?);
-    assert!(rt; !unifies(alloc, Ok(Ty::Nat), Ok(Ty::Bool))?);
-    assert!(rt; !unifies(alloc, Ok(Ty::Var(0)), set_of(alloc, Ok(Ty::Var(0))))?);
-    assert!(rt;
-        !unifies(
-            alloc,
-            set_of(alloc, Ok(Ty::Var(0))),
-            array(alloc, 1, Ok(Ty::Var(0)))
-        )?
-    );
-    assert!(rt;
-        unifies(
-            alloc,
-            array(alloc, 8, Ok(Ty::Var(0))),
-            array(alloc, 8, Ok(Ty::Nat))
-        )?
-    );
-    assert!(rt;
-        !unifies(
-            alloc,
-            array(alloc, 9, Ok(Ty::Nat)),
-            array(alloc, 9, Ok(Ty::Nat))
-        )?
-    );
-    Ok(())
+// A variable, and the set of it.
+fn cycle(alloc: Global) -> Result<bool, Memory> {
+    unifies(alloc, Ok(Ty::Var(0)), set_of(alloc, Ok(Ty::Var(0))))
+}
+
+// The set and the array of one variable.
+fn two_forms(alloc: Global) -> Result<bool, Memory> {
+    let set = set_of(alloc, Ok(Ty::Var(0)));
+    unifies(alloc, set, array(alloc, 1, Ok(Ty::Var(0))))
+}
+
+// Arrays of one rank, of numbers and of this.
+fn arrays(alloc: Global, rank: u64, cell: Ty) -> Result<bool, Memory> {
+    let numbers = array(alloc, rank, Ok(Ty::Nat));
+    unifies(alloc, array(alloc, rank, Ok(cell)), numbers)
 }
 
 #[test]
-fn uses_at_the_limit(rt: HostRuntime) -> Result<(), Fail> {
+fn forms_and_cycles(rt: HostRuntime) {
     let alloc = rt.alloc();
-    assert!(rt; usable(alloc, nested(alloc, 399))?);
-    assert!(rt; !usable(alloc, nested(alloc, 400))?);
-    Ok(())
+    assert_same(&rt, unifies(alloc, Ok(Ty::Var(3)), Ok(Ty::Text)), Ok(true));
+    assert_same(&rt, unifies(alloc, Ok(Ty::Nat), Ok(Ty::Bool)), Ok(false));
+    assert_same(&rt, cycle(alloc), Ok(false));
+    assert_same(&rt, two_forms(alloc), Ok(false));
+    assert_same(&rt, arrays(alloc, 8, Ty::Var(0)), Ok(true));
+    assert_same(&rt, arrays(alloc, 9, Ty::Nat), Ok(false));
+}
+
+#[test]
+fn uses_at_the_limit(rt: HostRuntime) {
+    let alloc = rt.alloc();
+    assert_same(&rt, usable(alloc, nested(alloc, 399)), Ok(true));
+    assert_same(&rt, usable(alloc, nested(alloc, 400)), Ok(false));
 }
 
 // Numbers of variables that 32 bits do not hold.
 #[test]
-fn large_numbers(rt: HostRuntime) -> Result<(), Fail> {
+fn large_numbers(rt: HostRuntime) {
     let alloc = rt.alloc();
-    assert!(rt; usable(alloc, Ok(Ty::Var(4294967295))).is_err());
-    assert!(rt; usable(alloc, Ok(Ty::Var(u64::MAX))).is_err());
-    Ok(())
+    assert_same(&rt, usable(alloc, Ok(Ty::Var(4294967295))), Err(Memory));
+    assert_same(&rt, usable(alloc, Ok(Ty::Var(u64::MAX))), Err(Memory));
 }
 
 fn is_truth(t: &Ty) -> bool {
@@ -143,12 +139,26 @@ fn instance(alloc: Global, x: u64) -> Made {
     }
 }
 
+fn stands_for_truth(alloc: Global, x: u64) -> Result<bool, Memory> {
+    let t = instance(alloc, x)?;
+    Ok(is_truth(&t))
+}
+
+fn stands_for_set_of_numbers(alloc: Global, x: u64) -> Result<bool, Memory> {
+    let t = instance(alloc, x)?;
+    Ok(is_set_of_numbers(&t))
+}
+
+fn stands_for_itself(alloc: Global, x: u64) -> Result<bool, Memory> {
+    let t = instance(alloc, x)?;
+    Ok(is_variable(&t, x))
+}
+
 #[test]
-fn instances(rt: HostRuntime) -> Result<(), Fail> {
+fn instances(rt: HostRuntime) {
     let alloc = rt.alloc();
-    assert!(rt; is_truth(&instance(alloc, 0)?));
-    assert!(rt; is_variable(&instance(alloc, 1)?, 1));
-    assert!(rt; is_set_of_numbers(&instance(alloc, 2)?));
-    assert!(rt; is_variable(&instance(alloc, 7)?, 7));
-    Ok(())
+    assert_same(&rt, stands_for_truth(alloc, 0), Ok(true));
+    assert_same(&rt, stands_for_itself(alloc, 1), Ok(true));
+    assert_same(&rt, stands_for_set_of_numbers(alloc, 2), Ok(true));
+    assert_same(&rt, stands_for_itself(alloc, 7), Ok(true));
 }
