@@ -1,5 +1,6 @@
 //! The array-free forms of terms: printed.
 
+use crate::tests::texts::assert_text;
 use aql_print::print_core;
 use aql_value::Memory;
 use aql_value::made::{both, make_box, make_boxes};
@@ -12,29 +13,32 @@ use std::process::Abort;
 // Above it a variable may not stand in the term.
 const ROOM: u64 = 4611686018427387904;
 
-// The text of the array-free form.
-fn form(alloc: Global, term: Result<Core, Memory>) -> Result<Vec<u8>, Memory> {
-    let term = term?;
-    if weight(&term) > 1280000 || greatest_variable(&term) >= ROOM {
+fn made_form(alloc: Global, term: &Core) -> Result<Core, Memory> {
+    if weight(term) > 1280000 || greatest_variable(term) >= ROOM {
         return Err(Memory);
     }
-    let made = to_graph(alloc, &term);
+    to_graph(alloc, term)
+}
+
+fn form(alloc: Global, term: Result<Core, Memory>) -> Result<Core, Memory> {
+    let term = term?;
+    let made = made_form(alloc, &term);
     drop(term);
-    let made = made?;
+    made
+}
+
+// The text of the array-free form.
+fn text_of_form(alloc: Global, term: Result<Core, Memory>) -> Result<Vec<u8>, Memory> {
+    let made = form(alloc, term)?;
     let mut out = Vec::new(alloc);
-    print_core(alloc, &made, &mut out)?;
+    let printed = print_core(alloc, &made, &mut out);
+    drop(made);
+    printed?;
     Ok(out)
 }
 
-fn assert_form(
-    rt: &impl Abort,
-    alloc: Global,
-    term: Result<Core, Memory>,
-    want: &[u8],
-) -> Result<(), Memory> {
-    let text = form(alloc, term)?;
-    assert_eq!(rt; text.as_slice(), want);
-    Ok(())
+fn assert_form(rt: &impl Abort, alloc: Global, term: Result<Core, Memory>, want: &[u8]) {
+    assert_text(rt, text_of_form(alloc, term), want);
 }
 
 // Variable 0, so many times.
@@ -96,21 +100,21 @@ fn literal(alloc: Global, dims: &[u128], cells: &[u128]) -> Result<Core, Memory>
 }
 
 #[test]
-fn tabulations(rt: HostRuntime) -> Result<(), Memory> {
+fn tabulations(rt: HostRuntime) {
     let alloc = rt.alloc();
     assert_form(
         &rt,
         alloc,
         under_let(alloc, tabulation(alloc, 1)),
         b"(let x0 = @0 in (let x1 = x0 in (x1, U{{(x2, (x2, x0))} | x2 in gen(x1)})))",
-    )?;
+    );
     assert_form(
         &rt,
         alloc,
         under_let(alloc, tabulation(alloc, 2)),
         b"(let x0 = @0 in (let x1 = x0 in (let x2 = x0 in ((x1, x2), U{U{{((x3, x4), (x3, x4, x0))} | \
         x4 in gen(x2)} | x3 in gen(x1)}))))",
-    )?;
+    );
     assert_form(
         &rt,
         alloc,
@@ -120,11 +124,11 @@ fn tabulations(rt: HostRuntime) -> Result<(), Memory> {
         U{U{U{U{U{U{U{U{{((x9, x10, x11, x12, x13, x14, x15, x16), (x9, x10, x11, x12, x13, x14, \
         x15, x16, x0))} | x16 in gen(x8)} | x15 in gen(x7)} | x14 in gen(x6)} | x13 in gen(x5)} | \
         x12 in gen(x4)} | x11 in gen(x3)} | x10 in gen(x2)} | x9 in gen(x1)}))))))))))",
-    )
+    );
 }
 
 #[test]
-fn subscripts(rt: HostRuntime) -> Result<(), Memory> {
+fn subscripts(rt: HostRuntime) {
     let alloc = rt.alloc();
     assert_form(
         &rt,
@@ -132,33 +136,33 @@ fn subscripts(rt: HostRuntime) -> Result<(), Memory> {
         under_let(alloc, subscript(alloc, 1)),
         b"(let x0 = @0 in (let x1 = x0 in (let x2 = x0 in get(U{(if (#1/2(x3) = x2) then {#2/2(x3)} \
         else {}) | x3 in #2/2(x1)}))))",
-    )?;
+    );
     assert_form(
         &rt,
         alloc,
         under_let(alloc, subscript(alloc, 2)),
         b"(let x0 = @0 in (let x1 = x0 in (let x2 = (x0, x0) in get(U{(if (#1/2(x3) = x2) then \
         {#2/2(x3)} else {}) | x3 in #2/2(x1)}))))",
-    )?;
+    );
     assert_form(
         &rt,
         alloc,
         under_let(alloc, subscript(alloc, 8)),
         b"(let x0 = @0 in (let x1 = x0 in (let x2 = (x0, x0, x0, x0, x0, x0, x0, x0) in get(U{(if \
         (#1/2(x3) = x2) then {#2/2(x3)} else {}) | x3 in #2/2(x1)}))))",
-    )
+    );
 }
 
 #[test]
-fn dimensions_of_arrays(rt: HostRuntime) -> Result<(), Memory> {
+fn dimensions_of_arrays(rt: HostRuntime) {
     let alloc = rt.alloc();
-    assert_form(&rt, alloc, dimensions(alloc, 1), b"#1/2(@0)")?;
-    assert_form(&rt, alloc, dimensions(alloc, 2), b"#1/2(@0)")?;
-    assert_form(&rt, alloc, dimensions(alloc, 8), b"#1/2(@0)")
+    assert_form(&rt, alloc, dimensions(alloc, 1), b"#1/2(@0)");
+    assert_form(&rt, alloc, dimensions(alloc, 2), b"#1/2(@0)");
+    assert_form(&rt, alloc, dimensions(alloc, 8), b"#1/2(@0)");
 }
 
 #[test]
-fn arrays_from_pairs(rt: HostRuntime) -> Result<(), Memory> {
+fn arrays_from_pairs(rt: HostRuntime) {
     let alloc = rt.alloc();
     assert_form(
         &rt,
@@ -168,7 +172,7 @@ fn arrays_from_pairs(rt: HostRuntime) -> Result<(), Memory> {
         #1/2(x2)) then {#1/2(x2)} else {}) | x2 in x0} = {}) then {#1/2(x1)} else {}) | x1 in x0}))) \
         in (x1, U{{(x2, U{(if (#1/2(x3) = x2) then {#2/2(x3)} else {}) | x3 in x0})} | x2 in \
         gen(x1)})))",
-    )?;
+    );
     assert_form(
         &rt,
         alloc,
@@ -179,7 +183,7 @@ fn arrays_from_pairs(rt: HostRuntime) -> Result<(), Memory> {
         (#2/2(#1/2(x2)) < #2/2(#1/2(x3))) then {#2/2(#1/2(x3))} else {}) | x3 in x0} = {}) then \
         {#2/2(#1/2(x2))} else {}) | x2 in x0}))) in ((x1, x2), U{U{{((x3, x4), U{(if (#1/2(x5) = \
         (x3, x4)) then {#2/2(x5)} else {}) | x5 in x0})} | x4 in gen(x2)} | x3 in gen(x1)}))))",
-    )?;
+    );
     assert_form(
         &rt,
         alloc,
@@ -206,13 +210,13 @@ fn arrays_from_pairs(rt: HostRuntime) -> Result<(), Memory> {
         {#2/2(x17)} else {}) | x17 in x0})} | x16 in gen(x8)} | x15 in gen(x7)} | x14 in gen(x6)} | \
         x13 in gen(x5)} | x12 in gen(x4)} | x11 in gen(x3)} | x10 in gen(x2)} | x9 in \
         gen(x1)}))))))))))",
-    )?;
-    assert_form(&rt, alloc, index(alloc, 0), b"(let x0 = @0 in undefined)")?;
-    assert_form(&rt, alloc, index(alloc, 9), b"(let x0 = @0 in undefined)")
+    );
+    assert_form(&rt, alloc, index(alloc, 0), b"(let x0 = @0 in undefined)");
+    assert_form(&rt, alloc, index(alloc, 9), b"(let x0 = @0 in undefined)");
 }
 
 #[test]
-fn literals(rt: HostRuntime) -> Result<(), Memory> {
+fn literals(rt: HostRuntime) {
     let alloc = rt.alloc();
     assert_form(
         &rt,
@@ -220,7 +224,7 @@ fn literals(rt: HostRuntime) -> Result<(), Memory> {
         literal(alloc, &[3], &[5, 6, 7]),
         b"(let x0 = 3 in (if (if (x0 = 0) then false else (x0 = 3)) then (x0, (({(0, 5)} union {(1, \
         6)}) union {(2, 7)})) else undefined))",
-    )?;
+    );
     assert_form(
         &rt,
         alloc,
@@ -228,7 +232,7 @@ fn literals(rt: HostRuntime) -> Result<(), Memory> {
         b"(let x0 = 2 in (let x1 = 1 in (if (if (x0 = 0) then false else (if (x1 = 0) then false else \
         ((x0 * x1) = 2))) then ((x0, x1), ({(((0 / x1), (0 % x1)), 5)} union {(((1 / x1), (1 % x1)), \
         6)})) else undefined)))",
-    )?;
+    );
     assert_form(
         &rt,
         alloc,
@@ -242,12 +246,12 @@ fn literals(rt: HostRuntime) -> Result<(), Memory> {
         x4) * x5) * x6) * x7)) % x1), ((0 / ((((x3 * x4) * x5) * x6) * x7)) % x2), ((0 / (((x4 * x5) \
         * x6) * x7)) % x3), ((0 / ((x5 * x6) * x7)) % x4), ((0 / (x6 * x7)) % x5), ((0 / x7) % x6), \
         (0 % x7)), 5)}) else undefined)))))))))",
-    )?;
+    );
     assert_form(
         &rt,
         alloc,
         literal(alloc, &[4, 0], &[]),
         b"(let x0 = 4 in (let x1 = 0 in (if (if (x0 = 0) then true else (if (x1 = 0) then true else \
         ((x0 * x1) = 0))) then ((x0, x1), {}) else undefined)))",
-    )
+    );
 }
