@@ -3,6 +3,7 @@ mod evaluation;
 mod gates;
 mod numbers;
 mod pieces;
+mod same;
 mod serial;
 mod substitution;
 mod terms;

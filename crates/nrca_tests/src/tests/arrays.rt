@@ -1,11 +1,11 @@
 ghost use Rattle.std.specs.Prelude.{◌≡◌, IfOk};
 
+use crate::tests::same::assert_same;
 use crate::tests::words::value;
 use aql_value::made::both;
 use aql_value::{Dims, Index, Memory, Value};
 use nrca_array::{Builder, Flat, Held};
 use std::alloc::Global;
-use std::test::Fail;
 
 fn dims(alloc: Global, all: &[u128]) -> Result<Dims, Memory>
     ensures { IfOk result (λ d. d ≡ all.now) }
@@ -83,21 +83,20 @@ fn is_unpacked(
 }
 
 #[test]
-fn naturals_are_packed(rt: HostRuntime) -> Result<(), Fail> {
+fn naturals_are_packed(rt: HostRuntime) {
     let alloc = rt.alloc();
     let all = appended(alloc, naturals(alloc, &[1]), naturals(alloc, &[300, 2]));
     let bytes = [0x01, 0x00, 0x2c, 0x01, 0x02, 0x00];
-    assert!(rt; is_packed(alloc, 3, all, 16, &bytes)?);
-    assert!(rt; is_unpacked(alloc, 0, naturals(alloc, &[]))?);
-    Ok(())
+    assert_same(&rt, is_packed(alloc, 3, all, 16, &bytes), Ok(true));
+    let none = is_unpacked(alloc, 0, naturals(alloc, &[]));
+    assert_same(&rt, none, Ok(true));
 }
 
 #[test]
-fn pairs_are_packed(rt: HostRuntime) -> Result<(), Fail> {
-    let alloc = rt.alloc();
-    let all = pairs(alloc, &[(true, 1), (false, 2)]);
-    assert!(rt; is_packed(alloc, 2, all, 8, &[0x01, 0x02, 0x01, 0x00])?);
-    Ok(())
+fn pairs_are_packed(rt: HostRuntime) {
+    let all = pairs(rt.alloc(), &[(true, 1), (false, 2)]);
+    let found = is_packed(rt.alloc(), 2, all, 8, &[0x01, 0x02, 0x01, 0x00]);
+    assert_same(&rt, found, Ok(true));
 }
 
 // One row of 5, true and 7.
@@ -141,7 +140,7 @@ fn kind_of_copy(alloc: Global, held: &Held) -> Result<u8, Memory> {
 }
 
 #[test]
-fn cells_stay(rt: HostRuntime) -> Result<(), Fail> {
+fn cells_stay(rt: HostRuntime) -> Result<(), Memory> {
     let alloc = rt.alloc();
     let flat = mixed(alloc)?;
     let length = window_length(alloc, &flat);
@@ -149,9 +148,9 @@ fn cells_stay(rt: HostRuntime) -> Result<(), Fail> {
     let held = Held::Flat(flat);
     let kind = kind_of_copy(alloc, &held);
     drop(held);
-    assert_eq!(rt; length?, 2);
-    assert_eq!(rt; cell?, Some(7));
-    assert_eq!(rt; kind?, 5);
+    assert_same(&rt, length, Ok(2));
+    assert_same(&rt, cell, Ok(Some(7)));
+    assert_same(&rt, kind, Ok(5));
     Ok(())
 }
 
@@ -213,7 +212,29 @@ fn alike(
     alike
 }
 
-const PIECES: [&[u64]; 6] = [
+// Whether naturals behind no cells are the same at once and one at a time.
+fn alike_alone(alloc: Global, length: u128, pieces: &[&[u64]]) -> Result<bool, Memory> {
+    let many = at_once(alloc, naturals(alloc, &[]), pieces);
+    let each = one_at_a_time(alloc, naturals(alloc, &[]), pieces);
+    alike(alloc, length, many, each)
+}
+
+// The same behind a number past 64 bits.
+fn alike_behind_a_wide_one(alloc: Global) -> Result<bool, Memory> {
+    let wide = [18_446_744_073_709_551_616];
+    let many = at_once(alloc, naturals(alloc, &wide), &[&[2, 300]]);
+    let each = one_at_a_time(alloc, naturals(alloc, &wide), &[&[2, 300]]);
+    alike(alloc, 3, many, each)
+}
+
+// The same behind a truth value.
+fn alike_behind_a_truth_value(alloc: Global) -> Result<bool, Memory> {
+    let many = at_once(alloc, truth(alloc), &[&[0, 70_000]]);
+    let each = one_at_a_time(alloc, truth(alloc), &[&[0, 70_000]]);
+    alike(alloc, 3, many, each)
+}
+
+const PIECES: &[&[u64]] = &[
     &[],
     &[1, 255],
     &[256, 7],
@@ -223,20 +244,17 @@ const PIECES: [&[u64]; 6] = [
 ];
 
 #[test]
-fn naturals_at_once(rt: HostRuntime) -> Result<(), Fail> {
+fn naturals_at_once_are_packed(rt: HostRuntime) {
     let alloc = rt.alloc();
     let few = at_once(alloc, naturals(alloc, &[]), &[&[1, 255], &[256]]);
     let bytes = [0x01, 0x00, 0xff, 0x00, 0x00, 0x01];
-    assert!(rt; is_packed(alloc, 3, few, 16, &bytes)?);
-    let many = at_once(alloc, naturals(alloc, &[]), &PIECES);
-    let each = one_at_a_time(alloc, naturals(alloc, &[]), &PIECES);
-    assert!(rt; alike(alloc, 9, many, each)?);
-    let wide = [18_446_744_073_709_551_616];
-    let many = at_once(alloc, naturals(alloc, &wide), &[&[2, 300]]);
-    let each = one_at_a_time(alloc, naturals(alloc, &wide), &[&[2, 300]]);
-    assert!(rt; alike(alloc, 3, many, each)?);
-    let many = at_once(alloc, truth(alloc), &[&[0, 70_000]]);
-    let each = one_at_a_time(alloc, truth(alloc), &[&[0, 70_000]]);
-    assert!(rt; alike(alloc, 3, many, each)?);
-    Ok(())
+    assert_same(&rt, is_packed(alloc, 3, few, 16, &bytes), Ok(true));
+}
+
+#[test]
+fn naturals_at_once(rt: HostRuntime) {
+    let alloc = rt.alloc();
+    assert_same(&rt, alike_alone(alloc, 9, PIECES), Ok(true));
+    assert_same(&rt, alike_behind_a_wide_one(alloc), Ok(true));
+    assert_same(&rt, alike_behind_a_truth_value(alloc), Ok(true));
 }

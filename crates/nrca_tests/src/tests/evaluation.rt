@@ -2,6 +2,7 @@
 
 ghost use Rattle.std.specs.Prelude.{◌≤◌};
 
+use crate::tests::same::assert_same;
 use crate::tests::words::{Outcome, Row, outcome, pushed, term, value, wanted};
 use aql_outside::{FreeGate, Gate};
 use aql_value::made::both;
@@ -12,7 +13,6 @@ use nrca_par::EvalFault;
 use nrca_term::Core;
 use std::alloc::Global;
 use std::process::Abort;
-use std::test::Fail;
 use std::thread::Threads;
 
 // Position 1 is [[3; 10, 20, 30]], position 2 is undefined, position 3 is {1, 2}, and there is no other.
@@ -95,33 +95,26 @@ pub(crate) fn found<R: Threads + Sync, G: Gate>(
     found
 }
 
-fn meets<R: Threads + Sync + Abort>(rt: &R, alloc: Global, rows: &[Row]) -> Result<(), Fail> {
+fn meets<R: Threads + Sync + Abort>(rt: &R, alloc: Global, rows: &[Row]) {
     for row in rows {
         for number in 0..5 {
-            row_meets(rt, alloc, row, number)?;
+            row_meets(rt, alloc, row, number);
         }
     }
-    Ok(())
 }
 
 // The value and the turns within these turns and within more, and Spent within fewer.
-fn row_meets<R: Threads + Sync + Abort>(
-    rt: &R,
-    alloc: Global,
-    row: &Row,
-    number: u64,
-) -> Result<(), Fail> {
+fn row_meets<R: Threads + Sync + Abort>(rt: &R, alloc: Global, row: &Row, number: u64) {
     let turns = u64::from(row.2);
     let workers = workers(number);
     for budget in turns.saturating_sub(2)..turns + 2 {
         let found = found(rt, alloc, row, budget, workers, &FreeGate);
-        let wanted = wanted(row, budget);
-        assert_eq!(rt; found, wanted, "{} by {workers} in {budget}", row.0);
+        let place = (row.0, workers, budget);
+        assert_same(rt, (place, found), (place, wanted(row, budget)));
     }
-    Ok(())
 }
 
-const CONSTANTS_AND_OPERATIONS: [Row; 14] = [
+const CONSTANTS_AND_OPERATIONS: &[Row] = &[
     ("5 T tup2 p2/2", "T", 0),
     ("5 T tup2 p1/3", "undefined", 0),
     ("'ab", "'ab", 0),
@@ -139,11 +132,11 @@ const CONSTANTS_AND_OPERATIONS: [Row; 14] = [
 ];
 
 #[test]
-fn constants_and_operations(rt: HostRuntime) -> Result<(), Fail> {
-    meets(&rt, rt.alloc(), &CONSTANTS_AND_OPERATIONS)
+fn constants_and_operations(rt: HostRuntime) {
+    meets(&rt, rt.alloc(), CONSTANTS_AND_OPERATIONS);
 }
 
-const VARIABLES_POSITIONS_AND_CHOICES: [Row; 13] = [
+const VARIABLES_POSITIONS_AND_CHOICES: &[Row] = &[
     ("3 v0 v0 + let", "6", 0),
     ("bot 2 gen let", "undefined", 0),
     ("v0", "undefined", 0),
@@ -160,11 +153,11 @@ const VARIABLES_POSITIONS_AND_CHOICES: [Row; 13] = [
 ];
 
 #[test]
-fn variables_positions_and_choices(rt: HostRuntime) -> Result<(), Fail> {
-    meets(&rt, rt.alloc(), &VARIABLES_POSITIONS_AND_CHOICES)
+fn variables_positions_and_choices(rt: HostRuntime) {
+    meets(&rt, rt.alloc(), VARIABLES_POSITIONS_AND_CHOICES);
 }
 
-const SUMS_AND_SETS: [Row; 31] = [
+const SUMS_AND_SETS: &[Row] = &[
     ("1000 gen v0 S", "499500", 2000),
     ("0 gen bot S", "0", 0),
     ("5 v0 S", "undefined", 0),
@@ -228,11 +221,11 @@ const SUMS_AND_SETS: [Row; 31] = [
 ];
 
 #[test]
-fn sums_and_sets(rt: HostRuntime) -> Result<(), Fail> {
-    meets(&rt, rt.alloc(), &SUMS_AND_SETS)
+fn sums_and_sets(rt: HostRuntime) {
+    meets(&rt, rt.alloc(), SUMS_AND_SETS);
 }
 
-const ARRAYS: [Row; 18] = [
+const ARRAYS: &[Row] = &[
     ("2 3 v1 10 * v0 + tab2", "2 3 0 1 2 10 11 12 arr2.6", 6),
     ("1000000000000 0 v0 tab2", "1000000000000 0 arr2.0", 0),
     ("bot 3 gen tab1", "undefined", 0),
@@ -254,11 +247,11 @@ const ARRAYS: [Row; 18] = [
 ];
 
 #[test]
-fn arrays(rt: HostRuntime) -> Result<(), Fail> {
-    meets(&rt, rt.alloc(), &ARRAYS)
+fn arrays(rt: HostRuntime) {
+    meets(&rt, rt.alloc(), ARRAYS);
 }
 
-const INDICES: [Row; 16] = [
+const INDICES: &[Row] = &[
     (
         "0 5 tup2 one 2 7 tup2 one u 0 6 tup2 one u idx1",
         "3 5 6 set2 set0 7 set1 arr1.3",
@@ -297,8 +290,8 @@ const INDICES: [Row; 16] = [
 ];
 
 #[test]
-fn indices(rt: HostRuntime) -> Result<(), Fail> {
-    meets(&rt, rt.alloc(), &INDICES)
+fn indices(rt: HostRuntime) {
+    meets(&rt, rt.alloc(), INDICES);
 }
 
 fn is_spent<R: Threads + Sync>(rt: &R, alloc: Global, words: &'static str, budget: u64) -> bool
@@ -308,24 +301,32 @@ fn is_spent<R: Threads + Sync>(rt: &R, alloc: Global, words: &'static str, budge
     found(rt, alloc, &row, budget, 2, &FreeGate) == Err(EvalFault::Spent)
 }
 
-#[test]
-fn the_greatest_loops_are_spent(rt: HostRuntime) -> Result<(), Fail> {
-    for words in [
-        "max gen",
-        "max gen v0 S",
-        "max v0 tab1",
-        "bot max gen tup2",
-        "18446744073709551615 1 tup2 one idx1",
-    ] {
-        for budget in [0, 1, 50_000_000] {
-            let spent = is_spent(&rt, rt.alloc(), words, budget);
-            assert!(rt; spent, "{words} in {budget}");
-        }
-    }
-    Ok(())
+// Within no turn, one, and the most.
+fn are_spent<R: Threads + Sync>(rt: &R, alloc: Global, words: &'static str) -> [bool; 3] {
+    [
+        is_spent(rt, alloc, words, 0),
+        is_spent(rt, alloc, words, 1),
+        is_spent(rt, alloc, words, 50_000_000),
+    ]
 }
 
-const PARTS_AND_TESTS: [Row; 21] = [
+const GREATEST: &[&str] = &[
+    "max gen",
+    "max gen v0 S",
+    "max v0 tab1",
+    "bot max gen tup2",
+    "18446744073709551615 1 tup2 one idx1",
+];
+
+#[test]
+fn the_greatest_loops_are_spent(rt: HostRuntime) {
+    for words in GREATEST {
+        let found = are_spent(&rt, rt.alloc(), words);
+        assert_same(&rt, (*words, found), (*words, [true; 3]));
+    }
+}
+
+const PARTS_AND_TESTS: &[Row] = &[
     // an array in a tuple, read in its range and past it
     ("3 v0 10 * tab1 7 tup2 v0 p1/2 2 sub1 let", "20", 3),
     ("3 v0 10 * tab1 7 tup2 v0 p1/2 3 sub1 let", "undefined", 3),
@@ -371,11 +372,11 @@ const PARTS_AND_TESTS: [Row; 21] = [
 ];
 
 #[test]
-fn parts_and_tests(rt: HostRuntime) -> Result<(), Fail> {
-    meets(&rt, rt.alloc(), &PARTS_AND_TESTS)
+fn parts_and_tests(rt: HostRuntime) {
+    meets(&rt, rt.alloc(), PARTS_AND_TESTS);
 }
 
-const BLOCKS: [Row; 34] = [
+const BLOCKS: &[Row] = &[
     // sums that end in a block, with one and behind one
     ("511 gen v0 v0 * 97 % S", "24343", 1022),
     ("512 gen v0 v0 * 97 % S", "24437", 1024),
@@ -467,6 +468,6 @@ const BLOCKS: [Row; 34] = [
 ];
 
 #[test]
-fn loops_over_blocks(rt: HostRuntime) -> Result<(), Fail> {
-    meets(&rt, rt.alloc(), &BLOCKS)
+fn loops_over_blocks(rt: HostRuntime) {
+    meets(&rt, rt.alloc(), BLOCKS);
 }

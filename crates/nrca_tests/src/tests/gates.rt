@@ -3,11 +3,12 @@
 ghost use Rattle.std.specs.Prelude.{◌≤◌};
 
 use crate::tests::evaluation::found;
+use crate::tests::same::assert_same;
 use crate::tests::words::{Outcome, Row, wanted};
 use aql_outside::Gate;
 use std::alloc::Global;
+use std::process::Abort;
 use std::sync::atomic::{AtomicBool, AtomicU64, Ordering};
-use std::test::Fail;
 use std::thread::Threads;
 
 /// Holds the pieces 0 and 1 until each has seen that the other came, or has looked often enough.
@@ -42,7 +43,7 @@ impl Gate for Meeting {
 }
 
 // The pairs here have truth values, so that they are not packed.
-const LOOPS: [Row; 4] = [
+const LOOPS: &[Row] = &[
     ("2 v0 tab1", "2 0 1 arr1.2", 2),
     ("2 gen v0 S", "1", 4),
     ("2 gen v0 1 + one U", "1 2 set2", 4),
@@ -67,12 +68,12 @@ fn pieces<R: Threads + Sync>(rt: &R, alloc: Global, row: &Row) -> (Outcome, bool
 }
 
 #[test]
-fn two_pieces_run_beside_each_other(rt: HostRuntime) -> Result<(), Fail> {
-    for row in &LOOPS {
+fn two_pieces_run_beside_each_other(rt: HostRuntime) {
+    for row in LOOPS {
         let found = pieces(&rt, rt.alloc(), row);
-        assert_eq!(rt; found, (wanted(row, 100), true, true), "{}", row.0);
+        let wanted = (wanted(row, 100), true, true);
+        assert_same(&rt, (row.0, found), (row.0, wanted));
     }
-    Ok(())
 }
 
 /// Counts how often each of the pieces 0 to 2 passes, and how often any other does.
@@ -117,7 +118,7 @@ fn passes<R: Threads + Sync>(rt: &R, alloc: Global, row: &Row, workers: u64) -> 
 }
 
 // A loop of each kind, of three members or more, and then ones with another loop in their body.
-const LOOPS_OF_THREE_PIECES: [Row; 7] = [
+const LOOPS_OF_THREE_PIECES: &[Row] = &[
     ("3 v0 tab1", "3 0 1 2 arr1.3", 3),
     ("5 gen v0 S", "10", 10),
     ("5 gen v0 one U", "0 1 2 3 4 set5", 10),
@@ -131,42 +132,43 @@ const LOOPS_OF_THREE_PIECES: [Row; 7] = [
     ("3 gen 2 gen v1 v0 + one U U", "0 1 2 3 set4", 18),
 ];
 
+// How often the pieces pass in each of the loops by so many workers.
+fn assert_passes<R: Threads + Sync + Abort>(
+    rt: &R,
+    alloc: Global,
+    rows: &[Row],
+    workers: u64,
+    counts: [u64; 4],
+)
+    requires { (1 ≤ workers) × (workers ≤ 64) }
+{
+    for row in rows {
+        let found = passes(rt, alloc, row, workers);
+        assert_same(rt, (row.0, found), (row.0, (wanted(row, 100), counts)));
+    }
+}
+
 // Each piece of a loop passes the gate once, and a loop in the body of another not at all. Refused here: pieces that pass twice, as
 // by `gate.pass(number); gate.pass(number);` in `map_pieces` of nrca_par.
 #[test]
-fn each_piece_passes_the_gate_once(rt: HostRuntime) -> Result<(), Fail> {
-    for row in &LOOPS_OF_THREE_PIECES {
-        let found = passes(&rt, rt.alloc(), row, 3);
-        assert_eq!(rt; found, (wanted(row, 100), [1, 1, 1, 0]), "{}", row.0);
-    }
-    for row in &LOOPS {
-        let found = passes(&rt, rt.alloc(), row, 3);
-        assert_eq!(rt; found, (wanted(row, 100), [1, 1, 0, 0]), "{}", row.0);
-    }
-    Ok(())
+fn each_piece_passes_the_gate_once(rt: HostRuntime) {
+    assert_passes(&rt, rt.alloc(), LOOPS_OF_THREE_PIECES, 3, [1, 1, 1, 0]);
+    assert_passes(&rt, rt.alloc(), LOOPS, 3, [1, 1, 0, 0]);
 }
 
 // Two pairs of numbers, which are packed, and none.
-const PACKED_PAIRS: Row = (
+const PACKED_PAIRS: &[Row] = &[(
     "0 5 tup2 one 1 7 tup2 one u idx1",
     "2 5 set1 7 set1 arr1.2",
     4,
-);
+)];
 
-const NO_PAIRS: Row = ("{} idx1", "0 arr1.0", 0);
+const NO_PAIRS: &[Row] = &[("{} idx1", "0 arr1.0", 0)];
 
 #[test]
-fn one_worker_has_one_piece(rt: HostRuntime) -> Result<(), Fail> {
-    for row in &LOOPS_OF_THREE_PIECES {
-        let found = passes(&rt, rt.alloc(), row, 1);
-        assert_eq!(rt; found, (wanted(row, 100), [1, 0, 0, 0]), "{}", row.0);
-    }
-    let row = &PACKED_PAIRS;
-    let found = passes(&rt, rt.alloc(), row, 1);
-    assert_eq!(rt; found, (wanted(row, 100), [1, 0, 0, 0]));
-    let found = passes(&rt, rt.alloc(), row, 2);
-    assert_eq!(rt; found, (wanted(row, 100), [1, 1, 0, 0]));
-    let found = passes(&rt, rt.alloc(), &NO_PAIRS, 1);
-    assert_eq!(rt; found, (wanted(&NO_PAIRS, 100), [0, 0, 0, 0]));
-    Ok(())
+fn one_worker_has_one_piece(rt: HostRuntime) {
+    assert_passes(&rt, rt.alloc(), LOOPS_OF_THREE_PIECES, 1, [1, 0, 0, 0]);
+    assert_passes(&rt, rt.alloc(), PACKED_PAIRS, 1, [1, 0, 0, 0]);
+    assert_passes(&rt, rt.alloc(), PACKED_PAIRS, 2, [1, 1, 0, 0]);
+    assert_passes(&rt, rt.alloc(), NO_PAIRS, 1, [0, 0, 0, 0]);
 }

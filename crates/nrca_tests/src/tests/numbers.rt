@@ -1,5 +1,6 @@
 //! The terms that are found as numbers, or as sets of at most one number of 64 bits, and those that are not.
 
+use crate::tests::same::assert_same;
 use crate::tests::words::{pushed, term, value};
 use aql_value::made::both;
 use aql_value::{Memory, Value};
@@ -7,7 +8,6 @@ use nrca_array::{Flat, Held};
 use nrca_loops::{Env, Globals};
 use nrca_quick::{AtMostOne, Small, few, quick};
 use std::alloc::Global;
-use std::test::Fail;
 
 // Position 1 is 7, position 2 is [[3; 5, 6, 7]], position 3 is (3, 2^128-1), position 4 is [[2, 1; 8, 9]], and there is no other.
 fn positions(alloc: Global) -> Result<Globals, Memory> {
@@ -42,7 +42,7 @@ fn found(alloc: Global, words: &str) -> Result<Option<u128>, Memory> {
 // The greatest number.
 const MOST: u128 = 340282366920938463463374607431768211455;
 
-const ROWS: [(&str, Option<u128>); 43] = [
+const ROWS: &[(&str, Option<u128>)] = &[
     ("7", Some(7)),
     ("18446744073709551615", Some(18446744073709551615)),
     ("max", Some(MOST)),
@@ -92,11 +92,11 @@ const ROWS: [(&str, Option<u128>); 43] = [
 ];
 
 #[test]
-fn numbers_are_found(rt: HostRuntime) -> Result<(), Fail> {
-    for row in &ROWS {
-        assert_eq!(rt; found(rt.alloc(), row.0), Ok(row.1), "{}", row.0);
+fn numbers_are_found(rt: HostRuntime) {
+    for row in ROWS {
+        let found = found(rt.alloc(), row.0);
+        assert_same(&rt, (row.0, found), (row.0, Ok(row.1)));
     }
-    Ok(())
 }
 
 // A member that is found: a number, or a pair of two.
@@ -119,7 +119,7 @@ fn members(alloc: Global, words: &str) -> Result<Option<Option<Member>>, Memory>
     })
 }
 
-const SETS: [(&str, Option<Option<Member>>); 21] = [
+const SETS: &[(&str, Option<Option<Member>>)] = &[
     ("{}", Some(None)),
     ("v0 one", Some(Some((4, None)))),
     (
@@ -151,11 +151,11 @@ const SETS: [(&str, Option<Option<Member>>); 21] = [
 ];
 
 #[test]
-fn sets_of_at_most_one_are_found(rt: HostRuntime) -> Result<(), Fail> {
-    for row in &SETS {
-        assert_eq!(rt; members(rt.alloc(), row.0), Ok(row.1), "{}", row.0);
+fn sets_of_at_most_one_are_found(rt: HostRuntime) {
+    for row in SETS {
+        let found = members(rt.alloc(), row.0);
+        assert_same(&rt, (row.0, found), (row.0, Ok(row.1)));
     }
-    Ok(())
 }
 
 // The number that is found of a term, where variable 0 is ([[3; 5, 6, 7]], (8, [[2, 1; 9, 2^128-1]])).
@@ -175,7 +175,7 @@ fn found_in_parts(alloc: Global, words: &str) -> Result<Option<u128>, Memory> {
     Ok(number)
 }
 
-const PARTS: [(&str, Option<u128>); 24] = [
+const PARTS: &[(&str, Option<u128>)] = &[
     ("v0 p2/2 p1/2", Some(8)),
     ("v0 p1/2 1 sub1", Some(6)),
     ("v0 p1/2 v0 p2/2 p1/2 6 - sub1", Some(7)),
@@ -209,9 +209,9 @@ const PARTS: [(&str, Option<u128>); 24] = [
 ];
 
 #[test]
-fn parts_are_found(rt: HostRuntime) -> Result<(), Fail> {
-    for row in &PARTS {
-        assert_eq!(rt; found_in_parts(rt.alloc(), row.0), Ok(row.1), "{}", row.0);
+fn parts_are_found(rt: HostRuntime) {
+    for row in PARTS {
+        let found = found_in_parts(rt.alloc(), row.0);
+        assert_same(&rt, (row.0, found), (row.0, Ok(row.1)));
     }
-    Ok(())
 }

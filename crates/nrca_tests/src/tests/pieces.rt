@@ -1,3 +1,4 @@
+use crate::tests::same::assert_same;
 use aql_outside::FreeGate;
 use aql_value::{Items, Memory, Value};
 use nrca_par::{EvalFault, canon_wide, map_pieces, piece};
@@ -15,7 +16,7 @@ fn numbers(alloc: Global, all: &[u128]) -> Result<Items, Memory> {
 // Ten members in three pieces: 0 to 2, 3 to 5 and 6 to 9.
 #[test]
 fn each_piece_answers_in_its_place(rt: HostRuntime) -> Result<(), Fail> {
-    assert_eq!(rt; piece(10, 3, 1), (3, 6));
+    assert_same(&rt, piece(10, 3, 1), (3, 6));
     let ends = |_from: u64, to: u64| -> Result<u64, EvalFault> { Ok(to) };
     let all = map_pieces(&rt, rt.alloc(), 10, 3, &FreeGate, ends)?;
     assert_eq!(rt; all.as_slice(), [3, 6, 10].as_slice());
@@ -42,6 +43,6 @@ fn a_set_holds_each_member_once(rt: HostRuntime) -> Result<(), Fail> {
     let set = canon_wide(&rt, alloc, numbers(alloc, &[3, 1, 3])?)?.into_items();
     let found = are(&set, &[1, 3]);
     drop(set);
-    assert!(rt; found);
+    assert_same(&rt, found, true);
     Ok(())
 }

@@ -1,5 +1,6 @@
 //! Closed terms with their values and turns, worked out one step after the other.
 
+use crate::tests::same::assert_same;
 use crate::tests::words::{Outcome, Row, outcome, term, value, wanted};
 use aql_value::Value;
 use aql_value::made::both;
@@ -8,7 +9,7 @@ use nrca_loops::{Env, Globals};
 use nrca_par::EvalFault;
 use nrca_term::Core;
 use std::alloc::Global;
-use std::test::Fail;
+use std::process::Abort;
 use std::thread::Threads;
 
 // Some runtime is named for its type.
@@ -37,7 +38,7 @@ fn found<R: Threads + Sync>(rt: &R, alloc: Global, row: &Row, budget: u64) -> Ou
     found
 }
 
-const ROWS: [Row; 8] = [
+const ROWS: &[Row] = &[
     ("1000 gen v0 S", "499500", 2000),
     ("2 3 v1 10 * v0 + tab2", "2 3 0 1 2 10 11 12 arr2.6", 6),
     ("3 10 v0 / 0 or tab1", "3 0 10 5 arr1.3", 3),
@@ -58,22 +59,25 @@ const ROWS: [Row; 8] = [
     ),
 ];
 
+fn assert_found<R: Threads + Sync + Abort>(rt: &R, alloc: Global, row: &Row, budget: u64) {
+    let found = found(rt, alloc, row, budget);
+    let wanted = wanted(row, budget);
+    assert_same(rt, (row.0, budget, found), (row.0, budget, wanted));
+}
+
 // The value and the turns within just those turns, and Spent at one turn less.
 #[test]
-fn terms_have_their_values_and_turns(rt: HostRuntime) -> Result<(), Fail> {
-    for row in &ROWS {
+fn terms_have_their_values_and_turns(rt: HostRuntime) {
+    for row in ROWS {
         let turns = u64::from(row.2);
-        for budget in turns.saturating_sub(1)..turns + 1 {
-            let found = found(&rt, rt.alloc(), row, budget);
-            assert_eq!(rt; found, wanted(row, budget), "{} in {budget}", row.0);
-        }
+        assert_found(&rt, rt.alloc(), row, turns.saturating_sub(1));
+        assert_found(&rt, rt.alloc(), row, turns);
     }
-    Ok(())
 }
 
 #[test]
-fn the_greatest_gen_is_spent(rt: HostRuntime) -> Result<(), Fail> {
-    let found = found(&rt, rt.alloc(), &("max gen", "undefined", 0), u64::MAX);
-    assert_eq!(rt; found, Err(EvalFault::Spent));
-    Ok(())
+fn the_greatest_gen_is_spent(rt: HostRuntime) {
+    let row = ("max gen", "undefined", 0);
+    let found = found(&rt, rt.alloc(), &row, u64::MAX);
+    assert_same(&rt, found, Err(EvalFault::Spent));
 }

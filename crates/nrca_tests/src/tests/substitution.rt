@@ -2,12 +2,12 @@ ghost use Rattle.std.specs.Prelude.{◌≡◌, IfOk};
 ghost use Rattle.nrca_term.specs.Nodes.{gen_term, sum_term};
 ghost use Rattle.nrca_term.specs.View.{term_of};
 
+use crate::tests::same::assert_same;
 use aql_value::Memory;
 use aql_value::made::{both, make_box, make_boxes};
 use nrca_subst::{same, same_shifted, shift, subst, uses};
 use nrca_term::Core;
 use std::alloc::Global;
-use std::test::Fail;
 
 fn numbers_below(alloc: Global, number: Core) -> Result<Core, Memory>
     ensures { IfOk result (λ t. term_of t ≡ gen_term (term_of number)) }
@@ -70,16 +70,14 @@ fn uses_in(term: Result<Core, Memory>, at: u64) -> Result<u64, Memory> {
 }
 
 #[test]
-fn the_term_put_in_is_shifted(rt: HostRuntime) -> Result<(), Fail> {
+fn the_term_put_in_is_shifted(rt: HostRuntime) {
     let alloc = rt.alloc();
-    assert!(rt; is_same(substituted(alloc), put_in(alloc))?);
-    assert_eq!(rt; uses_in(put_in(alloc), 0)?, 2);
-    Ok(())
+    assert_same(&rt, is_same(substituted(alloc), put_in(alloc)), Ok(true));
+    assert_same(&rt, uses_in(put_in(alloc), 0), Ok(2));
 }
 
 #[test]
-fn bound_variables_are_not_shifted(rt: HostRuntime) -> Result<(), Fail> {
-    let alloc = rt.alloc();
-    assert!(rt; is_same_shifted(shifted(alloc), 0, moved(alloc))?);
-    Ok(())
+fn bound_variables_are_not_shifted(rt: HostRuntime) {
+    let found = is_same_shifted(shifted(rt.alloc()), 0, moved(rt.alloc()));
+    assert_same(&rt, found, Ok(true));
 }

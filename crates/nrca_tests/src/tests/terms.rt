@@ -1,8 +1,8 @@
+use crate::tests::same::assert_same;
 use crate::tests::words;
 use aql_value::Memory;
 use nrca_term::{Core, Path, place, weight};
 use std::alloc::Global;
-use std::test::Fail;
 
 // The part at the end of these steps: none where there is no such part, and else its variable, if it is one.
 fn variable_at(alloc: Global, term: &Core, steps: &[u32]) -> Result<Option<Option<u64>>, Memory> {
@@ -49,23 +49,20 @@ fn variable_in_copy(
 
 // [[ (i, "a") | i < 2, j < 3 ]] at 0 and 1
 #[test]
-fn weights_places_and_copies(rt: HostRuntime) -> Result<(), Fail> {
+fn weights_places_and_copies(rt: HostRuntime) {
     let alloc = rt.alloc();
     let words = "2 3 v1 'a tup2 tab2 0 1 sub2";
     // a tabulation of rank 2 weighs 18; two bounds, a tuple of two, the subscript and two indices
-    assert_eq!(rt; weight_of(alloc, words)?, 26);
-    assert_eq!(rt; weight_of_copy(alloc, words)?, 26);
+    assert_same(&rt, weight_of(alloc, words), Ok(26));
+    assert_same(&rt, weight_of_copy(alloc, words), Ok(26));
     // part 0 of the subscript, its body (part 2), and part 0 of that
-    assert_eq!(rt; variable_in_copy(alloc, words, &[0, 2, 0])?, Some(Some(1)));
-    assert_eq!(rt; variable_in_copy(alloc, words, &[0, 3])?, None);
-    Ok(())
+    let inner = variable_in_copy(alloc, words, &[0, 2, 0]);
+    assert_same(&rt, inner, Ok(Some(Some(1))));
+    assert_same(&rt, variable_in_copy(alloc, words, &[0, 3]), Ok(None));
 }
 
 #[test]
-fn the_dimensions_of_a_rank_weigh_more(rt: HostRuntime) -> Result<(), Fail> {
-    let alloc = rt.alloc();
-    for (words, weighed) in [("v0 dim8", 19), ("1 v0 dim8 +", 21)] {
-        assert_eq!(rt; weight_of(alloc, words)?, weighed);
-    }
-    Ok(())
+fn the_dimensions_of_a_rank_weigh_more(rt: HostRuntime) {
+    assert_same(&rt, weight_of(rt.alloc(), "v0 dim8"), Ok(19));
+    assert_same(&rt, weight_of(rt.alloc(), "1 v0 dim8 +"), Ok(21));
 }

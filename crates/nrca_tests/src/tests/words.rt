@@ -55,7 +55,7 @@ enum OfList {
     Literal(usize, usize),
 }
 
-const FORMS: [(&str, Form); 46] = [
+const FORMS: &[(&str, Form)] = &[
     ("v0", Form::Alone(Alone::Var(0))),
     ("v1", Form::Alone(Alone::Var(1))),
     ("v2", Form::Alone(Alone::Var(2))),
@@ -105,7 +105,7 @@ const FORMS: [(&str, Form); 46] = [
 ];
 
 fn form_of(word: &str) -> Option<Form> {
-    for (name, form) in &FORMS {
+    for (name, form) in FORMS {
         if *name == word {
             return Some(*form);
         }
@@ -251,7 +251,7 @@ enum Compound {
     Array(usize, usize),
 }
 
-const COMPOUNDS: [(&str, Compound); 14] = [
+const COMPOUNDS: &[(&str, Compound)] = &[
     ("tup2", Compound::Tuple(2)),
     ("set0", Compound::Set(0)),
     ("set1", Compound::Set(1)),
@@ -269,7 +269,7 @@ const COMPOUNDS: [(&str, Compound); 14] = [
 ];
 
 fn compound_of(word: &str) -> Option<Compound> {
-    for (name, compound) in &COMPOUNDS {
+    for (name, compound) in COMPOUNDS {
         if *name == word {
             return Some(*compound);
         }
