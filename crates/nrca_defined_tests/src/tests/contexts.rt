@@ -1,6 +1,6 @@
 //! The facts of places, and contexts that are entered and left.
 
-use crate::tests::words;
+use crate::tests::{assert_right, words};
 use aql_value::Memory;
 use nrca_ranges::{Ctx, Fact, GlobalShapes, Known, is_small};
 use nrca_subst::same;
@@ -9,36 +9,37 @@ use std::alloc::Global;
 use std::test::Fail;
 
 // A term, the steps to a part of it, and the facts of the part's place: each a kind, its number of variables and its words.
-const PLACES: &str = "\
-5 v0 tab1|0|
-5 v0 tab1|1|D 1 v0 5 <
-5 v0 v0 tup2 tab1|1 1|D 1 v0 5 <
-5 6 v0 tab2|2|D 2 v1 5 <;D 2 v0 6 <
-5 gen v0 one U|0|
-5 gen v0 one U|1|D 1 v0 5 <
-5 gen v0 one U|1 0|D 1 v0 5 <
-{} v0 one U|1|
-5 gen v0 S|1|D 1 v0 5 <
-g1 1 < 2 3 if|0|
-g1 1 < 2 3 if|1|T 0 g1 1 <
-g1 1 < 2 3 if|2|F 0 g1 1 <
-T 2 3 if|1|
-5 v0 1 < 2 v0 if tab1|1 2|D 1 v0 5 <;F 1 v0 1 <
-5 v0 1 < g1 v1 let v0 if tab1|1 1 1|D 1 v0 5 <;T 1 v0 1 <
-5 v0 1 < g1 v1 let v0 if tab1|1 1 0|D 1 v0 5 <;T 1 v0 1 <
-5 v0 1 < v0 gen v0 one U {} if tab1|1 1 1|D 1 v0 5 <;T 1 v0 1 <;D 2 v0 v1 <
-5 v0 gen v0 gen v0 S S tab1|1 1 1|D 1 v0 5 <;D 2 v0 v1 <;D 3 v0 v1 <
-5 6 v1 v0 < v0 v1 if tab2|2 1|D 2 v1 5 <;D 2 v0 6 <;T 2 v1 v0 <
-5 6 v1 v0 < v0 v1 if tab2|2 2|D 2 v1 5 <;D 2 v0 6 <;F 2 v1 v0 <
-5 6 v0 gen v0 v2 < v0 1 if S tab2|2 1 1|D 2 v1 5 <;D 2 v0 6 <;D 3 v0 v1 <;T 3 v0 v2 <
-5 6 v0 gen v0 v2 < v0 1 if S tab2|2 1 2|D 2 v1 5 <;D 2 v0 6 <;D 3 v0 v1 <;F 3 v0 v2 <
-5 6 v0 gen v0 v2 < v0 1 if S tab2|2 1 0|D 2 v1 5 <;D 2 v0 6 <;D 3 v0 v1 <
-g1 2 < 3 gen v0 one U {} if|1 1|T 0 g1 2 <;D 1 v0 3 <
-g1 2 < 3 gen v0 one U {} if|1 0|T 0 g1 2 <
-5 v0 v0 tab1 tab1|1 0|D 1 v0 5 <
-5 v0 v0 tab1 tab1|1 1|D 1 v0 5 <;D 2 v0 v1 <
-g1 2 let|1|
-g1 2 or|1|";
+const PLACES: [&str; 29] = [
+    "5 v0 tab1|0|",
+    "5 v0 tab1|1|D 1 v0 5 <",
+    "5 v0 v0 tup2 tab1|1 1|D 1 v0 5 <",
+    "5 6 v0 tab2|2|D 2 v1 5 <;D 2 v0 6 <",
+    "5 gen v0 one U|0|",
+    "5 gen v0 one U|1|D 1 v0 5 <",
+    "5 gen v0 one U|1 0|D 1 v0 5 <",
+    "{} v0 one U|1|",
+    "5 gen v0 S|1|D 1 v0 5 <",
+    "g1 1 < 2 3 if|0|",
+    "g1 1 < 2 3 if|1|T 0 g1 1 <",
+    "g1 1 < 2 3 if|2|F 0 g1 1 <",
+    "T 2 3 if|1|",
+    "5 v0 1 < 2 v0 if tab1|1 2|D 1 v0 5 <;F 1 v0 1 <",
+    "5 v0 1 < g1 v1 let v0 if tab1|1 1 1|D 1 v0 5 <;T 1 v0 1 <",
+    "5 v0 1 < g1 v1 let v0 if tab1|1 1 0|D 1 v0 5 <;T 1 v0 1 <",
+    "5 v0 1 < v0 gen v0 one U {} if tab1|1 1 1|D 1 v0 5 <;T 1 v0 1 <;D 2 v0 v1 <",
+    "5 v0 gen v0 gen v0 S S tab1|1 1 1|D 1 v0 5 <;D 2 v0 v1 <;D 3 v0 v1 <",
+    "5 6 v1 v0 < v0 v1 if tab2|2 1|D 2 v1 5 <;D 2 v0 6 <;T 2 v1 v0 <",
+    "5 6 v1 v0 < v0 v1 if tab2|2 2|D 2 v1 5 <;D 2 v0 6 <;F 2 v1 v0 <",
+    "5 6 v0 gen v0 v2 < v0 1 if S tab2|2 1 1|D 2 v1 5 <;D 2 v0 6 <;D 3 v0 v1 <;T 3 v0 v2 <",
+    "5 6 v0 gen v0 v2 < v0 1 if S tab2|2 1 2|D 2 v1 5 <;D 2 v0 6 <;D 3 v0 v1 <;F 3 v0 v2 <",
+    "5 6 v0 gen v0 v2 < v0 1 if S tab2|2 1 0|D 2 v1 5 <;D 2 v0 6 <;D 3 v0 v1 <",
+    "g1 2 < 3 gen v0 one U {} if|1 1|T 0 g1 2 <;D 1 v0 3 <",
+    "g1 2 < 3 gen v0 one U {} if|1 0|T 0 g1 2 <",
+    "5 v0 v0 tab1 tab1|1 0|D 1 v0 5 <",
+    "5 v0 v0 tab1 tab1|1 1|D 1 v0 5 <;D 2 v0 v1 <",
+    "g1 2 let|1|",
+    "g1 2 or|1|",
+];
 
 fn known_of(word: &str) -> Option<Known> {
     match word {
@@ -50,23 +51,36 @@ fn known_of(word: &str) -> Option<Known> {
 }
 
 // Enters the part, where there is one.
-fn entered(alloc: Global, ctx: &mut Ctx, term: &Core, part: u64) -> Result<bool, Memory> {
+fn enter<'a>(
+    alloc: Global,
+    ctx: &mut Ctx,
+    term: &'a Core,
+    part: u64,
+) -> Result<Option<&'a Core>, Memory> {
     if part < term.parts() && is_small(term, ctx.depth()) {
         let _mark = ctx.push(alloc, term, part)?;
-        return Ok(true);
+        return Ok(term.part(part));
     }
-    Ok(false)
+    Ok(None)
+}
+
+fn go_step<'a>(
+    alloc: Global,
+    ctx: &mut Ctx,
+    term: &'a Core,
+    step: &str,
+) -> Result<Option<&'a Core>, Memory> {
+    match step.parse::<u64>() {
+        Ok(part) => enter(alloc, ctx, term, part),
+        Err(_) => Err(Memory),
+    }
 }
 
 // Goes down the steps; false where one leaves the term.
-fn gone(alloc: Global, ctx: &mut Ctx, term: &Core, steps: &str) -> Result<bool, Memory> {
+fn go(alloc: Global, ctx: &mut Ctx, term: &Core, steps: &str) -> Result<bool, Memory> {
     let mut at = term;
     for step in steps.split(' ') {
-        let part = step.parse::<u64>().map_err(|_| Memory)?;
-        if !entered(alloc, ctx, at, part)? {
-            return Ok(false);
-        }
-        match at.part(part) {
+        match go_step(alloc, ctx, at, step)? {
             Some(inner) => at = inner,
             None => return Ok(false),
         }
@@ -74,19 +88,36 @@ fn gone(alloc: Global, ctx: &mut Ctx, term: &Core, steps: &str) -> Result<bool, 
     Ok(true)
 }
 
+fn is_equal(comparison: &Core, wanted: Result<Core, Memory>) -> Result<bool, Memory> {
+    let wanted = wanted?;
+    let equal = same(comparison, &wanted);
+    drop(wanted);
+    Ok(equal)
+}
+
+// Whether the fact is the one of that number of variables and words.
+fn is_comparison(alloc: Global, fact: &Fact, wanted: &str) -> Result<bool, Memory> {
+    match wanted.split_once(' ') {
+        Some((depth, comparison)) if depth.parse() == Ok(fact.depth) => {
+            is_equal(&fact.comparison, words::term(alloc, comparison))
+        }
+        _ => Ok(false),
+    }
+}
+
 // Whether the fact is the one of that kind, number of variables and words.
 fn is_fact(alloc: Global, fact: &Fact, wanted: &str) -> Result<bool, Memory> {
     match wanted.split_once(' ') {
-        Some((kind, rest)) => match rest.split_once(' ') {
-            Some((depth, comparison)) => {
-                let alike = known_of(kind) == Some(fact.known) && depth.parse() == Ok(fact.depth);
-                let term = words::term(alloc, comparison)?;
-                let equal = same(&fact.comparison, &term);
-                drop(term);
-                Ok(alike && equal)
-            }
-            None => Ok(false),
-        },
+        Some((kind, rest)) if known_of(kind) == Some(fact.known) => is_comparison(
+            alloc, fact, rest,
+        ),
+        _ => Ok(false),
+    }
+}
+
+fn has_fact(alloc: Global, facts: &[Fact], at: usize, wanted: &str) -> Result<bool, Memory> {
+    match facts.get(at) {
+        Some(fact) => is_fact(alloc, fact, wanted),
         None => Ok(false),
     }
 }
@@ -98,50 +129,62 @@ fn are_facts(alloc: Global, facts: &[Fact], wanted: &str) -> Result<bool, Memory
         return Ok(facts.is_empty());
     }
     for one in wanted.split(';') {
-        if count >= facts.len() || !is_fact(alloc, &facts[count], one)? {
+        if !has_fact(alloc, facts, count, one)? {
             return Ok(false);
         }
-        count += 1;
+        count = count.saturating_add(1);
     }
     Ok(count == facts.len())
+}
+
+// The same behind the steps to a place, where they led there.
+fn are_facts_there(
+    alloc: Global,
+    gone: Result<bool, Memory>,
+    facts: &[Fact],
+    wanted: &str,
+) -> Result<bool, Memory> {
+    match gone {
+        Ok(true) => are_facts(alloc, facts, wanted),
+        other => other,
+    }
 }
 
 // Whether the place has the facts of the row.
 fn has_facts(alloc: Global, term: &Core, steps: &str, wanted: &str) -> Result<bool, Memory> {
     let mut ctx = Ctx::new(alloc, GlobalShapes::new(alloc));
-    let found = match gone(alloc, &mut ctx, term, steps) {
-        Ok(true) => are_facts(alloc, ctx.facts(), wanted),
-        Ok(false) => Ok(false),
-        Err(error) => Err(error),
-    };
+    let gone = go(alloc, &mut ctx, term, steps);
+    let found = are_facts_there(alloc, gone, ctx.facts(), wanted);
     drop(ctx);
+    found
+}
+
+fn has_place(alloc: Global, term: &Core, place: &str) -> Result<bool, Memory> {
+    match place.split_once('|') {
+        Some((steps, wanted)) => has_facts(alloc, term, steps, wanted),
+        None => Ok(false),
+    }
+}
+
+fn has_place_of(alloc: Global, term: Result<Core, Memory>, place: &str) -> Result<bool, Memory> {
+    let term = term?;
+    let found = has_place(alloc, &term, place);
+    drop(term);
     found
 }
 
 fn is_right(alloc: Global, row: &str) -> Result<bool, Memory> {
     match row.split_once('|') {
-        Some((words, rest)) => match rest.split_once('|') {
-            Some((steps, wanted)) => {
-                let term = words::term(alloc, words)?;
-                let found = has_facts(alloc, &term, steps, wanted);
-                drop(term);
-                found
-            }
-            None => Ok(false),
-        },
+        Some((words, place)) => has_place_of(alloc, words::term(alloc, words), place),
         None => Ok(false),
     }
 }
 
 #[test]
 fn facts_of_places(rt: HostRuntime) -> Result<(), Fail> {
-    let alloc = rt.alloc();
-    let mut count = 0u64;
-    for row in PLACES.split('\n') {
-        assert!(rt; is_right(alloc, row)?, "{row}");
-        count = count.saturating_add(1);
+    for row in &PLACES {
+        assert_right(&rt, is_right(rt.alloc(), row), row)?;
     }
-    assert_eq!(rt; count, 29);
     Ok(())
 }
 
@@ -157,8 +200,11 @@ fn counted(alloc: Global, ctx: &mut Ctx, term: &Core) -> Result<(usize, u64, usi
     Err(Memory)
 }
 
-fn counted_of(alloc: Global, words: &str) -> Result<(usize, u64, usize, u64), Memory> {
-    let term = words::term(alloc, words)?;
+fn counted_of(
+    alloc: Global,
+    term: Result<Core, Memory>,
+) -> Result<(usize, u64, usize, u64), Memory> {
+    let term = term?;
     let mut ctx = Ctx::new(alloc, GlobalShapes::new(alloc));
     let found = counted(alloc, &mut ctx, &term);
     drop(term);
@@ -166,15 +212,22 @@ fn counted_of(alloc: Global, words: &str) -> Result<(usize, u64, usize, u64), Me
     found
 }
 
+// A term, and how many facts and variables there are inside its second part.
+const PARTS: [(&str, usize, u64); 3] = [
+    ("5 v0 tab1", 1, 1),
+    ("g1 1 < 2 3 if", 1, 0),
+    ("g1 v0 let", 0, 1),
+];
+
+fn is_left(alloc: Global, words: &str, facts: usize, depth: u64) -> Result<bool, Memory> {
+    let found = counted_of(alloc, words::term(alloc, words))?;
+    Ok(found == (facts, depth, 0, 0))
+}
+
 #[test]
 fn a_part_is_left_as_it_was_entered(rt: HostRuntime) -> Result<(), Fail> {
-    let alloc = rt.alloc();
-    for (words, facts, depth) in [
-        ("5 v0 tab1", 1, 1),
-        ("g1 1 < 2 3 if", 1, 0),
-        ("g1 v0 let", 0, 1),
-    ] {
-        assert_eq!(rt; counted_of(alloc, words)?, (facts, depth, 0, 0), "{words}");
+    for (words, facts, depth) in &PARTS {
+        assert_right(&rt, is_left(rt.alloc(), words, *facts, *depth), words)?;
     }
     Ok(())
 }

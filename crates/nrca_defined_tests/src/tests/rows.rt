@@ -1,8 +1,9 @@
 //! What is answered of bodies of a tabulation of one index below a number.
 
-use crate::tests::words;
+use crate::tests::{assert_right, words};
 use aql_value::Memory;
-use nrca_defined::{defined, firmness};
+use aql_value::made::{both, make_box, make_list};
+use nrca_defined::{FirmSpan, defined, firmness};
 use nrca_ranges::{Ctx, GlobalShapes, Interval, is_small, number_of};
 use nrca_term::{Core, Terms};
 use std::alloc::Global;
@@ -10,140 +11,137 @@ use std::test::Fail;
 
 // The tabulation of the body below the number.
 fn below(alloc: Global, bound: u128, body: Result<Core, Memory>) -> Result<Core, Memory> {
-    let body = Box::new(alloc, body?)?;
-    let mut bounds = Vec::new(alloc);
-    bounds.push(Core::Nat(bound))?;
+    let (bounds, body) = both(
+        make_list(alloc, Ok(Core::Nat(bound))),
+        make_box(alloc, body),
+    )?;
     Ok(Core::Tab {
         bounds: Terms(bounds),
         body,
     })
 }
 
-// The context of the body of a tabulation of rank 1 without positions.
-fn inside(alloc: Global, term: &Core) -> Result<Option<Ctx>, Memory> {
-    let ctx = Ctx::new(alloc, GlobalShapes::new(alloc));
-    if term.parts() > 1 && is_small(term, 0) {
-        let inner = ctx.enter(alloc, term, 1);
-        drop(ctx);
-        return Ok(Some(inner?));
+// What is answered of a body: whether it is sure to have a value, its interval, and whether it is firm and has a span.
+#[derive(Clone, Copy)]
+struct Told {
+    sure: bool,
+    number: Interval,
+    spanned: bool,
+}
+
+fn is_spanned(firmness: Result<FirmSpan, Memory>) -> Result<bool, Memory> {
+    let told = firmness?;
+    Ok(told.firm && told.span.is_some())
+}
+
+fn ask(alloc: Global, ctx: &Ctx, body: &Core) -> Result<Told, Memory> {
+    if !is_small(body, ctx.depth()) {
+        return Err(Memory);
     }
-    drop(ctx);
-    Ok(None)
+    let sure = defined(alloc, body, ctx)?;
+    let number = number_of(alloc, body, ctx)?;
+    let spanned = is_spanned(firmness(alloc, body, ctx))?;
+    Ok(Told {
+        sure,
+        number,
+        spanned,
+    })
 }
 
-// Whether the body is sure to have a value, where it is small.
-fn sure(alloc: Global, body: &Core, ctx: &Ctx) -> Result<Option<bool>, Memory> {
-    if is_small(body, ctx.depth()) {
-        return Ok(Some(defined(alloc, body, ctx)?));
+// The same of the body of a tabulation, whose context is entered.
+fn told_inside(alloc: Global, ctx: &mut Ctx, term: &Core) -> Result<Told, Memory> {
+    if term.parts() > 1 && is_small(term, ctx.depth()) {
+        let _mark = ctx.push(alloc, term, 1)?;
+        return told_of_part(alloc, ctx, term.part(1));
     }
-    Ok(None)
+    Err(Memory)
 }
 
-fn defined_inside(alloc: Global, term: &Core) -> Result<Option<bool>, Memory> {
-    let inner = inside(alloc, term)?;
-    let found = match (&inner, term.part(1)) {
-        (Some(ctx), Some(body)) => sure(alloc, body, ctx),
-        _ => Ok(None),
-    };
-    drop(inner);
-    found
+fn told_of_part(alloc: Global, ctx: &Ctx, part: Option<&Core>) -> Result<Told, Memory> {
+    match part {
+        Some(body) => ask(alloc, ctx, body),
+        None => Err(Memory),
+    }
 }
 
-fn defined_below(alloc: Global, bound: u128, words: &str) -> Result<Option<bool>, Memory> {
-    let term = below(alloc, bound, words::term(alloc, words))?;
-    let found = defined_inside(alloc, &term);
+fn told_of(alloc: Global, term: Result<Core, Memory>) -> Result<Told, Memory> {
+    let term = term?;
+    let mut ctx = Ctx::new(alloc, GlobalShapes::new(alloc));
+    let found = told_inside(alloc, &mut ctx, &term);
     drop(term);
+    drop(ctx);
     found
 }
 
-// `i+i`, `10/i`, `i/7`, `i*i`, and finer: a quotient by a number from 1 on, inside of a tuple and of a default, a
-// sum over a generated set, and cells of arrays of rank 1 and 2.
+fn told_below(alloc: Global, bound: u128, words: &str) -> Result<Told, Memory> {
+    told_of(alloc, below(alloc, bound, words::term(alloc, words)))
+}
+
+// 2 to the power of 64.
+const PAST: u128 = 18446744073709551616;
+
+// A number, a body below it, and whether the body is sure to have a value. `i+i`, `10/i`, `i/7`, `i*i`, and finer: a
+// quotient by a number from 1 on, inside of a tuple and of a default, a sum over a generated set, and cells of arrays of
+// rank 1 and 2.
+const SURE: [(u128, &str, bool); 17] = [
+    (1000, "v0 v0 +", true),
+    (3, "10 v0 /", false),
+    (3, "v0 7 /", true),
+    (PAST, "v0 v0 *", true),
+    (PAST + 1, "v0 v0 *", false),
+    (3, "10 v0 1 + /", true),
+    (3, "10 v0 1 + / v0 tup2", true),
+    (3, "10 v0 / v0 tup2", false),
+    (3, "10 v0 / v0 or", true),
+    (3, "v0 gen 7 S", true),
+    (3, "v0 gen 7 v0 / S", false),
+    (3, "3 v0 tab1 v0 sub1", true),
+    (4, "3 v0 tab1 v0 sub1", false),
+    (3, "3 4 v0 tab2 v0 v0 sub2", true),
+    (3, "3 2 v0 tab2 v0 v0 sub2", false),
+    (3, "v0 one get", true),
+    (3, "v0 gen get", false),
+];
+
+fn is_sure(told: Result<Told, Memory>, wanted: bool) -> Result<bool, Memory> {
+    let told = told?;
+    Ok(told.sure == wanted)
+}
+
 #[test]
 fn rows_below_a_number(rt: HostRuntime) -> Result<(), Fail> {
-    let alloc = rt.alloc();
-    let past: u128 = 18446744073709551616;
-    let rows = [
-        (1000, "v0 v0 +", true),
-        (3, "10 v0 /", false),
-        (3, "v0 7 /", true),
-        (past, "v0 v0 *", true),
-        (past + 1, "v0 v0 *", false),
-        (3, "10 v0 1 + /", true),
-        (3, "10 v0 1 + / v0 tup2", true),
-        (3, "10 v0 / v0 tup2", false),
-        (3, "10 v0 / v0 or", true),
-        (3, "v0 gen 7 S", true),
-        (3, "v0 gen 7 v0 / S", false),
-        (3, "3 v0 tab1 v0 sub1", true),
-        (4, "3 v0 tab1 v0 sub1", false),
-        (3, "3 4 v0 tab2 v0 v0 sub2", true),
-        (3, "3 2 v0 tab2 v0 v0 sub2", false),
-        (3, "v0 one get", true),
-        (3, "v0 gen get", false),
-    ];
-    for (bound, words, wanted) in &rows {
-        assert_eq!(rt;
-            defined_below(alloc, *bound, words)?,
-            Some(*wanted),
-            "{words}"
-        );
+    for (bound, words, wanted) in &SURE {
+        let told = told_below(rt.alloc(), *bound, words);
+        assert_right(&rt, is_sure(told, *wanted), words)?;
     }
     Ok(())
 }
 
-// The interval of the body, and whether it is firm, and has a span.
-fn found_of(alloc: Global, body: &Core, ctx: &Ctx) -> Result<Option<(Interval, bool)>, Memory> {
-    let number = number_of(alloc, body, ctx)?;
-    if is_small(body, ctx.depth()) {
-        let told = firmness(alloc, body, ctx)?;
-        return Ok(Some((number, told.firm && told.span.is_some())));
-    }
-    Ok(None)
+// A number, a body below it, the ends of the body's interval, and whether it is firm and has a span. `i+i` below 1000 is
+// from 0 to 1998, and `10/(i+1)` from 0 to 10, though it has no span; what a let binds is not known.
+#[derive(Clone, Copy)]
+struct Row<'a>(u128, &'a str, u128, u128, bool);
+
+const INTERVALS: [Row<'static>; 7] = [
+    Row(1000, "v0 v0 +", 0, 1998, true),
+    Row(3, "10 v0 1 + /", 0, 10, false),
+    Row(3, "20 v0 -", 0, 20, true),
+    Row(3, "g1 v0 1 + %", 0, 2, false),
+    Row(3, "v0 v0 let", 0, u128::MAX, false),
+    Row(3, "3 v0 5 + tab1 1 sub1", 5, 7, false),
+    Row(3, "v0 1 < 5 9 if", 5, 9, false),
+];
+
+fn is_interval(told: Result<Told, Memory>, row: &Row<'_>) -> Result<bool, Memory> {
+    let told = told?;
+    Ok(told.number.low == row.2 && told.number.high == row.3 && told.spanned == row.4)
 }
 
-fn found_inside(alloc: Global, term: &Core) -> Result<Option<(Interval, bool)>, Memory> {
-    let inner = inside(alloc, term)?;
-    let found = match (&inner, term.part(1)) {
-        (Some(ctx), Some(body)) => found_of(alloc, body, ctx),
-        _ => Ok(None),
-    };
-    drop(inner);
-    found
-}
-
-fn numbers_below(
-    alloc: Global,
-    bound: u128,
-    words: &str,
-) -> Result<Option<(Interval, bool)>, Memory> {
-    let term = below(alloc, bound, words::term(alloc, words))?;
-    let found = found_inside(alloc, &term);
-    drop(term);
-    found
-}
-
-// `i+i` below 1000 is from 0 to 1998, and `10/(i+1)` from 0 to 10, though it has no span; what a let binds is not known.
 #[test]
 fn intervals_below_a_number(rt: HostRuntime) -> Result<(), Fail> {
-    let alloc = rt.alloc();
-    let rows = [
-        (1000, "v0 v0 +", 0, 1998, true),
-        (3, "10 v0 1 + /", 0, 10, false),
-        (3, "20 v0 -", 0, 20, true),
-        (3, "g1 v0 1 + %", 0, 2, false),
-        (3, "v0 v0 let", 0, u128::MAX, false),
-        (3, "3 v0 5 + tab1 1 sub1", 5, 7, false),
-        (3, "v0 1 < 5 9 if", 5, 9, false),
-    ];
-    for (bound, words, low, high, spanned) in &rows {
-        match numbers_below(alloc, *bound, words)? {
-            Some((number, firm)) => {
-                assert_eq!(rt; number.low, *low, "{words}");
-                assert_eq!(rt; number.high, *high, "{words}");
-                assert_eq!(rt; firm, *spanned, "{words}");
-            }
-            None => assert!(rt; false, "{words}"),
-        }
+    for row in &INTERVALS {
+        let told = told_below(rt.alloc(), row.0, row.1);
+        assert_right(&rt, is_interval(told, row), row.1)?;
     }
     Ok(())
 }

@@ -1,6 +1,7 @@
 //! Shapes of values, and of terms over positions.
 
-use crate::tests::words;
+use crate::tests::{assert_right, words};
+use aql_value::made::{both, make_list};
 use aql_value::{Cells, Dims, Items, Memory, Value, canon};
 use nrca_ranges::{
     Ctx, GlobalShapes, Interval, Shape, count_of, number_of, shape_of, shape_of_value,
@@ -22,29 +23,44 @@ fn set(alloc: Global, numbers: &[u128]) -> Result<Value, Memory> {
 }
 
 fn array(alloc: Global, size: u128, numbers: &[u128]) -> Result<Value, Memory> {
-    let mut dims = Vec::new(alloc);
-    dims.push(size)?;
-    let cells = Cells::new(Dims { dims }, items(alloc, numbers)?).ok_or(Memory)?;
+    let (dims, cells) = both(make_list(alloc, Ok(size)), items(alloc, numbers))?;
+    let cells = Cells::new(Dims { dims }, cells).ok_or(Memory)?;
     Ok(Value::Grid(cells))
 }
 
-// The shape of the value as that of the only position.
-fn positions(alloc: Global, value: Result<Value, Memory>) -> Result<GlobalShapes, Memory> {
+// The value of the only position: a number, a set of numbers, or the array of rank 1 of that size and these cells.
+#[derive(Clone, Copy)]
+enum Position<'a> {
+    Number(u128),
+    Set(&'a [u128]),
+    Array(u128, &'a [u128]),
+}
+
+fn value(alloc: Global, position: Position<'_>) -> Result<Value, Memory> {
+    match position {
+        Position::Number(n) => Ok(Value::Nat(n)),
+        Position::Set(numbers) => set(alloc, numbers),
+        Position::Array(size, cells) => array(alloc, size, cells),
+    }
+}
+
+fn shape(alloc: Global, value: Result<Value, Memory>) -> Result<Shape, Memory> {
     let value = value?;
     let shape = shape_of_value(alloc, &value);
     drop(value);
+    shape
+}
+
+// The shape as that of the only position.
+fn positions(alloc: Global, shape: Result<Shape, Memory>) -> Result<GlobalShapes, Memory> {
     let shape = shape?;
     let mut globals = GlobalShapes::new(alloc);
     globals.push(Some(shape))?;
     Ok(globals)
 }
 
-fn number_over(
-    alloc: Global,
-    term: &Core,
-    globals: Result<GlobalShapes, Memory>,
-) -> Result<Interval, Memory> {
-    let ctx = Ctx::new(alloc, globals?);
+fn number_over(alloc: Global, term: &Core, globals: GlobalShapes) -> Result<Interval, Memory> {
+    let ctx = Ctx::new(alloc, globals);
     let found = number_of(alloc, term, &ctx);
     drop(ctx);
     found
@@ -52,56 +68,66 @@ fn number_over(
 
 fn number(
     alloc: Global,
-    words: &str,
-    value: Result<Value, Memory>,
-) -> Result<(u128, u128), Memory> {
-    let globals = positions(alloc, value);
-    let term = words::term(alloc, words)?;
+    term: Result<Core, Memory>,
+    globals: Result<GlobalShapes, Memory>,
+) -> Result<Interval, Memory> {
+    let (term, globals) = both(term, globals)?;
     let found = number_over(alloc, &term, globals);
     drop(term);
-    let found = found?;
-    Ok((found.low, found.high))
+    found
 }
 
-// A number, the sum over a set of 1s, and the dimension of an array, each the only position.
+// A term, the value of the only position, and the ends of the term's interval: over a number, the sum over a set of 1s, and
+// the dimension of an array.
+#[derive(Clone, Copy)]
+struct Row<'a>(&'a str, Position<'a>, u128, u128);
+
+const NUMBERS: [Row<'static>; 6] = [
+    Row("g1 1 +", Position::Number(41), 42, 42),
+    Row("g1 1 S", Position::Set(&[3, 5, 5]), 2, 2),
+    Row("g1 g1 u 1 S", Position::Set(&[3, 5]), 2, 4),
+    Row("g1 7 tup2 p1/2", Position::Number(41), 41, 41),
+    Row("g1 0 sub1", Position::Array(2, &[3, 5]), 0, u128::MAX),
+    Row("g2", Position::Number(41), 0, u128::MAX),
+];
+
+fn is_number(alloc: Global, row: &Row<'_>) -> Result<bool, Memory> {
+    let globals = positions(alloc, shape(alloc, value(alloc, row.1)));
+    let found = number(alloc, words::term(alloc, row.0), globals)?;
+    Ok(found.low == row.2 && found.high == row.3)
+}
+
 #[test]
 fn numbers_over_a_position(rt: HostRuntime) -> Result<(), Fail> {
-    let alloc = rt.alloc();
-    assert_eq!(rt; number(alloc, "g1 1 +", Ok(Value::Nat(41)))?, (42, 42));
-    assert_eq!(rt; number(alloc, "g1 1 S", set(alloc, &[3, 5, 5]))?, (2, 2));
-    assert_eq!(rt; number(alloc, "g1 g1 u 1 S", set(alloc, &[3, 5]))?, (2, 4));
-    assert_eq!(rt;
-        number(alloc, "g1 7 tup2 p1/2", Ok(Value::Nat(41)))?,
-        (41, 41)
-    );
-    assert_eq!(rt;
-        number(alloc, "g1 0 sub1", array(alloc, 2, &[3, 5]))?,
-        (0, u128::MAX)
-    );
-    assert_eq!(rt; number(alloc, "g2", Ok(Value::Nat(41)))?, (0, u128::MAX));
+    for row in &NUMBERS {
+        assert_right(&rt, is_number(rt.alloc(), row), row.0)?;
+    }
     Ok(())
 }
 
-// Whether positions 0 to 3 have a shape, where the first has one and the second none.
-fn shaped(alloc: Global) -> Result<[bool; 4], Memory> {
-    let mut globals = GlobalShapes::new(alloc);
-    let first = globals.push(Some(Shape::Unknown));
-    let second = globals.push(None);
-    let found = [
+// Whether positions 0 to 3 have a shape.
+fn shaped(globals: &GlobalShapes) -> [bool; 4] {
+    [
         globals.has(0),
         globals.has(1),
         globals.has(2),
         globals.has(3),
-    ];
+    ]
+}
+
+// The same where the first has one and the second none.
+fn shaped_first(alloc: Global) -> Result<[bool; 4], Memory> {
+    let mut globals = GlobalShapes::new(alloc);
+    globals.push(Some(Shape::Unknown))?;
+    globals.push(None)?;
+    let found = shaped(&globals);
     drop(globals);
-    first?;
-    second?;
     Ok(found)
 }
 
 #[test]
 fn positions_count_from_one(rt: HostRuntime) -> Result<(), Fail> {
-    assert_eq!(rt; shaped(rt.alloc())?, [false, true, false, false]);
+    assert!(rt; shaped_first(rt.alloc()) == Ok([false, true, false, false]));
     Ok(())
 }
 
@@ -119,41 +145,61 @@ fn kind(shape: &Shape) -> &'static str {
     }
 }
 
-fn kind_over(alloc: Global, term: &Core) -> Result<(&'static str, u128), Memory> {
+fn kind_of(shape: Result<Shape, Memory>) -> Result<&'static str, Memory> {
+    let shape = shape?;
+    let found = kind(&shape);
+    drop(shape);
+    Ok(found)
+}
+
+// Whether the shape is of that kind, with at most so many members.
+fn is_kind(
+    shape: Result<Shape, Memory>,
+    count: Result<Interval, Memory>,
+    row: &(&str, &str, u128),
+) -> Result<bool, Memory> {
+    let kind = kind_of(shape)?;
+    let count = count?;
+    Ok(kind == row.1 && count.high == row.2)
+}
+
+fn is_kind_over(alloc: Global, term: &Core, row: &(&str, &str, u128)) -> Result<bool, Memory> {
     let ctx = Ctx::new(alloc, GlobalShapes::new(alloc));
     let shape = shape_of(alloc, term, &ctx);
     let count = count_of(alloc, term, &ctx);
     drop(ctx);
-    let shape = shape?;
-    let found = kind(&shape);
-    drop(shape);
-    let count = count?;
-    Ok((found, count.high))
+    is_kind(shape, count, row)
 }
 
-fn kind_of(alloc: Global, words: &str) -> Result<(&'static str, u128), Memory> {
-    let term = words::term(alloc, words)?;
-    let found = kind_over(alloc, &term);
+fn is_kind_of(
+    alloc: Global,
+    term: Result<Core, Memory>,
+    row: &(&str, &str, u128),
+) -> Result<bool, Memory> {
+    let term = term?;
+    let found = is_kind_over(alloc, &term, row);
     drop(term);
     found
 }
 
+// A term, the kind of its shape, and the most members of its sets.
+const KINDS: [(&str, &str, u128); 9] = [
+    ("{}", "members", 0),
+    ("7 gen", "members", 7),
+    ("7 gen v0 v0 1 + tup2 one U", "members", 7),
+    ("7 gen v0 v0 1 + tup2 one U get", "row", u128::MAX),
+    ("2 3 v0 one tab2", "grid", u128::MAX),
+    ("2 3 v0 one tab2 0 0 sub2", "members", 1),
+    ("2 3 v0 tab2 dim2", "row", u128::MAX),
+    ("T 7 gen 3 if", "unknown", u128::MAX),
+    ("T", "unknown", u128::MAX),
+];
+
 #[test]
 fn kinds_of_shapes(rt: HostRuntime) -> Result<(), Fail> {
-    let alloc = rt.alloc();
-    let rows = [
-        ("{}", "members", 0),
-        ("7 gen", "members", 7),
-        ("7 gen v0 v0 1 + tup2 one U", "members", 7),
-        ("7 gen v0 v0 1 + tup2 one U get", "row", u128::MAX),
-        ("2 3 v0 one tab2", "grid", u128::MAX),
-        ("2 3 v0 one tab2 0 0 sub2", "members", 1),
-        ("2 3 v0 tab2 dim2", "row", u128::MAX),
-        ("T 7 gen 3 if", "unknown", u128::MAX),
-        ("T", "unknown", u128::MAX),
-    ];
-    for (words, wanted, count) in &rows {
-        assert_eq!(rt; kind_of(alloc, words)?, (*wanted, *count), "{words}");
+    for row in &KINDS {
+        let right = is_kind_of(rt.alloc(), words::term(rt.alloc(), row.0), row);
+        assert_right(&rt, right, row.0)?;
     }
     Ok(())
 }
