@@ -1,15 +1,24 @@
 // Devices that fail or give few bytes, and names without a file.
-use crate::tests::files::{PAIRS, bytes_of, failing, few_bytes, read_file};
+use crate::tests::files::{PAIRS, bytes_of, failing, fault_of, few_bytes, read_file};
 use aql_csv::CsvFault;
 use aql_value::Memory;
 use std::alloc::Global;
-use std::test::*;
+use std::process::Abort;
+
+// The fault of a file, and how many calls on the files failed, or how many reads there were.
+type Found = Result<(Option<CsvFault>, u64), Memory>;
+
+fn assert_found(rt: &impl Abort, found: Found, wanted: (Option<CsvFault>, u64), which: u64) {
+    assert!(rt; found == Ok(wanted), "{which}");
+}
 
 // The fault where one call fails, and how many calls failed.
-fn failing_call(alloc: Global, name: &[u8], fails: u64) -> Result<(Option<CsvFault>, u64), Memory> {
+fn failing_call(alloc: Global, name: &[u8], fails: u64) -> Found {
     let mut files = failing(alloc, bytes_of(alloc, PAIRS), fails)?;
-    let fault = read_file(alloc, &mut files, name, "NS", 18).err();
-    Ok((fault, files.faults()))
+    let fault = fault_of(read_file(alloc, &mut files, name, "NS", 18));
+    let faults = files.faults();
+    drop(files);
+    Ok((fault, faults))
 }
 
 // The first call asks for the size, the second for the bytes, and there is no third. For a name that is not UTF-8 there is none.
@@ -23,33 +32,34 @@ const CALLS: [(&[u8], u64, Option<CsvFault>, u64); 6] = [
 ];
 
 #[test]
-fn failing_calls(rt: HostRuntime) -> Result<(), Fail> {
-    for (name, fails, fault, faults) in CALLS {
-        let found = failing_call(rt.alloc(), name, fails)?;
-        assert_eq!(rt; found, (fault, faults), "{fails}");
+fn failing_calls(rt: HostRuntime) {
+    for (name, fails, fault, faults) in &CALLS {
+        let found = failing_call(rt.alloc(), name, *fails);
+        assert_found(&rt, found, (*fault, *faults), *fails);
     }
-    Ok(())
 }
 
 // The fault where a read gives few bytes, and how many reads there were.
-fn short_read(alloc: Global, most: usize, budget: u64) -> Result<(Option<CsvFault>, u64), Memory> {
+fn short_read(alloc: Global, most: usize, budget: u64) -> Found {
     let mut files = few_bytes(alloc, bytes_of(alloc, PAIRS), most)?;
-    let fault = read_file(alloc, &mut files, b"s", "NS", budget).err();
-    Ok((fault, files.reads()))
+    let fault = fault_of(read_file(alloc, &mut files, b"s", "NS", budget));
+    let reads = files.reads();
+    drop(files);
+    Ok((fault, reads))
 }
 
+const SHORT: [(usize, u64, Option<CsvFault>, u64); 5] = [
+    (0, 18, Some(CsvFault::Cut { at: 0 }), 1),
+    (5, 18, Some(CsvFault::Cut { at: 5 }), 1),
+    (17, 18, Some(CsvFault::Cut { at: 17 }), 1),
+    (18, 18, None, 1),
+    (5, 17, Some(CsvFault::Long { bytes: 18 }), 0),
+];
+
 #[test]
-fn short_reads(rt: HostRuntime) -> Result<(), Fail> {
-    let cases = [
-        (0, 18, Some(CsvFault::Cut { at: 0 }), 1),
-        (5, 18, Some(CsvFault::Cut { at: 5 }), 1),
-        (17, 18, Some(CsvFault::Cut { at: 17 }), 1),
-        (18, 18, None, 1),
-        (5, 17, Some(CsvFault::Long { bytes: 18 }), 0),
-    ];
-    for (most, budget, fault, reads) in cases {
-        let found = short_read(rt.alloc(), most, budget)?;
-        assert_eq!(rt; found, (fault, reads), "{most}");
+fn short_reads(rt: HostRuntime) {
+    for (most, budget, fault, reads) in &SHORT {
+        let found = short_read(rt.alloc(), *most, *budget);
+        assert_found(&rt, found, (*fault, *reads), *most as u64);
     }
-    Ok(())
 }

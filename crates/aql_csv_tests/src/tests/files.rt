@@ -16,21 +16,50 @@ pub fn name_of(alloc: Global, text: &[u8]) -> Result<Str, Memory> {
     })
 }
 
+// The kind of a field.
+fn kind_of(letter: u8) -> Option<Kind> {
+    match letter {
+        b'H' => None,
+        b'N' => Some(Kind::Number),
+        _ => Some(Kind::Bytes),
+    }
+}
+
+fn put_kind(items: &mut Vec<Kind>, kind: Option<Kind>) -> Result<(), Memory> {
+    if let Some(kind) = kind {
+        items.push(kind)?;
+    }
+    Ok(())
+}
+
+fn kinds_of(alloc: Global, letters: &[u8]) -> Result<Vec<Kind>, Memory> {
+    let mut items = Vec::new(alloc);
+    for letter in letters {
+        put_kind(&mut items, kind_of(*letter))?;
+    }
+    Ok(items)
+}
+
 /// The reader of these letters: `N` for a number, `H` for a first record that names the fields, else a string.
 pub fn reader_of(alloc: Global, letters: &str) -> Result<CsvReader, Memory> {
-    let mut items = Vec::new(alloc);
-    let mut header = false;
-    for letter in letters.as_bytes() {
-        match *letter {
-            b'H' => header = true,
-            b'N' => items.push(Kind::Number)?,
-            _ => items.push(Kind::Bytes)?,
-        }
-    }
+    let items = kinds_of(alloc, letters.as_bytes())?;
     Ok(CsvReader {
-        header,
+        header: letters.as_bytes().contains(&b'H'),
         kinds: Kinds { items },
     })
+}
+
+fn read_kinds<F: Files>(
+    alloc: Global,
+    files: &mut F,
+    name: &Str,
+    reader: &CsvReader,
+    budget: u64,
+) -> Result<Csv, CsvFault> {
+    if reader.kinds.items.is_empty() {
+        return Err(CsvFault::Memory);
+    }
+    read_csv(alloc, files, name, reader, budget)
 }
 
 /// What is read of the file of a name.
@@ -41,12 +70,11 @@ pub fn read_file<F: Files>(
     letters: &str,
     budget: u64,
 ) -> Result<Csv, CsvFault> {
-    let name = name_of(alloc, name)?;
-    let reader = reader_of(alloc, letters)?;
-    if reader.kinds.items.is_empty() {
-        return Err(CsvFault::Memory);
-    }
-    read_csv(alloc, files, &name, &reader, budget)
+    let (name, reader) = both(name_of(alloc, name), reader_of(alloc, letters))?;
+    let found = read_kinds(alloc, files, &name, &reader, budget);
+    drop(name);
+    drop(reader);
+    found
 }
 
 /// What is read of a file of these bytes.
@@ -57,7 +85,20 @@ pub fn read_bytes(
     budget: u64,
 ) -> Result<Csv, CsvFault> {
     let mut files = sure(alloc, bytes)?;
-    read_file(alloc, &mut files, b"s", letters, budget)
+    let found = read_file(alloc, &mut files, b"s", letters, budget);
+    drop(files);
+    found
+}
+
+/// The fault of a file, where it has one.
+pub fn fault_of(found: Result<Csv, CsvFault>) -> Option<CsvFault> {
+    match found {
+        Ok(csv) => {
+            drop(csv);
+            None
+        }
+        Err(fault) => Some(fault),
+    }
 }
 
 fn string_of(alloc: Global, text: &str) -> Result<String, Memory> {
