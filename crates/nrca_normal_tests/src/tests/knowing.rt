@@ -1,90 +1,126 @@
 //! What is known of comparisons at their places.
 
-use crate::tests::words;
+use crate::tests::{assert_right, words};
 use aql_value::Memory;
 use nrca_checks::{decided, literally};
 use nrca_ranges::{Ctx, GlobalShapes, Known, is_small};
 use nrca_term::Core;
 use std::alloc::Global;
-use std::test::Fail;
+use std::process::Abort;
 
 // A term, the steps to a comparison in it, and how that is literally known there: as a fact of a tabulation or a loop,
 // of an `if`, or as denied.
-const KNOWN: &str = "\
-5 v0 5 < tab1~1~D
-5 v0 5 <= tab1~1~none
-5 5 v0 > tab1~1~none
-g1 v0 g1 < tab1~1~D
-g1 v0 5 < tab1~1~none
-g1 2 v1 g1 < let tab1~1 1~D
-g1 2 v0 g1 < let tab1~1 1~none
-3 g1 v1 3 < tab2~2~D
-3 g1 v0 g1 < tab2~2~D
-3 g1 v0 3 < tab2~2~none
-4 v0 v0 v1 < tab1 tab1~1 1~D
-4 v0 v1 4 < tab1 tab1~1 1~D
-4 v0 v0 4 < tab1 tab1~1 1~none
-g1 gen v0 g1 < one U~1 0~D
-g1 gen v0 g1 < 1 2 if S~1 0~D
-g1 one v0 g1 < one U~1 0~none
-g1 1 < 2 3 if~0~none
-g1 1 < g1 1 < 2 if~1~T
-g1 1 < 2 g1 1 < if~2~F
-g1 1 <= g1 1 <= 2 if~1~T
-g1 1 < g1 2 < 2 if~1~none
-g1 1 < 7 g1 1 < let F if~1 1~T
-5 v0 5 < v0 5 < F if tab1~1 1~D
-5 v0 5 < T v0 5 < if tab1~1 2~D
-g1 1 < T g1 1 < g1 1 < F if if~2 1~T
-g1 1 = 5 g1 1 = 2 3 if tab1 0 sub1 4 if~1 0 1 0~T
-5 v0 1 < v0 gen v0 v1 < one U {} if tab1~1 1 1 0~D
-5 v0 1 < v0 gen v1 1 < one U {} if tab1~1 1 1 0~T
-5 v0 1 < {} v0 gen v1 1 < one U if tab1~1 2 1 0~F
-g1 1 < g1 1 < or~1~none";
+const KNOWN: [&str; 30] = [
+    "5 v0 5 < tab1~1~D",
+    "5 v0 5 <= tab1~1~none",
+    "5 5 v0 > tab1~1~none",
+    "g1 v0 g1 < tab1~1~D",
+    "g1 v0 5 < tab1~1~none",
+    "g1 2 v1 g1 < let tab1~1 1~D",
+    "g1 2 v0 g1 < let tab1~1 1~none",
+    "3 g1 v1 3 < tab2~2~D",
+    "3 g1 v0 g1 < tab2~2~D",
+    "3 g1 v0 3 < tab2~2~none",
+    "4 v0 v0 v1 < tab1 tab1~1 1~D",
+    "4 v0 v1 4 < tab1 tab1~1 1~D",
+    "4 v0 v0 4 < tab1 tab1~1 1~none",
+    "g1 gen v0 g1 < one U~1 0~D",
+    "g1 gen v0 g1 < 1 2 if S~1 0~D",
+    "g1 one v0 g1 < one U~1 0~none",
+    "g1 1 < 2 3 if~0~none",
+    "g1 1 < g1 1 < 2 if~1~T",
+    "g1 1 < 2 g1 1 < if~2~F",
+    "g1 1 <= g1 1 <= 2 if~1~T",
+    "g1 1 < g1 2 < 2 if~1~none",
+    "g1 1 < 7 g1 1 < let F if~1 1~T",
+    "5 v0 5 < v0 5 < F if tab1~1 1~D",
+    "5 v0 5 < T v0 5 < if tab1~1 2~D",
+    "g1 1 < T g1 1 < g1 1 < F if if~2 1~T",
+    "g1 1 = 5 g1 1 = 2 3 if tab1 0 sub1 4 if~1 0 1 0~T",
+    "5 v0 1 < v0 gen v0 v1 < one U {} if tab1~1 1 1 0~D",
+    "5 v0 1 < v0 gen v1 1 < one U {} if tab1~1 1 1 0~T",
+    "5 v0 1 < {} v0 gen v1 1 < one U if tab1~1 2 1 0~F",
+    "g1 1 < g1 1 < or~1~none",
+];
 
 // A term, the steps to a comparison in it, and its truth value, where the ranges of its sides tell.
-const DECIDED: &str = "\
-10 v0 20 < tab1~1~T
-10 v0 20 > tab1~1~F
-10 v0 20 = tab1~1~F
-10 v0 20 <> tab1~1~T
-10 v0 20 <= tab1~1~T
-10 v0 20 >= tab1~1~F
-10 20 v0 < tab1~1~F
-10 20 v0 >= tab1~1~T
-10 v0 10 < tab1~1~T
-10 v0 9 < tab1~1~none
-10 v0 9 <= tab1~1~none
-10 v0 9 = tab1~1~none
-10 v0 v0 = tab1~1~none
-10 10 v0 - 11 < tab1~1~T
-10 3 v0 - 4 < tab1~1~T
-10 3 v0 - 3 <= tab1~1~none
-10 10 v0 / 5 % 5 < tab1~1~T
-10 v0 3 / 10 < tab1~1~T
-10 v0 g1 / 10 < tab1~1~none
-10 g1 7 % 7 < tab1~1~T
-10 v0 max + 5 > tab1~1~none
-10 v0 v0 + 18 > tab1~1~none
-10 v0 v0 + 19 >= tab1~1~F
-10 5 gen v0 v1 10 + < one U tab1~1 1 0~T
-10 gen v0 10 < one U~1 0~T
-0 v0 0 < tab1~1~none
-0 v0 1 < tab1~1~T
-10 v0 v0 20 < let tab1~1 1~none
-10 v0 v1 20 < let tab1~1 1~T
-3 5 <~.~T
-5 5 <~.~none
-g1 5 <~.~none
-T F <~.~none";
+const DECIDED: [&str; 33] = [
+    "10 v0 20 < tab1~1~T",
+    "10 v0 20 > tab1~1~F",
+    "10 v0 20 = tab1~1~F",
+    "10 v0 20 <> tab1~1~T",
+    "10 v0 20 <= tab1~1~T",
+    "10 v0 20 >= tab1~1~F",
+    "10 20 v0 < tab1~1~F",
+    "10 20 v0 >= tab1~1~T",
+    "10 v0 10 < tab1~1~T",
+    "10 v0 9 < tab1~1~none",
+    "10 v0 9 <= tab1~1~none",
+    "10 v0 9 = tab1~1~none",
+    "10 v0 v0 = tab1~1~none",
+    "10 10 v0 - 11 < tab1~1~T",
+    "10 3 v0 - 4 < tab1~1~T",
+    "10 3 v0 - 3 <= tab1~1~none",
+    "10 10 v0 / 5 % 5 < tab1~1~T",
+    "10 v0 3 / 10 < tab1~1~T",
+    "10 v0 g1 / 10 < tab1~1~none",
+    "10 g1 7 % 7 < tab1~1~T",
+    "10 v0 max + 5 > tab1~1~none",
+    "10 v0 v0 + 18 > tab1~1~none",
+    "10 v0 v0 + 19 >= tab1~1~F",
+    "10 5 gen v0 v1 10 + < one U tab1~1 1 0~T",
+    "10 gen v0 10 < one U~1 0~T",
+    "0 v0 0 < tab1~1~none",
+    "0 v0 1 < tab1~1~T",
+    "10 v0 v0 20 < let tab1~1 1~none",
+    "10 v0 v1 20 < let tab1~1 1~T",
+    "3 5 <~.~T",
+    "5 5 <~.~none",
+    "g1 5 <~.~none",
+    "T F <~.~none",
+];
 
 // Enters the part, where there is one.
-fn entered(alloc: Global, ctx: &mut Ctx, term: &Core, part: u64) -> Result<bool, Memory> {
+fn enter<'a>(
+    alloc: Global,
+    ctx: &mut Ctx,
+    term: &'a Core,
+    part: u64,
+) -> Result<Option<&'a Core>, Memory> {
     if part < term.parts() && is_small(term, ctx.depth()) {
         let _mark = ctx.push(alloc, term, part)?;
-        return Ok(true);
+        return Ok(term.part(part));
     }
-    Ok(false)
+    Ok(None)
+}
+
+fn go_step<'a>(
+    alloc: Global,
+    ctx: &mut Ctx,
+    term: &'a Core,
+    step: &str,
+) -> Result<Option<&'a Core>, Memory> {
+    match step.parse::<u64>() {
+        Ok(part) => enter(alloc, ctx, term, part),
+        Err(_) => Err(Memory),
+    }
+}
+
+// The part at the end of the steps; none where they leave the term.
+fn go<'a>(
+    alloc: Global,
+    ctx: &mut Ctx,
+    term: &'a Core,
+    steps: &str,
+) -> Result<Option<&'a Core>, Memory> {
+    let mut at = term;
+    for step in steps.split(' ') {
+        match go_step(alloc, ctx, at, step)? {
+            Some(inner) => at = inner,
+            None => return Ok(None),
+        }
+    }
+    Ok(Some(at))
 }
 
 // What is told of a comparison at its place.
@@ -126,80 +162,66 @@ fn told_at(
     term: &Core,
     steps: &str,
 ) -> Result<Option<&'static str>, Memory> {
-    let mut at = term;
     if steps == "." {
-        return Ok(Some(told(question, ctx, at)));
+        return Ok(Some(told(question, ctx, term)));
     }
-    for step in steps.split(' ') {
-        let part = step.parse::<u64>().map_err(|_| Memory)?;
-        if !entered(alloc, ctx, at, part)? {
-            return Ok(None);
-        }
-        match at.part(part) {
-            Some(inner) => at = inner,
-            None => return Ok(None),
-        }
+    match go(alloc, ctx, term, steps) {
+        Ok(Some(at)) => Ok(Some(told(question, ctx, at))),
+        Ok(None) => Ok(None),
+        Err(error) => Err(error),
     }
-    Ok(Some(told(question, ctx, at)))
 }
 
 fn told_in(
     alloc: Global,
     question: Question,
-    term: &Core,
+    term: Result<Core, Memory>,
     steps: &str,
 ) -> Result<Option<&'static str>, Memory> {
+    let term = term?;
     let mut ctx = Ctx::new(alloc, GlobalShapes::new(alloc));
-    let found = told_at(alloc, question, &mut ctx, term, steps);
+    let found = told_at(alloc, question, &mut ctx, &term, steps);
+    drop(term);
     drop(ctx);
     found
 }
 
-fn told_of(
-    alloc: Global,
-    question: Question,
-    words: &str,
-    steps: &str,
-) -> Result<Option<&'static str>, Memory> {
-    let term = words::term(alloc, words)?;
-    let found = told_in(alloc, question, &term, steps);
-    drop(term);
-    found
-}
-
-fn is_right(alloc: Global, question: Question, row: &str) -> Result<bool, Memory> {
-    match row.split_once('~') {
-        Some((words, rest)) => match rest.split_once('~') {
-            Some((steps, wanted)) => {
-                let found = told_of(alloc, question, words, steps)?;
-                Ok(found == Some(wanted))
-            }
-            None => Ok(false),
-        },
+// Whether the words' term has the place of the row.
+fn is_told(alloc: Global, question: Question, words: &str, place: &str) -> Result<bool, Memory> {
+    match place.split_once('~') {
+        Some((steps, wanted)) => {
+            let found = told_in(alloc, question, words::term(alloc, words), steps)?;
+            Ok(found == Some(wanted))
+        }
         None => Ok(false),
     }
 }
 
-#[test]
-fn literally_known_comparisons(rt: HostRuntime) -> Result<(), Fail> {
-    let alloc = rt.alloc();
-    let mut count = 0u64;
-    for row in KNOWN.split('\n') {
-        assert!(rt; is_right(alloc, Question::Literally, row)?, "{row}");
-        count = count.saturating_add(1);
+fn is_right(alloc: Global, question: Question, row: &str) -> Result<bool, Memory> {
+    match row.split_once('~') {
+        Some((words, place)) => is_told(alloc, question, words, place),
+        None => Ok(false),
     }
-    assert_eq!(rt; count, 30);
+}
+
+fn assert_rows(
+    rt: &impl Abort,
+    alloc: Global,
+    question: Question,
+    rows: &[&str],
+) -> Result<(), Memory> {
+    for row in rows {
+        assert_right(rt, is_right(alloc, question, row), row)?;
+    }
     Ok(())
 }
 
 #[test]
-fn decided_comparisons(rt: HostRuntime) -> Result<(), Fail> {
-    let alloc = rt.alloc();
-    let mut count = 0u64;
-    for row in DECIDED.split('\n') {
-        assert!(rt; is_right(alloc, Question::Decided, row)?, "{row}");
-        count = count.saturating_add(1);
-    }
-    assert_eq!(rt; count, 33);
-    Ok(())
+fn literally_known_comparisons(rt: HostRuntime) -> Result<(), Memory> {
+    assert_rows(&rt, rt.alloc(), Question::Literally, &KNOWN)
+}
+
+#[test]
+fn decided_comparisons(rt: HostRuntime) -> Result<(), Memory> {
+    assert_rows(&rt, rt.alloc(), Question::Decided, &DECIDED)
 }

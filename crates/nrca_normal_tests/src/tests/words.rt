@@ -122,40 +122,62 @@ fn last(stack: &mut Vec<Core>) -> Result<Core, Memory> {
 }
 
 // The last ones, as many as are wanted, taken off.
-fn lasts(stack: &mut Vec<Core>, count: usize) -> Result<Vec<Core>, Memory> {
+fn lasts(stack: &mut Vec<Core>, count: usize) -> Result<Terms, Memory> {
     if stack.len() < count {
         return Err(Memory);
     }
-    Ok(stack.split_off(stack.len() - count)?)
-}
-
-// Puts what was made behind the others.
-fn pushed(stack: &mut Vec<Core>, made: Result<Core, Memory>) -> Result<(), Memory> {
-    stack.push(made?)?;
-    Ok(())
+    match stack.split_off(stack.len() - count) {
+        Ok(taken) => Ok(Terms(taken)),
+        Err(_) => Err(Memory),
+    }
 }
 
 /// A term: each word makes a node of the terms before it.
 pub fn term(alloc: Global, words: &str) -> Result<Core, Memory> {
     let mut stack = Vec::new(alloc);
-    for word in words.split(' ') {
-        let made = node(alloc, &mut stack, word);
-        pushed(&mut stack, made)?;
-    }
+    put_words(alloc, &mut stack, words)?;
     last(&mut stack)
+}
+
+fn put_words(alloc: Global, stack: &mut Vec<Core>, words: &str) -> Result<(), Memory> {
+    for word in words.split(' ') {
+        put_word(alloc, stack, word)?;
+    }
+    Ok(())
+}
+
+fn put_word(alloc: Global, stack: &mut Vec<Core>, word: &str) -> Result<(), Memory> {
+    let made = node(alloc, stack, word);
+    put(stack, made)
+}
+
+// Puts what was made behind the others.
+fn put(stack: &mut Vec<Core>, made: Result<Core, Memory>) -> Result<(), Memory> {
+    match made {
+        Ok(term) => put_term(stack, term),
+        Err(error) => Err(error),
+    }
+}
+
+fn put_term(stack: &mut Vec<Core>, term: Core) -> Result<(), Memory> {
+    stack.push(term)?;
+    Ok(())
 }
 
 fn node(alloc: Global, stack: &mut Vec<Core>, word: &str) -> Result<Core, Memory> {
     match form_of(word) {
-        Some(Form::Alone(form)) => Ok(leaf(form)),
-        Some(Form::OfOne(form)) => Ok(of_one(form, make_box(alloc, last(stack))?)),
-        Some(Form::OfTwo(form)) => {
-            let (b, a) = make_boxes(alloc, last(stack), last(stack))?;
-            Ok(of_two(form, a, b))
-        }
-        Some(Form::If) => choice(alloc, stack),
-        Some(Form::OfList(form)) => of_list(alloc, stack, form),
+        Some(form) => made(alloc, stack, form),
         None => constant(alloc, word),
+    }
+}
+
+fn made(alloc: Global, stack: &mut Vec<Core>, form: Form) -> Result<Core, Memory> {
+    match form {
+        Form::Alone(form) => Ok(leaf(form)),
+        Form::OfOne(form) => with_part(form, make_box(alloc, last(stack))),
+        Form::OfTwo(form) => with_parts(form, make_boxes(alloc, last(stack), last(stack))),
+        Form::If => choice(alloc, stack),
+        Form::OfList(form) => of_list(alloc, stack, form),
     }
 }
 
@@ -170,6 +192,14 @@ fn leaf(form: Alone) -> Core {
     }
 }
 
+// A form of one part.
+fn with_part(form: OfOne, part: Result<Box<Core>, Memory>) -> Result<Core, Memory> {
+    match part {
+        Ok(part) => Ok(of_one(form, part)),
+        Err(error) => Err(error),
+    }
+}
+
 fn of_one(form: OfOne, part: Box<Core>) -> Core {
     match form {
         OfOne::Proj(at, of) => Core::Proj { at, of, part },
@@ -177,6 +207,14 @@ fn of_one(form: OfOne, part: Box<Core>) -> Core {
         OfOne::Gen => Core::Gen(part),
         OfOne::Get => Core::Get(part),
         OfOne::Dim(rank) => Core::Dim { rank, array: part },
+    }
+}
+
+// A form of two parts, of which the second was taken off first.
+fn with_parts(form: OfTwo, parts: Result<(Box<Core>, Box<Core>), Memory>) -> Result<Core, Memory> {
+    match parts {
+        Ok((b, a)) => Ok(of_two(form, a, b)),
+        Err(error) => Err(error),
     }
 }
 
@@ -194,42 +232,75 @@ fn of_two(form: OfTwo, a: Box<Core>, b: Box<Core>) -> Core {
 
 fn choice(alloc: Global, stack: &mut Vec<Core>) -> Result<Core, Memory> {
     let arms = make_boxes(alloc, last(stack), last(stack));
-    let ((no, yes), test) = both(arms, make_box(alloc, last(stack)))?;
-    Ok(Core::If(test, yes, no))
+    choice_of(arms, make_box(alloc, last(stack)))
+}
+
+fn choice_of(
+    arms: Result<(Box<Core>, Box<Core>), Memory>,
+    test: Result<Box<Core>, Memory>,
+) -> Result<Core, Memory> {
+    match both(arms, test) {
+        Ok((arms, test)) => Ok(Core::If(test, arms.1, arms.0)),
+        Err(error) => Err(error),
+    }
 }
 
 fn of_list(alloc: Global, stack: &mut Vec<Core>, form: OfList) -> Result<Core, Memory> {
     match form {
-        OfList::Tuple(count) => Ok(Core::Tuple(Terms(lasts(stack, count)?))),
-        OfList::Tab(rank) => {
-            let (body, bounds) = both(make_box(alloc, last(stack)), lasts(stack, rank))?;
-            let bounds = Terms(bounds);
-            Ok(Core::Tab { bounds, body })
-        }
-        OfList::Sub(rank) => {
-            let (at, array) = both(lasts(stack, rank), make_box(alloc, last(stack)))?;
-            let at = Terms(at);
-            Ok(Core::Sub { array, at })
-        }
-        OfList::Literal(rank, count) => {
-            let (cells, dims) = both(lasts(stack, count), lasts(stack, rank))?;
-            Ok(Core::Literal {
-                dims: Terms(dims),
-                cells: Terms(cells),
-            })
-        }
+        OfList::Tuple(count) => tuple(lasts(stack, count)),
+        OfList::Tab(rank) => tabulation(make_box(alloc, last(stack)), lasts(stack, rank)),
+        OfList::Sub(rank) => subscript(lasts(stack, rank), make_box(alloc, last(stack))),
+        OfList::Literal(rank, count) => literal(lasts(stack, count), lasts(stack, rank)),
+    }
+}
+
+fn tuple(parts: Result<Terms, Memory>) -> Result<Core, Memory> {
+    match parts {
+        Ok(parts) => Ok(Core::Tuple(parts)),
+        Err(error) => Err(error),
+    }
+}
+
+fn tabulation(
+    body: Result<Box<Core>, Memory>,
+    bounds: Result<Terms, Memory>,
+) -> Result<Core, Memory> {
+    match both(body, bounds) {
+        Ok((body, bounds)) => Ok(Core::Tab { bounds, body }),
+        Err(error) => Err(error),
+    }
+}
+
+fn subscript(at: Result<Terms, Memory>, array: Result<Box<Core>, Memory>) -> Result<Core, Memory> {
+    match both(at, array) {
+        Ok((at, array)) => Ok(Core::Sub { array, at }),
+        Err(error) => Err(error),
+    }
+}
+
+fn literal(cells: Result<Terms, Memory>, dims: Result<Terms, Memory>) -> Result<Core, Memory> {
+    match both(cells, dims) {
+        Ok((cells, dims)) => Ok(Core::Literal { dims, cells }),
+        Err(error) => Err(error),
     }
 }
 
 // A string behind a quote, or a number.
 fn constant(alloc: Global, word: &str) -> Result<Core, Memory> {
     match word.strip_prefix('\'') {
-        Some(text) => Ok(Core::Text(Str {
-            bytes: Vec::from_slice(alloc, text.as_bytes())?,
-        })),
-        None => match word.parse::<u64>() {
-            Ok(n) => Ok(Core::Nat(u128::from(n))),
-            Err(_) => Err(Memory),
-        },
+        Some(text) => string(alloc, text),
+        None => number(word),
+    }
+}
+
+fn string(alloc: Global, text: &str) -> Result<Core, Memory> {
+    let bytes = Vec::from_slice(alloc, text.as_bytes())?;
+    Ok(Core::Text(Str { bytes }))
+}
+
+fn number(word: &str) -> Result<Core, Memory> {
+    match word.parse::<u64>() {
+        Ok(n) => Ok(Core::Nat(u128::from(n))),
+        Err(_) => Err(Memory),
     }
 }
