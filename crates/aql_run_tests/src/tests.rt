@@ -8,4 +8,5 @@ mod plans;
 mod running;
 mod scripts;
 mod tables;
+mod texts;
 mod words;

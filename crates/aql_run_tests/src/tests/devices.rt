@@ -1,13 +1,11 @@
 // Devices that give and take few bytes, or fail; and pieces that run beside each other.
 use crate::tests::netcdf::folder;
-use crate::tests::running::{Devices, Ran, SURE, assert_ran, run_over, run_script};
+use crate::tests::running::{Devices, Ran, SURE, assert_ran, assert_same, run_over, run_script};
 use aql_outside::{FreeGate, Gate};
 use aql_value::Memory;
-use aql_value::made::both;
 use std::alloc::Global;
 use std::process::Abort;
 use std::sync::atomic::{AtomicBool, Ordering};
-use std::test::Fail;
 use std::thread::Threads;
 
 const SCRIPT: &[u8] = b"1; readval \\V using NETCDF2 at (\"s.nc\",\"v\",(0,0),(2,3));";
@@ -15,132 +13,143 @@ const SCRIPT: &[u8] = b"1; readval \\V using NETCDF2 at (\"s.nc\",\"v\",(0,0),(2
 const OUTPUT: &[u8] =
     b"typ it : nat\nval it = 1\ntyp V : [[nat]]_2\nval V = [[2,3; 1, 2, 3, 4, 5, 6]]\n";
 
+// What is written where a call on the files failed.
+const FILES_FAULT: &[u8] = b"typ it : nat\nval it = 1\nfault files\n";
+
 // Fails where two runs did not both end well with one output.
-fn assert_alike<R: Abort>(
-    rt: &R,
-    ran: Result<Ran, Memory>,
-    other: Result<Ran, Memory>,
-) -> Result<(), Fail> {
-    let (ran, other) = both(ran, other)?;
-    assert_eq!(rt; ran.status, 0);
-    assert_eq!(rt; other.status, 0);
-    assert_eq!(rt; ran.output.as_slice(), other.output.as_slice());
+fn assert_alike<R: Abort>(rt: &R, ran: Result<Ran, Memory>, other: Result<Ran, Memory>) {
+    let ran = ran.expect(rt, "memory for a run");
+    assert_same(rt, ran.status, 0);
+    assert_ran(rt, other, 0, &ran.output);
     drop(ran);
-    drop(other);
-    Ok(())
 }
 
-// The same answer, however few bytes a call gives or takes.
-#[test]
-fn few_bytes_at_a_time(rt: HostRuntime) -> Result<(), Fail> {
-    let alloc = rt.alloc();
-    let scripts = [
-        "1+2*3;",
-        "macro \\f = fn \\a => {a+b | \\b <- gen!2}; {x | \\b <- gen!3, \\x <- f!b};",
-        "{(i,j) | [(\\i,\\j):6] <- [[2,3; 4, 6, 5, 6, 0, 6]]};",
-    ];
-    for script in scripts {
-        for size in [1, 2, 7] {
-            let pieces = [size; 200];
-            let mut devices = SURE;
-            devices.pieces = &pieces;
-            let ran = run_over(
-                &rt,
-                alloc,
-                &[],
-                script.as_bytes(),
-                folder(alloc),
-                &devices,
-                &FreeGate,
-            );
-            let whole = run_script(&rt, alloc, &[], script.as_bytes());
-            assert_alike(&rt, ran, whole)?;
-        }
+// A run of a script over streams that give and take so many bytes a call.
+fn run_in_pieces<R: Threads + Sync>(
+    rt: &R,
+    alloc: Global,
+    script: &str,
+    size: u64,
+) -> Result<Ran, Memory> {
+    let pieces = [size; 200];
+    let mut devices = SURE;
+    devices.pieces = &pieces;
+    run_over(
+        rt,
+        alloc,
+        &[],
+        script.as_bytes(),
+        folder(alloc),
+        &devices,
+        &FreeGate,
+    )
+}
+
+// Fails where the script is not answered alike, however few bytes a call gives or takes.
+fn assert_pieces<R: Threads + Sync + Abort>(rt: &R, alloc: Global, script: &str) {
+    for size in [1, 2, 7] {
+        let ran = run_in_pieces(rt, alloc, script, size);
+        let whole = run_script(rt, alloc, &[], script.as_bytes());
+        assert_alike(rt, ran, whole);
     }
-    Ok(())
+}
+
+const SCRIPTS: &[&str] = &[
+    "1+2*3;",
+    "macro \\f = fn \\a => {a+b | \\b <- gen!2}; {x | \\b <- gen!3, \\x <- f!b};",
+    "{(i,j) | [(\\i,\\j):6] <- [[2,3; 4, 6, 5, 6, 0, 6]]};",
+];
+
+#[test]
+fn few_bytes_at_a_time(rt: HostRuntime) {
+    for script in SCRIPTS {
+        assert_pieces(&rt, rt.alloc(), script);
+    }
+}
+
+// A run of the script over the files of the tables and these devices.
+fn run_on<R: Threads + Sync + Abort>(rt: &R, alloc: Global, devices: &Devices<'_>) -> Ran {
+    let ran = run_over(rt, alloc, &[], SCRIPT, folder(alloc), devices, &FreeGate);
+    ran.expect(rt, "memory for a run")
 }
 
 // Whether a call on the files failed in a run in which the call of this number is to fail.
-fn file_fails<R: Threads + Sync + Abort>(rt: &R, alloc: Global, k: u64) -> Result<bool, Fail> {
+fn file_fails<R: Threads + Sync + Abort>(rt: &R, alloc: Global, k: u64) -> bool {
     let fails = [k];
     let mut devices = SURE;
     devices.files_fail = &fails;
-    let ran = run_over(rt, alloc, &[], SCRIPT, folder(alloc), &devices, &FreeGate)?;
-    if ran.failures.files > 0 {
-        let output = b"typ it : nat\nval it = 1\nfault files\n";
-        assert_ran(rt, Ok(ran), 13, output)?;
-        Ok(true)
+    let ran = run_on(rt, alloc, &devices);
+    let failed = ran.failures.files > 0;
+    if failed {
+        assert_ran(rt, Ok(ran), 13, FILES_FAULT);
     } else {
-        assert_ran(rt, Ok(ran), 0, OUTPUT)?;
-        Ok(false)
+        assert_ran(rt, Ok(ran), 0, OUTPUT);
     }
+    failed
 }
 
 // Each call on the files fails in turn, until a run meets no failure.
 #[test]
-fn failing_files(rt: HostRuntime) -> Result<(), Fail> {
+fn failing_files(rt: HostRuntime) {
     let mut failed: u64 = 0;
     for k in 1..30 {
-        if file_fails(&rt, rt.alloc(), k)? {
+        if file_fails(&rt, rt.alloc(), k) {
             failed = failed.saturating_add(1);
         }
     }
     assert!(rt; 1 < failed && failed < 29);
-    Ok(())
 }
 
 const PIECES: [u64; 60] = [20; 60];
 
 // Whether a run is answered in which the read of this number is to fail.
-fn source_serves<R: Threads + Sync + Abort>(rt: &R, alloc: Global, k: u64) -> Result<bool, Fail> {
+fn source_serves<R: Threads + Sync + Abort>(rt: &R, alloc: Global, k: u64) -> bool {
     let fails = [k];
-    let devices = Devices {
-        pieces: &PIECES,
-        source_fails: &fails,
-        sink_fails: &[],
-        files_fail: &[],
-    };
-    let ran = run_over(rt, alloc, &[], SCRIPT, folder(alloc), &devices, &FreeGate)?;
-    if ran.status == 0 {
-        assert_ran(rt, Ok(ran), 0, OUTPUT)?;
-        Ok(true)
+    let mut devices = SURE;
+    devices.pieces = &PIECES;
+    devices.source_fails = &fails;
+    let ran = run_on(rt, alloc, &devices);
+    let serves = ran.status == 0;
+    if serves {
+        assert_ran(rt, Ok(ran), 0, OUTPUT);
     } else {
-        assert_ran(rt, Ok(ran), 10, b"fault input\n")?;
-        Ok(false)
+        assert_ran(rt, Ok(ran), 10, b"fault input\n");
     }
+    serves
+}
+
+// Fails where a run did not end with this status, or what it wrote is no front of this.
+fn assert_front<R: Abort>(rt: &R, ran: Ran, status: u8, output: &[u8]) {
+    assert_same(rt, ran.status, status);
+    assert!(rt; output.starts_with(&ran.output));
+    drop(ran);
 }
 
 // Whether a run is answered in which the write of this number is to fail. What it wrote is a front of the output.
-fn sink_serves<R: Threads + Sync + Abort>(rt: &R, alloc: Global, k: u64) -> Result<bool, Fail> {
+fn sink_serves<R: Threads + Sync + Abort>(rt: &R, alloc: Global, k: u64) -> bool {
     let fails = [k];
-    let devices = Devices {
-        pieces: &PIECES,
-        source_fails: &[],
-        sink_fails: &fails,
-        files_fail: &[],
-    };
-    let ran = run_over(rt, alloc, &[], SCRIPT, folder(alloc), &devices, &FreeGate)?;
-    if ran.status == 0 {
-        assert_ran(rt, Ok(ran), 0, OUTPUT)?;
-        return Ok(true);
+    let mut devices = SURE;
+    devices.pieces = &PIECES;
+    devices.sink_fails = &fails;
+    let ran = run_on(rt, alloc, &devices);
+    let serves = ran.status == 0;
+    if serves {
+        assert_ran(rt, Ok(ran), 0, OUTPUT);
+    } else {
+        assert_front(rt, ran, 11, OUTPUT);
     }
-    assert_eq!(rt; ran.status, 11);
-    assert!(rt; OUTPUT.starts_with(&ran.output));
-    drop(ran);
-    Ok(false)
+    serves
 }
 
 // Each read of the source fails in turn, and each write to the sink. In pieces of 20 the script and its end take four reads, the
 // lines of the two declarations two and three writes.
 #[test]
-fn failing_streams(rt: HostRuntime) -> Result<(), Fail> {
+fn failing_streams(rt: HostRuntime) {
+    let alloc = rt.alloc();
     for k in 1..12 {
-        let read = source_serves(&rt, rt.alloc(), k)?;
-        assert_eq!(rt; read, 4 < k);
-        let written = sink_serves(&rt, rt.alloc(), k)?;
-        assert_eq!(rt; written, 5 < k);
+        assert_same(&rt, source_serves(&rt, alloc, k), 4 < k);
+        assert_same(&rt, sink_serves(&rt, alloc, k), 5 < k);
     }
-    Ok(())
 }
 
 // The numbers of calls, from the first on.
@@ -158,114 +167,91 @@ fn calls_behind(first: usize) -> &'static [u64] {
     }
 }
 
-// A script that ends with this status and this output over devices that do not fail.
+// The words behind the program's name, a script, and the status and the output that it ends with over devices that do not fail.
 #[derive(Clone, Copy)]
-struct Ending {
-    words: &'static [&'static str],
-    script: &'static [u8],
-    status: u8,
-    output: &'static [u8],
-}
-
-const fn ends_in(script: &'static [u8], status: u8, output: &'static [u8]) -> Ending {
-    Ending {
-        words: &[],
-        script,
-        status,
-        output,
-    }
-}
+struct Ending<'a>(&'a [&'a str], &'a [u8], u8, &'a [u8]);
 
 // Fails where a run over these devices did not end as its script says or, where one call failed, with the status for it and a front of what
 // it writes then; or where a call followed a failure.
 fn assert_stops<R: Threads + Sync + Abort>(
     rt: &R,
     alloc: Global,
-    ending: Ending,
+    ending: &Ending<'_>,
     devices: &Devices<'_>,
     broken: u8,
     output: &[u8],
-) -> Result<(), Fail> {
-    let ran = run_over(
-        rt,
-        alloc,
-        ending.words,
-        ending.script,
-        folder(alloc),
-        devices,
-        &FreeGate,
-    )?;
-    let failed = ran
-        .failures
-        .source
-        .max(ran.failures.sink)
-        .max(ran.failures.files);
+) {
+    let files = folder(alloc);
+    let ran = run_over(rt, alloc, ending.0, ending.1, files, devices, &FreeGate);
+    let ran = ran.expect(rt, "memory for a run");
+    let failures = ran.failures;
+    let failed = failures.source.max(failures.sink).max(failures.files);
     if failed == 0 {
-        return assert_ran(rt, Ok(ran), ending.status, ending.output);
+        assert_ran(rt, Ok(ran), ending.2, ending.3);
+    } else {
+        assert_same(rt, failed, 1);
+        assert_front(rt, ran, broken, output);
     }
-    assert_eq!(rt; failed, 1);
-    assert_eq!(rt; ran.status, broken);
-    assert!(rt; output.starts_with(&ran.output));
-    drop(ran);
-    Ok(())
 }
 
 // Runs a script over a source, over a sink and over files of which every call fails behind the first so many.
 fn assert_never_asked_again<R: Threads + Sync + Abort>(
     rt: &R,
     alloc: Global,
-    ending: Ending,
+    ending: &Ending<'_>,
     first: usize,
-) -> Result<(), Fail> {
+) {
     let calls = calls_behind(first);
     let mut devices = SURE;
     devices.pieces = &PIECES;
     devices.source_fails = calls;
-    assert_stops(rt, alloc, ending, &devices, 10, b"fault input\n")?;
+    assert_stops(rt, alloc, ending, &devices, 10, b"fault input\n");
     devices.source_fails = &[];
     devices.sink_fails = calls;
-    assert_stops(rt, alloc, ending, &devices, 11, ending.output)?;
+    assert_stops(rt, alloc, ending, &devices, 11, ending.3);
     devices.sink_fails = &[];
     devices.files_fail = calls;
-    let output = b"typ it : nat\nval it = 1\nfault files\n";
-    assert_stops(rt, alloc, ending, &devices, 13, output)
+    assert_stops(rt, alloc, ending, &devices, 13, FILES_FAULT);
+}
+
+const ENDINGS: &[Ending<'static>] = &[
+    Ending(&[], SCRIPT, 0, OUTPUT),
+    Ending(&[], b"1; $", 3, b"fault text at byte 3\n"),
+    Ending(&[], b"1; 2", 4, b"fault syntax in declaration 2\n"),
+    Ending(&[], b"1; 1 = true;", 5, b"fault type in declaration 2\n"),
+    Ending(
+        &[],
+        b"1; readval \\V using NETCDF1 at (\"s.nc\",\"q\",0,1);",
+        9,
+        b"typ it : nat\nval it = 1\nfault file in declaration 2: no variable\n",
+    ),
+    Ending(
+        &["--budget", "1000"],
+        b"1; summap(fn \\x => x)!(gen!5000);",
+        12,
+        b"typ it : nat\nval it = 1\nfault budget in declaration 2\n",
+    ),
+    Ending(
+        &["--budget", "5"],
+        SCRIPT,
+        12,
+        b"typ it : nat\nval it = 1\nfault budget in declaration 2\n",
+    ),
+];
+
+fn assert_each_never<R: Threads + Sync + Abort>(rt: &R, alloc: Global, ending: &Ending<'_>) {
+    for first in 0..10 {
+        assert_never_asked_again(rt, alloc, ending, first);
+    }
 }
 
 // No call on a device follows its first failure, whatever line the run ends in. This refuses a write that is tried again after it failed,
 // a read that is, and a run that goes on reading or writing behind a failure.
 #[test]
-fn a_device_that_failed_is_not_asked_again(rt: HostRuntime) -> Result<(), Fail> {
-    let mut spent = ends_in(
-        b"1; summap(fn \\x => x)!(gen!5000);",
-        12,
-        b"typ it : nat\nval it = 1\nfault budget in declaration 2\n",
-    );
-    spent.words = &["--budget", "1000"];
-    let mut cells = ends_in(
-        SCRIPT,
-        12,
-        b"typ it : nat\nval it = 1\nfault budget in declaration 2\n",
-    );
-    cells.words = &["--budget", "5"];
-    let endings = [
-        ends_in(SCRIPT, 0, OUTPUT),
-        ends_in(b"1; $", 3, b"fault text at byte 3\n"),
-        ends_in(b"1; 2", 4, b"fault syntax in declaration 2\n"),
-        ends_in(b"1; 1 = true;", 5, b"fault type in declaration 2\n"),
-        ends_in(
-            b"1; readval \\V using NETCDF1 at (\"s.nc\",\"q\",0,1);",
-            9,
-            b"typ it : nat\nval it = 1\nfault file in declaration 2: no variable\n",
-        ),
-        spent,
-        cells,
-    ];
-    for ending in endings {
-        for first in 0..10 {
-            assert_never_asked_again(&rt, rt.alloc(), ending, first)?;
-        }
+fn a_device_that_failed_is_not_asked_again(rt: HostRuntime) {
+    for ending in ENDINGS {
+        assert_each_never(&rt, rt.alloc(), ending);
     }
-    Ok(())
 }
 
 /// Holds the pieces 0 and 1 until each has seen that the other came, or has looked often enough.
@@ -299,41 +285,52 @@ impl Gate for Meeting {
     }
 }
 
+fn no_meeting() -> Meeting {
+    Meeting {
+        first: AtomicBool::new(false),
+        second: AtomicBool::new(false),
+        first_saw: AtomicBool::new(false),
+        second_saw: AtomicBool::new(false),
+    }
+}
+
+fn has_met(gate: &Meeting) -> bool {
+    gate.first_saw.load(Ordering::SeqCst) && gate.second_saw.load(Ordering::SeqCst)
+}
+
+fn assert_meets<R: Threads + Sync + Abort>(rt: &R, alloc: Global, script: &str, output: &str) {
+    let gate = no_meeting();
+    let ran = run_over(
+        rt,
+        alloc,
+        &["--workers", "2"],
+        script.as_bytes(),
+        folder(alloc),
+        &SURE,
+        &gate,
+    );
+    assert!(rt; has_met(&gate), "{script}");
+    drop(gate);
+    assert_ran(rt, ran, 0, output.as_bytes());
+}
+
+const LOOPS: &[(&str, &str)] = &[
+    (
+        "[[i | \\i<2]];",
+        "typ it : [[nat]]_1\nval it = [[2; 0, 1]]\n",
+    ),
+    ("summap(fn \\x => x)!(gen!2);", "typ it : nat\nval it = 1\n"),
+    ("{x+1 | \\x <- gen!2};", "typ it : {nat}\nval it = {1, 2}\n"),
+    (
+        "index_1!({(0,5),(1,7)});",
+        "typ it : [[{nat}]]_1\nval it = [[2; {5}, {7}]]\n",
+    ),
+];
+
 // With two workers the two pieces of each kind of loop run beside each other.
 #[test]
-fn two_pieces_meet(rt: HostRuntime) -> Result<(), Fail> {
-    let alloc = rt.alloc();
-    let rows = [
-        (
-            "[[i | \\i<2]];",
-            "typ it : [[nat]]_1\nval it = [[2; 0, 1]]\n",
-        ),
-        ("summap(fn \\x => x)!(gen!2);", "typ it : nat\nval it = 1\n"),
-        ("{x+1 | \\x <- gen!2};", "typ it : {nat}\nval it = {1, 2}\n"),
-        (
-            "index_1!({(0,5),(1,7)});",
-            "typ it : [[{nat}]]_1\nval it = [[2; {5}, {7}]]\n",
-        ),
-    ];
-    for (script, output) in rows {
-        let gate = Meeting {
-            first: AtomicBool::new(false),
-            second: AtomicBool::new(false),
-            first_saw: AtomicBool::new(false),
-            second_saw: AtomicBool::new(false),
-        };
-        let ran = run_over(
-            &rt,
-            alloc,
-            &["--workers", "2"],
-            script.as_bytes(),
-            folder(alloc),
-            &SURE,
-            &gate,
-        );
-        assert_ran(&rt, ran, 0, output.as_bytes())?;
-        assert!(rt; gate.first_saw.load(Ordering::SeqCst), "{script}");
-        assert!(rt; gate.second_saw.load(Ordering::SeqCst), "{script}");
+fn two_pieces_meet(rt: HostRuntime) {
+    for (script, output) in LOOPS {
+        assert_meets(&rt, rt.alloc(), script, output);
     }
-    Ok(())
 }

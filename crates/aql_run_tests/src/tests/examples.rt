@@ -5,10 +5,9 @@ use aql_outside::FreeGate;
 use aql_value::Memory;
 use std::alloc::Global;
 use std::collections::BTreeMap;
-use std::test::Fail;
 
 // Temperatures of two days, a mask and depths.
-const SST: [u32; 83] = [
+const SST: &[u32] = &[
     0x43444601, 2, 0xa, 3, 4, 0x74696d65, 0, 3, 0x6c617400, 3, 3, 0x6c6f6e00, 4, 0, 0, 0xb, 3, 3,
     0x73737400, 3, 0, 1, 2, 0xc, 1, 5, 0x756e6974, 0x73000000, 2, 8, 0x302e3120, 0x64656743, 3,
     0x18, 0x11c, 3, 0x73656100, 2, 1, 2, 0, 0, 1, 0xc, 0xf8, 5, 0x64657074, 0x68000000, 2, 1, 2,
@@ -18,7 +17,7 @@ const SST: [u32; 83] = [
 ];
 
 // Signed numbers.
-const ANOMALY: [u32; 35] = [
+const ANOMALY: &[u32] = &[
     0x43444601, 0, 0xa, 2, 3, 0x6c617400, 2, 3, 0x6c6f6e00, 3, 0, 0, 0xb, 1, 7, 0x616e6f6d,
     0x616c7900, 2, 0, 1, 0xc, 1, 5, 0x756e6974, 0x73000000, 2, 8, 0x302e3120, 0x64656743, 3, 0xc,
     0x80, 0x4fff4, 0xfffd, 0x7fffb,
@@ -32,7 +31,7 @@ const STATIONS: &[u8] =
 #[derive(Clone, Copy)]
 struct Example<'a>(&'a str, &'a str);
 
-const EXAMPLES: [Example<'static>; 7] = [
+const EXAMPLES: &[Example<'static>] = &[
     Example(
         "(* Numbers, sums and products. Each declaration ends with a semicolon. *)\n1+2*3;\n6*7;\n(* The greatest natural number is 2^128-1. Past it a value is undefined. *)\n340282366920938463463374607431768211455;\n340282366920938463463374607431768211455+1;\n",
         "typ it : nat\nval it = 7\ntyp it : nat\nval it = 42\ntyp it : nat\nval it = 340282366920938463463374607431768211455\ntyp it : nat\nval it = undefined\n",
@@ -65,25 +64,23 @@ const EXAMPLES: [Example<'static>; 7] = [
 
 fn folder(alloc: Global) -> Result<Folder, Memory> {
     let none = Ok(BTreeMap::new(alloc));
-    let one = with_file(alloc, none, "sst.nc", bytes_of(alloc, &SST));
-    let two = with_file(alloc, one, "anomaly.nc", bytes_of(alloc, &ANOMALY));
+    let one = with_file(alloc, none, "sst.nc", bytes_of(alloc, SST));
+    let two = with_file(alloc, one, "anomaly.nc", bytes_of(alloc, ANOMALY));
     with_file(alloc, two, "stations.csv", bytes(alloc, STATIONS))
 }
 
 #[test]
-fn examples_print_what_stands_beside_them(rt: HostRuntime) -> Result<(), Fail> {
-    let alloc = rt.alloc();
-    for example in &EXAMPLES {
+fn examples_print_what_stands_beside_them(rt: HostRuntime) {
+    for example in EXAMPLES {
         let ran = run_over(
             &rt,
-            alloc,
+            rt.alloc(),
             &[],
             example.0.as_bytes(),
-            folder(alloc),
+            folder(rt.alloc()),
             &SURE,
             &FreeGate,
         );
-        assert_ran(&rt, ran, 0, example.1.as_bytes())?;
+        assert_ran(&rt, ran, 0, example.1.as_bytes());
     }
-    Ok(())
 }

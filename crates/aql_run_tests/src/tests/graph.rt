@@ -1,12 +1,6 @@
 // The array-free form: the line of each query, when it says `spent`, and positions that later queries use.
-use crate::tests::running::{SURE, assert_ran, run_over, run_script};
-use crate::tests::tables::folder;
-use aql_outside::FreeGate;
-use std::test::Fail;
-
-// The words behind the program's name, a script, the status, and what is written.
-#[derive(Clone, Copy)]
-struct Row<'a>(&'a [&'a str], &'a str, u8, &'a str);
+use crate::tests::running::{Row, assert_ran, assert_rows, run_script};
+use crate::tests::tables::assert_read;
 
 const GRAPH: &[&str] = &["--graph"];
 
@@ -26,7 +20,7 @@ const INDEX: &str = "index_1!({(0,5),(2,7)});";
 // Those of a subscript are the cells of the array; a literal takes none.
 const SUBSCRIPT: &str = "val \\A = [[4; 9, 8, 7, 6]]; A[2];";
 
-const ROWS: [Row<'static>; 16] = [
+const ROWS: &[Row<'static>] = &[
     Row(GRAPH, TABLE, 0, TABLE_LINES),
     Row(
         &[],
@@ -97,29 +91,25 @@ const ROWS: [Row<'static>; 16] = [
 ];
 
 #[test]
-fn the_line_stands_where_it_is_asked_for(rt: HostRuntime) -> Result<(), Fail> {
-    for row in &ROWS {
-        let ran = run_script(&rt, rt.alloc(), row.0, row.1.as_bytes());
-        assert_ran(&rt, ran, row.2, row.3.as_bytes())?;
-    }
-    Ok(())
+fn the_line_stands_where_it_is_asked_for(rt: HostRuntime) {
+    assert_rows(&rt, rt.alloc(), ROWS);
 }
 
+const BY_WORKERS: &[Row<'static>] = &[
+    Row(&["--graph", "--workers", "2"], TABLE, 0, TABLE_LINES),
+    Row(&["--graph", "--workers", "8"], TABLE, 0, TABLE_LINES),
+];
+
 #[test]
-fn workers_change_no_line(rt: HostRuntime) -> Result<(), Fail> {
-    for workers in ["2", "8"] {
-        let words = ["--graph", "--workers", workers];
-        let ran = run_script(&rt, rt.alloc(), &words, TABLE.as_bytes());
-        assert_ran(&rt, ran, 0, TABLE_LINES.as_bytes())?;
-    }
-    Ok(())
+fn workers_change_no_line(rt: HostRuntime) {
+    assert_rows(&rt, rt.alloc(), BY_WORKERS);
 }
 
 // A script with the word, and what is written.
 #[derive(Clone, Copy)]
 struct Script<'a>(&'a str, &'a str);
 
-const SCRIPTS: [Script<'static>; 12] = [
+const SCRIPTS: &[Script<'static>] = &[
     Script(
         "[[3; 5, 6, 7]][3];",
         "typ it : nat\nval it = undefined\ngraph it = undefined\n",
@@ -174,12 +164,11 @@ const SCRIPTS: [Script<'static>; 12] = [
 ];
 
 #[test]
-fn arrays_are_dimensions_and_pairs(rt: HostRuntime) -> Result<(), Fail> {
-    for script in &SCRIPTS {
+fn arrays_are_dimensions_and_pairs(rt: HostRuntime) {
+    for script in SCRIPTS {
         let ran = run_script(&rt, rt.alloc(), GRAPH, script.0.as_bytes());
-        assert_ran(&rt, ran, 0, script.1.as_bytes())?;
+        assert_ran(&rt, ran, 0, script.1.as_bytes());
     }
-    Ok(())
 }
 
 // A readval has no line, and the query over it has one.
@@ -189,15 +178,6 @@ const READ_LINES: &str =
     "typ T : {nat * string}\nval T = {(1, \"ab\"), (2, \"c,d\")}\ntyp it : [[{nat * string}]]_1\nval it = [[2; {(1, \"ab\"), (2, \"c,d\")}, {}]]\ngraph it = (2, {(0, {(1, \"ab\"), (2, \"c,d\")}), (1, {})})\n";
 
 #[test]
-fn a_readval_has_no_line(rt: HostRuntime) -> Result<(), Fail> {
-    let ran = run_over(
-        &rt,
-        rt.alloc(),
-        GRAPH,
-        READ.as_bytes(),
-        folder(rt.alloc()),
-        &SURE,
-        &FreeGate,
-    );
-    assert_ran(&rt, ran, 0, READ_LINES.as_bytes())
+fn a_readval_has_no_line(rt: HostRuntime) {
+    assert_read(&rt, rt.alloc(), &Row(GRAPH, READ, 0, READ_LINES));
 }

@@ -1,17 +1,10 @@
 // Code motion: the two lines, the turns of the term that counts, and which term that is, for one worker and for several.
-use crate::tests::running::{SURE, assert_ran, run_over, run_script};
-use crate::tests::tables::folder;
-use aql_outside::FreeGate;
-use aql_value::Memory;
-use aql_value::made::both;
+use crate::tests::running::{Row, assert_rows};
+use crate::tests::tables::assert_read;
+use crate::tests::texts::{Part, assert_parts};
 use std::alloc::Global;
 use std::process::Abort;
-use std::test::Fail;
 use std::thread::Threads;
-
-// The words behind the program's name, a script, the status, and what is written.
-#[derive(Clone, Copy)]
-struct Row<'a>(&'a [&'a str], &'a str, u8, &'a str);
 
 const BOTH: &[&str] = &["--plan", "--motion"];
 
@@ -41,7 +34,7 @@ const PLAN_ALONE: &str =
 const START_ALONE: &str =
     "val \\n = 0; ({x | \\x <- {y%2 | \\y <- gen!10}, \\z <- gen!20}, {x | \\x <- gen!n, isempty!(gen!1000)});";
 
-const ROWS: [Row<'static>; 17] = [
+const ROWS: &[Row<'static>] = &[
     Row(BOTH, OUTER, 0, OUTER_LINES),
     Row(
         &["--plan", "--motion", "--budget", "120000"],
@@ -113,20 +106,37 @@ const ROWS: [Row<'static>; 17] = [
     Row(&["--motion", "1"], "1;", 2, ""),
 ];
 
+const BY_WORKERS: &[Row<'static>] = &[
+    Row(
+        &["--plan", "--motion", "--workers", "2"],
+        OUTER,
+        0,
+        OUTER_LINES,
+    ),
+    Row(
+        &["--plan", "--motion", "--workers", "2"],
+        EMPTY,
+        0,
+        EMPTY_LINES,
+    ),
+    Row(
+        &["--plan", "--motion", "--workers", "8"],
+        OUTER,
+        0,
+        OUTER_LINES,
+    ),
+    Row(
+        &["--plan", "--motion", "--workers", "8"],
+        EMPTY,
+        0,
+        EMPTY_LINES,
+    ),
+];
+
 #[test]
-fn what_is_moved_is_shown_and_may_count(rt: HostRuntime) -> Result<(), Fail> {
-    for row in &ROWS {
-        let ran = run_script(&rt, rt.alloc(), row.0, row.1.as_bytes());
-        assert_ran(&rt, ran, row.2, row.3.as_bytes())?;
-    }
-    for workers in ["2", "8"] {
-        let words = ["--plan", "--motion", "--workers", workers];
-        let ran = run_script(&rt, rt.alloc(), &words, OUTER.as_bytes());
-        assert_ran(&rt, ran, 0, OUTER_LINES.as_bytes())?;
-        let ran = run_script(&rt, rt.alloc(), &words, EMPTY.as_bytes());
-        assert_ran(&rt, ran, 0, EMPTY_LINES.as_bytes())?;
-    }
-    Ok(())
+fn what_is_moved_is_shown_and_may_count(rt: HostRuntime) {
+    assert_rows(&rt, rt.alloc(), ROWS);
+    assert_rows(&rt, rt.alloc(), BY_WORKERS);
 }
 
 // A query behind a first declaration, and the lines of the query.
@@ -138,7 +148,7 @@ const SEVEN: &str = "val \\n = 7; ";
 const SEVEN_LINES: &str =
     "typ n : nat\nval n = 7\nplan n = 7\nrules n = none\nturns n = 0\nmoved n = 7\nmoves n = none\n";
 
-const OF_SEVEN: [Query<'static>; 4] = [
+const OF_SEVEN: &[Query<'static>] = &[
     Query(
         "summap(fn \\x => let val \\y = n%4 in y+x*y end)!(gen!3);",
         "typ it : nat\nval it = 18\nplan it = S{(let x1 = (@1 % 4) in (x1 + (x0 * x1))) | x0 in gen(3)}\nrules it = L1 L2\nturns it = 6\nmoved it = (let x0 = (@1 % 4) in S{(x0 + (x1 * x0)) | x1 in gen(3)})\nmoves it = M2\n",
@@ -163,7 +173,7 @@ const LETTER: &str = "val \\n = \"a\"; ";
 const LETTER_LINES: &str =
     "typ n : string\nval n = \"a\"\nplan n = \"a\"\nrules n = none\nturns n = 0\nmoved n = \"a\"\nmoves n = none\n";
 
-const OF_LETTER: [Query<'static>; 2] = [
+const OF_LETTER: &[Query<'static>] = &[
     Query(
         "summap(fn \\x => if n = \"b\" then x else 0)!(gen!4);",
         "typ it : nat\nval it = 0\nplan it = S{(if (@1 = \"b\") then x0 else 0) | x0 in gen(4)}\nrules it = L1\nturns it = 8\nmoved it = (if (@1 = \"b\") then S{x0 | x0 in gen(4)} else 0)\nmoves it = M1\n",
@@ -175,45 +185,31 @@ const OF_LETTER: [Query<'static>; 2] = [
     ),
 ];
 
-// One text behind another.
-fn joined(alloc: Global, first: &str, second: &str) -> Result<Vec<u8>, Memory> {
-    let mut text = first.as_bytes().to_vec(alloc)?;
-    text.extend_from_slice(second.as_bytes())?;
-    Ok(text)
-}
-
-// Fails where a run of the query behind this declaration does not write these lines and then those of the query.
+// Fails where a run of a query behind this declaration does not write these lines and then those of the query.
 fn assert_moved<R: Threads + Sync + Abort>(
     rt: &R,
     alloc: Global,
     first: &str,
     lines: &str,
-    query: &Query<'_>,
-) -> Result<(), Fail> {
-    let (script, output) = both(joined(alloc, first, query.0), joined(alloc, lines, query.1))?;
-    let ran = run_script(rt, alloc, BOTH, &script);
-    drop(script);
-    let found = assert_ran(rt, ran, 0, &output);
-    drop(output);
-    found
+    queries: &[Query<'_>],
+) {
+    for query in queries {
+        let script = &[Part(first, 1), Part(query.0, 1)];
+        assert_parts(rt, alloc, BOTH, script, &[Part(lines, 1), Part(query.1, 1)]);
+    }
 }
 
 #[test]
-fn each_move_goes_where_it_may(rt: HostRuntime) -> Result<(), Fail> {
-    for query in &OF_SEVEN {
-        assert_moved(&rt, rt.alloc(), SEVEN, SEVEN_LINES, query)?;
-    }
-    for query in &OF_LETTER {
-        assert_moved(&rt, rt.alloc(), LETTER, LETTER_LINES, query)?;
-    }
-    Ok(())
+fn each_move_goes_where_it_may(rt: HostRuntime) {
+    assert_moved(&rt, rt.alloc(), SEVEN, SEVEN_LINES, OF_SEVEN);
+    assert_moved(&rt, rt.alloc(), LETTER, LETTER_LINES, OF_LETTER);
 }
 
 // A readval of 18 bytes, whose argument takes 220 turns, and what is moved in it 40.
 const READ: &str =
     "readval \\T using CSVNS at get!({\"a.csv\" | \\x <- gen!10, \\y <- gen!10, x < 1});";
 
-const READS: [Row<'static>; 3] = [
+const READS: &[Row<'static>] = &[
     Row(
         BOTH,
         READ,
@@ -235,37 +231,25 @@ const READS: [Row<'static>; 3] = [
 ];
 
 #[test]
-fn the_argument_of_a_readval_is_moved_in(rt: HostRuntime) -> Result<(), Fail> {
-    for row in &READS {
-        let ran = run_over(
-            &rt,
-            rt.alloc(),
-            row.0,
-            row.1.as_bytes(),
-            folder(rt.alloc()),
-            &SURE,
-            &FreeGate,
-        );
-        assert_ran(&rt, ran, row.2, row.3.as_bytes())?;
+fn the_argument_of_a_readval_is_moved_in(rt: HostRuntime) {
+    for row in READS {
+        assert_read(&rt, rt.alloc(), row);
     }
-    Ok(())
 }
 
 // A set of 200 lets, each of which goes out of all unions around it.
-fn many_lets(alloc: Global) -> Result<Vec<u8>, Memory> {
-    let mut text = joined(alloc, SEVEN, "{0")?;
-    for _ in 0..200 {
-        text.extend_from_slice(b", let val \\x = n%4 in x*x end")?;
-    }
-    text.extend_from_slice(b"};")?;
-    Ok(text)
-}
+const MANY_LETS: &[Part<'static>] = &[
+    Part(SEVEN, 1),
+    Part("{0", 1),
+    Part(", let val \\x = n%4 in x*x end", 200),
+    Part("};", 1),
+];
 
 #[test]
-fn many_lets_are_moved(rt: HostRuntime) -> Result<(), Fail> {
-    let script = many_lets(rt.alloc())?;
-    let ran = run_script(&rt, rt.alloc(), &["--motion"], &script);
-    drop(script);
-    let output = "typ n : nat\nval n = 7\ntyp it : {nat}\nval it = {0, 9}\n";
-    assert_ran(&rt, ran, 0, output.as_bytes())
+fn many_lets_are_moved(rt: HostRuntime) {
+    let lines = &[Part(
+        "typ n : nat\nval n = 7\ntyp it : {nat}\nval it = {0, 9}\n",
+        1,
+    )];
+    assert_parts(&rt, rt.alloc(), &["--motion"], MANY_LETS, lines);
 }

@@ -1,29 +1,30 @@
 // Reading files: values, faults, cut files and changed headers.
-use crate::tests::running::{Folder, Ran, SURE, assert_ran, bytes, run_over};
+use crate::tests::running::{
+    Folder, Ran, SURE, assert_past, assert_ran, assert_same, bytes, run_over,
+};
 use aql_outside::FreeGate;
 use aql_value::Memory;
 use aql_value::made::both;
 use std::alloc::Global;
 use std::collections::BTreeMap;
 use std::process::Abort;
-use std::test::Fail;
 use std::thread::Threads;
 
 // One variable `v` of shorts over the record dimension `x` and `y` of length 3, with two records.
-const ONE_RECORD_VARIABLE: [u32; 27] = [
+const ONE_RECORD_VARIABLE: &[u32] = &[
     0x43444601, 2, 0xa, 2, 1, 0x78000000, 0, 1, 0x79000000, 3, 0, 0, 0xb, 1, 1, 0x76000000, 2, 0,
     1, 0, 0, 3, 8, 0x60, 0x00010002, 0x00030004, 0x00050006,
 ];
 
 // A record variable `v` of shorts, with three in a record, and one `w` of single bytes.
-const TWO_RECORD_VARIABLES: [u32; 39] = [
+const TWO_RECORD_VARIABLES: &[u32] = &[
     0x43444601, 2, 0xa, 2, 1, 0x78000000, 0, 1, 0x79000000, 3, 0, 0, 0xb, 2, 1, 0x76000000, 2, 0,
     1, 0, 0, 3, 8, 0x84, 1, 0x77000000, 1, 0, 0, 0, 1, 4, 0x8c, 0x00010002, 0x00030000, 0xff000000,
     0x00040005, 0x00060000, 0x02000000,
 ];
 
 // Times, latitudes and longitudes, and temperatures over all three with an attribute.
-const TEMPERATURES: [u32; 87] = [
+const TEMPERATURES: &[u32] = &[
     0x43444601, 4, 0xa, 3, 4, 0x74696d65, 0, 3, 0x6c617400, 2, 3, 0x6c6f6e00, 3, 0, 0, 0xb, 4, 4,
     0x74696d65, 1, 0, 0, 0, 6, 8, 0x10c, 3, 0x6c617400, 1, 1, 0, 0, 5, 8, 0xf8, 3, 0x6c6f6e00, 1,
     2, 0, 0, 5, 0xc, 0x100, 4, 0x74656d70, 3, 0, 1, 2, 0xc, 1, 0xc, 0x7363616c, 0x655f6661,
@@ -33,7 +34,7 @@ const TEMPERATURES: [u32; 87] = [
 ];
 
 // A variable `u` of three unsigned numbers of 64 bits, in version 5.
-const VERSION_5: [u32; 38] = [
+const VERSION_5: &[u32] = &[
     0x43444605, 0, 0, 0xa, 0, 1, 0, 1, 0x78000000, 0, 3, 0, 0, 0, 0xb, 0, 1, 0, 1, 0x75000000, 0,
     1, 0, 0, 0, 0, 0, 0xb, 0, 0x18, 0, 0x80, 0, 1, 0xffffffff, 0xffffffff, 0, 7,
 ];
@@ -68,27 +69,64 @@ fn folder_of(alloc: Global, bytes: Result<Vec<u8>, Memory>) -> Result<Folder, Me
     with_file(alloc, Ok(BTreeMap::new(alloc)), "s.nc", bytes)
 }
 
+// These words, of which some are changed, each at its offset in bytes.
+fn changed_words(
+    alloc: Global,
+    words: &[u32],
+    changes: &[(usize, u32)],
+) -> Result<Vec<u32>, Memory> {
+    let mut all = words.to_vec(alloc)?;
+    for (offset, word) in changes {
+        if let Some(place) = all.get_mut(*offset / 4) {
+            *place = *word;
+        }
+    }
+    Ok(all)
+}
+
+// The bytes of these words, of which some are changed.
+fn changed_bytes(
+    alloc: Global,
+    words: &[u32],
+    changes: &[(usize, u32)],
+) -> Result<Vec<u8>, Memory> {
+    let words = changed_words(alloc, words, changes)?;
+    let bytes = bytes_of(alloc, &words);
+    drop(words);
+    bytes
+}
+
+// A file of a streaming number of records.
+fn streaming(alloc: Global) -> Result<Vec<u8>, Memory> {
+    changed_bytes(alloc, ONE_RECORD_VARIABLE, &[(4, 0xffff_ffff)])
+}
+
+// A file of signed numbers.
+fn signed(alloc: Global) -> Result<Vec<u8>, Memory> {
+    changed_bytes(alloc, VERSION_5, &[(108, 0xa)])
+}
+
+// The folder with the files of the tables that have values.
+fn with_values(alloc: Global) -> Result<Folder, Memory> {
+    let all = folder_of(alloc, bytes_of(alloc, ONE_RECORD_VARIABLE));
+    let all = with_file(alloc, all, "p.nc", bytes_of(alloc, TWO_RECORD_VARIABLES));
+    let all = with_file(alloc, all, "t.nc", bytes_of(alloc, TEMPERATURES));
+    with_file(alloc, all, "v.nc", bytes_of(alloc, VERSION_5))
+}
+
 /// The files that the tables read.
 pub(crate) fn folder(alloc: Global) -> Result<Folder, Memory> {
-    let mut streaming = ONE_RECORD_VARIABLE;
-    streaming[1] = 0xffff_ffff;
-    let mut signed = VERSION_5;
-    signed[27] = 0xa;
-    let all = folder_of(alloc, bytes_of(alloc, &ONE_RECORD_VARIABLE));
-    let all = with_file(alloc, all, "p.nc", bytes_of(alloc, &TWO_RECORD_VARIABLES));
-    let all = with_file(alloc, all, "t.nc", bytes_of(alloc, &TEMPERATURES));
-    let all = with_file(alloc, all, "v.nc", bytes_of(alloc, &VERSION_5));
-    let all = with_file(alloc, all, "three", bytes(alloc, b"CDF\x03"));
+    let all = with_file(alloc, with_values(alloc), "three", bytes(alloc, b"CDF\x03"));
     let all = with_file(alloc, all, "short", bytes(alloc, b"CDF\x01"));
-    let all = with_file(alloc, all, "streaming", bytes_of(alloc, &streaming));
-    with_file(alloc, all, "signed", bytes_of(alloc, &signed))
+    let all = with_file(alloc, all, "streaming", streaming(alloc));
+    with_file(alloc, all, "signed", signed(alloc))
 }
 
 // A script and what is written; the status is 0.
 #[derive(Clone, Copy)]
 struct Row<'a>(&'a str, &'a str);
 
-const VALUES: [Row<'static>; 10] = [
+const VALUES: &[Row<'static>] = &[
     Row(
         "readval \\T using NETCDFZ3 at (\"t.nc\",\"temp\",(1,0,0),(2,2,3)); {h | [(\\h,_,_):(true,_)] <- T};",
         "typ T : [[bool * nat]]_3\nval T = [[2,2,3; (false, 1), (false, 2), (false, 3), (false, 4), (false, 5), (false, 6), (false, 3), (true, 2), (false, 0), (false, 1), (false, 1), (false, 1)]]\ntyp it : {nat}\nval it = {1}\n",
@@ -135,7 +173,7 @@ const VALUES: [Row<'static>; 10] = [
 #[derive(Clone, Copy)]
 struct Refused<'a>(&'a str, &'a str, &'a str);
 
-const FAULTS: [Refused<'static>; 13] = [
+const FAULTS: &[Refused<'static>] = &[
     Refused("NETCDF1", "(\"t.nc\",\"lat\",0,2)", "float variable"),
     Refused(
         "NETCDF2",
@@ -163,74 +201,59 @@ const READ: &[u8] = b"readval \\V using NETCDF2 at (\"s.nc\",\"v\",(0,0),(2,3));
 
 const READ_VALUE: &[u8] = b"typ V : [[nat]]_2\nval V = [[2,3; 1, 2, 3, 4, 5, 6]]\n";
 
-#[test]
-fn hyperslabs_are_read(rt: HostRuntime) -> Result<(), Fail> {
-    let alloc = rt.alloc();
-    for row in &VALUES {
-        let ran = run_over(
-            &rt,
-            alloc,
-            &[],
-            row.0.as_bytes(),
-            folder(alloc),
-            &SURE,
-            &FreeGate,
-        );
-        assert_ran(&rt, ran, 0, row.1.as_bytes())?;
-    }
-    Ok(())
+// A run of a script over the files of the tables.
+fn run_read<R: Threads + Sync>(rt: &R, alloc: Global, script: &[u8]) -> Result<Ran, Memory> {
+    run_over(rt, alloc, &[], script, folder(alloc), &SURE, &FreeGate)
 }
 
-// A run of a readval.
+#[test]
+fn hyperslabs_are_read(rt: HostRuntime) {
+    for row in VALUES {
+        let ran = run_read(&rt, rt.alloc(), row.0.as_bytes());
+        assert_ran(&rt, ran, 0, row.1.as_bytes());
+    }
+}
+
+// A readval of the reader.
+fn readval(alloc: Global, reader: &str, argument: &str) -> Result<String, Memory> {
+    Ok(format!(in alloc; "readval \\V using {reader} at {argument};")?)
+}
+
 fn read<R: Threads + Sync>(
     rt: &R,
     alloc: Global,
     reader: &str,
     argument: &str,
 ) -> Result<Ran, Memory> {
-    let script = format!(in alloc; "readval \\V using {reader} at {argument};")?;
-    let ran = run_over(
-        rt,
-        alloc,
-        &[],
-        script.as_bytes(),
-        folder(alloc),
-        &SURE,
-        &FreeGate,
-    );
+    let script = readval(alloc, reader, argument)?;
+    let ran = run_read(rt, alloc, script.as_bytes());
     drop(script);
     ran
 }
 
-// Fails where a run did not end with a fault of the file in the first declaration, of this kind.
-fn assert_refused<R: Abort>(
-    rt: &R,
-    alloc: Global,
-    ran: Result<Ran, Memory>,
-    kind: &str,
-) -> Result<(), Fail> {
-    let ran = ran?;
-    assert_eq!(rt; ran.status, 9);
-    assert!(rt; is_line(alloc, &ran.output, kind)?, "{kind}");
-    drop(ran);
-    Ok(())
+// The line of a fault of the file in the first declaration, of this kind.
+fn line(alloc: Global, kind: &str) -> Result<String, Memory> {
+    Ok(format!(in alloc; "fault file in declaration 1: {kind}\n")?)
 }
 
-// Whether a text is the line of a fault of this kind in the first declaration.
-fn is_line(alloc: Global, output: &[u8], kind: &str) -> Result<bool, Fail> {
-    let line = format!(in alloc; "fault file in declaration 1: {kind}\n")?;
-    let found = output == line.as_bytes();
+// The same, at a byte.
+fn line_at(alloc: Global, kind: &str, at: usize) -> Result<String, Memory> {
+    Ok(format!(in alloc; "fault file in declaration 1: {kind} at {at}\n")?)
+}
+
+// Fails where a run did not end with a fault of the file, or did not write this line.
+fn assert_refused<R: Abort>(rt: &R, ran: Result<Ran, Memory>, line: Result<String, Memory>) {
+    let line = line.expect(rt, "memory for a line");
+    assert_ran(rt, ran, 9, line.as_bytes());
     drop(line);
-    Ok(found)
 }
 
 #[test]
-fn files_are_refused(rt: HostRuntime) -> Result<(), Fail> {
+fn files_are_refused(rt: HostRuntime) {
     let alloc = rt.alloc();
-    for row in &FAULTS {
-        assert_refused(&rt, alloc, read(&rt, alloc, row.0, row.1), row.2)?;
+    for row in FAULTS {
+        assert_refused(&rt, read(&rt, alloc, row.0, row.1), line(alloc, row.2));
     }
-    Ok(())
 }
 
 // A run of a readval that may take five turns, over files of which the first call fails.
@@ -249,36 +272,33 @@ fn read_within_five<R: Threads + Sync>(rt: &R, alloc: Global, script: &str) -> R
 }
 
 // Fails where a run made a failing call on the files, or did not end by so many cells past the budget.
-fn assert_counted<R: Abort>(rt: &R, ran: Result<Ran, Memory>, cells: u128) -> Result<(), Fail> {
-    let ran = ran?;
-    assert_eq!(rt; ran.failures.files, 0);
-    assert_eq!(rt; ran.cells, Some(cells));
-    assert_eq!(rt; ran.answered, 0);
-    assert_ran(rt, Ok(ran), 12, b"fault budget in declaration 1\n")
+fn assert_counted<R: Abort>(rt: &R, ran: Result<Ran, Memory>, cells: u128) {
+    let ran = ran.expect(rt, "memory for a run");
+    assert_same(rt, ran.failures.files, 0);
+    assert_past(rt, ran, cells);
 }
+
+const CELLS: &[(&str, u128)] = &[
+    (
+        "readval \\V using NETCDF2 at (\"s.nc\",\"v\",(0,0),(2,3));",
+        6,
+    ),
+    (
+        "readval \\V using NETCDF2 at (\"none.nc\",\"v\",(0,0),(2,3));",
+        6,
+    ),
+    (
+        "readval \\V using NETCDF2 at (\"s.nc\",\"v\",(0,0),(340282366920938463463374607431768211455,2));",
+        u128::MAX,
+    ),
+];
 
 // The cells are counted before any call is made on the files.
 #[test]
-fn cells_are_counted_first(rt: HostRuntime) -> Result<(), Fail> {
-    let alloc = rt.alloc();
-    let rows = [
-        (
-            "readval \\V using NETCDF2 at (\"s.nc\",\"v\",(0,0),(2,3));",
-            6,
-        ),
-        (
-            "readval \\V using NETCDF2 at (\"none.nc\",\"v\",(0,0),(2,3));",
-            6,
-        ),
-        (
-            "readval \\V using NETCDF2 at (\"s.nc\",\"v\",(0,0),(340282366920938463463374607431768211455,2));",
-            u128::MAX,
-        ),
-    ];
-    for (script, cells) in rows {
-        assert_counted(&rt, read_within_five(&rt, alloc, script), cells)?;
+fn cells_are_counted_first(rt: HostRuntime) {
+    for (script, cells) in CELLS {
+        assert_counted(&rt, read_within_five(&rt, rt.alloc(), script), *cells);
     }
-    Ok(())
 }
 
 fn cut(bytes: Result<Vec<u8>, Memory>, length: usize) -> Result<Vec<u8>, Memory> {
@@ -298,77 +318,83 @@ fn read_in<R: Threads + Sync>(
     run_over(rt, alloc, &[], script, folder, &SURE, &FreeGate)
 }
 
-fn assert_refused_at<R: Abort>(
-    rt: &R,
-    alloc: Global,
-    ran: Result<Ran, Memory>,
-    kind: &str,
-    at: usize,
-) -> Result<(), Fail> {
-    let kind = format!(in alloc; "{kind} at {at}")?;
-    let refused = assert_refused(rt, alloc, ran, kind.as_str());
-    drop(kind);
-    refused
+// What is said of the file of 108 bytes, cut to this length.
+fn line_of_cut(alloc: Global, length: usize) -> Result<String, Memory> {
+    if length < 4 {
+        line(alloc, "not classic")
+    } else if length < 96 {
+        line_at(alloc, "malformed", length / 4 * 4)
+    } else {
+        line_at(alloc, "cut", length / 2 * 2)
+    }
 }
 
-// A file of 108 bytes, cut to each length; and one of version 5, cut in the offset of its variable.
+// A run over that file.
+fn read_cut<R: Threads + Sync>(rt: &R, alloc: Global, length: usize) -> Result<Ran, Memory> {
+    let bytes = cut(bytes_of(alloc, ONE_RECORD_VARIABLE), length);
+    read_in(rt, alloc, READ, bytes)
+}
+
+// A run over a file of version 5, cut in the offset of its variable.
+fn read_cut_offset<R: Threads + Sync>(rt: &R, alloc: Global) -> Result<Ran, Memory> {
+    let bytes = cut(bytes_of(alloc, VERSION_5), 122);
+    let script = b"readval \\U using NETCDF1 at (\"s.nc\",\"u\",0,3);";
+    read_in(rt, alloc, script, bytes)
+}
+
 #[test]
-fn cut_files_are_refused(rt: HostRuntime) -> Result<(), Fail> {
+fn cut_files_are_refused(rt: HostRuntime) {
     let alloc = rt.alloc();
     for length in 0..108 {
-        let bytes = cut(bytes_of(alloc, &ONE_RECORD_VARIABLE), length);
-        let ran = read_in(&rt, alloc, READ, bytes);
-        if length < 4 {
-            assert_refused(&rt, alloc, ran, "not classic")?;
-        } else if length < 96 {
-            assert_refused_at(&rt, alloc, ran, "malformed", length / 4 * 4)?;
-        } else {
-            assert_refused_at(&rt, alloc, ran, "cut", length / 2 * 2)?;
-        }
+        assert_refused(
+            &rt,
+            read_cut(&rt, alloc, length),
+            line_of_cut(alloc, length),
+        );
     }
-    let bytes = cut(bytes_of(alloc, &VERSION_5), 122);
-    let script = b"readval \\U using NETCDF1 at (\"s.nc\",\"u\",0,3);";
-    let ran = read_in(&rt, alloc, script, bytes);
-    assert_refused(&rt, alloc, ran, "malformed at 120")
+    let line = line(alloc, "malformed at 120");
+    assert_refused(&rt, read_cut_offset(&rt, alloc), line);
 }
 
-// The word of a header at an offset changed, and maybe a second word; then what is said of the file, and nothing where the
-// values are read as before.
+// Words of a header that are changed, each at its offset; then what is said of the file, and nothing where the values are read as
+// before.
 #[derive(Clone, Copy)]
-struct Changed<'a>(usize, u32, Option<(usize, u32)>, &'a str);
+struct Changed<'a>(&'a [(usize, u32)], &'a str);
 
-const CHANGED: [Changed<'static>; 14] = [
-    Changed(0, 0x43444600, None, "version 0"),
-    Changed(8, 0x0b, None, "malformed at 8"),
-    Changed(8, 0, None, "malformed at 12"),
-    Changed(12, 0x401, None, "too many in list 1"),
-    Changed(16, 0xffffffff, None, "malformed at 20"),
-    Changed(36, 0, None, "malformed at 36"),
-    Changed(40, 0x0c, None, ""),
-    Changed(40, 0x0c, Some((44, 0x2001)), "too many in list 2"),
-    Changed(52, 0x2001, None, "too many in list 3"),
-    Changed(64, 0x401, None, "too many in list 4"),
-    Changed(68, 2, None, "malformed at 68"),
-    Changed(68, 1, Some((72, 0)), "malformed at 72"),
-    Changed(84, 7, None, "malformed at 84"),
-    Changed(92, 0xfffffff0, None, "cut at 4294967280"),
+const CHANGED: &[Changed<'static>] = &[
+    Changed(&[(0, 0x43444600)], "version 0"),
+    Changed(&[(8, 0x0b)], "malformed at 8"),
+    Changed(&[(8, 0)], "malformed at 12"),
+    Changed(&[(12, 0x401)], "too many in list 1"),
+    Changed(&[(16, 0xffffffff)], "malformed at 20"),
+    Changed(&[(36, 0)], "malformed at 36"),
+    Changed(&[(40, 0x0c)], ""),
+    Changed(&[(40, 0x0c), (44, 0x2001)], "too many in list 2"),
+    Changed(&[(52, 0x2001)], "too many in list 3"),
+    Changed(&[(64, 0x401)], "too many in list 4"),
+    Changed(&[(68, 2)], "malformed at 68"),
+    Changed(&[(68, 1), (72, 0)], "malformed at 72"),
+    Changed(&[(84, 7)], "malformed at 84"),
+    Changed(&[(92, 0xfffffff0)], "cut at 4294967280"),
 ];
 
-#[test]
-fn changed_headers_are_refused(rt: HostRuntime) -> Result<(), Fail> {
-    let alloc = rt.alloc();
-    for row in &CHANGED {
-        let mut words = ONE_RECORD_VARIABLE;
-        words[row.0 / 4] = row.1;
-        if let Some((offset, word)) = row.2 {
-            words[offset / 4] = word;
-        }
-        let ran = read_in(&rt, alloc, READ, bytes_of(alloc, &words));
-        if row.3.is_empty() {
-            assert_ran(&rt, ran, 0, READ_VALUE)?;
-        } else {
-            assert_refused(&rt, alloc, ran, row.3)?;
-        }
+fn assert_changed<R: Threads + Sync + Abort>(rt: &R, alloc: Global, row: &Changed<'_>) {
+    let ran = read_in(
+        rt,
+        alloc,
+        READ,
+        changed_bytes(alloc, ONE_RECORD_VARIABLE, row.0),
+    );
+    if row.1.is_empty() {
+        assert_ran(rt, ran, 0, READ_VALUE);
+    } else {
+        assert_refused(rt, ran, line(alloc, row.1));
     }
-    Ok(())
+}
+
+#[test]
+fn changed_headers_are_refused(rt: HostRuntime) {
+    for row in CHANGED {
+        assert_changed(&rt, rt.alloc(), row);
+    }
 }

@@ -1,14 +1,15 @@
 // Queries with their values and turns, for one worker and for several; plans; and which term counts.
-use crate::tests::running::{Ran, assert_ran, run_script};
+use crate::tests::running::{Ran, Row, assert_rows, assert_same, run_script};
 use aql_value::Memory;
+use std::alloc::Global;
 use std::process::Abort;
-use std::test::Fail;
+use std::thread::Threads;
 
 // A query, and the lines behind its type: the value, and last the turns.
 #[derive(Clone, Copy)]
 struct Query<'a>(&'a str, &'a str, &'a str);
 
-const QUERIES: [Query<'static>; 25] = [
+const QUERIES: &[Query<'static>] = &[
     Query("1+2*3;", "val it = 7\n", "turns it = 0\n"),
     Query(
         "{x*x | \\x <- gen!4};",
@@ -117,33 +118,31 @@ const QUERIES: [Query<'static>; 25] = [
 ];
 
 // Fails where a run did not end well with the turns of the query, or did not write its value.
-fn assert_answered<R: Abort>(
-    rt: &R,
-    ran: Result<Ran, Memory>,
-    query: &Query<'_>,
-) -> Result<(), Fail> {
-    let ran = ran?;
-    assert_eq!(rt; ran.status, 0);
-    assert!(rt; ran.output.ends_with(query.2.as_bytes()), "{}", query.0);
-    assert!(rt; holds(&ran.output, query.1.as_bytes()), "{}", query.0);
+fn assert_answers<R: Abort>(rt: &R, ran: Result<Ran, Memory>, query: &Query<'_>) {
+    let ran = ran.expect(rt, "memory for a run");
+    assert_same(rt, ran.status, 0);
+    let has_turns = ran.output.ends_with(query.2.as_bytes());
+    let has_value = holds(&ran.output, query.1.as_bytes());
     drop(ran);
-    Ok(())
+    assert!(rt; has_turns && has_value, "{}", query.0);
+}
+
+fn assert_answered<R: Threads + Sync + Abort>(
+    rt: &R,
+    alloc: Global,
+    query: &Query<'_>,
+    workers: &str,
+) {
+    let words = ["--plan", "--workers", workers];
+    assert_answers(rt, run_script(rt, alloc, &words, query.0.as_bytes()), query);
 }
 
 #[test]
-fn queries_have_their_values_and_turns(rt: HostRuntime) -> Result<(), Fail> {
-    for query in &QUERIES {
-        for workers in ["1", "3"] {
-            let ran = run_script(
-                &rt,
-                rt.alloc(),
-                &["--plan", "--workers", workers],
-                query.0.as_bytes(),
-            );
-            assert_answered(&rt, ran, query)?;
-        }
+fn queries_have_their_values_and_turns(rt: HostRuntime) {
+    for query in QUERIES {
+        assert_answered(&rt, rt.alloc(), query, "1");
+        assert_answered(&rt, rt.alloc(), query, "3");
     }
-    Ok(())
 }
 
 // Whether a text stands in another.
@@ -156,82 +155,93 @@ fn holds(text: &[u8], part: &[u8]) -> bool {
     false
 }
 
-#[test]
-fn plans_are_normal_forms(rt: HostRuntime) -> Result<(), Fail> {
-    let rows = [
-        (
-            "len!([[i | \\i<1000000000000]]);",
-            "typ it : nat\nval it = 1000000000000\nplan it = 1000000000000\nrules it = A3\nturns it = 0\n",
-        ),
-        (
-            "[[(i,i) | \\i<10]][3];",
-            "typ it : nat * nat\nval it = (3, 3)\nplan it = (3, 3)\nrules it = A1 L1 K1 I1\nturns it = 0\n",
-        ),
-        (
-            "summap(fn \\x => [[j | \\j<1000000000000]][x])!(gen!3);",
-            "typ it : nat\nval it = 3\nplan it = S{x0 | x0 in gen(3)}\nrules it = L1 A1 L1 C4 I1\nturns it = 6\n",
-        ),
-        (
-            "summap(fn \\x => x)!({y | \\y <- gen!3});",
-            "typ it : nat\nval it = 3\nplan it = S{x0 | x0 in gen(3)}\nrules it = L1 S6 L1\nturns it = 6\n",
-        ),
-        (
-            "len!([[10/i | \\i<3]]);",
-            "typ it : nat\nval it = undefined\nplan it = dim_1([[(10 / x0) | x0<3]])\nrules it = none\nturns it = 3\n",
-        ),
-        (
-            "len!([[i*i | \\i<18446744073709551616]]);",
-            "typ it : nat\nval it = 18446744073709551616\nplan it = 18446744073709551616\nrules it = A3\nturns it = 0\n",
-        ),
-        (
-            "len!([[10/i | \\i<3]]) default 0;",
-            "typ it : nat\nval it = 0\nplan it = (dim_1([[(10 / x0) | x0<3]]) default 0)\nrules it = none\nturns it = 3\n",
-        ),
-        (
-            "1 default 1/0;",
-            "typ it : nat\nval it = 1\nplan it = 1\nrules it = N2\nturns it = 0\n",
-        ),
-        (
-            "let val \\x = 1/0 in x default 3 end;",
-            "typ it : nat\nval it = undefined\nplan it = undefined\nrules it = L2 K1 B1\nturns it = 0\n",
-        ),
-    ];
-    for (script, output) in rows {
-        let ran = run_script(&rt, rt.alloc(), &["--plan"], script.as_bytes());
-        assert_ran(&rt, ran, 0, output.as_bytes())?;
-    }
-    Ok(())
-}
+const PLANS: &[Row<'static>] = &[
+    Row(
+        &["--plan"],
+        "len!([[i | \\i<1000000000000]]);",
+        0,
+        "typ it : nat\nval it = 1000000000000\nplan it = 1000000000000\nrules it = A3\nturns it = 0\n",
+    ),
+    Row(
+        &["--plan"],
+        "[[(i,i) | \\i<10]][3];",
+        0,
+        "typ it : nat * nat\nval it = (3, 3)\nplan it = (3, 3)\nrules it = A1 L1 K1 I1\nturns it = 0\n",
+    ),
+    Row(
+        &["--plan"],
+        "summap(fn \\x => [[j | \\j<1000000000000]][x])!(gen!3);",
+        0,
+        "typ it : nat\nval it = 3\nplan it = S{x0 | x0 in gen(3)}\nrules it = L1 A1 L1 C4 I1\nturns it = 6\n",
+    ),
+    Row(
+        &["--plan"],
+        "summap(fn \\x => x)!({y | \\y <- gen!3});",
+        0,
+        "typ it : nat\nval it = 3\nplan it = S{x0 | x0 in gen(3)}\nrules it = L1 S6 L1\nturns it = 6\n",
+    ),
+    Row(
+        &["--plan"],
+        "len!([[10/i | \\i<3]]);",
+        0,
+        "typ it : nat\nval it = undefined\nplan it = dim_1([[(10 / x0) | x0<3]])\nrules it = none\nturns it = 3\n",
+    ),
+    Row(
+        &["--plan"],
+        "len!([[i*i | \\i<18446744073709551616]]);",
+        0,
+        "typ it : nat\nval it = 18446744073709551616\nplan it = 18446744073709551616\nrules it = A3\nturns it = 0\n",
+    ),
+    Row(
+        &["--plan"],
+        "len!([[10/i | \\i<3]]) default 0;",
+        0,
+        "typ it : nat\nval it = 0\nplan it = (dim_1([[(10 / x0) | x0<3]]) default 0)\nrules it = none\nturns it = 3\n",
+    ),
+    Row(
+        &["--plan"],
+        "1 default 1/0;",
+        0,
+        "typ it : nat\nval it = 1\nplan it = 1\nrules it = N2\nturns it = 0\n",
+    ),
+    Row(
+        &["--plan"],
+        "let val \\x = 1/0 in x default 3 end;",
+        0,
+        "typ it : nat\nval it = undefined\nplan it = undefined\nrules it = L2 K1 B1\nturns it = 0\n",
+    ),
+];
 
 #[test]
-fn both_terms_are_held_against_the_budget(rt: HostRuntime) -> Result<(), Fail> {
+fn plans_are_normal_forms(rt: HostRuntime) {
+    assert_rows(&rt, rt.alloc(), PLANS);
+}
+
+const BUDGETS: &[Row<'static>] = &[
     // Neither has turns within it: the cells of the tabulation may have no value.
-    let ran = run_script(
-        &rt,
-        rt.alloc(),
+    Row(
         &["--plan"],
-        b"len!([[i*i | \\i<18446744073709551617]]);",
-    );
-    assert_ran(&rt, ran, 12, b"fault budget in declaration 1\n")?;
+        "len!([[i*i | \\i<18446744073709551617]]);",
+        12,
+        "fault budget in declaration 1\n",
+    ),
     // The plan has, and the term that was translated has not.
-    let ran = run_script(
-        &rt,
-        rt.alloc(),
+    Row(
         &["--plan", "--budget", "6"],
-        b"summap(fn \\x => [[j | \\j<1000]][x])!(gen!3);",
-    );
-    assert_ran(
-        &rt,
-        ran,
+        "summap(fn \\x => [[j | \\j<1000]][x])!(gen!3);",
         0,
-        b"typ it : nat\nval it = 3\nplan it = S{x0 | x0 in gen(3)}\nrules it = L1 A1 L1 C4 I1\nturns it = 6\n",
-    )?;
+        "typ it : nat\nval it = 3\nplan it = S{x0 | x0 in gen(3)}\nrules it = L1 A1 L1 C4 I1\nturns it = 6\n",
+    ),
     // One turn less, and neither has.
-    let ran = run_script(
-        &rt,
-        rt.alloc(),
+    Row(
         &["--budget", "5"],
-        b"summap(fn \\x => [[j | \\j<1000]][x])!(gen!3);",
-    );
-    assert_ran(&rt, ran, 12, b"fault budget in declaration 1\n")
+        "summap(fn \\x => [[j | \\j<1000]][x])!(gen!3);",
+        12,
+        "fault budget in declaration 1\n",
+    ),
+];
+
+#[test]
+fn both_terms_are_held_against_the_budget(rt: HostRuntime) {
+    assert_rows(&rt, rt.alloc(), BUDGETS);
 }

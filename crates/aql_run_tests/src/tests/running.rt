@@ -1,12 +1,12 @@
 // A run of the program over devices in memory.
 use aql_outside::{Files, FreeGate, Gate, MemFiles, MemSink, MemSource};
-use aql_run::{Stop, run};
+use aql_run::{Report, Stop, run};
 use aql_value::Memory;
 use aql_value::made::both;
 use std::alloc::Global;
 use std::collections::BTreeMap;
+use std::fmt::Debug;
 use std::process::Abort;
-use std::test::Fail;
 use std::thread::Threads;
 
 /// How often the devices give or take a few bytes, and which of their calls fail.
@@ -66,14 +66,14 @@ fn source_of(alloc: Global, script: &[u8], devices: &Devices<'_>) -> Result<MemS
         list(alloc, devices.pieces),
         list(alloc, devices.source_fails),
     );
-    let (content, (pieces, fails)) = both(bytes(alloc, script), lists)?;
-    Ok(MemSource::cut(content, pieces, fails))
+    let (content, lists) = both(bytes(alloc, script), lists)?;
+    Ok(MemSource::cut(content, lists.0, lists.1))
 }
 
 fn sink_of(alloc: Global, devices: &Devices<'_>) -> Result<MemSink, Memory> {
     let lists = both(list(alloc, devices.pieces), list(alloc, devices.sink_fails));
-    let (room, (pieces, fails)) = both(room(alloc), lists)?;
-    Ok(MemSink::cut(room, pieces, fails))
+    let (room, lists) = both(room(alloc), lists)?;
+    Ok(MemSink::cut(room, lists.0, lists.1))
 }
 
 fn files_of(
@@ -90,21 +90,89 @@ fn put_word(alloc: Global, all: &mut Vec<String>, word: &str) -> Result<(), Memo
     Ok(())
 }
 
+fn put_words(alloc: Global, all: &mut Vec<String>, words: &[&str]) -> Result<(), Memory> {
+    for word in words {
+        put_word(alloc, all, word)?;
+    }
+    Ok(())
+}
+
 fn all_words(alloc: Global, words: &[&str]) -> Result<Vec<String>, Memory> {
     let mut all = Vec::new(alloc);
     put_word(alloc, &mut all, "aql")?;
-    for word in words {
-        put_word(alloc, &mut all, word)?;
-    }
+    put_words(alloc, &mut all, words)?;
     Ok(all)
 }
 
-// The cells that a readval asked for, where a run ended by them.
+// How a run ended: its status, how many declarations were answered, and the cells that a readval asked for, where it ended by them.
+#[derive(Clone, Copy)]
+struct Ended {
+    status: u8,
+    answered: usize,
+    cells: Option<u128>,
+}
+
 fn cells_of(stop: &Stop) -> Option<u128> {
     match stop {
         Stop::Cells { cells } => Some(*cells),
         _ => None,
     }
+}
+
+fn ended_by(report: Report) -> Ended {
+    let ended = Ended {
+        status: report.status,
+        answered: report.answers.items.len(),
+        cells: cells_of(&report.stop),
+    };
+    drop(report);
+    ended
+}
+
+// A run that ended so, wrote this, and in which so many calls failed.
+fn ran_to(
+    ended: Ended,
+    written: Result<Vec<u8>, Memory>,
+    failures: Failures,
+) -> Result<Ran, Memory> {
+    let output = written?;
+    Ok(Ran {
+        status: ended.status,
+        output,
+        failures,
+        answered: ended.answered,
+        cells: ended.cells,
+    })
+}
+
+// Runs the program over these devices; of the files it tells no failing call.
+fn run_in<R: Threads + Sync, F: Files, G: Gate>(
+    rt: &R,
+    alloc: Global,
+    words: Vec<String>,
+    streams: (MemSource, MemSink),
+    files: &mut F,
+    gate: &G,
+) -> Result<Ran, Memory> {
+    let (mut input, mut output) = streams;
+    let ended = ended_by(run(rt, alloc, &words, &mut input, &mut output, files, gate));
+    drop(words);
+    let written = bytes(alloc, output.written());
+    let failures = Failures {
+        source: input.faults(),
+        sink: output.faults(),
+        files: 0,
+    };
+    drop(input);
+    drop(output);
+    ran_to(ended, written, failures)
+}
+
+// The same run, in which so many calls on the files failed.
+fn with_faults(ran: Result<Ran, Memory>, faults: u64) -> Result<Ran, Memory> {
+    let mut ran = ran?;
+    ran.failures.files = faults;
+    Ok(ran)
 }
 
 /// Runs a script with these words behind the program's name, over these files.
@@ -118,38 +186,12 @@ pub(crate) fn run_over<R: Threads + Sync, G: Gate>(
     gate: &G,
 ) -> Result<Ran, Memory> {
     let streams = both(source_of(alloc, script, devices), sink_of(alloc, devices));
-    let outside = both(streams, files_of(alloc, folder, devices));
-    let (((mut input, mut output), mut files), all) = both(outside, all_words(alloc, words))?;
-    let report = run(
-        rt,
-        alloc,
-        all.as_slice(),
-        &mut input,
-        &mut output,
-        &mut files,
-        gate,
-    );
-    let status = report.status;
-    let answered = report.answers.items.len();
-    let cells = cells_of(&report.stop);
-    drop(report);
-    drop(all);
-    let written = output.written().to_vec(alloc);
-    let failures = Failures {
-        source: input.faults(),
-        sink: output.faults(),
-        files: files.faults(),
-    };
-    drop(input);
-    drop(output);
+    let inside = both(streams, all_words(alloc, words));
+    let (inside, mut files) = both(inside, files_of(alloc, folder, devices))?;
+    let ran = run_in(rt, alloc, inside.1, inside.0, &mut files, gate);
+    let faults = files.faults();
     drop(files);
-    Ok(Ran {
-        status,
-        output: written?,
-        failures,
-        answered,
-        cells,
-    })
+    with_faults(ran, faults)
 }
 
 /// Runs a script over files that no call of `run_over` makes, and streams that never fail.
@@ -157,39 +199,14 @@ pub(crate) fn run_files<R: Threads + Sync, F: Files + Drop>(
     rt: &R,
     alloc: Global,
     script: &[u8],
-    files: F,
+    files: Result<F, Memory>,
 ) -> Result<Ran, Memory> {
-    let mut files = files;
     let streams = both(source_of(alloc, script, &SURE), sink_of(alloc, &SURE));
-    let ((mut input, mut output), all) = both(streams, all_words(alloc, &[]))?;
-    let report = run(
-        rt,
-        alloc,
-        all.as_slice(),
-        &mut input,
-        &mut output,
-        &mut files,
-        &FreeGate,
-    );
-    let status = report.status;
-    let answered = report.answers.items.len();
-    let cells = cells_of(&report.stop);
-    drop(report);
-    drop(all);
-    let written = output.written().to_vec(alloc);
-    drop(input);
-    drop(output);
-    Ok(Ran {
-        status,
-        output: written?,
-        failures: Failures {
-            source: 0,
-            sink: 0,
-            files: 0,
-        },
-        answered,
-        cells,
-    })
+    let inside = both(streams, all_words(alloc, &[]));
+    let (inside, mut files) = both(inside, files)?;
+    let ran = run_in(rt, alloc, inside.1, inside.0, &mut files, &FreeGate);
+    drop(files);
+    ran
 }
 
 /// Runs a script without files over devices that never fail.
@@ -203,16 +220,34 @@ pub(crate) fn run_script<R: Threads + Sync>(
     run_over(rt, alloc, words, script, folder, &SURE, &FreeGate)
 }
 
+/// What was found is what is wanted. As a call: a test that makes several has no early end of its own for each of them.
+pub(crate) fn assert_same<R: Abort, T: PartialEq + Debug + Copy>(rt: &R, found: T, wanted: T) {
+    assert_eq!(rt; found, wanted);
+}
+
 /// Fails where a run did not end with this status, or did not write this.
-pub(crate) fn assert_ran<R: Abort>(
-    rt: &R,
-    ran: Result<Ran, Memory>,
-    status: u8,
-    output: &[u8],
-) -> Result<(), Fail> {
-    let ran = ran?;
-    assert_eq!(rt; ran.status, status);
-    assert_eq!(rt; ran.output.as_slice(), output);
+pub(crate) fn assert_ran<R: Abort>(rt: &R, ran: Result<Ran, Memory>, status: u8, output: &[u8]) {
+    let ran = ran.expect(rt, "memory for a run");
+    assert_same(rt, ran.status, status);
+    assert_same(rt, ran.output.as_slice(), output);
     drop(ran);
-    Ok(())
+}
+
+/// Fails where a run did not end in the first declaration, by so many cells or bytes past the budget.
+pub(crate) fn assert_past<R: Abort>(rt: &R, ran: Ran, cells: u128) {
+    assert_same(rt, ran.cells, Some(cells));
+    assert_same(rt, ran.answered, 0);
+    assert_ran(rt, Ok(ran), 12, b"fault budget in declaration 1\n");
+}
+
+/// The words behind the program's name, a script, the status of its run, and what is written.
+#[derive(Clone, Copy)]
+pub(crate) struct Row<'a>(pub &'a [&'a str], pub &'a str, pub u8, pub &'a str);
+
+/// Fails where a run of a script without files is not as its row says.
+pub(crate) fn assert_rows<R: Threads + Sync + Abort>(rt: &R, alloc: Global, rows: &[Row<'_>]) {
+    for row in rows {
+        let ran = run_script(rt, alloc, row.0, row.1.as_bytes());
+        assert_ran(rt, ran, row.2, row.3.as_bytes());
+    }
 }

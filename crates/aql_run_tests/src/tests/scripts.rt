@@ -1,12 +1,14 @@
 // Scripts without files, and what they print.
 use crate::tests::running::{assert_ran, run_script};
-use std::test::Fail;
+use std::alloc::Global;
+use std::process::Abort;
+use std::thread::Threads;
 
 // A script, the status of its run, and what is written.
 #[derive(Clone, Copy)]
 struct Row<'a>(&'a str, u8, &'a str);
 
-const NUMBERS: [Row<'static>; 11] = [
+const NUMBERS: &[Row<'static>] = &[
     Row("1+2*3;", 0, "typ it : nat\nval it = 7\n"),
     Row("", 0, ""),
     Row("3-5;", 0, "typ it : nat\nval it = 0\n"),
@@ -32,7 +34,7 @@ const NUMBERS: [Row<'static>; 11] = [
     ),
 ];
 
-const SETS_AND_ARRAYS: [Row<'static>; 17] = [
+const SETS_AND_ARRAYS: &[Row<'static>] = &[
     Row(
         "{x*x | \\x <- gen!4};",
         0,
@@ -108,7 +110,7 @@ const SETS_AND_ARRAYS: [Row<'static>; 17] = [
     ),
 ];
 
-const NAMES: [Row<'static>; 10] = [
+const NAMES: &[Row<'static>] = &[
     Row(
         "macro \\f = fn \\a => {a+b | \\b <- gen!2}; {x | \\b <- gen!3, \\x <- f!b};",
         0,
@@ -149,29 +151,25 @@ const NAMES: [Row<'static>; 10] = [
     ),
 ];
 
-#[test]
-fn numbers(rt: HostRuntime) -> Result<(), Fail> {
-    for row in &NUMBERS {
-        let ran = run_script(&rt, rt.alloc(), &[], row.0.as_bytes());
-        assert_ran(&rt, ran, row.1, row.2.as_bytes())?;
+// Fails where the run of a script is not as its row says.
+fn assert_scripts<R: Threads + Sync + Abort>(rt: &R, alloc: Global, rows: &[Row<'_>]) {
+    for row in rows {
+        let ran = run_script(rt, alloc, &[], row.0.as_bytes());
+        assert_ran(rt, ran, row.1, row.2.as_bytes());
     }
-    Ok(())
 }
 
 #[test]
-fn sets_and_arrays(rt: HostRuntime) -> Result<(), Fail> {
-    for row in &SETS_AND_ARRAYS {
-        let ran = run_script(&rt, rt.alloc(), &[], row.0.as_bytes());
-        assert_ran(&rt, ran, row.1, row.2.as_bytes())?;
-    }
-    Ok(())
+fn numbers(rt: HostRuntime) {
+    assert_scripts(&rt, rt.alloc(), NUMBERS);
 }
 
 #[test]
-fn names(rt: HostRuntime) -> Result<(), Fail> {
-    for row in &NAMES {
-        let ran = run_script(&rt, rt.alloc(), &[], row.0.as_bytes());
-        assert_ran(&rt, ran, row.1, row.2.as_bytes())?;
-    }
-    Ok(())
+fn sets_and_arrays(rt: HostRuntime) {
+    assert_scripts(&rt, rt.alloc(), SETS_AND_ARRAYS);
+}
+
+#[test]
+fn names(rt: HostRuntime) {
+    assert_scripts(&rt, rt.alloc(), NAMES);
 }

@@ -1,11 +1,12 @@
 // Files of records: values, plans, turns, faults, the budget, devices that fail or give few bytes.
 use crate::tests::netcdf::{folder as grids, with_file};
-use crate::tests::running::{Folder, Ran, SURE, assert_ran, bytes, run_files, run_over};
+use crate::tests::running::{
+    Folder, Ran, Row, SURE, assert_past, assert_ran, assert_same, bytes, run_files, run_over,
+};
 use aql_outside::{Failed, Files, FreeGate, SureFiles};
 use aql_value::Memory;
 use std::alloc::Global;
 use std::process::Abort;
-use std::test::Fail;
 use std::thread::Threads;
 
 // Three records, of which two are alike, in 18 bytes.
@@ -25,11 +26,7 @@ pub(crate) fn folder(alloc: Global) -> Result<Folder, Memory> {
     )
 }
 
-// A script with the words behind the program's name, its status and what is written.
-#[derive(Clone, Copy)]
-struct Row<'a>(&'a [&'a str], &'a str, u8, &'a str);
-
-const ROWS: [Row<'static>; 20] = [
+const ROWS: &[Row<'static>] = &[
     Row(
         &["--plan"],
         "readval \\T using CSVNS at \"a.csv\";",
@@ -160,60 +157,49 @@ const ROWS: [Row<'static>; 20] = [
     ),
 ];
 
-#[test]
-fn records_are_read(rt: HostRuntime) -> Result<(), Fail> {
-    let alloc = rt.alloc();
-    for row in &ROWS {
-        let ran = run_over(
-            &rt,
-            alloc,
-            row.0,
-            row.1.as_bytes(),
-            folder(alloc),
-            &SURE,
-            &FreeGate,
-        );
-        assert_ran(&rt, ran, row.2, row.3.as_bytes())?;
-    }
-    Ok(())
-}
-
-// Fails where a run did not end by so many bytes past the budget.
-fn assert_long<R: Abort>(rt: &R, ran: Result<Ran, Memory>, bytes: u128) -> Result<(), Fail> {
-    let ran = ran?;
-    assert_eq!(rt; ran.cells, Some(bytes));
-    assert_eq!(rt; ran.answered, 0);
-    assert_ran(rt, Ok(ran), 12, b"fault budget in declaration 1\n")
-}
-
-// The turns of an argument and the bytes of the file are added; a file past the budget is told by its size.
-#[test]
-fn bytes_are_turns(rt: HostRuntime) -> Result<(), Fail> {
-    let alloc = rt.alloc();
-    let script =
-        b"readval \\T using CSVNS at (if summap(fn \\x => x)!(gen!3) = 3 then \"a.csv\" else \"b\");";
+/// Fails where the run of a script over the files is not as its row says.
+pub(crate) fn assert_read<R: Threads + Sync + Abort>(rt: &R, alloc: Global, row: &Row<'_>) {
     let ran = run_over(
-        &rt,
+        rt,
         alloc,
-        &["--plan"],
-        script,
-        folder(alloc),
-        &SURE,
-        &FreeGate,
-    )?;
-    assert_eq!(rt; ran.status, 0);
-    assert!(rt; ran.output.ends_with(b"turns T = 24\n"));
-    drop(ran);
-    let ran = run_over(
-        &rt,
-        alloc,
-        &["--budget", "17"],
-        script,
+        row.0,
+        row.1.as_bytes(),
         folder(alloc),
         &SURE,
         &FreeGate,
     );
-    assert_long(&rt, ran, 18)
+    assert_ran(rt, ran, row.2, row.3.as_bytes());
+}
+
+#[test]
+fn records_are_read(rt: HostRuntime) {
+    for row in ROWS {
+        assert_read(&rt, rt.alloc(), row);
+    }
+}
+
+// A run of the script with these words.
+fn run_turns<R: Threads + Sync>(rt: &R, alloc: Global, words: &[&str]) -> Result<Ran, Memory> {
+    let script =
+        b"readval \\T using CSVNS at (if summap(fn \\x => x)!(gen!3) = 3 then \"a.csv\" else \"b\");";
+    run_over(rt, alloc, words, script, folder(alloc), &SURE, &FreeGate)
+}
+
+// Fails where a run did not end well, or its last line is not this.
+fn assert_ends<R: Abort>(rt: &R, ran: Result<Ran, Memory>, line: &[u8]) {
+    let ran = ran.expect(rt, "memory for a run");
+    assert_same(rt, ran.status, 0);
+    assert!(rt; ran.output.ends_with(line));
+    drop(ran);
+}
+
+// The turns of an argument and the bytes of the file are added; a file past the budget is told by its size.
+#[test]
+fn bytes_are_turns(rt: HostRuntime) {
+    let alloc = rt.alloc();
+    assert_ends(&rt, run_turns(&rt, alloc, &["--plan"]), b"turns T = 24\n");
+    let ran = run_turns(&rt, alloc, &["--budget", "17"]);
+    assert_past(&rt, ran.expect(&rt, "memory for a run"), 18);
 }
 
 const SCRIPT: &[u8] = b"1; readval \\T using CSVNS at \"a.csv\";";
@@ -221,23 +207,30 @@ const SCRIPT: &[u8] = b"1; readval \\T using CSVNS at \"a.csv\";";
 const OUTPUT: &[u8] =
     b"typ it : nat\nval it = 1\ntyp T : {nat * string}\nval T = {(1, \"ab\"), (2, \"c,d\")}\n";
 
+// A run in which the call on the files of this number is to fail.
+fn run_failing<R: Threads + Sync>(rt: &R, alloc: Global, k: u64) -> Result<Ran, Memory> {
+    let fails = [k];
+    let mut devices = SURE;
+    devices.files_fail = &fails;
+    run_over(rt, alloc, &[], SCRIPT, folder(alloc), &devices, &FreeGate)
+}
+
+// Fails where a run did not end by a failure of the files.
+fn assert_failed<R: Abort>(rt: &R, ran: Result<Ran, Memory>) {
+    let ran = ran.expect(rt, "memory for a run");
+    assert_same(rt, ran.failures.files, 1);
+    assert_ran(rt, Ok(ran), 13, b"typ it : nat\nval it = 1\nfault files\n");
+}
+
 // Two calls are made on the files, for the size and for the bytes. Each fails in turn.
 #[test]
-fn calls_fail(rt: HostRuntime) -> Result<(), Fail> {
-    let alloc = rt.alloc();
-    for k in 1..5 {
-        let fails = [k];
-        let mut devices = SURE;
-        devices.files_fail = &fails;
-        let ran = run_over(&rt, alloc, &[], SCRIPT, folder(alloc), &devices, &FreeGate)?;
-        if k < 3 {
-            assert_eq!(rt; ran.failures.files, 1);
-            assert_ran(&rt, Ok(ran), 13, b"typ it : nat\nval it = 1\nfault files\n")?;
-        } else {
-            assert_ran(&rt, Ok(ran), 0, OUTPUT)?;
-        }
+fn calls_fail(rt: HostRuntime) {
+    for k in 1..3 {
+        assert_failed(&rt, run_failing(&rt, rt.alloc(), k));
     }
-    Ok(())
+    for k in 3..5 {
+        assert_ran(&rt, run_failing(&rt, rt.alloc(), k), 0, OUTPUT);
+    }
 }
 
 // Files whose reads give at most so many bytes, which tell none.
@@ -267,39 +260,37 @@ impl Files for Few {
     }
 }
 
-// A run over files whose reads give at most so many bytes.
-fn run_cut<R: Threads + Sync>(rt: &R, alloc: Global, most: usize) -> Result<Ran, Memory> {
-    let files = Few {
+fn few_of(alloc: Global, most: usize) -> Result<Few, Memory> {
+    Ok(Few {
         files: SureFiles::new(folder(alloc)?),
         most,
-    };
-    run_files(rt, alloc, SCRIPT, files)
+    })
 }
+
+const CUTS: &[(usize, u8, &[u8])] = &[
+    (
+        0,
+        9,
+        b"typ it : nat\nval it = 1\nfault file in declaration 2: cut at 0\n",
+    ),
+    (
+        7,
+        9,
+        b"typ it : nat\nval it = 1\nfault file in declaration 2: cut at 7\n",
+    ),
+    (
+        17,
+        9,
+        b"typ it : nat\nval it = 1\nfault file in declaration 2: cut at 17\n",
+    ),
+    (18, 0, OUTPUT),
+];
 
 // A file that ends before its size is cut, whatever its records.
 #[test]
-fn cut_files(rt: HostRuntime) -> Result<(), Fail> {
-    let alloc = rt.alloc();
-    let rows: [(usize, u8, &[u8]); 4] = [
-        (
-            0,
-            9,
-            b"typ it : nat\nval it = 1\nfault file in declaration 2: cut at 0\n",
-        ),
-        (
-            7,
-            9,
-            b"typ it : nat\nval it = 1\nfault file in declaration 2: cut at 7\n",
-        ),
-        (
-            17,
-            9,
-            b"typ it : nat\nval it = 1\nfault file in declaration 2: cut at 17\n",
-        ),
-        (18, 0, OUTPUT),
-    ];
-    for (most, status, output) in rows {
-        assert_ran(&rt, run_cut(&rt, alloc, most), status, output)?;
+fn cut_files(rt: HostRuntime) {
+    for (most, status, output) in CUTS {
+        let ran = run_files(&rt, rt.alloc(), SCRIPT, few_of(rt.alloc(), *most));
+        assert_ran(&rt, ran, *status, output);
     }
-    Ok(())
 }

@@ -1,10 +1,5 @@
 // The words of the command line.
-use crate::tests::running::{assert_ran, run_script};
-use std::test::Fail;
-
-// The words behind the program's name, a script, the status, and what is written.
-#[derive(Clone, Copy)]
-struct Row<'a>(&'a [&'a str], &'a str, u8, &'a str);
+use crate::tests::running::{Row, assert_rows};
 
 const SUM: &str = "summap(fn \\x => x)!(gen!5000000);";
 
@@ -14,7 +9,7 @@ const SAMPLE: &str =
 const LARGE_SAMPLE: &str =
     "typ it : {nat}\nval it = {0, 1, 2, 3, 4}\ntyp it : nat\nval it = 499999500000\ntyp it : nat\nval it = 10\n";
 
-const ROWS: [Row<'static>; 11] = [
+const ROWS: &[Row<'static>] = &[
     Row(
         &["--budget", "1000"],
         SUM,
@@ -44,26 +39,25 @@ const ROWS: [Row<'static>; 11] = [
 ];
 
 #[test]
-fn words_are_obeyed(rt: HostRuntime) -> Result<(), Fail> {
-    for row in &ROWS {
-        let ran = run_script(&rt, rt.alloc(), row.0, row.1.as_bytes());
-        assert_ran(&rt, ran, row.2, row.3.as_bytes())?;
-    }
-    Ok(())
+fn words_are_obeyed(rt: HostRuntime) {
+    assert_rows(&rt, rt.alloc(), ROWS);
 }
 
+const SUMMED: &str = "typ it : nat\nval it = 12499997500000\n";
+
 // A query of 10,000,000 turns, with the least budget that answers it and with one less.
+const BUDGETS: &[Row<'static>] = &[
+    Row(&["--budget", "10000000", "--workers", "1"], SUM, 0, SUMMED),
+    Row(&["--budget", "10000000", "--workers", "8"], SUM, 0, SUMMED),
+    Row(
+        &["--budget", "9999999"],
+        SUM,
+        12,
+        "fault budget in declaration 1\n",
+    ),
+];
+
 #[test]
-fn the_budget_is_the_most_turns(rt: HostRuntime) -> Result<(), Fail> {
-    for workers in ["1", "8"] {
-        let ran = run_script(
-            &rt,
-            rt.alloc(),
-            &["--budget", "10000000", "--workers", workers],
-            SUM.as_bytes(),
-        );
-        assert_ran(&rt, ran, 0, b"typ it : nat\nval it = 12499997500000\n")?;
-    }
-    let ran = run_script(&rt, rt.alloc(), &["--budget", "9999999"], SUM.as_bytes());
-    assert_ran(&rt, ran, 12, b"fault budget in declaration 1\n")
+fn the_budget_is_the_most_turns(rt: HostRuntime) {
+    assert_rows(&rt, rt.alloc(), BUDGETS);
 }
