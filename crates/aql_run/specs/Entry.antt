@@ -1,6 +1,7 @@
 -- The lines that a declaration prints.
 use Rattle.std.specs.Prelude.{ℕ, Bool, List, [], ◌∷◌, ◌++◌, Option, Some, None, option_map, codes, decimal, if◌then◌else◌}
 use Rattle.std.specs.Borrow.{Bor}
+use Rattle.std.specs.Global.{Box}
 use Rattle.aql_value.specs.Datum.{Datum}
 use Rattle.aql_value.specs.Meaning.{datum}
 use Rattle.aql_types.specs.View.{sort_of}
@@ -58,10 +59,10 @@ abbrev pub turns_line : Answer → List ℕ
 turns_line a = line (codes "turns ") a.name (codes " = ") (decimal a.turns)
 
 -- what is moved in the plan, and the moves that lead there from it; without the word `--motion` nothing
-abbrev pub moved_lines : (name : List ℕ) → Option Moved → List ℕ
+abbrev pub moved_lines : (name : List ℕ) → Option (Box Moved) → List ℕ
 moved_lines name None = []
 moved_lines name (Some m) =
-    line (codes "moved ") name (codes " = ") (core_text 0 (term_of m.term)) ++ line (codes "moves ") name (codes " = ") (moves_text m.moves)
+    line (codes "moved ") name (codes " = ") (core_text 0 (term_of m.value.term)) ++ line (codes "moves ") name (codes " = ") (moves_text m.value.moves)
 
 -- all of these; a macro has none
 abbrev pub plan_lines : Ran → Answer → List ℕ
@@ -75,9 +76,9 @@ graph_text graph_ran.Undefined = codes "undefined"
 graph_text (graph_ran.Value v) = text (datum v)
 
 -- the line of what the array-free form of a query's plan came to; without the word `--graph`, and of a macro and a readval, nothing
-abbrev pub graph_line : (name : List ℕ) → Option Graph → List ℕ
+abbrev pub graph_line : (name : List ℕ) → Option (Box Graph) → List ℕ
 graph_line name None = []
-graph_line name (Some g) = line (codes "graph ") name (codes " = ") (graph_text g.ran)
+graph_line name (Some g) = line (codes "graph ") name (codes " = ") (graph_text g.value.ran)
 
 -- the lines of a declaration with its outcome, with the plan and what is moved in it where that is asked for, and at the end what the
 -- array-free form of its plan came to, where there is one

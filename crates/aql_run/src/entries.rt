@@ -158,7 +158,7 @@ fn push_turns(answer: &Answer, text: &mut Vec<u8>) -> Result<(), Memory>
 fn push_moved(
     alloc: Global,
     name: &[u8],
-    moved: &Option<Moved>,
+    moved: &Option<Box<Moved>>,
     text: &mut Vec<u8>,
 ) -> Result<(), Memory>
     ensures { OnOk result (text.new.items ≡ text.old.items ++ moved_lines name.now moved.now) }
@@ -204,7 +204,7 @@ fn push_moves(alloc: Global, name: &[u8], moves: &Moves, text: &mut Vec<u8>) -> 
 fn push_graph(
     alloc: Global,
     name: &[u8],
-    graph: &Option<Graph>,
+    graph: &Option<Box<Graph>>,
     text: &mut Vec<u8>,
 ) -> Result<(), Memory>
     ensures { OnOk result (text.new.items ≡ text.old.items ++ graph_line name.now graph.now) }

@@ -23,7 +23,7 @@ pub enum Stop {
         start: Core,
         plan: Core,
         trace: Trace,
-        moved: Option<Moved>,
+        moved: Option<Box<Moved>>,
     },
     /// The cells that a readval asks for passed the budget, or the bytes of its file of records did:
     /// their number, or 2^128-1 where it is larger.

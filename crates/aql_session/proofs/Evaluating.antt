@@ -1,5 +1,6 @@
 -- The evaluation of a query's terms is that of the query.
 use Rattle.std.proofs.Common.{◌≡◌, ℕ, ◌-◌, ◌<◌, ◌≤◌, Bool, List, [], ◌∷◌, length, Option, Some, refl, sym, ap, ◌∙◌, subst, arith, inl, inr, if◌then◌else◌}
+use Rattle.std.specs.Global.{Box}
 use Rattle.std.specs.Option.{ForSome}
 use Rattle.std.proofs.lemmas.Bool.{cases_lt, le-ltb, lt-ltb}
 use Rattle.aql_value.specs.Valid.{IsValue}
@@ -79,7 +80,7 @@ module _ (ds : List Declaration) (V : Outcomes) (n : ℕ) (many : length V ≡ n
   plan-is : (trace : List code.Step) (u : Term) → IsPlan V t trace u → IsPlan (outcomes_of (earlier_of ds V)) (start_of d (earlier_of ds V)) trace u
   plan-is trace u p = subst (λ W. IsPlan W (start_of d (earlier_of ds V)) trace u) outcomes-are (subst (λ x. IsPlan V x trace u) term p)
 
-  moved-is : (motion : Bool) (u : Term) (m : Option Moved) → IsMovedBy motion V u m → IsMovedBy motion (outcomes_of (earlier_of ds V)) u m
+  moved-is : (motion : Bool) (u : Term) (m : Option (Box Moved)) → IsMovedBy motion V u m → IsMovedBy motion (outcomes_of (earlier_of ds V)) u m
   moved-is motion u m h = subst (λ W. IsMovedBy motion W u m) outcomes-are h
 
   pub evaluated-is : (p : Option Declaration) → p ≡ Some d → IsQuery p → (motion : Bool) (budget : ℕ) (r : Planned) (q : Evaluated) → IsPlanned motion V t r → Evaluates V budget r q →

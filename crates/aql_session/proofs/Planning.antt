@@ -1,6 +1,7 @@
 -- A query's term is typed, and its plan has its meaning.
 use Rattle.std.proofs.Common.{◌≡◌, Bool, true, false, ℕ, zero, suc, ◌-◌, ◌+◌, ◌≤◌, ◌^◌, List, [], ◌∷◌, ◌++◌, length, map, take, Option, Some, None, refl, sym, ap, ◌∙◌, subst, arith}
-use Rattle.std.specs.Prelude.{slice_get}
+use Rattle.std.specs.Prelude.{slice_get, Result, Ok, Err, IsOkAnd, IfOk}
+use Rattle.std.specs.Global.{Box}
 use Rattle.std.specs.Option.{ForSome}
 use Rattle.std.proofs.lemmas.List.{append-nil}
 use Rattle.aql_value.specs.Datum.{Datum}
@@ -146,18 +147,23 @@ plan-query V t u trace q p = record {
   small = omega (arith, q.small, replay-weight (instances q.given) V trace t u q.type q.typed p.replayed);
 }
 
+-- what is told of an answer, where it was put in a box
+pub in-box : {A B : Type 0} (r : Result A B) (b : Box A) (P : A → Type 0) → IsOkAnd r (λ a. a ≡ b.value) → IfOk r P → P b.value
+in-box (Ok a) b P e h = subst P e h
+in-box (Err e) b P k h = absurd k
+
 -- what is moved in a plan is, and has its meaning
-module _ (V : Outcomes) (gs : List (Option Bounds)) (t : Term) (m : Moved) (q : IsTypedOver V t) (k : Knows gs V) where
-  pub motion-made : IsChained gs t m.moves (term_of m.term) → IsStillIn gs (term_of m.term) → length m.moves ≤ (weight_of t + 1) ^ 3 → IsMovedBy true V t (Some m)
+module _ (V : Outcomes) (gs : List (Option Bounds)) (t : Term) (m : Box Moved) (q : IsTypedOver V t) (k : Knows gs V) where
+  pub motion-made : IsChained gs t m.value.moves (term_of m.value.term) → IsStillIn gs (term_of m.value.term) → length m.value.moves ≤ (weight_of t + 1) ^ 3 → IsMovedBy true V t (Some m)
   unfolding IsChained IsStillIn
   motion-made c s few = record { chained = c q.given q.type V q.typed q.have k.tells; still = s V k.tells; few = few }
 
-  pub motion-keeps : KeepsMeaning gs t (term_of m.term) → KeepsMoved V t (Some m)
+  pub motion-keeps : KeepsMeaning gs t (term_of m.value.term) → KeepsMoved V t (Some m)
   unfolding KeepsMeaning
   motion-keeps h = h q.given q.type V q.typed q.have k.tells
 
 -- without a move what is moved is the plan
-pub unmoved-plan : (motion : Bool) (V : Outcomes) (plan : Term) (moved : Option Moved) → IsMovedBy motion V plan moved → moves_of moved ≡ [] → moved_term plan moved ≡ plan
-unmoved-plan true V plan (Some m) h e = let c : MoveChain V [] plan (term_of m.term) = subst (λ s. MoveChain V s plan (term_of m.term)) e h.chained in sym c
+pub unmoved-plan : (motion : Bool) (V : Outcomes) (plan : Term) (moved : Option (Box Moved)) → IsMovedBy motion V plan moved → moves_of moved ≡ [] → moved_term plan moved ≡ plan
+unmoved-plan true V plan (Some m) h e = let c : MoveChain V [] plan (term_of m.value.term) = subst (λ s. MoveChain V s plan (term_of m.value.term)) e h.chained in sym c
 unmoved-plan true V plan None h e = absurd h
 unmoved-plan false V plan moved h e = ap (moved_term plan) h

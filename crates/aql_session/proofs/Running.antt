@@ -1,6 +1,7 @@
 -- The run of a declaration, beside what `step` says of it.
 use Rattle.std.proofs.Common.{◌≡◌, Bool, ℕ, zero, suc, ◌+◌, ◌-◌, ◌^◌, ◌<◌, ◌≤◌, List, [], ◌∷◌, ◌++◌, length, take, Option, Some, None, refl, sym, ap, ◌∙◌, subst, arith, length-take}
 use Rattle.std.specs.Prelude.{slice_get, get_or, option_map, Result, Err, IfErr}
+use Rattle.std.specs.Global.{Box}
 use Rattle.std.specs.Option.{ForSome}
 use Rattle.std.proofs.lemmas.Option.{slice_get-get_or}
 use Rattle.std.proofs.lemmas.List.{length-map}
@@ -65,7 +66,7 @@ pub same-position : (p : Option Declaration) (c d : Declaration) → p ≡ Some 
 same-position p c d e f = let y = sym e ∙ f in cc
 
 -- a query that is evaluated and kept
-pub plain-run : (d : Declaration) (earlier : Earlier) (motion graphs : Bool) (budget : ℕ) (holds : Option Content) (q : Evaluated) (g : Option Graph) → IsValueDeclaration d →
+pub plain-run : (d : Declaration) (earlier : Earlier) (motion graphs : Bool) (budget : ℕ) (holds : Option Content) (q : Evaluated) (g : Option (Box Graph)) → IsValueDeclaration d →
     IsEvaluated d earlier motion budget q → IsGraphBy graphs (outcomes_of earlier) budget (term_of q.plan) (query_value d earlier) g →
     IsRun d earlier motion graphs budget holds (run_with q g)
 plain-run (val x e) earlier motion graphs budget holds q g p h k = record {

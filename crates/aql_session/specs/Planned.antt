@@ -1,5 +1,6 @@
 -- The term of a query, its plan, what is moved in it, and which of them was evaluated.
 use Rattle.std.specs.Prelude.{◌≡◌, ℕ, ◌<◌, Bool, List, [], Option, Some}
+use Rattle.std.specs.Global.{Box}
 use Rattle.std.specs.Option.{ForSome}
 use Rattle.aql_value.specs.Valid.{IsValue}
 use Rattle.nrca_loops.specs.Scope.{held_value}
@@ -18,7 +19,7 @@ use Rattle.aql_session.specs.declared.queries.Evaluated.{Evaluated}
 use Rattle.aql_session.specs.declared.queries.Planned.{Planned}
 
 -- what is moved in a plan has the plan's meaning
-abbrev pub KeepsMoved : Outcomes → (plan : Term) → Option Moved → Type 0
+abbrev pub KeepsMoved : Outcomes → (plan : Term) → Option (Box Moved) → Type 0
 KeepsMoved V plan moved = cden V [] (moved_term plan moved) ≡ cden V [] plan
 
 -- a term with its plan and, with the word `--motion`, what is moved in that; both have the term's meaning; where they have a value it is one of the

@@ -1,6 +1,6 @@
 -- What the functions within this crate say of one another's answers.
 use Rattle.std.specs.Prelude.{◌≡◌, ℕ, ◌-◌, ◌<◌, ◌≤◌, Bool, List, [], ◌∷◌, ◌++◌, length, map, take, Option, Some, None, option_map, Ok, if◌then◌else◌}
-use Rattle.std.specs.Global.{Vec}
+use Rattle.std.specs.Global.{Box, Vec}
 use Rattle.std.specs.Option.{ForSome}
 use Rattle.std.specs.Str.{IsUtf8}
 use Rattle.aql_outside.specs.Causes.{Rose}
@@ -366,7 +366,7 @@ abbrev pub IsEvaluatedAt : Position → Outcomes → Evaluated → Type 0
 IsEvaluatedAt p V q = ForSome (declaration_of p) (λ d. IsEvaluated d (so_far p.decls.now V) (motion_of p) (budget_of p) q)
 
 -- the run of a query that was evaluated, with this array-free form
-abbrev pub run_with : Evaluated → Option Graph → Run
+abbrev pub run_with : Evaluated → Option (Box Graph) → Run
 run_with q g = record { start = q.start; plan = q.plan; trace = q.trace; moved = q.moved; graph = g; by = q.by; turns = q.turns; value = q.value }
 
 -- with the word `--graph` it has the array-free form of its plan

@@ -1,5 +1,6 @@
 -- What `step` answers of a declaration, what it binds it to, and why it answers a fault.
 use Rattle.std.specs.Prelude.{◌≡◌, ℕ, ◌+◌, ◌-◌, ◌^◌, ◌<◌, ◌≤◌, min, nat_lt, Bool, List, [], ◌∷◌, ◌++◌, length, Option, Some, None, option_map, true, false, Ok, Err, if◌then◌else◌}
+use Rattle.std.specs.Global.{Box}
 use Rattle.std.specs.Option.{ForSome}
 use Rattle.std.specs.Str.{IsUtf8}
 use Rattle.aql_outside.specs.Causes.{Rose}
@@ -88,30 +89,30 @@ asks (bare e) earlier = None
 -- Of what code motion makes of a plan: None where it was not asked for, and then the plan stands for it.
 
 -- the moved term
-abbrev pub moved_term : (plan : Term) → Option Moved → Term
+abbrev pub moved_term : (plan : Term) → Option (Box Moved) → Term
 moved_term plan None = plan
-moved_term plan (Some m) = term_of m.term
+moved_term plan (Some m) = term_of m.value.term
 
 -- the moves that lead there from the plan
-abbrev pub moves_of : Option Moved → List motion_code.Move
+abbrev pub moves_of : Option (Box Moved) → List motion_code.Move
 moves_of None = []
-moves_of (Some m) = m.moves
+moves_of (Some m) = m.value.moves
 
 -- the turns of the moved term over these outcomes, where there is one
-abbrev pub moved_turns : Outcomes → Option Moved → Option ℕ
+abbrev pub moved_turns : Outcomes → Option (Box Moved) → Option ℕ
 moved_turns V None = None
-moved_turns V (Some m) = Some (settle V [] (term_of m.term))
+moved_turns V (Some m) = Some (settle V [] (term_of m.value.term))
 
 -- with the word `--motion`, moves lead from the plan to the moved term, in which no move is left, and they are few; without it there is none
-abbrev pub IsMovedBy : (motion : Bool) → Outcomes → (plan : Term) → Option Moved → Type 0
-IsMovedBy true V plan (Some m) = IsMotion V plan m.moves (term_of m.term)
+abbrev pub IsMovedBy : (motion : Bool) → Outcomes → (plan : Term) → Option (Box Moved) → Type 0
+IsMovedBy true V plan (Some m) = IsMotion V plan m.value.moves (term_of m.value.term)
 IsMovedBy true V plan None = ⊥
 IsMovedBy false V plan moved = moved ≡ None
 
 -- With the word `--graph` there is the array-free form of a query's plan, and it came to the query's encoded outcome, or its turns pass the budget;
 -- without it there is none.
-abbrev pub IsGraphBy : (graphs : Bool) → Outcomes → (budget : ℕ) → (plan : Term) → (outcome : Option Datum) → Option Graph → Type 0
-IsGraphBy true V budget plan o (Some g) = IsGraph V budget plan o g
+abbrev pub IsGraphBy : (graphs : Bool) → Outcomes → (budget : ℕ) → (plan : Term) → (outcome : Option Datum) → Option (Box Graph) → Type 0
+IsGraphBy true V budget plan o (Some g) = IsGraph V budget plan o g.value
 IsGraphBy true V budget plan o None = ⊥
 IsGraphBy false V budget plan o graph = graph ≡ None
 
@@ -131,7 +132,7 @@ abbrev pub choice : (budget plan start : ℕ) → (moved : Option ℕ) → Optio
 choice budget plan start moved = first_within budget ((ran.Plan, plan) ∷ (ran.Start, start) ∷ by_moved moved)
 
 -- the same of a declaration's query, this plan of it, and what was moved
-abbrev pub chosen : Declaration → Earlier → (budget : ℕ) → (plan : Term) → Option Moved → Option (Ran × ℕ)
+abbrev pub chosen : Declaration → Earlier → (budget : ℕ) → (plan : Term) → Option (Box Moved) → Option (Ran × ℕ)
 chosen d earlier budget plan moved = choice budget (turns_in earlier plan) (query_turns d earlier) (moved_turns (outcomes_of earlier) moved)
 
 -- What is asked for.
@@ -188,7 +189,7 @@ pub record IsReadable (budget : ℕ) (holds : Option Content) (a : Asked) : Type
 
 -- which term counts, and what a declaration with this outcome took: the turns of its query, and of a readval, by that choice, those of its
 -- argument and what reading took
-abbrev pub IsCounted : Declaration → Earlier → (budget : ℕ) → Option Content → (plan : Term) → (moved : Option Moved) → (outcome : Option Datum) →
+abbrev pub IsCounted : Declaration → Earlier → (budget : ℕ) → Option Content → (plan : Term) → (moved : Option (Box Moved)) → (outcome : Option Datum) →
     (took : Ran × ℕ) → Type 0
 IsCounted (val x e) earlier budget holds plan moved o took = chosen (val x e) earlier budget plan moved ≡ Some took
 IsCounted (mac f p body) earlier budget holds plan moved o took = took ≡ (ran.Declared, 0)
@@ -207,7 +208,7 @@ HasPlan (read x r e) earlier start trace plan = IsPlan (outcomes_of earlier) sta
 HasPlan (bare e) earlier start trace plan = IsPlan (outcomes_of earlier) start trace plan
 
 -- with the word `--motion` there is a moved term of the plan, of a readval of that of its argument; without it, and of a macro, there is none
-abbrev pub HasMotion : Declaration → Earlier → (motion : Bool) → (plan : Term) → (moved : Option Moved) → Type 0
+abbrev pub HasMotion : Declaration → Earlier → (motion : Bool) → (plan : Term) → (moved : Option (Box Moved)) → Type 0
 HasMotion (val x e) earlier motion plan moved = IsMovedBy motion (outcomes_of earlier) plan moved
 HasMotion (mac f p body) earlier motion plan moved = moved ≡ None
 HasMotion (read x r e) earlier motion plan moved = IsMovedBy motion (outcomes_of earlier) plan moved
@@ -215,7 +216,7 @@ HasMotion (bare e) earlier motion plan moved = IsMovedBy motion (outcomes_of ear
 
 -- with the word `--graph` there is the array-free form of a query's plan, with the query's encoded outcome; without it, of a macro and of a readval
 -- there is none
-abbrev pub HasGraph : Declaration → Earlier → (graphs : Bool) → (budget : ℕ) → (plan : Term) → Option Graph → Type 0
+abbrev pub HasGraph : Declaration → Earlier → (graphs : Bool) → (budget : ℕ) → (plan : Term) → Option (Box Graph) → Type 0
 HasGraph (val x e) earlier graphs budget plan graph = IsGraphBy graphs (outcomes_of earlier) budget plan (den e (globals_of earlier) []) graph
 HasGraph (mac f p body) earlier graphs budget plan graph = graph ≡ None
 HasGraph (read x r e) earlier graphs budget plan graph = graph ≡ None
@@ -275,7 +276,7 @@ pub record BindsPosition (d : Declaration) (earlier : Earlier) (budget : ℕ) (h
 -- with some plan of the query, and what is moved in it, one of the terms counts: its turns are within the budget
 abbrev pub MayBeEvaluated : Declaration → Earlier → (motion : Bool) → (budget : ℕ) → Type 0
 MayBeEvaluated d earlier motion budget =
-    (trace : List code.Step) × (plan : Term) × (moved : Option Moved) × (c : Ran × ℕ) × IsPlan (outcomes_of earlier) (start_of d earlier) trace plan
+    (trace : List code.Step) × (plan : Term) × (moved : Option (Box Moved)) × (c : Ran × ℕ) × IsPlan (outcomes_of earlier) (start_of d earlier) trace plan
     × IsMovedBy motion (outcomes_of earlier) plan moved × (chosen d earlier budget plan moved ≡ Some c)
 
 -- the argument of a readval has a value and was evaluated within the budget, and what it asks for is such
@@ -340,7 +341,7 @@ HasTableFault budget holds f (table file header ks) =
     × ForSome holds (λ files. read_table files file header ks ≡ Err f)
 
 -- a query's start term, a plan of it and what is moved in it; the turns of all three terms pass the budget
-abbrev pub IsSpent : Declaration → Earlier → (motion : Bool) → (budget : ℕ) → (start : Term) → List code.Step → (plan : Term) → (moved : Option Moved) → Type 0
+abbrev pub IsSpent : Declaration → Earlier → (motion : Bool) → (budget : ℕ) → (start : Term) → List code.Step → (plan : Term) → (moved : Option (Box Moved)) → Type 0
 IsSpent d earlier motion budget start trace plan moved =
     (start ≡ start_of d earlier) × IsPlan (outcomes_of earlier) (start_of d earlier) trace plan
     × (budget < query_turns d earlier) × (budget < turns_in earlier plan)

@@ -26,10 +26,10 @@ pub struct Answer {
     pub trace: Trace,
     /// With the word `--motion` what is moved in the plan, and the moves that lead from the plan to
     /// it. None without the word, and of a macro: the plan stands for it, and there is no move.
-    pub moved: Option<Moved>,
+    pub moved: Option<Box<Moved>>,
     /// With the word `--graph`, of a query, the array-free form of the plan and what that came to over
     /// the encoded outcomes of the positions. None without the word, of a macro and of a readval.
-    pub graph: Option<Graph>,
+    pub graph: Option<Box<Graph>>,
     pub by: Ran,
     /// Loop turns of the term that was evaluated, and of a readval besides the cells that were read,
     /// or the bytes of a file of records.
@@ -57,7 +57,7 @@ pub enum StepFault {
         start: Core,
         plan: Core,
         trace: Trace,
-        moved: Option<Moved>,
+        moved: Option<Box<Moved>>,
     },
     /// The cells that are asked for pass the budget, or the bytes of a file of records do. Their
     /// number, or 2^128-1 where it is larger.

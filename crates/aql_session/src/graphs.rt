@@ -13,6 +13,7 @@ use crate::queries::Evaluated;
 use crate::runs::{Position, Run};
 use aql_outside::Gate;
 use aql_value::Memory;
+use aql_value::made::make_box;
 use aql_words::Options;
 use nrca_encoded::{Graph, graph_of};
 use nrca_eval::Globals;
@@ -65,7 +66,7 @@ fn graph_by<R: Threads + Sync, G: Gate>(
     encodings: &mut Globals,
     options: &Options,
     gate: &G,
-) -> Result<Option<Graph>, Memory>
+) -> Result<Option<Box<Graph>>, Memory>
     requires typed { IsTypedOver globals.now (term_of plan.now) }
     requires encodings { AreEncodings globals.now encodings.old }
     requires workers { (1 ≤ options.now.workers) × (options.now.workers ≤ most_workers) }
@@ -75,7 +76,7 @@ fn graph_by<R: Threads + Sync, G: Gate>(
     ensures encodings { AreEncodings globals.now encodings.new }
 {
     if options.graph {
-        match graph_of(
+        let found = graph_of(
             rt,
             alloc,
             plan,
@@ -84,7 +85,8 @@ fn graph_by<R: Threads + Sync, G: Gate>(
             options.budget,
             options.workers,
             gate,
-        ) {
+        );
+        match make_box(alloc, found) {
             Ok(graph) => Ok(Some(graph)),
             Err(Memory) => Err(Memory),
         }
@@ -94,7 +96,7 @@ fn graph_by<R: Threads + Sync, G: Gate>(
 }
 
 // What a query came to, beside its graph.
-fn beside(evaluated: Evaluated, graph: Option<Graph>) -> Run
+fn beside(evaluated: Evaluated, graph: Option<Box<Graph>>) -> Run
     ensures { result ≡ run_with evaluated graph }
 {
     let Evaluated {

@@ -20,6 +20,7 @@ use aql_desugar::translate::translate_within;
 use aql_names::names::Names;
 use aql_outside::Gate;
 use aql_value::Memory;
+use aql_value::made::make_box;
 use aql_words::Options;
 use nrca_array::Held;
 use nrca_eval::{Done, Globals, evaluate};
@@ -38,7 +39,7 @@ pub(crate) struct Planned {
     pub(crate) start: Core,
     pub(crate) plan: Core,
     pub(crate) trace: Trace,
-    pub(crate) moved: Option<Moved>,
+    pub(crate) moved: Option<Box<Moved>>,
 }
 
 /// The terms of a query, which of them was evaluated, what it was worth and the turns that it took.
@@ -47,7 +48,7 @@ pub(crate) struct Evaluated {
     pub(crate) start: Core,
     pub(crate) plan: Core,
     pub(crate) trace: Trace,
-    pub(crate) moved: Option<Moved>,
+    pub(crate) moved: Option<Box<Moved>>,
     pub(crate) by: Ran,
     pub(crate) value: Option<Held>,
     pub(crate) turns: u128,
@@ -142,7 +143,7 @@ fn move_out(
     shapes: &mut GlobalShapes,
     plan: &Core,
     options: &Options,
-) -> Result<Option<Moved>, Memory>
+) -> Result<Option<Box<Moved>>, Memory>
     requires query { IsTypedOver globals.now (term_of plan.now) }
     requires known { Knows (shapes_in shapes.old) globals.now }
     ensures shapes { shapes_in shapes.new ≡ shapes_in shapes.old }
@@ -150,7 +151,7 @@ fn move_out(
     ensures keeps { IfOk result (KeepsMoved globals.now (term_of plan.now)) }
 {
     if options.motion {
-        match motion_over(alloc, plan, shapes) {
+        match make_box(alloc, motion_over(alloc, plan, shapes)) {
             Ok(moved) => Ok(Some(moved)),
             Err(Memory) => Err(Memory),
         }
