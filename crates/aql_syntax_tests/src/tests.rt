@@ -1,5 +1,10 @@
 mod building;
+mod equations;
+mod graph;
+mod preparing;
 mod reading;
+mod same;
+mod texts;
 mod tokens;
 mod translation;
 mod trees;

@@ -2,7 +2,7 @@
 
 ghost use Rattle.std.specs.Prelude.{◌<◌, ◌↔◌, IsTrue, length};
 
-use crate::same::assert_same;
+use crate::tests::same::assert_same;
 use aql_type_graph::graph::Graph;
 use aql_type_graph::grow::{
     empty_graph, push_array, push_natural, push_set, push_truth, push_tuple, push_variable,

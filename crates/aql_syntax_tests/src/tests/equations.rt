@@ -1,6 +1,6 @@
 //! Equations between types: what solves and what does not, and instances that are written out.
 
-use crate::same::assert_same;
+use crate::tests::same::assert_same;
 use aql_type_solve::solve::{Solution, solve};
 use aql_types::equation::Equation;
 use aql_types::fault::UnifyFault;

@@ -1,2 +1,0 @@
-mod preparing;
-mod texts;
