@@ -1,19 +1,9 @@
-ghost use Rattle.std.specs.Prelude.{◌≡◌, IfOk};
-
 use crate::tests::same::assert_same;
-use crate::tests::words::value;
+use crate::tests::values::{dims, value};
 use aql_value::made::both;
-use aql_value::{Dims, Index, Memory, Value};
+use aql_value::{Index, Memory, Value};
 use nrca_array::{Builder, Flat, Held};
 use std::alloc::Global;
-
-fn dims(alloc: Global, all: &[u128]) -> Result<Dims, Memory>
-    ensures { IfOk result (λ d. d ≡ all.now) }
-{
-    let mut dims = Vec::new(alloc);
-    dims.extend_from_slice(all)?;
-    Ok(Dims { dims })
-}
 
 fn naturals(alloc: Global, cells: &[u128]) -> Result<Builder, Memory> {
     let mut packed = Builder::new(alloc);

@@ -2,8 +2,11 @@
 
 ghost use Rattle.std.specs.Prelude.{◌≤◌};
 
+use crate::tests::outcomes::{Outcome, Row, outcome, wanted};
 use crate::tests::same::assert_same;
-use crate::tests::words::{Outcome, Row, outcome, pushed, term, value, wanted};
+use crate::tests::stacks::pushed;
+use crate::tests::values::value;
+use crate::tests::words::term;
 use aql_outside::{FreeGate, Gate};
 use aql_value::made::both;
 use aql_value::{Memory, Value};

@@ -3,8 +3,8 @@
 ghost use Rattle.std.specs.Prelude.{◌≤◌};
 
 use crate::tests::evaluation::found;
+use crate::tests::outcomes::{Outcome, Row, wanted};
 use crate::tests::same::assert_same;
-use crate::tests::words::{Outcome, Row, wanted};
 use aql_outside::Gate;
 use std::alloc::Global;
 use std::process::Abort;

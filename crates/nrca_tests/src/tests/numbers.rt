@@ -1,7 +1,9 @@
 //! The terms that are found as numbers, or as sets of at most one number of 64 bits, and those that are not.
 
 use crate::tests::same::assert_same;
-use crate::tests::words::{pushed, term, value};
+use crate::tests::stacks::pushed;
+use crate::tests::values::value;
+use crate::tests::words::term;
 use aql_value::made::both;
 use aql_value::{Memory, Value};
 use nrca_array::{Flat, Held};

@@ -1,17 +1,9 @@
 use crate::tests::same::assert_same;
+use crate::tests::values::numbers;
 use aql_outside::FreeGate;
-use aql_value::{Items, Memory, Value};
+use aql_value::{Items, Value};
 use nrca_par::{EvalFault, canon_wide, map_pieces, piece};
-use std::alloc::Global;
 use std::test::Fail;
-
-fn numbers(alloc: Global, all: &[u128]) -> Result<Items, Memory> {
-    let mut items = Vec::new(alloc);
-    for n in all {
-        items.push(Value::Nat(*n))?;
-    }
-    Ok(Items { items })
-}
 
 // Ten members in three pieces: 0 to 2, 3 to 5 and 6 to 9.
 #[test]

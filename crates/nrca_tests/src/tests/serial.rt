@@ -1,7 +1,9 @@
 //! Closed terms with their values and turns, worked out one step after the other.
 
+use crate::tests::outcomes::{Outcome, Row, outcome, wanted};
 use crate::tests::same::assert_same;
-use crate::tests::words::{Outcome, Row, outcome, term, value, wanted};
+use crate::tests::values::value;
+use crate::tests::words::term;
 use aql_value::Value;
 use aql_value::made::both;
 use nrca_eval::eval;

@@ -1,0 +1,3 @@
+mod encoded;
+mod terms;
+mod texts;
