@@ -3,7 +3,8 @@ ghost use Rattle.std.specs.Prelude.{◌≡◌, ◌≤◌, ◌<◌, length, IfOk,
 ghost use Rattle.aql_value.specs.Indices.{product};
 ghost use Rattle.cdf_slab.specs.Slab.{most_cells};
 
-use crate::tests::files::{index_of, name_of};
+use crate::tests::devices::name_of;
+use crate::tests::netcdf_files::index_of;
 use aql_outside::{Files, SureFiles};
 use aql_value::made::both;
 use aql_value::{Memory, saturating_product};

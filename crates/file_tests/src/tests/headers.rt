@@ -1,7 +1,8 @@
 // Headers of small files, of cut and changed ones, and over devices that fail or give few bytes.
-use crate::tests::files::{
-    ONE_RECORD_VARIABLE, TEMPERATURES, TWO_RECORD_VARIABLES, VERSION_5, bytes_of, changed, failing,
-    few_bytes, header_of, header_over, index_of, name_of,
+use crate::tests::devices::{failing, few_bytes, name_of};
+use crate::tests::netcdf_files::{
+    ONE_RECORD_VARIABLE, TEMPERATURES, TWO_RECORD_VARIABLES, VERSION_5, bytes_of, changed,
+    header_of, header_over, index_of,
 };
 use crate::tests::same::assert_same;
 use aql_value::made::both;

@@ -1,8 +1,9 @@
 // Hyperslabs of small files byte by byte.
 use crate::tests::asked::{ALL, Answer, Asked, CELLS, agrees, read_sure};
-use crate::tests::files::{
+use crate::tests::devices::sure;
+use crate::tests::netcdf_files::{
     ONE_RECORD_VARIABLE, TEMPERATURES, TWO_RECORD_VARIABLES, VERSION_5, bytes_of, changed,
-    header_of, sure,
+    header_of,
 };
 use crate::tests::same::assert_same;
 use aql_value::Memory;

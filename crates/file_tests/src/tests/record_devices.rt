@@ -1,5 +1,6 @@
 // Devices that fail or give few bytes, and names without a file.
-use crate::tests::files::{PAIRS, bytes_of, failing, fault_of, few_bytes, read_file};
+use crate::tests::devices::{failing, few_bytes};
+use crate::tests::record_files::{PAIRS, bytes_of, fault_of, read_file};
 use aql_csv::CsvFault;
 use aql_value::Memory;
 use std::alloc::Global;

@@ -1,5 +1,6 @@
 // Headers as long as they may be, and lists that have as many items as they may have.
-use crate::tests::files::{bytes_of, header_of, name_of};
+use crate::tests::devices::name_of;
+use crate::tests::netcdf_files::{bytes_of, header_of};
 use crate::tests::same::assert_same;
 use aql_value::Memory;
 use cdf_header::CdfFault;

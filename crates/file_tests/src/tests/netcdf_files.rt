@@ -1,13 +1,12 @@
-//! Small files byte by byte, and devices that fail or give few bytes.
+//! Small netCDF files, word by word.
 
 ghost use Rattle.std.specs.Prelude.{◌≡◌, IfOk};
 
-use aql_outside::{Failed, Files, MemFiles, SureFiles};
-use aql_value::made::both;
-use aql_value::{Index, Memory, Str};
+use crate::tests::devices::{name_of, sure};
+use aql_outside::Files;
+use aql_value::{Index, Memory};
 use cdf_header::{CdfFault, Header, read_header};
 use std::alloc::Global;
-use std::collections::BTreeMap;
 
 /// One variable `v` of shorts over the record dimension `x` and `y` of length 3, with two records.
 pub const ONE_RECORD_VARIABLE: &[u32] = &[
@@ -74,103 +73,10 @@ pub fn changed(
     Ok(bytes)
 }
 
-pub fn name_of(alloc: Global, text: &[u8]) -> Result<Str, Memory> {
-    Ok(Str {
-        bytes: Vec::from_slice(alloc, text)?,
-    })
-}
-
 pub fn index_of(alloc: Global, at: &[u128]) -> Result<Index, Memory>
     ensures { IfOk result (λ i. i.items ≡ at.now) }
 {
     Ok(Index::from_slice(alloc, at)?)
-}
-
-fn string_of(alloc: Global, text: &str) -> Result<String, Memory> {
-    Ok(String::from_str(alloc, text)?)
-}
-
-// A folder with the one file `s`.
-fn folder(
-    alloc: Global,
-    bytes: Result<Vec<u8>, Memory>,
-) -> Result<BTreeMap<String, Vec<u8>>, Memory> {
-    let (name, bytes) = both(string_of(alloc, "s"), bytes)?;
-    let mut content = BTreeMap::new(alloc);
-    content.insert(name, bytes)?;
-    Ok(content)
-}
-
-/// The one file `s` with these bytes.
-pub fn sure(alloc: Global, bytes: Result<Vec<u8>, Memory>) -> Result<SureFiles, Memory> {
-    Ok(SureFiles::new(folder(alloc, bytes)?))
-}
-
-/// The same, where one call fails.
-pub fn failing(
-    alloc: Global,
-    bytes: Result<Vec<u8>, Memory>,
-    fails: u64,
-) -> Result<MemFiles, Memory> {
-    let fails = vec![in alloc; fails]?;
-    Ok(MemFiles::new(folder(alloc, bytes)?, fails))
-}
-
-/// The same, where a read gives at most so many bytes.
-pub fn few_bytes(
-    alloc: Global,
-    bytes: Result<Vec<u8>, Memory>,
-    most: usize,
-) -> Result<FewBytes, Memory> {
-    Ok(FewBytes {
-        files: sure(alloc, bytes)?,
-        most,
-        furthest: 0,
-        asked: 0,
-    })
-}
-
-/// A file whose reads give at most so many bytes, which tells none, the furthest byte that was
-/// asked for, and how many were.
-#[derive(Drop)]
-pub struct FewBytes {
-    files: SureFiles,
-    most: usize,
-    furthest: u64,
-    asked: u64,
-}
-
-impl FewBytes {
-    pub fn furthest(&self) -> u64 {
-        self.furthest
-    }
-
-    pub fn asked(&self) -> u64 {
-        self.asked
-    }
-}
-
-impl Files for FewBytes {
-    ghost use Rattle.std.specs.Prelude.{None};
-    ghost use Rattle.std.proofs.Common.{arith};
-
-    ghost holds = { λ _. None };
-
-    ghost faults = { λ _. 0 };
-
-    ghost counted = { λ _. Prim.omega arith };
-
-    fn size(&mut self, name: &str) -> Result<Option<u64>, Failed> {
-        self.files.size(name)
-    }
-
-    fn read_at(&mut self, name: &str, at: u64, into: &mut [u8]) -> Result<usize, Failed> {
-        let to = at.saturating_add(into.len() as u64);
-        self.furthest = self.furthest.max(to);
-        self.asked = self.asked.saturating_add(into.len() as u64);
-        let room = into.len().min(self.most);
-        self.files.read_at(name, at, &mut into[..room])
-    }
 }
 
 /// The header of a file, read over these files.

@@ -1,20 +1,14 @@
-//! Small files of records, devices that fail or give few bytes, and what is read of them.
+//! Small files of records, and what is read of them.
+use crate::tests::devices::{name_of, sure};
 use aql_csv::{Csv, CsvFault, read_csv};
-use aql_outside::{Failed, Files, MemFiles, SureFiles};
+use aql_outside::Files;
 use aql_syntax::ast::{CsvReader, Kind, Kinds};
 use aql_value::made::both;
 use aql_value::{Memory, Str};
 use std::alloc::Global;
-use std::collections::BTreeMap;
 
 /// Three records, of which two are equal, in 18 bytes.
 pub const PAIRS: &[u8] = b"1,ab\n2,\"c,d\"\n1,ab\n";
-
-pub fn name_of(alloc: Global, text: &[u8]) -> Result<Str, Memory> {
-    Ok(Str {
-        bytes: Vec::from_slice(alloc, text)?,
-    })
-}
 
 // The kind of a field.
 fn kind_of(letter: u8) -> Option<Kind> {
@@ -101,84 +95,6 @@ pub fn fault_of(found: Result<Csv, CsvFault>) -> Option<CsvFault> {
     }
 }
 
-fn string_of(alloc: Global, text: &str) -> Result<String, Memory> {
-    Ok(String::from_str(alloc, text)?)
-}
-
-// A folder with the one file `s`.
-fn folder(
-    alloc: Global,
-    bytes: Result<Vec<u8>, Memory>,
-) -> Result<BTreeMap<String, Vec<u8>>, Memory> {
-    let (name, bytes) = both(string_of(alloc, "s"), bytes)?;
-    let mut content = BTreeMap::new(alloc);
-    content.insert(name, bytes)?;
-    Ok(content)
-}
-
 pub fn bytes_of(alloc: Global, bytes: &[u8]) -> Result<Vec<u8>, Memory> {
     Ok(Vec::from_slice(alloc, bytes)?)
-}
-
-/// The one file `s` with these bytes.
-pub fn sure(alloc: Global, bytes: Result<Vec<u8>, Memory>) -> Result<SureFiles, Memory> {
-    Ok(SureFiles::new(folder(alloc, bytes)?))
-}
-
-/// The same, where one call fails.
-pub fn failing(
-    alloc: Global,
-    bytes: Result<Vec<u8>, Memory>,
-    fails: u64,
-) -> Result<MemFiles, Memory> {
-    let fails = vec![in alloc; fails]?;
-    Ok(MemFiles::new(folder(alloc, bytes)?, fails))
-}
-
-/// The same, where a read gives at most so many bytes.
-pub fn few_bytes(
-    alloc: Global,
-    bytes: Result<Vec<u8>, Memory>,
-    most: usize,
-) -> Result<FewBytes, Memory> {
-    Ok(FewBytes {
-        files: sure(alloc, bytes)?,
-        most,
-        reads: 0,
-    })
-}
-
-/// Files whose reads give at most so many bytes, which tell none, and how many reads there were.
-#[derive(Drop)]
-pub struct FewBytes {
-    files: SureFiles,
-    most: usize,
-    reads: u64,
-}
-
-impl FewBytes {
-    pub fn reads(&self) -> u64 {
-        self.reads
-    }
-}
-
-impl Files for FewBytes {
-    ghost use Rattle.std.specs.Prelude.{None};
-    ghost use Rattle.std.proofs.Common.{arith};
-
-    ghost holds = { λ _. None };
-
-    ghost faults = { λ _. 0 };
-
-    ghost counted = { λ _. Prim.omega arith };
-
-    fn size(&mut self, name: &str) -> Result<Option<u64>, Failed> {
-        self.files.size(name)
-    }
-
-    fn read_at(&mut self, name: &str, at: u64, into: &mut [u8]) -> Result<usize, Failed> {
-        self.reads = self.reads.saturating_add(1);
-        let room = into.len().min(self.most);
-        self.files.read_at(name, at, &mut into[..room])
-    }
 }

@@ -1,10 +1,8 @@
 // Hyperslabs over devices that fail or give few bytes, the bytes that are asked for, and rows longer
 // than what is read at once.
 use crate::tests::asked::{ALL, Answer, Asked, CELLS, agrees, read_over, read_sure};
-use crate::tests::files::{
-    FewBytes, ONE_RECORD_VARIABLE, TWO_RECORD_VARIABLES, bytes_of, failing, few_bytes, header_of,
-    sure,
-};
+use crate::tests::devices::{FewBytes, failing, few_bytes, sure};
+use crate::tests::netcdf_files::{ONE_RECORD_VARIABLE, TWO_RECORD_VARIABLES, bytes_of, header_of};
 use crate::tests::same::assert_same;
 use aql_outside::MemFiles;
 use aql_value::Memory;

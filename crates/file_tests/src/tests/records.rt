@@ -1,5 +1,5 @@
 // Records byte by byte, the fault of the first that has one, sizes, and a large file.
-use crate::tests::files::{PAIRS, bytes_of, fault_of, read_bytes};
+use crate::tests::record_files::{PAIRS, bytes_of, fault_of, read_bytes};
 use aql_csv::{Csv, CsvFault};
 use aql_print::{print_value, put, put_number};
 use aql_value::{Memory, Value};

@@ -1,5 +1,0 @@
-//! Tests of files of records.
-#![tactic(auto)]
-
-#[cfg(test)]
-mod tests;

@@ -1,0 +1,11 @@
+mod asked;
+mod devices;
+mod headers;
+mod hyperslabs;
+mod limits;
+mod netcdf_files;
+mod reads;
+mod record_devices;
+mod record_files;
+mod records;
+mod same;
