@@ -18,7 +18,7 @@ import sys
 import tempfile
 from pathlib import Path
 
-PROGRAM = Path(__file__).resolve().parent.parent / "crates/aql/out/aql"
+PROGRAM = Path(os.environ.get("AQL", Path(__file__).resolve().parent.parent / "crates/aql/out/aql"))
 MIB = 1 << 20
 END = "1=true;"
 
@@ -76,17 +76,18 @@ def limited():
 
 def run(script, path, seconds=60):
     path.write_text(script)
-    with open(path) as source:
+    printed = path.with_suffix(".printed")
+    # (into a file, as a user keeps a long answer: through a pipe each line wakes the reader, which costs the program as much again)
+    with open(path) as source, open(printed, "wb") as sink:
         # (a small program starts ours, since a child's peak is at least what its parent has)
-        child = subprocess.Popen(["env", str(PROGRAM)], stdin=source, stdout=subprocess.PIPE, stderr=subprocess.STDOUT, preexec_fn=limited)
+        child = subprocess.Popen(["env", str(PROGRAM)], stdin=source, stdout=sink, stderr=subprocess.STDOUT, preexec_fn=limited)
         timer = subprocess.Popen(["sh", "-c", f"sleep {seconds}; kill {child.pid}"], stdout=subprocess.DEVNULL)
-        last = b""
-        while block := child.stdout.read(1 << 20):
-            last = (last + block)[-300:]
         _, status, used = os.wait4(child.pid, 0)
         timer.kill()
         timer.wait()
-    lines = last.decode(errors="replace").splitlines()
+    with open(printed, "rb") as answer:
+        answer.seek(max(0, printed.stat().st_size - 300))
+        lines = answer.read().decode(errors="replace").splitlines()
     ended = lines[-1][:60] if lines and not os.WIFSIGNALED(status) else "cut off"
     return used.ru_utime + used.ru_stime, used.ru_maxrss / 1024, ended
 
