@@ -77,7 +77,7 @@ def limited():
 def run(script, path, seconds=60):
     path.write_text(script)
     printed = path.with_suffix(".printed")
-    # (into a file, as a user keeps a long answer: through a pipe each line wakes the reader, which costs the program as much again)
+    # (into a file, as a user keeps a long answer: through a pipe each line wakes the reader, at the cost of the program)
     with open(path) as source, open(printed, "wb") as sink:
         # (a small program starts ours, since a child's peak is at least what its parent has)
         child = subprocess.Popen(["env", str(PROGRAM)], stdin=source, stdout=sink, stderr=subprocess.STDOUT, preexec_fn=limited)
