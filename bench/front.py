@@ -5,9 +5,10 @@
     bench/front.py random [SEED [N]]      N random shapes (200) of 1 MiB each, made of pieces of the grammar; the slowest ten
     bench/front.py print SHAPE [PART]     prints the script of a shape, or the part of it that is given as a fraction
 
-A line has the bytes of the script, the least processor seconds, the peak memory in MB, the last line, and how many times as long
-the whole takes as half of it. A run is cut off after 60 seconds or at 6 GB. `1=true;` at the end of a script has no type, so that
-what stands before it is read and typed, and nothing is evaluated.
+The program is the one that the build leaves, or the one that AQL names. A line has the bytes of the script, the least processor
+seconds, the peak memory in MB, the last line, and how many times as long the whole takes as half of it. A run is cut off after
+60 seconds or at 6 GB. `1=true;` at the end of a script has no type, so that what stands before it is read and typed, and
+nothing is evaluated.
 """
 
 import os
