@@ -6,9 +6,9 @@
     bench/front.py print SHAPE [PART]     prints the script of a shape, or the part of it that is given as a fraction
 
 The program is the one that the build leaves, or the one that AQL names. A line has the bytes of the script, the least processor
-seconds, the peak memory in MB, the last line, and how many times as long the whole takes as half of it. A run is cut off after
-60 seconds or at 6 GB. `1=true;` at the end of a script has no type, so that what stands before it is read and typed, and
-nothing is evaluated.
+seconds, the peak memory in MB, the last line, and how many times as long the whole takes as half of it; behind them stands how
+long a loop of Python takes meanwhile, so that tables of two machines can be compared. A run is cut off after 60 seconds or at
+6 GB. `1=true;` at the end of a script has no type, so that what stands before it is read and typed, and nothing is evaluated.
 """
 
 import os
@@ -17,6 +17,7 @@ import resource
 import subprocess
 import sys
 import tempfile
+import time
 from pathlib import Path
 
 PROGRAM = Path(os.environ.get("AQL", Path(__file__).resolve().parent.parent / "crates/aql/out/aql"))
@@ -93,20 +94,29 @@ def run(script, path, seconds=60):
     return used.ru_utime + used.ru_stime, used.ru_maxrss / 1024, ended
 
 
-def least(script, path, runs):
-    return min((run(script, path) for _ in range(runs)), key=lambda r: r[0])
+def loop():
+    """The processor seconds of a loop of 5,000,000 additions: tells how fast the machine goes just then."""
+    begun, total = time.process_time(), 0
+    for i in range(5_000_000):
+        total += i
+    return time.process_time() - begun
 
 
 def table(runs):
     print("| shape | bytes | seconds | at most | MB | at most | of half | last line |\n|---|---|---|---|---|---|---|---|")
+    paces = []
     with tempfile.TemporaryDirectory() as folder:
         path = Path(folder) / "script"
         for name, (make, seconds, mb) in SHAPES.items():
             whole, half = make(1), make(0.5)
-            took, most, last = least(whole, path, 1 if runs == 1 else runs)
-            halved = least(half, path, runs)[0]
+            paces.append(loop())
+            # (in turn, so that a host that slows down slows both)
+            both = [(run(whole, path), run(half, path)) for _ in range(runs)]
+            took, most, last = min(r for r, _ in both)
+            halved = min(r for _, r in both)[0]
             ratio = f"{took / halved:.1f}" if halved > 0.02 else ""
             print(f"| {name} | {len(whole)} | {took:.2f} | {seconds} | {most:.0f} | {mb or ''} | {ratio} | `{last}` |", flush=True)
+    print(f"\nA loop of 5,000,000 additions in Python took {min(paces):.2f} to {max(paces):.2f} seconds between the shapes.")
 
 
 # Random shapes: a few declarations, and one typed piece that is repeated in a list, a chain or as declarations. `n` is a number, `b` a
