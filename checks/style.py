@@ -4,7 +4,8 @@
 - a clause of a contract, an invariant or a measure whose line is longer than 100 columns;
 - a function that takes more than seven parameters, but those of WIDE and HANDED_ON;
 - a law, that is a definition that is neither an abbreviation nor a type and whose result is a statement, in specs/ outside of specs/Laws;
-- a public definition of specs/ outside of specs/Laws without a comment of its own.
+- a public definition of specs/ outside of specs/Laws without a comment of its own;
+- an edit that must be refused whose text does not stand once in the file that it names.
 """
 import os
 import re
@@ -141,12 +142,32 @@ def inner(source, number):
     return False
 
 
+def stale(path, source):
+    """The texts of an edit that do not stand once in the file that it names, where those before them are changed as it says."""
+    crate = os.path.join(ROOT, *path.split(os.sep)[:2])
+    held, old = "", ""
+    for number, text in enumerate(source, 1):
+        word, _, rest = text.partition(": ")
+        if word == "file":
+            with open(os.path.join(crate, rest), encoding="utf-8") as file:
+                held = file.read()
+        elif word == "old":
+            old = rest
+            if held.count(old) != 1:
+                yield "%s:%d: the text stands %d times and not once" % (path, number, held.count(old))
+        elif word == "new":
+            held = held.replace(old, rest)
+
+
 def main():
     found = []
     for crate in sorted(os.listdir(os.path.join(ROOT, "crates"))):
         for path, source in files(crate, "src", ".rt"):
             found += long_clauses(path, source)
             found += wide_functions(path, source)
+        for folder in ("must-fail", "edits"):
+            for path, source in files(crate, folder, ".edit"):
+                found += stale(path, source)
         for path, source in files(crate, "specs", ".antt"):
             if "/specs/Laws" not in path and not path.endswith("/Lib.antt"):
                 found += laws(path, source)
