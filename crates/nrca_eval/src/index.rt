@@ -1,7 +1,7 @@
 //! What the forms that evaluate all their parts make of them: the members of `index` run in pieces. With one worker packed pairs are
 //! one piece, which is read as it stands.
 
-ghost use Rattle.std.specs.Prelude.{◌≡◌, ◌≤◌, ◌∷◌, [], None, Some, IfSome, length};
+ghost use Rattle.std.specs.Prelude.{◌≡◌, ◌≤◌, ◌∷◌, [], None, Some, IfOk, IfSome, length};
 ghost use Rattle.std.specs.List.Sorted.{IsStrictlySortedBy};
 ghost use Rattle.aql_value.specs.Operations.{only};
 ghost use Rattle.nrca_array.specs.Held.{held_datum};
@@ -10,17 +10,17 @@ ghost use Rattle.nrca_loops.specs.Scope.{boxed_value, held_value};
 ghost use Rattle.aql_value.specs.Strict.{Strict};
 ghost use Rattle.nrca_loops.specs.Evaluates.{Applies, strict_form};
 ghost use Rattle.nrca_sets.specs.Pairs.{pair_cmp};
-ghost use Rattle.nrca_forms.specs.Indexing.{pairs_run, MakesArray};
+ghost use Rattle.nrca_forms.specs.Indexing.{pairs_of, pairs_run, MakesArray};
 ghost use Rattle.nrca_forms.specs.Packed.{indexed_numbers};
-ghost use Rattle.nrca_eval.specs.Gathered.{ReadsPairs};
+ghost use Rattle.nrca_eval.specs.Gathered.{ReadsPairs, gathered_pairs};
 
-use crate::joins::joined_pairs;
 use crate::pieces::in_pieces;
 use crate::scope::{Mode, Pool, Scope};
 use aql_outside::Gate;
+use aql_value::Memory;
 use nrca_array::Held;
 use nrca_forms::{
-    Indexed, index_packed, index_pairs, index_run, packed_pairs, strict, strict_boxed,
+    Indexed, index_packed, index_pairs, index_run, join_pairs, packed_pairs, strict, strict_boxed,
 };
 use nrca_loops::{Counted, set_of, to_box};
 use nrca_par::EvalFault;
@@ -187,4 +187,18 @@ fn index_pieces<R: Threads + Sync, G: Gate>(
     { Ok(index_run(alloc, rank, set, from, to)?) };
     let pairs = in_pieces(pool, alloc, count, run)?;
     Ok(joined_pairs(alloc, pairs)?)
+}
+
+// The pairs, one run after the other.
+fn joined_pairs(
+    alloc: Global,
+    parts: Vec<Option<Vec<Indexed>>>,
+) -> Result<Option<Vec<Indexed>>, Memory>
+    ensures { IfOk result (λ ps. pairs_of ps ≡ gathered_pairs parts.items) }
+{
+    let mut pairs = Some(Vec::new(alloc));
+    for part in parts {
+        pairs = join_pairs(pairs, part)?;
+    }
+    Ok(pairs)
 }

@@ -7,13 +7,12 @@
 //!
 //! Read `specs/Parts`, `Runs` and `Loops` with `scope`; then the one recursion of `evaluator`, one
 //! function a form, whose laws stand in `specs/Laws/Form`, and of `loops`, with `members`; and last
-//! `specs/Gathered` with `pieces`, `joins` and `index`.
+//! `specs/Gathered` with `pieces` and `index`.
 #![tactic(auto)]
 
 mod blocks;
 mod evaluator;
 mod index;
-mod joins;
 mod lending;
 mod loops;
 mod members;

@@ -10,7 +10,6 @@ ghost use Rattle.nrca_eval.specs.Loops.{Adds, Collects, Extends, Fills, Sums, Un
 
 use crate::blocks::{Span, block_cells, block_end, block_sets, block_sum, in_rows, row_end};
 use crate::evaluator::node;
-use crate::joins::{joined_cells, joined_sets, joined_sums};
 use crate::members::{Added, all_members, finished, members_and, one_member};
 use crate::pieces::in_pieces;
 use crate::scope::{Mode, Scope};
@@ -19,8 +18,8 @@ use aql_value::{Dims, Value};
 use nrca_array::{Builder, Held};
 use nrca_blocks::{add_cells, add_sets, in_blocks};
 use nrca_loops::{
-    Counted, Env, Members, Next, cells_and, from_box, join_done, join_sums, set_index, sum_and,
-    zeros,
+    Counted, Env, Members, Next, cells_and, from_box, join_done, join_sums, joined_cells,
+    joined_sets, joined_sums, set_index, sum_and, zeros,
 };
 use nrca_par::EvalFault;
 use nrca_quick::{chosen, few, members_and_few, quick};

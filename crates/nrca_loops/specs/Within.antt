@@ -1,5 +1,5 @@
 -- What is said of an answer: its value and its turns, exactly, and that it is Spent exactly where the turns pass the budget.
-use Rattle.std.specs.Prelude.{◌≡◌, ℕ, ◌<◌, ◌≤◌, Option, Result, MatchResult, IsOkAnd, IsErrAnd}
+use Rattle.std.specs.Prelude.{◌≡◌, ℕ, ◌<◌, ◌≤◌, List, Option, Result, MatchResult, IsOkAnd, IsErrAnd, fold, sum_by}
 use Rattle.aql_value.specs.Datum.{Datum}
 use Rattle.nrca_par.specs.declared.fault.EvalFault.{EvalFault}
 use Rattle.nrca_par.specs.declared.fault.EvalFault.TheVariants.{Spent}
@@ -22,3 +22,7 @@ AnswersWithin budget value turns r = MatchResult r (λ d. (held_value d.value �
 -- the value beside the answer, or the answer's fault
 abbrev pub IsBeside : {A B : Type 0} → A → Result B EvalFault → Result (A × B) EvalFault → Type 0
 IsBeside x o r = MatchResult r (λ p. (p.0 ≡ x) × IsOkAnd o (λ b. b ≡ p.1)) (λ e. IsErrAnd o (λ f. f ≡ e))
+
+-- the answers joined in their order, beginning with that of no piece, and their turns added
+abbrev pub Gathers : {A : Type 0} → (A → A → A) → A → ℕ → List (Counted A) → Result (Counted A) EvalFault → Type 0
+Gathers join none budget parts r = Within itself budget (fold (λ s d. join s d.answer) none parts) (sum_by (λ d. d.turns) parts) r

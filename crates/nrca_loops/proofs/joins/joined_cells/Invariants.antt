@@ -1,7 +1,7 @@
 use Rattle.std.proofs.Common.{◌≡◌, ◌+◌, ◌≤◌, []}
 use Rattle.std.specs.Prelude.{Some, fold, sum_by}
 use Rattle.nrca_loops.specs.Runs.{lists_join}
-use Rattle.nrca_eval.proofs.joins.joined_cells.Given as goal
+use Rattle.nrca_loops.proofs.joins.joined_cells.Given as goal
 
 abbrev pub invariant-loop-run : goal.invariant-loop-run
 invariant-loop-run l =

@@ -1,7 +1,7 @@
 use Rattle.std.proofs.Common.{◌≡◌, ◌≤◌, take}
 use Rattle.std.specs.Prelude.{Some, fold, sum_by}
 use Rattle.nrca_loops.specs.Runs.{sums_join}
-use Rattle.nrca_eval.proofs.joins.joined_sums.Given as goal
+use Rattle.nrca_loops.proofs.joins.joined_sums.Given as goal
 
 abbrev pub invariant-loop-sum : goal.invariant-loop-sum
 invariant-loop-sum l =

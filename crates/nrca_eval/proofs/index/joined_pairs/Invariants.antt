@@ -2,7 +2,7 @@ use Rattle.std.proofs.Common.{◌≡◌, []}
 use Rattle.std.specs.Prelude.{Some, fold}
 use Rattle.nrca_forms.specs.Indexing.{pairs_of}
 use Rattle.nrca_loops.specs.Runs.{lists_join}
-use Rattle.nrca_eval.proofs.joins.joined_pairs.Given as goal
+use Rattle.nrca_eval.proofs.index.joined_pairs.Given as goal
 
 abbrev pub invariant-loop-part : goal.invariant-loop-part
 invariant-loop-part l =
