@@ -46,11 +46,14 @@ class Module:
         self.name = name
         self.path = "crates/%s/%s.antt" % (crate, rest.replace(".", "/"))
         self.uses, self.aliases, self.items, self.about = {}, {}, OrderedDict(), ""
-        head, item = [], None
+        head, item, first = [], None, True
         for number, text in self.unwrapped():
-            if text.startswith("use "):
+            if first and not text.startswith("--"):
+                # the comment at the head is the module's, unless a definition stands right below it
+                self.about = "" if OPENS.match(text) else " ".join(head)
+                first = False
+            if text.startswith(("use ", "pub mod ", "mod ")):
                 self.use(text)
-                self.about = self.about or " ".join(head)
                 head = []
             elif text.startswith("--"):
                 head.append(text[2:].strip())
