@@ -58,6 +58,8 @@ class Module:
             elif text.startswith("--"):
                 head.append(text[2:].strip())
                 item = None
+            elif text.startswith("infix"):
+                head, item = [], None
             elif not text.strip():
                 head = []
             elif OPENS.match(text):
@@ -212,6 +214,9 @@ def reach():
         body = "\n".join(here.items[name].text)
         body = re.sub(r"--.*", "", body)
         words = set(WORD.findall(body)) | set(re.findall(r"[A-Za-z_0-9'-]+", body))
+        if "do" in words:
+            # its lines are joined by the `>>=` in scope
+            words.add(">>=")
 
         def follow(target, used):
             if not os.path.isdir(os.path.join(ROOT, "crates", target.split(".")[0])):

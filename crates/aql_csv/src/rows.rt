@@ -44,7 +44,7 @@ pub(crate) fn read_members(
         match reader.read_byte_record(&mut entry) {
             Ok(true) => {}
             Ok(false) => return Ok(Items { items: values }),
-            Err(error) => return Err(wanting(&error)),
+            Err(error) => return Err(memory_fault(&error)),
         }
         add_row(alloc, &mut values, &entry, header, place, kinds)?;
         values = kept_small(alloc, values, &mut most)?;
@@ -55,7 +55,7 @@ pub(crate) fn read_members(
 // The fault for an error of the reader, over bytes in memory and where records may have any length:
 // memory was wanting. The reader's contract does not rule out that reading the bytes fails; that
 // counts as the same.
-fn wanting(error: &Error) -> CsvFault
+fn memory_fault(error: &Error) -> CsvFault
     requires { IsReadError (error_kind error.now) }
     ensures { result ≡ faults.Memory }
 {

@@ -16,14 +16,14 @@ pub(crate) fn set_of_values(alloc: Global, items: Items) -> Result<Ascending, Cs
     ensures cause { IfErr result (λ e. e ≡ faults.Memory) }
 {
     let mut values = items.items;
-    values.sort_by_cached_key(|value| leading(value))?;
+    values.sort_by_cached_key(|value| leading_number(value))?;
     let set = canon(alloc, Items { items: values })?;
     Ok(set)
 }
 
 // A number that is smaller or the same where the value is smaller, for numbers, strings and tuples
 // that begin with one: the number, or the largest of 64 bits, or the first eight bytes.
-fn leading(value: &Value) -> u64 {
+fn leading_number(value: &Value) -> u64 {
     match value {
         Value::Row(parts) => match parts.items().items.first() {
             Some(first) => leading_of_part(first),

@@ -14,7 +14,6 @@ use Rattle.aql_desugar_spec.specs.Start.{Resolutions, known_of, knowns_of, posit
 use Rattle.aql_desugar.specs.Named.{BeginWith, NameThoseBefore}
 use Rattle.aql_desugar.specs.Names.{declaration_of}
 use Rattle.aql_desugar.specs.Laws.Knowns.{find-known, known_some}
-use Rattle.aql_desugar.specs.Laws.Scopes.{take_all}
 
 length-onto : (ds : List Decl) (acc : List Declaration) → length (onto ds acc) ≡ length ds + length acc
 length-onto [] acc = omega arith
@@ -76,10 +75,6 @@ front_named (suc n) (d ∷ ds) (m ∷ names) h =
     let a : m ≡ declared (decl_of d) = cc in
     let t : take (length ds) names ≡ names_of ds = cc in
     ap (λ y. y ∷ take (length (take n ds)) names) a ∙ ap (λ ms. declared (decl_of d) ∷ ms) (front_named n ds names t)
-
--- all names of declarations begin with them
-pub all_named : (ds : List Decl) (names : List Name) → names ≡ names_of ds → BeginWith ds names
-all_named ds names e = ap (λ ms. take (length ds) ms) e ∙ ap (λ n. take n (names_of ds)) (sym (length-names_of ds)) ∙ take_all (names_of ds)
 
 -- the names of the first declarations
 names_take : (n : ℕ) (ds : List Decl) → names_of (take n ds) ≡ map declared (take n (decls_of ds))

@@ -1,17 +1,17 @@
 -- The code's loops over arrays.
-use Rattle.std.proofs.Common.{◌≡◌, ◌<◌, ◌≤◌, ◌≢◌, ℕ, zero, suc, ◌+◌, ◌-◌, List, [], ◌∷◌, ◌++◌, length, map, take, drop, get_or, Option, None, refl, sym, ap, ◌∙◌, arith, append_assoc}
-use Rattle.aql_syntax.specs.Tree.{Name, Pat, pat, count_pats}
+use Rattle.std.proofs.Common.{◌≡◌, ◌<◌, ◌≤◌, ◌≢◌, ℕ, zero, suc, ◌+◌, ◌-◌, List, [], ◌∷◌, ◌++◌, length, map, take, Option, None, refl, sym, ap, ◌∙◌, arith, append_assoc}
+use Rattle.aql_syntax.specs.Tree.{Name, Pat, count_pats}
 use Rattle.aql_syntax.specs.View.{pat_of, pats_of}
-use Rattle.aql_syntax.specs.Laws.View.{pats_from}
 use Rattle.aql_syntax.specs.declared.ast.Pattern.{Pattern}
+use Rattle.aql_syntax.specs.Laws.View.{count_pats-list}
 use Rattle.nrca_term.specs.Term.{Term}
 use Rattle.nrca_term.specs.Nodes.{variable, let_term, proj_term, dim_term, gen_term, big_union_term}
 use Rattle.nrca_term.specs.View.{term_of}
 use Rattle.nrca_term.specs.declared.term.Core.{Core}
-use Rattle.aql_desugar_spec.specs.Start.{Resolutions, bound, grown, under, bound_axes, match_term, axes_term, index_terms, dimension, loops_term, cell_term}
+use Rattle.aql_desugar_spec.specs.Start.{Resolutions, bound, grown, under, match_term, axes_term, index_terms, dimension, loops_term, cell_term}
 use Rattle.aql_desugar_spec.specs.Laws.Scopes.{length-bound}
 use Rattle.aql_desugar.specs.Names.{scope}
-use Rattle.aql_desugar.specs.Laws.Scopes.{length-scope, scope_last, count_pats-list}
+use Rattle.aql_desugar.specs.Laws.Scopes.{length-scope, scope_last}
 
 pub dimension_one : (r j at : ℕ) → r ≡ 1 → dim_term r (variable at) ≡ dimension r j at
 dimension_one zero j at e = absurd (omega arith)
@@ -50,33 +50,12 @@ index_next xs ys x left less added rank e l t h =
     map-last [] = refl
     map-last (y ∷ xs) = ap (λ zs. term_of y ∷ zs) (map-last xs)
 
-append-none : {A : Type 0} (xs : List A) → xs ++ [] ≡ xs
-append-none [] = refl
-append-none (x ∷ xs) = ap (λ ys. x ∷ ys) (append-none xs)
-
-pub index_done : (xs : List Core) (left added rank : ℕ) → left ≤ 0 → map term_of xs ++ index_terms left added ≡ index_terms rank added → map term_of xs ≡ index_terms rank added
-index_done xs left added rank l h = let z : 0 ≡ left = omega arith in sym (append-none (map term_of xs)) ∙ ap (λ n. map term_of xs ++ index_terms n added) z ∙ h
-
 -- one hidden variable more
 pub hidden_next : {A : Type 0} (f : A → Name) (n i : ℕ) (start xs ys : List (Option A)) → i < n → ys ≡ xs ++ None ∷ [] →
     ((base : ℕ) → under (n - i) (scope f xs base) ≡ under n (scope f start base)) → (base : ℕ) → under (n - (i + 1)) (scope f ys base) ≡ under n (scope f start base)
 hidden_next f n i start xs ys l e h base =
     ap (λ zs. under (n - (i + 1)) (scope f zs base)) e ∙ ap (under (n - (i + 1))) (scope_last f xs None base)
     ∙ (let z : suc (n - (i + 1)) ≡ n - i = omega arith in ap (λ k. under k (scope f xs base)) z) ∙ h base
-
-pub hidden_done : {A : Type 0} (f : A → Name) (n i : ℕ) (start xs : List (Option A)) → n ≤ i → ((base : ℕ) → under (n - i) (scope f xs base) ≡ under n (scope f start base)) →
-    (base : ℕ) → scope f xs base ≡ under n (scope f start base)
-hidden_done f n i start xs l h base = let z : 0 ≡ n - i = omega arith in ap (λ k. under k (scope f xs base)) z ∙ h base
-
--- one part more of an index
-pub enter_axis : {A : Type 0} (f : A → Name) (ps : List Pattern) (i : ℕ) (p : Pattern) (start xs zs : List (Option A)) → i < length ps → p ≡ get_or ps i p →
-    ((base : ℕ) → scope f zs base ≡ bound (pat_of p) (scope f xs base)) →
-    ((base : ℕ) → bound_axes (pats_of (drop i ps)) (scope f xs base) ≡ bound_axes (pats_of ps) (scope f start base)) → (base : ℕ) →
-    bound_axes (pats_of (drop (i + 1) ps)) (scope f zs base) ≡ bound_axes (pats_of ps) (scope f start base)
-enter_axis f ps i p start xs zs l g h k base =
-    ap (bound_axes (pats_of (drop (i + 1) ps))) (h base)
-    ∙ sym (ap (λ q. bound_axes q (scope f xs base)) (pats_from ps i p l ∙ ap (λ q. pat (pat_of q) (pats_of (drop (i + 1) ps))) (sym g)))
-    ∙ k base
 
 -- inside a match stand as many variables more as it adds
 pub grown_inside : {A : Type 0} (f : A → Name) (p : Pat) (xs zs : List (Option A)) → ((base : ℕ) → scope f zs base ≡ bound p (scope f xs base)) → length zs ≡ length xs + grown p
@@ -97,9 +76,6 @@ axes_made f ps rest p known xs zs ws vs mark added deeper at inside taken inner 
     c base ∙ ap (λ l. match_term (pat_of p) known (scope f l base) at under other) kept ∙ ap (λ n. match_term (pat_of p) known (scope f xs base) n under other) here
     ∙ ap (λ v. match_term (pat_of p) known (scope f xs base) (added + count_pats (pats_of rest)) v other) (sym u ∙ below)
     ∙ sym (ap (λ l. axes_term (pats_of l) known (scope f xs base) added inside other) e)
-
-pub axes_kept : {A : Type 0} (xs zs ws vs us : List (Option A)) (mark : ℕ) → take (length xs) zs ≡ xs → mark ≡ length xs → ws ≡ zs → vs ≡ take mark ws → us ≡ vs → us ≡ xs
-axes_kept xs zs ws vs us mark around m w v u = u ∙ v ∙ ap (λ n. take n ws) m ∙ ap (take (length xs)) w ∙ around
 
 -- the loops around the matches of an index and the term of a cell
 pub walk_made : {A : Type 0} (f : A → Name) (ps : List Pattern) (known : Resolutions) (xs vs : List (Option A)) (low rank added : ℕ) (body taken found bound ax walked other : Term) →

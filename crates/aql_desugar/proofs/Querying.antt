@@ -7,7 +7,7 @@ use Rattle.aql_syntax.specs.Tree.{Name, Pat, Pats, Trees, Axes, Quals, Declarati
 use Rattle.aql_syntax.specs.Names.{names_equal, find}
 use Rattle.aql_syntax.specs.Size.{Extents, extent, extents_of, greatest, axes_greatest, levels}
 use Rattle.aql_syntax.specs.View.{tree_of, trees_of, quals_of, axes_in, defs_in, pats_of}
-use Rattle.aql_syntax.specs.Laws.View.{trees_from, trees_past, axes_from, axes_past}
+use Rattle.aql_syntax.specs.Laws.View.{trees_from, trees_past, axes_from, axes_past, count_pats-list}
 use Rattle.aql_syntax.specs.declared.ast.Expr as code
 use Rattle.aql_syntax.specs.declared.ast.Expr.{Expr}
 use Rattle.aql_syntax.specs.declared.ast.Bind.{Bind}
@@ -23,7 +23,7 @@ use Rattle.aql_desugar_spec.specs.Start.{Binders, Resolutions, bound, match_term
 use Rattle.aql_desugar_spec.specs.Laws.Scopes.{length-bound_axes}
 use Rattle.aql_desugar.specs.Names.{scope, declaration_of}
 use Rattle.aql_desugar.specs.Laws.Parts.{one_made, both_made}
-use Rattle.aql_desugar.specs.Laws.Scopes.{scope_last, length-scope, count_pats-list, goes_on, extends_all, take_all}
+use Rattle.aql_desugar.specs.Laws.Scopes.{scope_last, length-scope, goes_on, extends_all, take_all}
 use Rattle.aql_desugar.proofs.QueryNodes.{list_made}
 
 -- an expression of one part

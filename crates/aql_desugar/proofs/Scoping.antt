@@ -1,11 +1,10 @@
 -- The code's names as a scope.
 use Rattle.std.proofs.Common.{◌≡◌, ◌<◌, ◌≤◌, ℕ, zero, suc, ◌+◌, ◌-◌, true, false, List, [], ◌∷◌, ◌++◌, length, take, drop, get_or, Option, Some, None, option_map, refl, sym, ap, ◌∙◌, arith, length-append}
-use Rattle.aql_syntax.specs.Tree.{Name, Pat, bind, any, equals, refers, tuple, pat}
-use Rattle.aql_syntax.specs.Size.{pat_nodes}
+use Rattle.aql_syntax.specs.Tree.{Name, pat}
 use Rattle.aql_syntax.specs.View.{pat_of, pats_of}
 use Rattle.aql_syntax.specs.declared.ast.Pattern.{Pattern}
 use Rattle.aql_syntax.specs.Laws.View.{pat_of_row, pats_from, pats_past}
-use Rattle.aql_desugar_spec.specs.Start.{Binders, raised, index_of, hidden, bound, bounds}
+use Rattle.aql_desugar_spec.specs.Start.{Binders, index_under, index_of, hidden, bound, bound_all}
 use Rattle.aql_desugar.specs.Names.{scope, has_name, further_by}
 use Rattle.aql_desugar.specs.Laws.Scopes.{scope_last, take_before, take_all}
 
@@ -13,15 +12,11 @@ pub index_here : (x : Name) (v : Option Name) (s : Binders) → has_name x v ≡
 index_here x None s e = cc
 index_here x (Some y) s e = rw e refl
 
-pub index_past : (x : Name) (v : Option Name) (s : Binders) → has_name x v ≡ false → index_of x (v ∷ s) ≡ raised (index_of x s)
+pub index_past : (x : Name) (v : Option Name) (s : Binders) → has_name x v ≡ false → index_of x (v ∷ s) ≡ index_under (index_of x s)
 index_past x None s e = refl
 index_past x (Some y) s e = rw e refl
 
-pub further_none : (o : Option ℕ) → further_by 0 o ≡ o
-further_none None = refl
-further_none (Some i) = let z : 0 + i ≡ i = omega arith in ap Some z
-
-further_raised : (n m : ℕ) (o : Option ℕ) → m ≡ n + 1 → further_by n (raised o) ≡ further_by m o
+further_raised : (n m : ℕ) (o : Option ℕ) → m ≡ n + 1 → further_by n (index_under o) ≡ further_by m o
 further_raised n m None e = refl
 further_raised n m (Some i) e = let z : n + suc i ≡ m + i = omega (arith, e) in ap Some z
 
@@ -63,7 +58,7 @@ passed_at f x xs i j v e l g h same base =
 
 index-hidden : (x : Name) (n : ℕ) → index_of x (hidden n) ≡ None
 index-hidden x zero = refl
-index-hidden x (suc n) = ap raised (index-hidden x n)
+index-hidden x (suc n) = ap index_under (index-hidden x n)
 
 pub none_left : {A : Type 0} (f : A → Name) (x : Name) (xs : List (Option A)) (i : ℕ) → i ≤ 0 →
     ((base : ℕ) → index_of x (scope f xs base) ≡ further_by (length xs - i) (index_of x (scope f (take i xs) base))) → (base : ℕ) → None ≡ index_of x (scope f xs base)
@@ -74,19 +69,12 @@ none_left f x xs i l same base =
 -- one pattern more of a tuple's
 pub enter_inside : {A : Type 0} (f : A → Name) (ps : List Pattern) (i : ℕ) (p : Pattern) (start xs ys zs : List (Option A)) → i < length ps → p ≡ get_or ps i p → ys ≡ xs ++ None ∷ [] →
     ((base : ℕ) → scope f zs base ≡ bound (pat_of p) (scope f ys base)) →
-    ((base : ℕ) → bounds (pats_of (drop i ps)) (scope f xs base) ≡ bounds (pats_of ps) (scope f start base)) → (base : ℕ) →
-    bounds (pats_of (drop (i + 1) ps)) (scope f zs base) ≡ bounds (pats_of ps) (scope f start base)
+    ((base : ℕ) → bound_all (pats_of (drop i ps)) (scope f xs base) ≡ bound_all (pats_of ps) (scope f start base)) → (base : ℕ) →
+    bound_all (pats_of (drop (i + 1) ps)) (scope f zs base) ≡ bound_all (pats_of ps) (scope f start base)
 enter_inside f ps i p start xs ys zs l g e h k base =
-    ap (bounds (pats_of (drop (i + 1) ps))) (h base ∙ ap (bound (pat_of p)) (ap (λ l. scope f l base) e ∙ scope_last f xs None base))
-    ∙ sym (ap (λ q. bounds q (scope f xs base)) (pats_from ps i p l ∙ ap (λ q. pat (pat_of q) (pats_of (drop (i + 1) ps))) (sym g)))
+    ap (bound_all (pats_of (drop (i + 1) ps))) (h base ∙ ap (bound (pat_of p)) (ap (λ l. scope f l base) e ∙ scope_last f xs None base))
+    ∙ sym (ap (λ q. bound_all q (scope f xs base)) (pats_from ps i p l ∙ ap (λ q. pat (pat_of q) (pats_of (drop (i + 1) ps))) (sym g)))
     ∙ k base
-
-pub some-nodes : (p : Pat) → 1 ≤ pat_nodes p
-some-nodes (bind x) = omega arith
-some-nodes any = omega arith
-some-nodes (equals c) = omega arith
-some-nodes (refers x) = omega arith
-some-nodes (tuple ps) = omega arith
 
 -- the last element is taken off
 pub taken_off : {A : Type 0} (xs ys zs : List A) (v : A) → ys ≡ xs ++ v ∷ [] → zs ≡ take (length ys - 1) ys → zs ≡ xs

@@ -20,7 +20,8 @@ use Rattle.nrca_term.specs.Meaning.{cden}
 use Rattle.nrca_term.specs.Turns.{settle}
 use Rattle.nrca_term.specs.Typing.{instances, ctyped}
 use Rattle.aql_desugar_spec.specs.Start.{start, knowns_of, query}
-use Rattle.aql_desugar_spec.specs.Laws.{outcomes_of, value_type, types_of, EachHas, EachPrincipal}
+use Rattle.aql_desugar_spec.specs.Laws.{sort_types, EachHas, EachPrincipal}
+use Rattle.aql_desugar_spec.specs.Positions.{outcomes_of, value_type}
 use Rattle.aql_syntax.specs.Written.{IsWritten}
 use Rattle.aql_syntax.specs.Laws.Written.{written, decl_written}
 use Rattle.aql_desugar_spec.specs.Laws.Positions.{start-means, start-turns}
@@ -104,9 +105,9 @@ has_type (tree.read x r a) g (macro s t) e h q = absurd h
 has_type (tree.bare a) g (value t) e h q = let k : a ≡ e = cc in (t, subst (λ y. Has y g [] t) k h.1)
 has_type (tree.bare a) g (macro s t) e h q = absurd h
 
-types_onto : (ss sorts : List Sort) → types_of (reverse_aux ss sorts) ≡ types_of sorts ++ map value_type ss
-types_onto [] sorts = sym (append-nil (types_of sorts))
-types_onto (s ∷ ss) sorts = types_onto ss (s ∷ sorts) ∙ append_assoc (types_of sorts) (value_type s ∷ []) (map value_type ss)
+types_onto : (ss sorts : List Sort) → sort_types (reverse_aux ss sorts) ≡ sort_types sorts ++ map value_type ss
+types_onto [] sorts = sym (append-nil (sort_types sorts))
+types_onto (s ∷ ss) sorts = types_onto ss (s ∷ sorts) ∙ append_assoc (sort_types sorts) (value_type s ∷ []) (map value_type ss)
 
 -- the declaration that has the expression
 declaration_at : (o : Option Declaration) (e : Tree) → query_at o ≡ Some e → (d : Declaration) × (o ≡ Some d) × (query d ≡ Some e)

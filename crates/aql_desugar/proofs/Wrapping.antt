@@ -3,7 +3,7 @@ use Rattle.std.proofs.Common.{◌≡◌, ◌<◌, ℕ, suc, ◌+◌, ◌-◌, �
 use Rattle.aql_syntax.specs.Tree.{Name, Pat}
 use Rattle.aql_syntax.specs.Size.{pat_nodes, pats_nodes}
 use Rattle.aql_syntax.specs.View.{pat_of, pats_of}
-use Rattle.aql_syntax.specs.Laws.View.{pat_of_row}
+use Rattle.aql_syntax.specs.Laws.View.{pat_of_row, count_pats-list}
 use Rattle.aql_syntax.specs.declared.ast.Pattern as code_pattern
 use Rattle.aql_syntax.specs.declared.ast.Pattern.{Pattern}
 use Rattle.aql_syntax.specs.declared.ast.Patterns.{Patterns}
@@ -11,9 +11,10 @@ use Rattle.nrca_term.specs.Term.{Term}
 use Rattle.nrca_term.specs.Nodes.{variable, let_term, proj_term}
 use Rattle.aql_desugar_spec.specs.Start.{Resolutions, bound, grown, match_term, parts_term}
 use Rattle.aql_desugar_spec.specs.Laws.Scopes.{length-bound}
+use Rattle.aql_desugar_spec.specs.Laws.Weight.{some-nodes}
 use Rattle.aql_desugar.specs.Names.{scope}
-use Rattle.aql_desugar.specs.Laws.Scopes.{length-scope, count_pats-list}
-use Rattle.aql_desugar.proofs.Scoping.{some-nodes, taken_off}
+use Rattle.aql_desugar.specs.Laws.Scopes.{length-scope}
+use Rattle.aql_desugar.proofs.Scoping.{taken_off}
 
 -- the variables of a match are taken off
 pub closed_kept : {A : Type 0} (xs ts ys ws zs : List (Option A)) (mark : ℕ) → ts ≡ take mark xs → ys ≡ ts ++ None ∷ [] → ws ≡ ys → zs ≡ take (length ws - 1) ws → zs ≡ take mark xs
@@ -26,12 +27,6 @@ row_made p ps qs n known s at inside other t e q l h =
     h ∙ ap (λ l. parts_term (pats_of l) known s at 1 n inside other) q
     ∙ ap (λ m. parts_term (pats_of ps.items.items) known s at 1 m inside other) (l ∙ sym (count_pats-list ps.items.items))
     ∙ sym (ap (λ r. match_term r known s at inside other) (ap pat_of e ∙ pat_of_row ps))
-
-pub row_smaller : (p : Pattern) (ps : Patterns) (qs : List Pattern) → p ≡ code_pattern.Row ps → qs ≡ ps.items.items → 3 * pats_nodes (pats_of qs) + 2 < 3 * pat_nodes (pat_of p)
-row_smaller p ps qs e q =
-    let h : pat_nodes (pat_of p) ≡ 1 + pats_nodes (pats_of ps.items.items) = ap pat_nodes (ap pat_of e ∙ pat_of_row ps) in
-    let k : pats_nodes (pats_of qs) ≡ pats_nodes (pats_of ps.items.items) = ap (λ l. pats_nodes (pats_of l)) q in
-    omega arith
 
 pub rest_smaller : (ps rest : List Pattern) (p : Pattern) → ps ≡ p ∷ rest → 3 * pats_nodes (pats_of rest) + 2 < 3 * pats_nodes (pats_of ps) + 2
 rest_smaller ps rest p e =

@@ -35,8 +35,8 @@ abbrev pub Enters : (Binders → Binders) → (old new : List (Option (Bor Name)
 Enters f old new = (base : ℕ) → scope_in new base ≡ f (scope_in old base)
 
 -- the term is f of the declarations before it and of the variables around it
-abbrev pub Stands : (Resolutions → Binders → Term) → List Decl → List (Option (Bor Name)) → (base : ℕ) → Core → Type 0
-Stands f earlier names base c = term_of c ≡ f (knowns_in earlier) (scope_in names base)
+abbrev pub IsTermIn : (Resolutions → Binders → Term) → List Decl → List (Option (Bor Name)) → (base : ℕ) → Core → Type 0
+IsTermIn f earlier names base c = term_of c ≡ f (knowns_in earlier) (scope_in names base)
 
 -- whether a variable has the name
 abbrev pub has_name : Name → Option Name → Bool

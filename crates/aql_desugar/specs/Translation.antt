@@ -21,7 +21,7 @@ use Rattle.nrca_term.specs.Meaning.{Outcomes, cden}
 use Rattle.nrca_term.specs.Turns.{settle}
 use Rattle.nrca_term.specs.Typing.{instances, ctyped}
 use Rattle.aql_desugar_spec.specs.Start.{start, knowns_of, query}
-use Rattle.aql_desugar_spec.specs.Laws.{outcomes_of, value_type}
+use Rattle.aql_desugar_spec.specs.Positions.{outcomes_of, value_type}
 use Rattle.aql_desugar.specs.declared.fault.Fault.{Fault}
 use Rattle.aql_desugar.specs.declared.fault.Fault.TheVariants as faults
 

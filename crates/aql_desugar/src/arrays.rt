@@ -8,7 +8,7 @@ ghost use Rattle.aql_desugar_spec.specs.Start as start_term;
 ghost use Rattle.aql_desugar_spec.specs.Start.{under, bound_axes, axes_term, loops_term, cell_term};
 ghost use Rattle.aql_desugar.specs.Names.{missing_term, scope_in, knowns_in, Enters};
 
-use crate::matches::{Missing, enter_past, plus, wrap};
+use crate::matches::{Missing, add_numbers, enter_past, wrap};
 use crate::names::enter;
 use crate::nodes::{big_union, dim, generate, let_in, proj, sub};
 use crate::positions::Earlier;
@@ -54,10 +54,10 @@ fn cell(alloc: Global, rank: u64, added: u64) -> Result<Core, Memory>
     let mut left = rank;
     while left > 0 {
         left -= 1;
-        let number = plus(added, left)?;
+        let number = add_numbers(added, left)?;
         at.push(Core::Var(number))?;
     }
-    let array = plus(added, rank)?;
+    let array = add_numbers(added, rank)?;
     sub(alloc, Ok(Core::Var(array)), Ok(at))
 }
 
@@ -107,7 +107,7 @@ fn wrap_axes<'a>(
             let (deeper, inside) = both(enter_past(p, names, added), Ok(inside))?;
             let inside = wrap_axes(alloc, rest, earlier, names, deeper, inside, other)?;
             names.truncate(mark);
-            let (at, inside) = both(plus(added, rest.len() as u64), Ok(inside))?;
+            let (at, inside) = both(add_numbers(added, rest.len() as u64), Ok(inside))?;
             let made = wrap(alloc, p, earlier, names, at, inside, other)?;
             Ok(made)
         }

@@ -25,7 +25,7 @@ pub enum Missing {
     Empty,
 }
 
-pub(crate) fn otherwise(other: Missing) -> Core
+pub(crate) fn fallback_term(other: Missing) -> Core
     ensures { term_of result ≡ missing_term other }
 {
     match other {
@@ -35,7 +35,7 @@ pub(crate) fn otherwise(other: Missing) -> Core
 }
 
 /// A number past 64 bits is met by no tree that fits in memory.
-pub fn plus(a: u64, b: u64) -> Result<u64, Memory>
+pub fn add_numbers(a: u64, b: u64) -> Result<u64, Memory>
     ensures { IfOk result (λ r. r ≡ a + b) }
 {
     match a.checked_add(b) {
@@ -62,7 +62,7 @@ fn test(alloc: Global, at: u64, c: Core, inside: Core, other: Missing) -> Result
         (missing_term other)) }
 {
     let equal = compare(alloc, CompareOp::Equal, Ok((Core::Var(at), c)));
-    choose(alloc, equal, Ok((inside, otherwise(other))))
+    choose(alloc, equal, Ok((inside, fallback_term(other))))
 }
 
 /// The match of variable `at` around a term in the scope inside the match.
@@ -127,7 +127,7 @@ fn wrap_parts<'a>(
         None => Ok(inside),
         Some((p, rest)) => {
             let mark = names.len();
-            let numbers = both(open_past(p, names, at), plus(j, 1));
+            let numbers = both(open_past(p, names, at), add_numbers(j, 1));
             let ((deeper, next), inside) = both(numbers, Ok(inside))?;
             let inside = wrap_parts(alloc, rest, earlier, names, deeper, next, n, inside, other)?;
             let matched = close(alloc, p, earlier, names, mark, inside, other);
@@ -193,7 +193,7 @@ pub(crate) fn enter_past<'a>(
 {
     let mark = names.len();
     enter(p, names)?;
-    plus(at, (names.len() - mark) as u64)
+    add_numbers(at, (names.len() - mark) as u64)
 }
 
 // The same with the variable that is matched.
@@ -205,5 +205,5 @@ fn open_past<'a>(p: &'a Pattern, names: &mut Vec<Option<&'a Str>>, at: u64) -> R
 {
     let mark = names.len();
     open(p, names)?;
-    plus(at, (names.len() - mark) as u64)
+    add_numbers(at, (names.len() - mark) as u64)
 }

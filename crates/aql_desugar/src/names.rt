@@ -3,7 +3,7 @@
 ghost use Rattle.std.specs.Prelude.{◌≡◌, ℕ, length, take, option_map, OnOk};
 ghost use Rattle.aql_syntax.specs.View.{pat_of, pats_of};
 ghost use Rattle.aql_desugar_spec.specs.Start as start_term;
-ghost use Rattle.aql_desugar_spec.specs.Start.{bound, bounds};
+ghost use Rattle.aql_desugar_spec.specs.Start.{bound, bound_all};
 ghost use Rattle.aql_desugar.specs.Names.{has_name, scope_in, Enters};
 
 use aql_syntax::ast::Pattern;
@@ -54,7 +54,7 @@ pub(crate) fn enter<'a>(p: &'a Pattern, names: &mut Vec<Option<&'a Str>>) -> Res
 #[cycle(enter)]
 #[tactic(auto, using(crate::proofs::Scoping::entering))]
 fn enter_all<'a>(ps: &'a [Pattern], names: &mut Vec<Option<&'a Str>>) -> Result<(), Memory>
-    ensures inside { OnOk result (Enters (bounds (pats_of ps.now)) names.old.items
+    ensures inside { OnOk result (Enters (bound_all (pats_of ps.now)) names.old.items
         names.new.items) }
     ensures around { OnOk result (take (length names.old.items) names.new.items ≡ names.old.items) }
 {

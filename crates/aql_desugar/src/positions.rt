@@ -59,14 +59,14 @@ pub(crate) fn find<'a>(name: &Str, earlier: &Earlier<'a>) -> Option<(&'a Decl, E
 {
     let decls = earlier.decls;
     let names = earlier.names;
-    match place(name, decls, names) {
+    match last_index(name, decls, names) {
         None => None,
         Some(i) => Some((&decls[i], front(decls, names, i))),
     }
 }
 
 // The last of the declarations that has the name.
-fn place(name: &Str, decls: &[Decl], names: &Names) -> Option<usize>
+fn last_index(name: &Str, decls: &[Decl], names: &Names) -> Option<usize>
     requires named { BeginWith decls.now names.now }
     ensures last { result ≡ last_named name.now (names_of decls.now) }
     ensures inside { IfSome result (λ i. i < length decls.now) }

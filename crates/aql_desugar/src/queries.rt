@@ -9,10 +9,10 @@ ghost use Rattle.nrca_term.specs.Term.{Term};
 ghost use Rattle.nrca_term.specs.View.{term_of};
 ghost use Rattle.aql_desugar_spec.specs.Start as start_term;
 ghost use Rattle.aql_desugar_spec.specs.Start.{matching, starts, bound_terms, under_axes, quals_term, defs_term, array_term};
-ghost use Rattle.aql_desugar.specs.Names.{missing_term, scope_in, knowns_in, Enters, Stands};
+ghost use Rattle.aql_desugar.specs.Names.{missing_term, scope_in, knowns_in, Enters, IsTermIn};
 
 use crate::arrays::{enter_axes, hide, walk};
-use crate::matches::{Missing, close, name_term, open, plus};
+use crate::matches::{Missing, add_numbers, close, name_term, open};
 use crate::names::index_of;
 use crate::nodes::{
     arith, big_union, choose, compare, conjunction, default, dim, disjunction, generate, get,
@@ -39,7 +39,7 @@ pub fn start<'a>(
     base: u64,
     names: &mut Vec<Option<&'a Str>>,
 ) -> Result<Core, Memory>
-    ensures made { IfOk result (Stands (start_term.start (tree_of e.now)) earlier.now
+    ensures made { IfOk result (IsTermIn (start_term.start (tree_of e.now)) earlier.now
         names.old.items base) }
     ensures kept { OnOk result (names.new.items ≡ names.old.items) }
 {
@@ -131,9 +131,9 @@ fn pair<'a>(
     base: u64,
     names: &mut Vec<Option<&'a Str>>,
 ) -> Result<(Core, Core), Memory>
-    ensures first { IfOk result (λ x. Stands (start_term.start (tree_of a.now)) earlier.now
+    ensures first { IfOk result (λ x. IsTermIn (start_term.start (tree_of a.now)) earlier.now
         names.old.items base x.0) }
-    ensures second { IfOk result (λ x. Stands (start_term.start (tree_of b.now)) earlier.now
+    ensures second { IfOk result (λ x. IsTermIn (start_term.start (tree_of b.now)) earlier.now
         names.old.items base x.1) }
     ensures kept { OnOk result (names.new.items ≡ names.old.items) }
 {
@@ -256,7 +256,7 @@ fn call<'a>(
     match index_of(names, name) {
         Some(_) => Ok(Core::Bottom),
         None => {
-            let depth = plus(base, names.len() as u64)?;
+            let depth = add_numbers(base, names.len() as u64)?;
             expand(alloc, name, earlier, depth)
         }
     }

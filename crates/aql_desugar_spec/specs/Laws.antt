@@ -21,19 +21,15 @@ use Rattle.aql_syntax.specs.Denotation.{den}
 use Rattle.aql_syntax.specs.Work.{work}
 use Rattle.aql_syntax.specs.Script.{Earlier, globals_of}
 use Rattle.aql_syntax.specs.Sound.{declarations_of}
-use Rattle.aql_types.specs.Types.{Ty, natural, Sort, value, macro, IsType}
+use Rattle.aql_types.specs.Types.{Ty, Sort, IsType}
 use Rattle.aql_syntax.specs.Size.{size, extents_of}
 use Rattle.aql_syntax.specs.Typing.{Has, DeclHas, IsPrincipal, scope_of}
 use Rattle.nrca_term.specs.Term.{Closed, WellFormed, weight_of}
 use Rattle.nrca_term.specs.Meaning.{Outcomes, cden}
 use Rattle.nrca_term.specs.Turns.{settle}
 use Rattle.nrca_term.specs.Typing.{instances, ctyped}
+use Rattle.aql_desugar_spec.specs.Positions.{outcomes_of, value_type}
 use Rattle.aql_desugar_spec.specs.Start.{start, knowns_of}
-
--- the outcomes of declarations of which the latest is first, in order
-abbrev pub outcomes_of : Earlier → Outcomes
-outcomes_of [] = []
-outcomes_of ((d, o) ∷ earlier) = outcomes_of earlier ++ o ∷ []
 
 -- the start term is worth what the query denotes and undefined where that is, whatever outcomes later positions have
 abbrev pub StartMeans : Type 0
@@ -69,17 +65,12 @@ EachPrincipal [] sorts = sorts ≡ []
 EachPrincipal (d ∷ earlier) sorts =
     (s : Sort) × (rest : List Sort) × (sorts ≡ s ∷ rest) × DeclWritten d × IsPrincipal d (scope_of earlier) s × EachPrincipal earlier rest
 
--- the type of a value; a macro has none, and stands for a number
-abbrev pub value_type : Sort → Ty
-value_type (value t) = t
-value_type (macro s t) = natural
-
 -- the types of positions of which the latest is first, in order
-abbrev pub types_of : List Sort → List Ty
-types_of [] = []
-types_of (s ∷ earlier) = types_of earlier ++ value_type s ∷ []
+abbrev pub sort_types : List Sort → List Ty
+sort_types [] = []
+sort_types (s ∷ earlier) = sort_types earlier ++ value_type s ∷ []
 
 -- each type of the query that is one of the language is a type of its start term, over the principal types of the positions
 abbrev pub StartTyped : Type 0
 StartTyped = (earlier : List Declaration) (sorts : List Sort) (later : List Ty) (e : Tree) (T : Ty) → EachPrincipal earlier sorts → IsWritten e → IsType T →
-    Has e (scope_of earlier) [] T → ctyped (instances (types_of sorts ++ later)) [] (start e (knowns_of earlier) []) T
+    Has e (scope_of earlier) [] T → ctyped (instances (sort_types sorts ++ later)) [] (start e (knowns_of earlier) []) T

@@ -1,3 +1,4 @@
 pub mod Start
 pub mod Scopes
+pub mod Positions
 pub mod Laws

@@ -23,15 +23,15 @@ abbrev pub Resolutions : Type 0
 Resolutions = List (Name × Resolved)
 
 -- the number of a variable under one more
-abbrev pub raised : Option ℕ → Option ℕ
-raised None = None
-raised (Some i) = Some (suc i)
+abbrev pub index_under : Option ℕ → Option ℕ
+index_under None = None
+index_under (Some i) = Some (suc i)
 
 -- the number of the innermost variable of that name
 abbrev pub index_of : Name → Binders → Option ℕ
 index_of x [] = None
-index_of x (None ∷ s) = raised (index_of x s)
-index_of x (Some y ∷ s) = if names_equal x y then Some 0 else raised (index_of x s)
+index_of x (None ∷ s) = index_under (index_of x s)
+index_of x (Some y ∷ s) = if names_equal x y then Some 0 else index_under (index_of x s)
 
 -- a macro, and a name that nothing declares, are undefined
 abbrev pub position_term : Option Resolved → Term
@@ -69,12 +69,12 @@ abbrev mutual
   bound any s = s
   bound (equals c) s = s
   bound (refers x) s = s
-  bound (tuple ps) s = bounds ps s
+  bound (tuple ps) s = bound_all ps s
 
   -- the variables around what follows these patterns
-  pub bounds : Pats → Binders → Binders
-  bounds no_pat s = s
-  bounds (pat p ps) s = bounds ps (bound p (None ∷ s))
+  pub bound_all : Pats → Binders → Binders
+  bound_all no_pat s = s
+  bound_all (pat p ps) s = bound_all ps (bound p (None ∷ s))
 
 abbrev mutual
   -- the number of variables that a match adds

@@ -115,7 +115,7 @@ impl Extents {
     }
 
     // What an application of the name adds: nothing where it is no macro.
-    pub(crate) fn applied(&self, name: &Str) -> Added
+    pub(crate) fn macro_addition(&self, name: &Str) -> Added
         ensures pattern { result.pattern ≡ (extent_of (find name.now self.now)).pattern }
         ensures size { result.size ≡ (extent_of (find name.now self.now)).size }
         ensures levels { result.levels ≡ (extent_of (find name.now self.now)).levels }

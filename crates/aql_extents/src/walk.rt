@@ -83,7 +83,7 @@ pub(crate) fn measure(e: &Expr, earlier: &Extents) -> Counts
         Expr::Dim { rank: _, array } => add_node(1, 1, measure(array, earlier)),
         Expr::Index { rank: _, pairs } => add_node(1, 1, measure(pairs, earlier)),
         Expr::Apply { name, argument } => {
-            let added = earlier.applied(name);
+            let added = earlier.macro_addition(name);
             let own = added.pattern.saturating_add(1);
             let body = Counts {
                 size: added.size,

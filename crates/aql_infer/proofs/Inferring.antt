@@ -1,24 +1,22 @@
 -- What one declaration gets, from what was asked of it and solved.
-use Rattle.std.proofs.Common.{◌≡◌, Some, Result, Ok, Err, IfOk, sym, ap, ◌∙◌, subst, length}
+use Rattle.std.proofs.Common.{◌≡◌, Some, Result, Ok, Err, IfOk, ap, ◌∙◌, length}
 use Rattle.aql_value.specs.declared.memory.Memory.{Memory}
 use Rattle.aql_types.specs.Types.{Subst, Sort, apply_sort}
-use Rattle.aql_types.specs.Unifiers.{IsSolution, IsBest}
+use Rattle.aql_types.specs.Unifiers.{IsBest}
 use Rattle.aql_types.specs.View.{sort_of}
 use Rattle.aql_types.specs.declared.ty.Scheme as code_scheme
 use Rattle.aql_syntax.specs.Tree.{Declaration}
-use Rattle.aql_infer_steps.specs.Constraints.{Schemes, State, Made, start, make_decl}
+use Rattle.aql_infer_steps.specs.Constraints.{NumberedSorts, State, initial, make_decl}
 use Rattle.aql_types.specs.Variables.{sort_variables}
 use Rattle.aql_infer_steps.specs.Numbering.{number}
-use Rattle.aql_infer_steps.specs.Principal.{IsNotInferred, HasNoSolution}
-use Rattle.aql_infer_steps.specs.View.{FailsTyping}
 use Rattle.aql_infer_steps.specs.declared.positions.Position.{Position}
 use Rattle.aql_infer_steps.specs.declared.fault.NoTyping.{NoTyping}
 use Rattle.aql_infer_steps.specs.declared.fault.NoTyping.TheVariants as faults
 use Rattle.aql_infer.specs.Inferred.{Inferred, Placed}
 
 -- a most general solution, and its scheme with the variables numbered
-pub solved : (d : Declaration) (ss : Schemes) (o : Sort) (n : State) (u : Subst) (made : Result code_scheme.Scheme Memory) (r : Result Position NoTyping) →
-    make_decl d ss start ≡ Some (record { result = o; state = n }) → IsBest n.eqs n.uses u → IfOk made (λ m. sort_of m ≡ apply_sort u o) → Placed r made d →
+pub solved : (d : Declaration) (ss : NumberedSorts) (o : Sort) (n : State) (u : Subst) (made : Result code_scheme.Scheme Memory) (r : Result Position NoTyping) →
+    make_decl d ss initial ≡ Some (record { result = o; state = n }) → IsBest n.eqs n.uses u → IfOk made (λ m. sort_of m ≡ apply_sort u o) → Placed r made d →
     Inferred r d ss
 solved d ss o n u (Ok m) (Ok p) asked best e placed = (
   record {
@@ -34,13 +32,3 @@ solved d ss o n u (Ok m) (Ok p) asked best e placed = (
 solved d ss o n u (Err m) (Ok p) asked best e placed = absurd placed
 solved d ss o n u made (Err faults.Memory) asked best e placed = tt
 solved d ss o n u made (Err faults.NoType) asked best e placed = cc
-
--- no solution
-pub not_solved : (d : Declaration) (ss : Schemes) (m : Made Sort) → make_decl d ss start ≡ Some m →
-    ((u : Subst) → IsSolution u m.state.eqs m.state.uses → ⊥) → IsNotInferred d ss
-not_solved d ss m e h = subst HasNoSolution (sym e) h
-
--- nothing asked
-pub not_asked : (e : NoTyping) (d : Declaration) (ss : Schemes) → FailsTyping e (make_decl d ss start) → Inferred (Err e) d ss
-not_asked faults.Memory d ss h = tt
-not_asked faults.NoType d ss h = subst HasNoSolution (sym h) tt

@@ -9,7 +9,7 @@ use Rattle.aql_syntax.specs.Tree.{Declaration, declared}
 use Rattle.aql_syntax.specs.Typing.{scope_of}
 use Rattle.aql_syntax.specs.View.{decl_of, decls_of}
 use Rattle.aql_syntax.specs.declared.ast.Decl.{Decl}
-use Rattle.aql_infer_steps.specs.Constraints.{Schemes}
+use Rattle.aql_infer_steps.specs.Constraints.{NumberedSorts}
 use Rattle.aql_infer_steps.specs.Describes.{Describes}
 use Rattle.aql_syntax.specs.Written.{DeclWritten}
 use Rattle.aql_infer_steps.specs.Principal.{IsInferred, IsNotInferred}
@@ -28,7 +28,7 @@ pub record Progress (done : List Declaration) (ps : List Position) : Type 0 wher
 pub progress_none : Progress [] []
 progress_none = record { described = none_described; principal = tt }
 
-schemes_onto_last : (ps : List Position) (p : Position) (ss : Schemes) → schemes_onto (ps ++ p ∷ []) ss ≡ (p.name, scheme_of p) ∷ schemes_onto ps ss
+schemes_onto_last : (ps : List Position) (p : Position) (ss : NumberedSorts) → schemes_onto (ps ++ p ∷ []) ss ≡ (p.name, scheme_of p) ∷ schemes_onto ps ss
 schemes_onto_last [] p ss = refl
 schemes_onto_last (k ∷ ps) p ss = schemes_onto_last ps p ((k.name, scheme_of k) ∷ ss)
 
@@ -62,7 +62,7 @@ untyped_last (e ∷ ds) earlier (r ∷ ss) d rest h k = ((r, h.0.principal.has),
 pub progress_more : (done : List Declaration) (ps : List Position) (d : Declaration) (p : Position) → DeclWritten d → Progress done ps →
     IsInferred d (schemes_of ps) (scheme_of p) → p.name ≡ declared d → Progress (done ++ d ∷ []) (ps ++ p ∷ [])
 progress_more done ps d p w h i e = record {
-  described = subst (λ (ss : Schemes). Describes (scope_of (behind (done ++ d ∷ []) [])) ss)
+  described = subst (λ (ss : NumberedSorts). Describes (scope_of (behind (done ++ d ∷ []) [])) ss)
       (ap (λ x. (x, scheme_of p) ∷ schemes_of ps) (sym e) ∙ sym (schemes_onto_last ps p []))
       (subst (λ (ds : List Declaration). Describes (scope_of ds) ((declared d, scheme_of p) ∷ schemes_of ps)) (sym (behind_last done [] d))
       (inferred_described d w (scope_of (behind done [])) (schemes_of ps) h.described (scheme_of p) i));

@@ -5,7 +5,7 @@ use Rattle.aql_types.specs.Types.{apply_sort}
 use Rattle.aql_types.specs.View.{sort_of}
 use Rattle.aql_types.specs.declared.ty.Scheme as code_scheme
 use Rattle.aql_syntax.specs.Tree.{Declaration, declared}
-use Rattle.aql_infer_steps.specs.Constraints.{Schemes}
+use Rattle.aql_infer_steps.specs.Constraints.{NumberedSorts}
 use Rattle.aql_types.specs.Variables.{sort_variables}
 use Rattle.aql_infer_steps.specs.Numbering.{renumbering}
 use Rattle.aql_infer_steps.specs.Principal.{IsInferred, IsNotInferred}
@@ -15,7 +15,7 @@ use Rattle.aql_infer_steps.specs.declared.fault.NoTyping.{NoTyping}
 use Rattle.aql_infer_steps.specs.declared.fault.NoTyping.TheVariants as faults
 
 -- its name, with the numbered sort of a most general solution of what it asks; or there is none
-abbrev pub Inferred : Result Position NoTyping → Declaration → Schemes → Type 0
+abbrev pub Inferred : Result Position NoTyping → Declaration → NumberedSorts → Type 0
 Inferred (Ok p) d ss = IsInferred d ss (scheme_of p) × (p.name ≡ declared d)
 Inferred (Err faults.NoType) d ss = IsNotInferred d ss
 Inferred (Err faults.Memory) d ss = Unit {0}

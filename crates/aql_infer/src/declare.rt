@@ -3,13 +3,13 @@
 ghost use Rattle.std.specs.Prelude.{◌≡◌, []};
 ghost use Rattle.aql_syntax.specs.Tree as tree;
 ghost use Rattle.aql_syntax.specs.View.{tree_of, decl_of, reader_of, pat_of};
-ghost use Rattle.aql_infer_steps.specs.Constraints.{start, make_decl};
+ghost use Rattle.aql_infer_steps.specs.Constraints.{initial, make_decl};
 ghost use Rattle.aql_infer_steps.specs.View.{state_of, schemes_of, MakesSort};
 ghost use Rattle.aql_infer.specs.Inferred.{Inferred, Placed};
 
 use crate::walk::infer;
 use aql_infer_steps::fault::NoTyping;
-use aql_infer_steps::numbering::{instance_of, with_places};
+use aql_infer_steps::numbering::{instance_of, renumber_scheme};
 use aql_infer_steps::patterns::pattern;
 use aql_infer_steps::positions::{Position, Positions};
 use aql_infer_steps::readers::{argument_type, has_rank, reader_type};
@@ -54,7 +54,7 @@ fn sort_of_expression(
 {
     let scheme = make_box(alloc, scheme)?;
     let names = scheme_variables(alloc, &scheme)?;
-    let (scheme, name) = both(with_places(alloc, &scheme, &names), d.name_copy(alloc))?;
+    let (scheme, name) = both(renumber_scheme(alloc, &scheme, &names), d.name_copy(alloc))?;
     Ok(Position {
         name,
         scheme,
@@ -63,7 +63,7 @@ fn sort_of_expression(
 }
 
 fn begin(alloc: Global, positions: &Positions) -> Store
-    ensures { state_of positions.now result ≡ start }
+    ensures { state_of positions.now result ≡ initial }
 {
     Store {
         equations: Vec::new(alloc),

@@ -1,37 +1,20 @@
--- Lists of local names that grow, and patterns as the code has them.
-use Rattle.std.proofs.Common.{ℕ, suc, ◌≡◌, ◌+◌, ◌<◌, List, [], ◌∷◌, ◌++◌, Option, Some, None, refl, sym, ap, ◌∙◌, length, take, drop, get_or}
+-- Patterns as the code has them, and the local names that they bind.
+use Rattle.std.proofs.Common.{ℕ, ◌≡◌, ◌+◌, ◌<◌, List, [], ◌∷◌, ◌++◌, Option, Some, None, refl, sym, ap, ◌∙◌, length, drop, get_or}
 use Rattle.aql_types.specs.Types.{Ty, Tys, no_type, type, natural, append}
 use Rattle.aql_types.specs.Laws.View.{append_assoc_types, append_none}
 use Rattle.aql_syntax.specs.Tree.{Pats, count_pats, axes}
 use Rattle.aql_syntax.specs.Typing.{Locals}
 use Rattle.aql_syntax.specs.View.{pat_of, pats_of}
-use Rattle.aql_syntax.specs.Laws.View.{pat_of_row, pats_from, pats_past}
+use Rattle.aql_syntax.specs.Laws.View.{pat_of_row, pats_from, pats_past, count_pats-list}
 use Rattle.aql_syntax.specs.declared.ast.Pattern as code_pattern
 use Rattle.aql_syntax.specs.declared.ast.Pattern.{Pattern}
 use Rattle.aql_syntax.specs.declared.ast.Patterns.{Patterns}
-use Rattle.aql_infer_steps.specs.Constraints.{State, Made, MatchedAll, Schemes, after, made, equate, make_pat, make_pats, matched_index}
-use Rattle.aql_infer_steps.specs.View.{sketch_type, sketch_types, Extends}
+use Rattle.aql_infer_steps.specs.Constraints.{State, Made, MatchedAll, NumberedSorts, after, made, equate, make_pat, make_pats, matched_index}
+use Rattle.aql_infer_steps.specs.View.{sketch_type, sketch_types}
 use Rattle.aql_infer_steps.specs.declared.sketch.Sketch.{Sketch}
 use Rattle.aql_infer_steps.specs.declared.positions.Position.{Position}
 use Rattle.aql_infer_steps.proofs.Sketching.{sketch_row_is, sketches_last}
-use Rattle.aql_infer_steps.specs.declared.names.Local.{Local}
-
-pub extends_itself : (a : List Local) → Extends a a
-extends_itself [] = refl
-extends_itself (x ∷ a) = ap (λ l. x ∷ l) (extends_itself a)
-
-pub extends_extends : (a b c : List Local) → Extends a b → Extends b c → Extends a c
-extends_extends [] b c h k = refl
-extends_extends (x ∷ a) [] c h k = cc
-extends_extends (x ∷ a) (y ∷ b) [] h k = cc
-extends_extends (x ∷ a) (y ∷ b) (z ∷ c) h k =
-    let first : take (length a) b ≡ a = cc in
-    let second : take (length b) c ≡ b = cc in
-    let rest = extends_extends a b c first second in cc
-
-pub count_pats-list : (ps : List Pattern) → count_pats (pats_of ps) ≡ length ps
-count_pats-list [] = refl
-count_pats-list (p ∷ ps) = ap suc (count_pats-list ps)
+use Rattle.aql_infer_steps.specs.Laws.Growing.{extends_itself, extends_extends}
 
 pub count_axes-row : (ps : Patterns) → count_pats (axes (pat_of (code_pattern.Row ps))) ≡ length ps.items.items
 count_axes-row ps = ap (λ p. count_pats (axes p)) (pat_of_row ps) ∙ count_pats-list ps.items.items
@@ -47,7 +30,7 @@ abbrev pub behind : Tys → MatchedAll → State → Option (Made MatchedAll)
 behind ts q = made (record { of = append ts q.of; names = q.names })
 
 -- one pattern more
-pub pats_more : (qs : List Position) (ps : List Pattern) (i : ℕ) (p : Pattern) (ss : Schemes) (env inner : Locals) (n m : State) (parts new : List Sketch) (t : Sketch) (all : Option (Made MatchedAll)) →
+pub pats_more : (qs : List Position) (ps : List Pattern) (i : ℕ) (p : Pattern) (ss : NumberedSorts) (env inner : Locals) (n m : State) (parts new : List Sketch) (t : Sketch) (all : Option (Made MatchedAll)) →
     i < length ps → p ≡ get_or ps i p → make_pat (pat_of p) ss env n ≡ Some (record { result = record { of = sketch_type qs t; names = inner }; state = m }) →
     new ≡ parts ++ t ∷ [] → after (make_pats (pats_of (drop i ps)) ss env n) (behind (sketch_types qs parts)) ≡ all →
     after (make_pats (pats_of (drop (i + 1) ps)) ss inner m) (behind (sketch_types qs new)) ≡ all
@@ -69,7 +52,7 @@ pats_more qs ps i p ss env inner n m parts new t all h e k g total =
     go (Some q) = ap (λ (ts : Tys). Some (record { result = record { of = ts; names = q.result.names }; state = q.state })) (longer q.result.of)
 
 -- one part of an index more
-pub index_more : (ps : List Pattern) (i : ℕ) (p : Pattern) (ss : Schemes) (env inner : Locals) (n m last : State) (t : Ty) (all : Option (Made Locals)) →
+pub index_more : (ps : List Pattern) (i : ℕ) (p : Pattern) (ss : NumberedSorts) (env inner : Locals) (n m last : State) (t : Ty) (all : Option (Made Locals)) →
     i < length ps → p ≡ get_or ps i p → make_pat (pat_of p) ss env n ≡ Some (record { result = record { of = t; names = inner }; state = m }) →
     equate t natural m ≡ Some (record { result = tt; state = last }) → matched_index (pats_of (drop i ps)) ss env n ≡ all →
     matched_index (pats_of (drop (i + 1) ps)) ss inner last ≡ all

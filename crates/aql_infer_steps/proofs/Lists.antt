@@ -31,10 +31,6 @@ types_in_from ps ts i d h = rw (add-one, drop-cons ts i d h) refl
 pub types_in_past : (ps : List Position) (ts : List Sketch) (i : ℕ) → length ts ≤ i → types_in ps (drop i ts) ≡ []
 types_in_past ps ts i h = at_drop_all (types_in ps) ts i h
 
-pub types_in_append : (ps : List Position) (a b : List Sketch) → types_in ps (a ++ b) ≡ types_in ps a ++ types_in ps b
-types_in_append ps [] b = refl
-types_in_append ps (t ∷ a) b = ap (λ l. sketch_type ps t ∷ l) (types_in_append ps a b)
-
 pub ruleset types_in_steps = (types_in_from, types_in_past)
 
 pub ruleset tuple_steps = (length_types_in, tys_of_types_in)

@@ -12,8 +12,8 @@ use Rattle.aql_type_graph.specs.declared.graph.Graph.{Graph}
 use Rattle.aql_type_graph.specs.Shapes as shape
 use Rattle.aql_type_graph.specs.Shapes.{Shape}
 use Rattle.aql_type_graph.specs.Forms as form
-use Rattle.aql_type_graph.specs.Graphs.{forms_of, Adds}
-use Rattle.aql_type_solve.specs.Pushed.{shift, AreNumbered, Extends, Pushes, PushesAll, PushesEquations, IsFresh}
+use Rattle.aql_type_graph.specs.Graphs.{Adds}
+use Rattle.aql_type_solve.specs.Pushed.{shift, Extends, Pushes, PushesAll, PushesEquations}
 use Rattle.aql_type_solve.specs.Laws.Pushing.{longer, kept, kept_numbered, itself, added, leaf_ok, shift_none, one_more, equations_more}
 use Rattle.aql_infer_steps.specs.Constraints.{raised}
 use Rattle.aql_infer_steps.specs.View.{sketch_type, sketch_types, sides_of, instance_type, part_of, sort_at}
@@ -70,12 +70,6 @@ pub under_way : (ps : List Position) (new old : Working) → Extends new.graph o
 under_way ps new old x e h = record {
   numbered = kept_numbered new.graph old.graph x h.numbered;
   known = subst (AreNodes ps new.graph) (sym (ap (λ m. m.entries) e)) (nodes_kept ps new.graph old.graph old.known.entries x h.known);
-}
-
-pub fresh_under_way : (ps : List Position) (n : ℕ) (w : Working) → IsFresh n w.graph → w.known.entries ≡ [] → IsUnderWay ps w
-fresh_under_way ps n w f e = record {
-  numbered = subst (λ m. AreNumbered m (forms_of w.graph)) (sym f.variables) f.numbered;
-  known = subst (AreNodes ps w.graph) (sym e) tt;
 }
 
 -- The answers of the code.

@@ -12,13 +12,13 @@ use Rattle.aql_syntax.specs.Names.{find}
 use Rattle.aql_syntax.specs.Typing.{Locals, constant_type, with_indices, reader_type, argument_type}
 
 -- a sort whose variables are the numbers below one
-pub record Scheme : Type 0 where
+pub record NumberedSort : Type 0 where
   pub sort : Sort
   pub variables : ℕ
 
 -- what the earlier positions have, the latest first
-abbrev pub Schemes : Type 0
-Schemes = List (Name × Scheme)
+abbrev pub NumberedSorts : Type 0
+NumberedSorts = List (Name × NumberedSort)
 
 -- the equations so far, the latest first, the types that are to be within the limits, and the next new variable
 pub record State : Type 0 where
@@ -76,8 +76,8 @@ guard true s = Some (record { result = tt; state = s })
 guard false s = None
 
 -- before the first step
-abbrev pub start : State
-start = record { eqs = []; uses = no_type; next = 0 }
+abbrev pub initial : State
+initial = record { eqs = []; uses = no_type; next = 0 }
 
 -- a rank from 1 to 8
 abbrev pub is_rank : ℕ → Bool
@@ -211,12 +211,12 @@ make_value (value t) k n = after (opened k n) (λ w n. after (within (apply w t)
 make_value (macro a b) k n = None
 
 -- the type of a position's name: an instance of its scheme
-abbrev pub make_global : Option Scheme → Making Ty
+abbrev pub make_global : Option NumberedSort → Making Ty
 make_global None n = None
 make_global (Some s) n = make_value s.sort s.variables n
 
 -- the type of the innermost local name, else an instance of what the latest position of that name has
-abbrev pub make_name : Schemes → Option Ty → Name → Making Ty
+abbrev pub make_name : NumberedSorts → Option Ty → Name → Making Ty
 make_name ss (Some t) x n = made t n
 make_name ss None x n = make_global (find x ss) n
 
@@ -230,7 +230,7 @@ make_macro (value t) k s n = None
 make_macro (macro a b) k s n = after (opened k n) (λ w. called (apply w a) (apply w b) s)
 
 -- a local name in head position has no answer
-abbrev pub make_call : Option Ty → Option Scheme → Ty → Making Ty
+abbrev pub make_call : Option Ty → Option NumberedSort → Ty → Making Ty
 make_call (Some l) s t n = None
 make_call None None t n = None
 make_call None (Some s) t n = make_macro s.sort s.variables t n
@@ -249,7 +249,7 @@ pub record MatchedAll : Type 0 where
 
 abbrev mutual
   -- the type of a pattern, whose names are added to the local ones
-  pub make_pat : Pat → Schemes → Locals → Making Matched
+  pub make_pat : Pat → NumberedSorts → Locals → Making Matched
   make_pat (bind x) ss env n = after (fresh n) (λ t. made (record { of = t; names = (x, t) ∷ env }))
   make_pat any ss env n = after (fresh n) (λ t. made (record { of = t; names = env }))
   make_pat (equals c) ss env n = made (record { of = constant_type c; names = env }) n
@@ -257,31 +257,31 @@ abbrev mutual
   make_pat (tuple ps) ss env n = after (make_pats ps ss env n) (λ r. made (record { of = types.product r.of; names = r.names }))
 
   -- the same of several patterns, one behind the other
-  pub make_pats : Pats → Schemes → Locals → Making MatchedAll
+  pub make_pats : Pats → NumberedSorts → Locals → Making MatchedAll
   make_pats no_pat ss env n = made (record { of = no_type; names = env }) n
   make_pats (pat p ps) ss env n =
       after (make_pat p ss env n) (λ r n. after (make_pats ps ss r.names n) (λ q.
       made (record { of = type r.of q.of; names = q.names })))
 
 -- the local names under a pattern that matches a value of that type
-abbrev pub matched : Pat → Schemes → Locals → Ty → Making Locals
+abbrev pub matched : Pat → NumberedSorts → Locals → Ty → Making Locals
 matched p ss env t n =
     after (make_pat p ss env n) (λ r n. after (equate t r.of n) (λ _ n. after (within r.of n) (λ _. made r.names)))
 
 -- the local names under a pattern that matches the members of a set of that type
-abbrev pub matched_member : Pat → Schemes → Locals → Ty → Making Locals
+abbrev pub matched_member : Pat → NumberedSorts → Locals → Ty → Making Locals
 matched_member p ss env t n =
     after (make_pat p ss env n) (λ r n. after (equate t (types.set_of r.of) n) (λ _ n.
     after (within (types.set_of r.of) n) (λ _. made r.names)))
 
 -- the local names under the patterns of an index's parts, which are numbers
-abbrev pub matched_index : Pats → Schemes → Locals → Making Locals
+abbrev pub matched_index : Pats → NumberedSorts → Locals → Making Locals
 matched_index no_pat ss env n = made env n
 matched_index (pat p ps) ss env n =
     after (make_pat p ss env n) (λ r n. after (equate r.of natural n) (λ _. matched_index ps ss r.names))
 
 -- the local names under a pattern that matches the cells of an array of that rank and type
-abbrev pub matched_cell : Pat → ℕ → Schemes → Locals → Ty → Making Locals
+abbrev pub matched_cell : Pat → ℕ → NumberedSorts → Locals → Ty → Making Locals
 matched_cell q k ss env t n =
     after (make_pat q ss env n) (λ r n. after (equate t (types.array_of k r.of) n) (λ _ n.
     after (within (types.array_of k r.of) n) (λ _. made r.names)))
@@ -306,7 +306,7 @@ made_choice c a b n = after (equate c types.truth n) (λ _. made_either a b)
 
 abbrev mutual
   -- the type of an expression under positions and local names
-  pub make : Tree → Schemes → Locals → Making Ty
+  pub make : Tree → NumberedSorts → Locals → Making Ty
   make (name x) ss env n = make_name ss (find x env) x n
   make (op o es) ss env n = after (make_all es ss env n) (λ ts. make_op o ts)
   make (members es) ss env n = after (fresh n) (λ t n. after (make_each es ss env t n) (λ _. made (types.set_of t)))
@@ -333,23 +333,23 @@ abbrev mutual
       after (make body ss inner n) (λ s n. after (equate s natural n) (λ _. made natural))))
 
   -- the types of some expressions
-  pub make_all : Trees → Schemes → Locals → Making (List Ty)
+  pub make_all : Trees → NumberedSorts → Locals → Making (List Ty)
   make_all no_tree ss env n = made [] n
   make_all (tree e es) ss env n = after (make e ss env n) (λ t n. after (make_all es ss env n) (λ ts. made (t ∷ ts)))
 
   -- all are to have that type
-  pub make_each : Trees → Schemes → Locals → Ty → Making (Unit {0})
+  pub make_each : Trees → NumberedSorts → Locals → Ty → Making (Unit {0})
   make_each no_tree ss env t n = made tt n
   make_each (tree e es) ss env t n = after (make e ss env n) (λ s n. after (equate s t n) (λ _. make_each es ss env t))
 
   -- the bounds of a tabulation are numbers
-  pub make_bounds : Axes → Schemes → Locals → Making (Unit {0})
+  pub make_bounds : Axes → NumberedSorts → Locals → Making (Unit {0})
   make_bounds no_axis ss env n = made tt n
   make_bounds (axis x e rest) ss env n =
       after (make e ss env n) (λ t n. after (equate t natural n) (λ _. make_bounds rest ss env))
 
   -- the local names under qualifiers
-  pub make_rows : Quals → Schemes → Locals → Making Locals
+  pub make_rows : Quals → NumberedSorts → Locals → Making Locals
   make_rows no_qual ss env n = made env n
   make_rows (from p e rest) ss env n =
       after (make e ss env n) (λ t n. after (matched_member p ss env t n) (λ inner. make_rows rest ss inner))
@@ -362,7 +362,7 @@ abbrev mutual
       after (make e ss env n) (λ t n. after (equate t types.truth n) (λ _. make_rows rest ss env))
 
   -- the local names under the bindings of a let
-  pub make_binds : Defs → Schemes → Locals → Making Locals
+  pub make_binds : Defs → NumberedSorts → Locals → Making Locals
   make_binds no_def ss env n = made env n
   make_binds (def p e rest) ss env n =
       after (make e ss env n) (λ t n. after (matched p ss env t n) (λ inner. make_binds rest ss inner))
@@ -377,7 +377,7 @@ reader_fits (strided k) = is_rank k
 reader_fits (records header ks) = true
 
 -- what a declaration has, over what the earlier positions have
-abbrev pub make_decl : Declaration → Schemes → Making Sort
+abbrev pub make_decl : Declaration → NumberedSorts → Making Sort
 make_decl (val x e) ss n = after (make e ss [] n) (λ t n. after (within t n) (λ _. made (value t)))
 make_decl (mac f p body) ss n =
     after (make_pat p ss [] n) (λ r n. after (make body ss r.names n) (λ t n.

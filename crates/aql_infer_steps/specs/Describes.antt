@@ -4,7 +4,7 @@ use Rattle.aql_types.specs.Types.{Ty, Subst, apply, IsWithin, Sort, value, macro
 use Rattle.aql_syntax.specs.Tree.{Name}
 use Rattle.aql_syntax.specs.Names.{find}
 use Rattle.aql_syntax.specs.Typing.{Environment, Locals}
-use Rattle.aql_infer_steps.specs.Constraints.{Scheme, Schemes}
+use Rattle.aql_infer_steps.specs.Constraints.{NumberedSort, NumberedSorts}
 
 -- local names with the instances of their types
 abbrev pub at : Subst → Locals → Locals
@@ -17,9 +17,9 @@ at_some u None = None
 at_some u (Some t) = Some (apply u t)
 
 -- the instances of a list
-abbrev pub instances : Subst → List Ty → List Ty
-instances u [] = []
-instances u (t ∷ ts) = apply u t ∷ instances u ts
+abbrev pub apply_each : Subst → List Ty → List Ty
+apply_each u [] = []
+apply_each u (t ∷ ts) = apply u t ∷ apply_each u ts
 
 -- the type is an instance, within the limits, of what a position has
 abbrev pub SortHas : Sort → Ty → Type 0
@@ -32,12 +32,12 @@ SortTakes (value r) s t = ⊥
 SortTakes (macro a b) s t = IsWithin s × IsWithin t × ((w : Subst) × (s ≡ apply w a) × (t ≡ apply w b))
 
 -- a position of this scheme has the type
-abbrev pub SchemeHas : Option Scheme → Ty → Type 0
+abbrev pub SchemeHas : Option NumberedSort → Ty → Type 0
 SchemeHas None t = ⊥
 SchemeHas (Some s) t = SortHas s.sort t
 
 -- a macro of this scheme takes the first type and gives the second
-abbrev pub SchemeTakes : Option Scheme → Ty → Ty → Type 0
+abbrev pub SchemeTakes : Option NumberedSort → Ty → Ty → Type 0
 SchemeTakes None s t = ⊥
 SchemeTakes (Some r) s t = SortTakes r.sort s t
 
@@ -46,12 +46,12 @@ abbrev pub IsClosedSort : ℕ → Sort → Type 0
 IsClosedSort k s = (u v : Subst) → ((x : ℕ) → x < k → u x ≡ v x) → apply_sort u s ≡ apply_sort v s
 
 -- the scheme has no variables but its own
-abbrev pub SchemeClosed : Option Scheme → Type 0
+abbrev pub SchemeClosed : Option NumberedSort → Type 0
 SchemeClosed None = Unit {0}
 SchemeClosed (Some s) = IsClosedSort s.variables s.sort
 
 -- the schemes say what the positions have
-pub record Describes (g : Environment) (ss : Schemes) : Type 0 where
+pub record Describes (g : Environment) (ss : NumberedSorts) : Type 0 where
   pub has : (x : Name) (t : Ty) → SchemeHas (find x ss) t → g.has x t
   pub had : (x : Name) (t : Ty) → g.has x t → SchemeHas (find x ss) t
   pub takes : (x : Name) (s t : Ty) → SchemeTakes (find x ss) s t → g.takes x s t

@@ -1,17 +1,17 @@
 -- The numbering of the variables of what a declaration has, by first appearance.
 use Rattle.std.proofs.Common.{ℕ, zero, suc, ◌≡◌, true, List, [], ◌∷◌}
 use Rattle.aql_types.specs.Types.{var, Subst, Sort, apply_sort}
-use Rattle.aql_types.specs.Variables.{is_one_of, place, sort_variables}
+use Rattle.aql_types.specs.Variables.{is_one_of, variable_index, sort_variables}
 
--- the variable at a place
-unfoldable pub at_place : ℕ → List ℕ → ℕ
-at_place i [] = 0
-at_place zero (y ∷ ys) = y
-at_place (suc i) (y ∷ ys) = at_place i ys
+-- the variable at an index
+unfoldable pub at_index : ℕ → List ℕ → ℕ
+at_index i [] = 0
+at_index zero (y ∷ ys) = y
+at_index (suc i) (y ∷ ys) = at_index i ys
 
--- each variable by its place
+-- each variable by its index
 abbrev pub renumbering : List ℕ → Subst
-renumbering vs x = var (place x vs)
+renumbering vs x = var (variable_index x vs)
 
 -- with its variables numbered by first appearance
 abbrev pub number : Sort → Sort
@@ -19,7 +19,7 @@ number s = apply_sort (renumbering (sort_variables s)) s
 
 -- The numbering can be undone.
 abbrev pub named : List ℕ → Subst
-named vs i = var (at_place i vs)
+named vs i = var (at_index i vs)
 
 -- what gives the variables of a numbered sort their names again
 unfoldable pub names_back : Sort → Subst
@@ -27,6 +27,6 @@ names_back s = named (sort_variables s)
 
 -- The numbers of a numbered sort go by first appearance.
 
--- each variable stands at the place that its number says
+-- each variable has the index that its number says
 abbrev pub IsNumbered : Sort → Type 0
-IsNumbered s = (x : ℕ) → is_one_of x (sort_variables s) ≡ true → place x (sort_variables s) ≡ x
+IsNumbered s = (x : ℕ) → is_one_of x (sort_variables s) ≡ true → variable_index x (sort_variables s) ≡ x

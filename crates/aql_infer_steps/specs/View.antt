@@ -5,7 +5,7 @@ use Rattle.aql_types.specs.Unifiers.{Equations}
 use Rattle.aql_types.specs.View.{type_of, sort_of, onto}
 use Rattle.aql_names.specs.Named.{Name}
 use Rattle.aql_syntax.specs.Typing.{Locals}
-use Rattle.aql_infer_steps.specs.Constraints.{State, Made, Scheme, Schemes, raised}
+use Rattle.aql_infer_steps.specs.Constraints.{State, Made, NumberedSort, NumberedSorts, raised}
 use Rattle.aql_infer_steps.specs.declared.sketch.Part.TheVariants as part
 use Rattle.aql_infer_steps.specs.declared.sketch.Part.{Part}
 use Rattle.aql_infer_steps.specs.declared.sketch.Instance.{Instance}
@@ -95,16 +95,16 @@ abbrev pub Extends : List Local → List Local → Type 0
 Extends old new = take (length old) new ≡ old
 
 -- the scheme of a position
-abbrev pub scheme_of : Position → Scheme
+abbrev pub scheme_of : Position → NumberedSort
 scheme_of p = record { sort = sort_of p.scheme; variables = p.variables }
 
 -- the schemes of these positions, put in front of others one after another
-abbrev pub schemes_onto : List Position → Schemes → Schemes
+abbrev pub schemes_onto : List Position → NumberedSorts → NumberedSorts
 schemes_onto [] ss = ss
 schemes_onto (p ∷ ps) ss = schemes_onto ps ((p.name, scheme_of p) ∷ ss)
 
 -- what the positions of a list have, the latest first
-abbrev pub schemes_of : List Position → Schemes
+abbrev pub schemes_of : List Position → NumberedSorts
 schemes_of ps = schemes_onto ps []
 
 -- the names of positions, in order

@@ -11,7 +11,7 @@ use crate::positions::Positions;
 use crate::sketch::{Draft, Instance, Sketch};
 use aql_type_solve::solve::Solution;
 use aql_types::ty::{Scheme, Ty, row};
-use aql_types::variables::place_of;
+use aql_types::variables::find_index;
 use aql_value::Memory;
 use aql_value::made::{both, make_box};
 use std::alloc::Global;
@@ -28,7 +28,7 @@ pub fn instance_of(
 {
     match d {
         Draft::Value(t) => {
-            let t = written(alloc, solution, positions, t)?;
+            let t = write_type(alloc, solution, positions, t)?;
             Ok(Scheme::Value(t))
         }
         Draft::Macro {
@@ -36,8 +36,8 @@ pub fn instance_of(
             result: to,
         } => {
             let parts = both(
-                written(alloc, solution, positions, from),
-                written(alloc, solution, positions, to),
+                write_type(alloc, solution, positions, from),
+                write_type(alloc, solution, positions, to),
             );
             let (argument, result) = parts?;
             Ok(Scheme::Macro { argument, result })
@@ -46,9 +46,9 @@ pub fn instance_of(
 }
 
 // A type written out under a solution.
-#[cycle(written)]
+#[cycle(write_type)]
 #[tactic(auto, using(crate::proofs::Sketching::sketch_row_is))]
-fn written(
+fn write_type(
     alloc: Global,
     solution: &Solution,
     positions: &Positions,
@@ -60,21 +60,24 @@ fn written(
     match t {
         Sketch::Plain(t) => solution.apply(alloc, t),
         Sketch::Tuple(ts) => {
-            let items = written_all(alloc, solution, positions, &ts.items)?;
+            let items = write_types(alloc, solution, positions, &ts.items)?;
             Ok(row(items))
         }
-        Sketch::SetOf(t) => Ok(Ty::SetOf(make_box(alloc, written(alloc, solution, positions, t))?)),
+        Sketch::SetOf(t) => Ok(Ty::SetOf(make_box(
+            alloc,
+            write_type(alloc, solution, positions, t),
+        )?)),
         Sketch::ArrayOf { rank, cell } => Ok(Ty::ArrayOf {
             rank: *rank,
-            cell: make_box(alloc, written(alloc, solution, positions, cell))?,
+            cell: make_box(alloc, write_type(alloc, solution, positions, cell))?,
         }),
-        Sketch::Instance(i) => written_instance(alloc, solution, positions, *i),
+        Sketch::Instance(i) => write_instance(alloc, solution, positions, *i),
     }
 }
 
-#[cycle(written)]
+#[cycle(write_type)]
 #[tactic(auto, using(crate::proofs::Sketching::sketch_steps))]
-fn written_all(
+fn write_types(
     alloc: Global,
     solution: &Solution,
     positions: &Positions,
@@ -85,14 +88,14 @@ fn written_all(
 {
     let mut made = Vec::new(alloc);
     for t in ts {
-        let one = written(alloc, solution, positions, t)?;
+        let one = write_type(alloc, solution, positions, t)?;
         made.push(one)?;
     }
     Ok(made)
 }
 
 // An instance of a part of what a position has, written out under a solution.
-fn written_instance(
+fn write_instance(
     alloc: Global,
     solution: &Solution,
     positions: &Positions,
@@ -107,8 +110,8 @@ fn written_instance(
     }
 }
 
-/// The scheme with each variable by its place among these.
-pub fn with_places(alloc: Global, s: &Scheme, names: &[u64]) -> Result<Scheme, Memory>
+/// The scheme with each variable by its index among these.
+pub fn renumber_scheme(alloc: Global, s: &Scheme, names: &[u64]) -> Result<Scheme, Memory>
     ensures { IfOk result
         (λ made. sort_of made ≡ apply_sort (renumbering names.now) (sort_of s.now)) }
 {
@@ -128,7 +131,7 @@ pub fn with_places(alloc: Global, s: &Scheme, names: &[u64]) -> Result<Scheme, M
     }
 }
 
-// The type with each variable by its place.
+// The type with each variable by its index.
 #[cycle(renumber)]
 #[tactic(auto, using(aql_types::specs::Laws::View::type_of_row))]
 fn renumber(alloc: Global, t: &Ty, names: &[u64]) -> Result<Ty, Memory>
@@ -138,9 +141,9 @@ fn renumber(alloc: Global, t: &Ty, names: &[u64]) -> Result<Ty, Memory>
         Ty::Nat => Ok(Ty::Nat),
         Ty::Bool => Ok(Ty::Bool),
         Ty::Text => Ok(Ty::Text),
-        Ty::Var(x) => Ok(Ty::Var(place_of(*x, names) as u64)),
+        Ty::Var(x) => Ok(Ty::Var(find_index(*x, names) as u64)),
         Ty::Tuple(ts) => {
-            let items = placed_all(alloc, &ts.items, names)?;
+            let items = renumber_all(alloc, &ts.items, names)?;
             Ok(row(items))
         }
         Ty::SetOf(t) => Ok(Ty::SetOf(make_box(alloc, renumber(alloc, t, names))?)),
@@ -153,7 +156,7 @@ fn renumber(alloc: Global, t: &Ty, names: &[u64]) -> Result<Ty, Memory>
 
 #[cycle(renumber)]
 #[tactic(auto, using(aql_types::specs::Laws::View::list_steps))]
-fn placed_all(alloc: Global, ts: &[Ty], names: &[u64]) -> Result<Vec<Ty>, Memory>
+fn renumber_all(alloc: Global, ts: &[Ty], names: &[u64]) -> Result<Vec<Ty>, Memory>
     ensures { IfOk result (λ made. types_of made.items ≡ apply_all (renumbering names.now)
         (types_of ts.now)) }
 {

@@ -6,7 +6,7 @@ use Rattle.aql_syntax.specs.Signs.{spelling}
 use Rattle.aql_syntax.specs.Lexis.{Digits, digits_end, digits_more, InString, string_end, string_plain, string_escape, string_hex, InComment, comment_end, comment_more, Blank, blank_space, blank_comment, Lexeme, Begins, begins_name, begins_word, begins_number, begins_text, begins_sign, token_between, Covers, covers_none, covers_blank, covers_token}
 use Rattle.aql_lex.specs.Texts.{digits_value, Says, SpansAscend, EachSays}
 use Rattle.aql_lex.specs.Lexed.{SpansAndTexts}
-use Rattle.aql_lex.proofs.Fronts.{run_text, front, blank_shrinks, begins_shrinks}
+use Rattle.aql_lex.proofs.Fronts.{munch_text, front, blank_shrinks, begins_shrinks}
 
 -- Goes script ts ls s r: from the rest s to the rest r stand blanks and these tokens, which say these lexemes
 pub data Goes (script : List ℕ) : List Token → List Lexeme → List ℕ → List ℕ → Type 0 where
@@ -49,8 +49,8 @@ string_text (string_hex {a} {b} e f d) =
     let h = string_text d in (92 ∷ 120 ∷ a ∷ b ∷ h.0, (ap (λ z. 92 ∷ 120 ∷ a ∷ b ∷ z) h.1.0, string_hex e f h.1.1))
 
 pub has_text : {l : Lexeme} {s r : List ℕ} → Begins l s r → HasText l s r
-has_text (begins_name {b} {t} e d n) = record { text = b ∷ t; is = ap (λ z. b ∷ z) (run_text d); says = refl }
-has_text (begins_word {w} {b} {t} e d q k) = record { text = b ∷ t; is = ap (λ z. b ∷ z) (run_text d); says = k }
+has_text (begins_name {b} {t} e d n) = record { text = b ∷ t; is = ap (λ z. b ∷ z) (munch_text d); says = refl }
+has_text (begins_word {w} {b} {t} e d q k) = record { text = b ∷ t; is = ap (λ z. b ∷ z) (munch_text d); says = k }
 has_text (begins_number {b} {v} e d h) =
     let k = digits_text d in
     record {

@@ -12,7 +12,7 @@ use Rattle.aql_lex.specs.Texts.{Says, text_of, EachSays}
 use Rattle.aql_lex.specs.Lexing.{first_spelled}
 use Rattle.aql_lex.specs.Scanning.{sign_said, after_sign, deep_from}
 use Rattle.aql_lex.specs.Lexed.{OneDeepFault, ShallowOrDeep}
-use Rattle.aql_lex.proofs.RunLaws.{tested}
+use Rattle.aql_lex.proofs.MunchLaws.{tested}
 use Rattle.aql_lex.proofs.Spellings.{all_found}
 use Rattle.aql_lex.proofs.OneAnswer.{one_list}
 

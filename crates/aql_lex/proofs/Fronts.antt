@@ -8,15 +8,15 @@ use Rattle.aql_syntax.specs.declared.sign.Sign.TheVariants as signs
 use Rattle.aql_syntax.specs.declared.token.TokenKind.{TokenKind}
 use Rattle.aql_syntax.specs.declared.token.TokenKind.TheVariants as kinds
 use Rattle.aql_syntax.specs.Signs.{spelling, is_word, joins}
-use Rattle.aql_syntax.specs.Lexis.{is_letter, is_digit, is_space, is_name_byte, Ends, Run, run_end, run_more, Digits, digits_end, digits_more, InString, string_end, string_plain, string_escape, string_hex, InComment, comment_end, comment_more, Blank, blank_space, blank_comment, Lexeme, named, numeral, quoted, mark, kind_of, Begins, begins_name, begins_word, begins_number, begins_text, begins_sign, Covers, covers_token}
+use Rattle.aql_syntax.specs.Lexis.{is_letter, is_digit, is_space, is_name_byte, Ends, MaximalMunch, munch_end, munch_more, Digits, digits_end, digits_more, InString, string_end, string_plain, string_escape, string_hex, InComment, comment_end, comment_more, Blank, blank_space, blank_comment, Lexeme, named, numeral, quoted, mark, kind_of, Begins, begins_name, begins_word, begins_number, begins_text, begins_sign, Covers, covers_token}
 use Rattle.aql_syntax.specs.declared.token.Token.{Token}
 use Rattle.aql_lex.specs.declared.signs.TheConstants.{WORDS, SIGNS}
 use Rattle.aql_lex.specs.declared.lexer.Item.{Item}
 use Rattle.aql_lex.specs.declared.lexer.Item.TheVariants as items
 use Rattle.aql_lex.specs.Texts.{digits_value}
 use Rattle.aql_value.specs.Partial.{◌>>=◌}
-use Rattle.aql_lex.specs.Lexing.{run_rest, string_rest, inside, comment_rest, first_spelled, sign_from, number, word, word_item, paren, found_at}
-use Rattle.aql_lex.proofs.RunLaws.{run-is, run-reads, string-is, string-reads, comment-is, comment-reads, digits-are, digits-read, tested}
+use Rattle.aql_lex.specs.Lexing.{munch_rest, string_rest, inside, comment_rest, first_spelled, sign_from, number, word, word_item, paren, found_at}
+use Rattle.aql_lex.proofs.MunchLaws.{munch-is, munch-reads, string-is, string-reads, comment-is, comment-reads, digits-are, digits-read, tested}
 use Rattle.aql_lex.proofs.Spellings.{spelled_so, word_is, word_reads, no_word, no_word_is, sign_stands, listed, listed_is_sign, listed_ends}
 
 -- what the code finds of a token
@@ -44,10 +44,10 @@ space_is_no_digit b e = grind (arith, common_steps)
 lt_test : (a b : ℕ) → a < b → nat_lt a b ≡ true
 lt_test a b h = grind (arith, common_steps)
 
--- a run is the bytes before its rest
-pub run_text : {p : ℕ → Bool} {t s r : List ℕ} → Run p t s r → s ≡ t ++ r
-run_text (run_end e) = refl
-run_text (run_more {b} q d) = ap (λ z. b ∷ z) (run_text d)
+-- a maximal munch is the bytes before its rest
+pub munch_text : {p : ℕ → Bool} {t s r : List ℕ} → MaximalMunch p t s r → s ≡ t ++ r
+munch_text (munch_end e) = refl
+munch_text (munch_more {b} q d) = ap (λ z. b ∷ z) (munch_text d)
 
 pub front : (t s r : List ℕ) → s ≡ t ++ r → take (length s - length r) s ≡ t
 front t s r e =
@@ -87,11 +87,11 @@ sign_found _ r = λ e. refl
 pub begins_found : {l : Lexeme} {s r : List ℕ} → Begins l s r → found_at s ≡ Some (shape l, r)
 unfolding found_at
 begins_found (begins_name {b} {t} {s} {r} e d n) =
-    let f : take (length (b ∷ s) - length r) (b ∷ s) ≡ b ∷ t = front (b ∷ t) (b ∷ s) r (ap (λ z. b ∷ z) (run_text d)) in
-    rw (e, run-is d, f, no_word_is (b ∷ t) n) refl
+    let f : take (length (b ∷ s) - length r) (b ∷ s) ≡ b ∷ t = front (b ∷ t) (b ∷ s) r (ap (λ z. b ∷ z) (munch_text d)) in
+    rw (e, munch-is d, f, no_word_is (b ∷ t) n) refl
 begins_found (begins_word {w} {b} {t} {s} {r} e d q k) =
-    let f : take (length (b ∷ s) - length r) (b ∷ s) ≡ b ∷ t = front (b ∷ t) (b ∷ s) r (ap (λ z. b ∷ z) (run_text d)) in
-    rw (e, run-is d, f, word_is w (b ∷ t) q k) refl
+    let f : take (length (b ∷ s) - length r) (b ∷ s) ≡ b ∷ t = front (b ∷ t) (b ∷ s) r (ap (λ z. b ∷ z) (munch_text d)) in
+    rw (e, munch-is d, f, word_is w (b ∷ t) q k) refl
 begins_found (begins_number {b} {v} {s} e d h) =
     let k = digits-are d in
     let l : nat_lt (digits_value (b - 48) s) (2 ^ 128) ≡ true = rw k.0 (lt_test v (2 ^ 128) h) in
@@ -108,15 +108,15 @@ moved s i j q r e h =
 at : (b n : ℕ) (s : List ℕ) (i : Item) (r : List ℕ) → (b == n) ≡ true → Stands i (n ∷ s) r → Stands i (b ∷ s) r
 at b n s i r e h = subst (λ (z : ℕ). Stands i (z ∷ s) r) (sym (eqb-true b n e)) h
 
-word_stands : (b : ℕ) (s : List ℕ) (i : Item) (r : List ℕ) → is_letter b ≡ true → word (b ∷ s) (run_rest is_name_byte s) ≡ Some (i, r) → Stands i (b ∷ s) r
+word_stands : (b : ℕ) (s : List ℕ) (i : Item) (r : List ℕ) → is_letter b ≡ true → word (b ∷ s) (munch_rest is_name_byte s) ≡ Some (i, r) → Stands i (b ∷ s) r
 word_stands b s i r q e =
-    let run = run-reads is_name_byte s in
-    let f : take (length (b ∷ s) - length (run_rest is_name_byte s)) (b ∷ s) ≡ b ∷ run.0 =
-    front (b ∷ run.0) (b ∷ s) (run_rest is_name_byte s) (ap (λ z. b ∷ z) (run_text run.1)) in
-    moved (b ∷ s) _ i (run_rest is_name_byte s) r (rw f at e) (go run.0 run.1 (first_spelled WORDS (b ∷ run.0)) refl)
+    let munch = munch-reads is_name_byte s in
+    let f : take (length (b ∷ s) - length (munch_rest is_name_byte s)) (b ∷ s) ≡ b ∷ munch.0 =
+    front (b ∷ munch.0) (b ∷ s) (munch_rest is_name_byte s) (ap (λ z. b ∷ z) (munch_text munch.1)) in
+    moved (b ∷ s) _ i (munch_rest is_name_byte s) r (rw f at e) (go munch.0 munch.1 (first_spelled WORDS (b ∷ munch.0)) refl)
   where
-    go : (t : List ℕ) → Run is_name_byte t s (run_rest is_name_byte s) → (o : Option Sign) → first_spelled WORDS (b ∷ t) ≡ o →
-        Stands (word_item o) (b ∷ s) (run_rest is_name_byte s)
+    go : (t : List ℕ) → MaximalMunch is_name_byte t s (munch_rest is_name_byte s) → (o : Option Sign) → first_spelled WORDS (b ∷ t) ≡ o →
+        Stands (word_item o) (b ∷ s) (munch_rest is_name_byte s)
     go t d None k = (named (b ∷ t), (refl, begins_name q d (no_word (b ∷ t) k)))
     go t d (Some w) k = begins_word q d (word_reads (b ∷ t) w k) (spelled_so WORDS (b ∷ t) w k)
 
@@ -173,9 +173,9 @@ no_blank s e r d = let bad : ◌≡◌ {A = Option (Item × List ℕ)} None (Som
 pub no_token : (s : List ℕ) → found_at s ≡ None → (l : Lexeme) (r : List ℕ) → Begins l s r → ⊥
 no_token s e l r d = let bad : ◌≡◌ {A = Option (Item × List ℕ)} None (Some (shape l, r)) = sym e ∙ begins_found d in cc
 
-run_shrinks : {p : ℕ → Bool} {t s r : List ℕ} → Run p t s r → length r ≤ length s
-run_shrinks (run_end e) = omega arith
-run_shrinks (run_more e d) = omega (arith, run_shrinks d)
+munch_shrinks : {p : ℕ → Bool} {t s r : List ℕ} → MaximalMunch p t s r → length r ≤ length s
+munch_shrinks (munch_end e) = omega arith
+munch_shrinks (munch_more e d) = omega (arith, munch_shrinks d)
 
 digits_shrink : {n v : ℕ} {s r : List ℕ} → Digits n s r v → length r ≤ length s
 digits_shrink (digits_end e) = omega arith
@@ -201,8 +201,8 @@ blank_shrinks (blank_space e) = omega arith
 blank_shrinks (blank_comment d) = omega (arith, comment_shrinks d)
 
 pub begins_shrinks : {l : Lexeme} {s r : List ℕ} → Begins l s r → length r < length s
-begins_shrinks (begins_name e d n) = omega (arith, run_shrinks d)
-begins_shrinks (begins_word e d q k) = omega (arith, run_shrinks d)
+begins_shrinks (begins_name e d n) = omega (arith, munch_shrinks d)
+begins_shrinks (begins_word e d q k) = omega (arith, munch_shrinks d)
 begins_shrinks (begins_number e d h) = omega (arith, digits_shrink d)
 begins_shrinks (begins_text d) = omega (arith, string_shrinks d)
 begins_shrinks (begins_sign {g} {s} {r} q e d) = omega (arith, ap length e, length-append (spelling g) r, spelling_some g)

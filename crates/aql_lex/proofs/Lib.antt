@@ -1,4 +1,4 @@
-pub mod RunLaws
+pub mod MunchLaws
 pub mod Spellings
 pub mod Fronts
 pub mod Counting

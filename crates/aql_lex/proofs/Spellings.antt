@@ -11,7 +11,7 @@ use Rattle.aql_syntax.specs.Lexis.{behind, Ends, IsNoWord}
 use Rattle.aql_lex.specs.declared.signs.TheConstants.{WORDS, SIGNS, ALL}
 use Rattle.aql_value.specs.Partial.{or_else}
 use Rattle.aql_lex.specs.Lexing.{first_spelled, sign_from}
-use Rattle.aql_lex.proofs.RunLaws.{tested}
+use Rattle.aql_lex.proofs.MunchLaws.{tested}
 
 -- a word that is found in a table is spelled so
 pub spelled_so : (gs : List Sign) (t : List ℕ) (g : Sign) → first_spelled gs t ≡ Some g → spelling g ≡ t

@@ -14,9 +14,9 @@ use Rattle.aql_lex.specs.declared.lexer.Item.TheVariants as items
 use Rattle.aql_lex.specs.Texts.{digits_value}
 
 -- what follows the bytes at the front that have the property
-abbrev pub run_rest : (ℕ → Bool) → List ℕ → List ℕ
-run_rest p [] = []
-run_rest p (b ∷ s) = if p b then run_rest p s else b ∷ s
+abbrev pub munch_rest : (ℕ → Bool) → List ℕ → List ℕ
+munch_rest p [] = []
+munch_rest p (b ∷ s) = if p b then munch_rest p s else b ∷ s
 
 -- the rest of a string: what may come next
 pub data Place : Type 0 where
@@ -56,7 +56,7 @@ Found = Option (Item × List ℕ)
 
 -- a number below 2^128, and what follows it
 abbrev pub number : ℕ → List ℕ → Found
-number n s = if nat_lt (digits_value n s) (2 ^ 128) then Some (items.Said kinds.Number, run_rest is_digit s) else None
+number n s = if nat_lt (digits_value n s) (2 ^ 128) then Some (items.Said kinds.Number, munch_rest is_digit s) else None
 
 -- a reserved word, or a name
 abbrev pub word_item : Option Sign → Item
@@ -80,7 +80,7 @@ other_sign s = sign_from SIGNS s >>= λ x. Some (items.Mark x.0, x.1)
 unfoldable pub found_at : List ℕ → Found
 found_at [] = None
 found_at (b ∷ s) =
-    if is_letter b then word (b ∷ s) (run_rest is_name_byte s)
+    if is_letter b then word (b ∷ s) (munch_rest is_name_byte s)
     else if is_digit b then number (b - 48) s
     else if is_space b then Some (items.Blank, s)
     else if b == 34 then (string_rest inside s >>= λ r. Some (items.Said kinds.Text, r))

@@ -7,8 +7,8 @@ ghost use Rattle.aql_lex.specs.Lexed.{Covered, Lexed};
 ghost use Rattle.aql_lex.specs.Lexing.{word, paren, other_sign, found_at};
 
 use crate::bytes::{digit, letter, space};
+use crate::ends::{after_comment, after_digits, after_name, after_string};
 use crate::fault::LexFault;
-use crate::runs::{after_comment, after_digits, after_name, after_string};
 use crate::scan::first_deep;
 use crate::signs::{sign_at, word_of};
 use aql_syntax::sign::Sign;

@@ -2,7 +2,7 @@
 
 ghost use Rattle.std.specs.Prelude.{◌≡◌, ◌≤◌, sum, IfOk, Bool, Some, None};
 ghost use Rattle.aql_syntax.specs.Scan as table;
-ghost use Rattle.aql_syntax.specs.Scan.{pushed, popped, raised, reset, sign_scanned, no_counters};
+ghost use Rattle.aql_syntax.specs.Scan.{pushed, popped, incremented, reset, sign_scanned, no_counters};
 ghost use Rattle.aql_lex.specs.Texts.{text_of};
 ghost use Rattle.aql_lex.specs.Scanning.{counters_of, sign_said, after_sign, deep_from, Scans};
 
@@ -129,7 +129,7 @@ fn pop(counters: Counters) -> Counters
 fn raise(counters: Counters) -> Counters
     requires adds { sum (counters_of counters) ≡ counters.total }
     requires low { counters.total ≤ 400 }
-    ensures { Scans result (raised (counters_of counters)) }
+    ensures { Scans result (incremented (counters_of counters)) }
 {
     let Counters { top, below, total } = counters;
     Counters {

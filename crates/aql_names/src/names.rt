@@ -85,7 +85,7 @@ impl Names {
         ensures { result ≡ last_named name.now (take n self.now) }
     {
         let places = places_of(&self.places, name);
-        last(&places[..below(places, n)])
+        last(&places[..number_below(places, n)])
     }
 }
 
@@ -107,7 +107,7 @@ fn last(places: &[usize]) -> Option<usize>
 }
 
 // How many of these positions are below n.
-fn below(places: &[usize], n: usize) -> usize
+fn number_below(places: &[usize], n: usize) -> usize
     requires ascending { IsPartitionedBy (λ p. nat_lt p n) places.now }
     ensures { result ≡ count_below n places.now }
 {

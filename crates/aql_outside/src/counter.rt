@@ -30,7 +30,7 @@ impl Counter {
     }
 
     /// How many calls failed.
-    pub fn failed(&self) -> u64
+    pub fn failures(&self) -> u64
         ensures { result ≡ (counted_calls self.now).failed }
     {
         self.failed

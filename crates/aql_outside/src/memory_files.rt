@@ -35,7 +35,7 @@ impl MemFiles {
     pub fn faults(&self) -> u64
         ensures { result ≡ (files_calls self.now).failed }
     {
-        self.calls.failed()
+        self.calls.failures()
     }
 }
 

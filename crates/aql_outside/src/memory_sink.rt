@@ -44,7 +44,7 @@ impl MemSink {
     }
 
     /// The bytes that were taken.
-    pub fn written(&self) -> &[u8]
+    pub fn written_bytes(&self) -> &[u8]
         ensures { result.now ≡ sink_bytes self.now }
     {
         &self.room[..self.taken]
@@ -54,7 +54,7 @@ impl MemSink {
     pub fn faults(&self) -> u64
         ensures { result ≡ (sink_calls self.now).failed }
     {
-        self.calls.failed()
+        self.calls.failures()
     }
 }
 

@@ -47,7 +47,7 @@ impl MemSource {
     pub fn faults(&self) -> u64
         ensures { result ≡ (source_calls self.now).failed }
     {
-        self.calls.failed()
+        self.calls.failures()
     }
 }
 

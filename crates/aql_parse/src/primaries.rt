@@ -85,7 +85,7 @@ fn primary<'a>(
         return brackets(alloc, source, rest, depth);
     }
     if let Some(rest) = skip_sign(source, words, Sign::Let) {
-        return bound(alloc, source, rest, depth);
+        return let_rest(alloc, source, rest, depth);
     }
     leaf(alloc, source, words)
 }
@@ -109,7 +109,7 @@ fn parentheses<'a>(
 // Behind the word `let`.
 #[cycle(expr)]
 #[tactic(auto, using(crate::proofs::Branches::let_parts))]
-fn bound<'a>(
+fn let_rest<'a>(
     alloc: Global,
     source: &[u8],
     words: &'a [Word],

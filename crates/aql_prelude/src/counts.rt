@@ -4,7 +4,9 @@ ghost use Rattle.std.specs.Prelude.{◌≡◌, IfOk};
 ghost use Rattle.aql_syntax.specs.View.{decl_of};
 ghost use Rattle.aql_prelude.specs.Prelude as prelude;
 
-use crate::trees::{among, bind, bind_both, both, define, is_empty, name, not, one, rows, sum_map};
+use crate::trees::{
+    bind, bind_both, both, define, equal_members, is_empty, name, not, one, rows, sum_map,
+};
 use aql_syntax::ast::{Decl, Pattern};
 use aql_value::Memory;
 use std::alloc::Global;
@@ -33,7 +35,7 @@ pub(crate) fn isempty(alloc: Global) -> Result<Decl, Memory>
 pub(crate) fn member(alloc: Global) -> Result<Decl, Memory>
     ensures { IfOk result (λ d. decl_of d ≡ prelude.member) }
 {
-    let ones = rows(alloc, one(), among(alloc, b"x", b"s"));
+    let ones = rows(alloc, one(), equal_members(alloc, b"x", b"s"));
     let body = not(alloc, is_empty(alloc, ones));
     define(alloc, b"member", bind_both(alloc, b"x", b"s"), body)
 }

@@ -7,7 +7,7 @@ ghost use Rattle.aql_prelude.specs.Made.{MadeTree};
 ghost use Rattle.aql_prelude.specs.Prelude as prelude;
 
 use crate::trees::{
-    arith, bind, bind_both, choose, compare, define, from, generate, len, name, rows,
+    arith, bind, bind_both, choose, compare, define, generate, generator, len, name, rows,
 };
 use aql_syntax::ast::{Decl, Expr};
 use aql_value::{ArithOp, CompareOp, Memory};
@@ -39,7 +39,7 @@ pub(crate) fn range(alloc: Global) -> Result<Decl, Memory>
     ensures { IfOk result (λ d. decl_of d ≡ prelude.range) }
 {
     let apart = arith(alloc, ArithOp::Monus, name(alloc, b"b"), name(alloc, b"a"));
-    let each = from(bind(alloc, b"i"), generate(alloc, apart));
+    let each = generator(bind(alloc, b"i"), generate(alloc, apart));
     let head = arith(alloc, ArithOp::Add, name(alloc, b"a"), name(alloc, b"i"));
     define(
         alloc,

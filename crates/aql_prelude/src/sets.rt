@@ -6,8 +6,8 @@ ghost use Rattle.aql_prelude.specs.Made.{MadeTree};
 ghost use Rattle.aql_prelude.specs.Prelude as prelude;
 
 use crate::trees::{
-    among, bind, bind_both, call, compare, define, each, get, is_empty, name, not, one, pair,
-    rows_of_two, where_true,
+    bind, bind_both, call, compare, define, each, equal_members, get, is_empty, name, not, one,
+    pair, rows_of_two, where_true,
 };
 use aql_syntax::ast::{Decl, Expr};
 use aql_value::{CompareOp, Memory};
@@ -17,7 +17,7 @@ pub(crate) fn inter(alloc: Global) -> Result<Decl, Memory>
     ensures { IfOk result (λ d. decl_of d ≡ prelude.inter) }
 {
     let first = each(alloc, b"x", b"s");
-    let second = among(alloc, b"x", b"t");
+    let second = equal_members(alloc, b"x", b"t");
     let body = rows_of_two(alloc, name(alloc, b"x"), first, second);
     define(alloc, b"inter", bind_both(alloc, b"s", b"t"), body)
 }

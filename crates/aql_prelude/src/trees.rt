@@ -250,7 +250,7 @@ pub(crate) fn rows_of_two(
 }
 
 /// `P <- e`.
-pub(crate) fn from(
+pub(crate) fn generator(
     pattern: Result<Pattern, Memory>,
     over: Result<Expr, Memory>,
 ) -> Result<Qual, Memory>
@@ -286,14 +286,14 @@ pub(crate) fn where_true(a: Result<Expr, Memory>) -> Result<Qual, Memory>
 pub(crate) fn each(alloc: Global, x: &[u8], s: &[u8]) -> Result<Qual, Memory>
     ensures { MadeQual result (λ rest. tree.from (tree.bind x.now) (tree.name s.now) rest) }
 {
-    from(bind(alloc, x), name(alloc, s))
+    generator(bind(alloc, x), name(alloc, s))
 }
 
 /// `x <- s`.
-pub(crate) fn among(alloc: Global, x: &[u8], s: &[u8]) -> Result<Qual, Memory>
+pub(crate) fn equal_members(alloc: Global, x: &[u8], s: &[u8]) -> Result<Qual, Memory>
     ensures { MadeQual result (λ rest. tree.from (tree.refers x.now) (tree.name s.now) rest) }
 {
-    from(refer(alloc, x), name(alloc, s))
+    generator(refer(alloc, x), name(alloc, s))
 }
 
 /// An index and its bound.

@@ -6,7 +6,7 @@ ghost use Rattle.aql_print.specs.TypeText.{variable_text, part_text, part_texts,
 
 use crate::bytes::{put, put_before, put_number};
 use aql_types::ty::{Scheme, Ty};
-use aql_types::variables::{place_of, scheme_variables};
+use aql_types::variables::{find_index, scheme_variables};
 use aql_value::Memory;
 use std::alloc::Global;
 
@@ -74,7 +74,7 @@ fn add_type(t: &Ty, names: &[u64], text: Vec<u8>) -> Result<Vec<u8>, Memory>
         Ty::Nat => add(b"nat", text),
         Ty::Bool => add(b"bool", text),
         Ty::Text => add(b"string", text),
-        Ty::Var(x) => add_variable(place_of(*x, names) as u64, text),
+        Ty::Var(x) => add_variable(find_index(*x, names) as u64, text),
         Ty::Tuple(ts) => add_parts(&ts.items, names, text),
         Ty::SetOf(t) => {
             let text = add(b"{", text)?;

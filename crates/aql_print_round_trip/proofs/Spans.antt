@@ -10,7 +10,7 @@ use Rattle.aql_syntax.specs.declared.sign.Sign.{Sign}
 use Rattle.aql_syntax.specs.declared.sign.Sign.TheVariants as signs
 use Rattle.aql_syntax.specs.declared.token.Token.{Token}
 use Rattle.aql_syntax.specs.Signs.{spelling, is_word, joins}
-use Rattle.aql_syntax.specs.Lexis.{Lexeme, numeral, mark, is_digit, is_name_byte, Ends, run_end, run_more, Blank, blank_space, Begins, begins_word, begins_text, begins_sign, token_between, Covers, covers_blank, covers_token}
+use Rattle.aql_syntax.specs.Lexis.{Lexeme, numeral, mark, is_digit, is_name_byte, Ends, munch_end, munch_more, Blank, blank_space, Begins, begins_word, begins_text, begins_sign, token_between, Covers, covers_blank, covers_token}
 use Rattle.aql_print.specs.Joined.{after, separated}
 use Rattle.aql_print.specs.ValueText.{text, texts}
 use Rattle.aql_print_round_trip.proofs.Said.{said, said_list, said_after, said_numbers}
@@ -97,9 +97,9 @@ mutual
   -- a value's text before what is no part of a name or a number
   pub spans : (v : Datum) → IsValue v → (r t : List ℕ) (ls : List Lexeme) → Separate r → Spans r ls t → Spans (text v ++ r) (said v ls) t
   spans (natural n) h r t ls s d = number n h r t ls s d
-  spans (truth true) h r t ls s d = spans_token (begins_word {w = signs.True} refl (run_more refl (run_more refl (run_more refl (run_end s.word)))) refl refl) d
+  spans (truth true) h r t ls s d = spans_token (begins_word {w = signs.True} refl (munch_more refl (munch_more refl (munch_more refl (munch_end s.word)))) refl refl) d
   spans (truth false) h r t ls s d =
-      spans_token (begins_word {w = signs.False} refl (run_more refl (run_more refl (run_more refl (run_more refl (run_end s.word))))) refl refl) d
+      spans_token (begins_word {w = signs.False} refl (munch_more refl (munch_more refl (munch_more refl (munch_more refl (munch_end s.word))))) refl refl) d
   spans (datum.text b) h r t ls s d = spans_token (begins_text (in_string b h r)) d
   spans (tuple nil) h r t ls s d = absurd (omega (arith, h.0))
   spans (tuple (cons v vs)) h r t ls s d =

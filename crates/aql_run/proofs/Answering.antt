@@ -17,7 +17,7 @@ use Rattle.aql_syntax.specs.Size.{IsWithinLimits, AreWithinLimits}
 use Rattle.aql_syntax.specs.Tree.{Declaration, declared}
 use Rattle.aql_syntax.specs.View.{decls_of}
 use Rattle.aql_syntax.specs.declared.ast.Decl.{Decl}
-use Rattle.aql_run.specs.Settings.{Settings}
+use Rattle.aql_words.specs.Settings.{Settings}
 use Rattle.aql_value.specs.Partial.{◌>>=◌}
 use Rattle.nrca_term.specs.Meaning.{Outcomes, outcome}
 use Rattle.aql_prelude.specs.Prelude.{prelude_count}

@@ -17,7 +17,7 @@ use Rattle.aql_lex.specs.Lexed.{OneList, TokensOrTextFault, ShallowOrDeep}
 use Rattle.aql_parse_spec.specs.Laws.Scripts.{either}
 use Rattle.nrca_term.specs.Meaning.{Outcomes}
 use Rattle.nrca_term.specs.Turns.{settle}
-use Rattle.aql_desugar_spec.specs.Laws.{outcomes_of}
+use Rattle.aql_desugar_spec.specs.Positions.{outcomes_of}
 use Rattle.aql_desugar_spec.specs.Laws.Positions.{start-turns}
 use Rattle.aql_desugar_spec.specs.Start.{start, knowns_of}
 use Rattle.aql_prelude.specs.Prelude.{prelude_count}
@@ -33,7 +33,7 @@ use Rattle.aql_session.specs.declared.answer.Answer.{Answer}
 use Rattle.aql_session.specs.declared.answer.StepFault.{StepFault}
 use Rattle.aql_session.specs.declared.answer.StepFault.TheVariants as faults
 use Rattle.aql_words.specs.Words.{options_of}
-use Rattle.aql_run.specs.Settings.{Settings, settings_of}
+use Rattle.aql_words.specs.Settings.{Settings, settings_of}
 use Rattle.aql_run.specs.Answered.{AreAnswered, reached}
 use Rattle.aql_run.specs.Laws.Answered.{told_at}
 use Rattle.aql_run.specs.Complete.{work_of, AreOutcomes, HaveTypings, IsWithinBudget, IsSound, EndsWell, Tokenised}

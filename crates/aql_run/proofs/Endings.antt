@@ -22,7 +22,7 @@ use Rattle.aql_session.specs.Device.{Device}
 use Rattle.aql_session.specs.declared.answer.Answer.{Answer}
 use Rattle.aql_session.specs.declared.answer.StepFault.{StepFault}
 use Rattle.aql_session.specs.declared.answer.StepFault.TheVariants as faults
-use Rattle.aql_run.specs.Settings.{Settings, settings_of}
+use Rattle.aql_words.specs.Settings.{Settings, settings_of}
 use Rattle.aql_run.specs.Answered.{AreAnswered, IsStopped, ReadNoFile, reached}
 use Rattle.aql_run.specs.Laws.Answered.{are_values}
 use Rattle.aql_run.specs.Entry.{entry, entries}
@@ -39,7 +39,7 @@ use Rattle.aql_run.specs.Reading.{most_bytes, ReadsWhole, ReadFails}
 use Rattle.aql_run.specs.declared.reading.ReadFault.TheVariants as reading
 use Rattle.aql_run.specs.Outcome.{Told, IsPrefix, IsCut, IsScript, HasRun, CutsLast, stop_of, Writes, WritesAll, Serves, RunsWords}
 use Rattle.aql_run.proofs.Completing.{ends_well}
-use Rattle.aql_run.specs.Ending.{Passes, Answering, Answers, Asks, AsksSample, EndsWith, IsReady, Readies, Refused, Reported, Responds, Running, Samples, Serving, Stopped, refusal_line, stop_status, stop_line}
+use Rattle.aql_run.specs.Ending.{Passes, Answering, AnswersEach, Asks, AsksSample, EndsWith, IsReady, Readies, Refused, Reported, Responds, Running, Samples, Serving, Stopped, refusal_line, stop_status, stop_line}
 use Rattle.aql_run.specs.declared.report.End.{End}
 use Rattle.aql_run.specs.declared.report.Report.{Report}
 use Rattle.aql_run.specs.declared.report.Stop.{Stop}
@@ -140,8 +140,8 @@ cuts p o told same begun taken script answers written h reads is c = record {
 -- ---- the ends of the run of the declarations
 
 ends_done : (p : Prepared) (o : Settings) (answers : List Answer) (sink : Device (Option (List ℕ))) (files : Device (Option Content)) → IsPrepared p →
-    AnswersAll p o answers sink files → Answers p o answers sink files (record { status = status.Done; stop = stops.Done })
-unfolding Answers Responds has_run
+    AnswersAll p o answers sink files → AnswersEach p o answers sink files (record { status = status.Done; stop = stops.Done })
+unfolding AnswersEach Responds has_run
 ends_done p o answers sink files h all =
     λ script reads. (
       entries o.plan answers (drop prelude_count all.outcomes),
@@ -160,8 +160,8 @@ ends_done p o answers sink files h all =
     )
 
 ends_memory : (p : Prepared) (o : Settings) (answers : List Answer) (sink : Device (Option (List ℕ))) (files : Device (Option Content)) → IsPrepared p →
-    EndsAt p o answers sink files halts.Memory → Answers p o answers sink files (record { status = status.Memory; stop = stops.Other })
-unfolding Answers Responds
+    EndsAt p o answers sink files halts.Memory → AnswersEach p o answers sink files (record { status = status.Memory; stop = stops.Other })
+unfolding AnswersEach Responds
 ends_memory p o answers sink files h (written, appended, inl none) = λ script reads. (written, appended, λ input_before input_now left taken is. (refl, inl none))
 ends_memory p o answers sink files h (written, appended, inr c) =
     λ script reads. (
@@ -172,8 +172,8 @@ ends_memory p o answers sink files h (written, appended, inr c) =
     )
 
 ends_sink : (p : Prepared) (o : Settings) (answers : List Answer) (sink : Device (Option (List ℕ))) (files : Device (Option Content)) → IsPrepared p →
-    EndsAt p o answers sink files halts.Sink → Answers p o answers sink files (record { status = status.Output; stop = stops.Other })
-unfolding Answers Responds cuts
+    EndsAt p o answers sink files halts.Sink → AnswersEach p o answers sink files (record { status = status.Output; stop = stops.Other })
+unfolding AnswersEach Responds cuts
 ends_sink p o answers sink files h (written, appended, (c, some)) =
     λ script reads. (
       written,
@@ -259,8 +259,8 @@ Joins first second both =
     (a b : List ℕ) → Appends first.before first.after a → Appends second.before second.after b → Appends both.before both.after (a ++ b)
 
 ends_fault : (p : Prepared) (o : Settings) (answers : List Answer) (f : StepFault) (n : ℕ) (first second sink : Device (Option (List ℕ))) (files : Device (Option Content)) (e : End) →
-    Joins first second sink → IsPrepared p → EndsAt p o answers first files (halts.Fault f) → n ≡ length answers + 1 → Stopped n f second e → Answers p o answers sink files e
-unfolding Answers Responds Stopped
+    Joins first second sink → IsPrepared p → EndsAt p o answers first files (halts.Fault f) → n ≡ length answers + 1 → Stopped n f second e → AnswersEach p o answers sink files e
+unfolding AnswersEach Responds Stopped
 ends_fault p o answers f n first second sink files e joins h (V, answered, stopped, appended, untouched) is (line, more, ends) =
     λ script reads. (
       entries o.plan answers (drop prelude_count V) ++ line,
@@ -308,23 +308,23 @@ ends_fault p o answers f n first second sink files e joins h (V, answered, stopp
 -- ---- the same of what the call answered
 
 pub answers_done : (p : Prepared) (o : Settings) (answers : List Answer) (sink : Device (Option (List ℕ))) (files : Device (Option Content)) (u : Unit {0}) → IsReady p →
-    Answering p o answers sink files (Ok u) → Answers p o answers sink files (record { status = status.Done; stop = stops.Done })
+    Answering p o answers sink files (Ok u) → AnswersEach p o answers sink files (record { status = status.Done; stop = stops.Done })
 unfolding IsReady Answering
 answers_done p o answers sink files u h (all, _) = ends_done p o answers sink files h all
 
 pub answers_memory : (p : Prepared) (o : Settings) (answers : List Answer) (sink : Device (Option (List ℕ))) (files : Device (Option Content)) (halt : Halt) → halt ≡ halts.Memory →
-    IsReady p → Answering p o answers sink files (Err halt) → Answers p o answers sink files (record { status = status.Memory; stop = stops.Other })
+    IsReady p → Answering p o answers sink files (Err halt) → AnswersEach p o answers sink files (record { status = status.Memory; stop = stops.Other })
 unfolding IsReady Answering
 answers_memory p o answers sink files halt is h (_, early) = ends_memory p o answers sink files h (subst (EndsAt p o answers sink files) is early)
 
 pub answers_sink : (p : Prepared) (o : Settings) (answers : List Answer) (sink : Device (Option (List ℕ))) (files : Device (Option Content)) (halt : Halt) → halt ≡ halts.Sink →
-    IsReady p → Answering p o answers sink files (Err halt) → Answers p o answers sink files (record { status = status.Output; stop = stops.Other })
+    IsReady p → Answering p o answers sink files (Err halt) → AnswersEach p o answers sink files (record { status = status.Output; stop = stops.Other })
 unfolding IsReady Answering
 answers_sink p o answers sink files halt is h (_, early) = ends_sink p o answers sink files h (subst (EndsAt p o answers sink files) is early)
 
 pub answers_fault : (p : Prepared) (o : Settings) (answers : List Answer) (f : StepFault) (n : ℕ) (first second sink : Device (Option (List ℕ))) (files : Device (Option Content)) (e : End)
     (halt : Halt) → Joins first second sink → halt ≡ halts.Fault f → IsReady p → Answering p o answers first files (Err halt) → n ≡ length answers + 1 → Stopped n f second e →
-    Answers p o answers sink files e
+    AnswersEach p o answers sink files e
 unfolding IsReady Answering
 answers_fault p o answers f n first second sink files e halt joins is h (_, early) at stopped =
     ends_fault p o answers f n first second sink files e joins h (subst (EndsAt p o answers first files) is early) at stopped
@@ -427,8 +427,8 @@ ends_refused script o refused.Memory answers sink files s none there h (e, nothi
 
 -- a script that was read
 pub responds : (script : List ℕ) (p : Prepared) (o : Settings) (answers : List Answer) (sink : Device (Option (List ℕ))) (files : Device (Option Content)) (e : End) →
-    Readies script (Ok p) → Answers p o answers sink files e → Responds script o answers sink files e
-unfolding Readies Answers
+    Readies script (Ok p) → AnswersEach p o answers sink files e → Responds script o answers sink files e
+unfolding Readies AnswersEach
 responds script p o answers sink files e h answered = let (_, reads) = prepared_is script p h in answered script reads
 
 -- a script that was refused

@@ -17,9 +17,9 @@ use Rattle.aql_session.specs.Step.{IsOutcome, OutcomesFit, BindsPosition, ReadsN
 use Rattle.aql_prelude.specs.Prelude.{prelude_count}
 use Rattle.aql_run.specs.Answered.{AreAnswered}
 use Rattle.aql_run.specs.Laws.Answered.{is_macro, macro_at}
-use Rattle.aql_run.specs.Settings.{Settings}
+use Rattle.aql_words.specs.Settings.{Settings}
 use Rattle.aql_run.specs.Steps.{own, sorts_in, IsPrepared, Declared, Progress}
-use Rattle.aql_run.proofs.Answering.{map_take_next, onto_next, onto_none, next_is, decls_length}
+use Rattle.aql_run.proofs.Answering.{map_take_next, onto_next, next_is, decls_length}
 
 -- each position of the prelude is a macro
 prelude_macro : (p : Prepared) (k : ℕ) (d : Declaration) → IsPrepared p → k < prelude_count → slice_get (decls_of p.decls.items.items) k ≡ Some d → is_macro d ≡ true
@@ -48,11 +48,6 @@ there_is p k h lt =
     let same : suc k - 1 ≡ k = omega arith in
     let found = next_is p (suc k) (omega arith) (omega (arith, lt, n, e, c)) in
     (found.0, subst (λ i. slice_get (decls_of p.decls.items.items) i ≡ Some found.0) same found.1)
-
--- nothing is bound at first
-pub none_declared : (p : Prepared) (s : Bound) → s ≡ [] → Declared p 0 s
-none_declared p s e =
-    subst (Declared p 0) (sym e) (record { bound = refl; none = refl; types = subst OutcomesFit (sym (onto_none (positions (own p)) [])) (tt, tt) })
 
 -- one position of the prelude more
 pub one_declared : (p : Prepared) (budget : ℕ) (holds : Option Content) (s s' : Bound) (a : Answer) (k : ℕ) → IsPrepared p → k < prelude_count → Declared p k s →

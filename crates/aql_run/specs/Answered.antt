@@ -17,7 +17,7 @@ use Rattle.aql_session.specs.declared.answer.Answer.{Answer}
 use Rattle.aql_session.specs.declared.answer.StepFault.{StepFault}
 use Rattle.aql_session.specs.declared.answer.StepFault.TheVariants as faults
 use Rattle.aql_script.specs.Script.{positions}
-use Rattle.aql_run.specs.Settings.{Settings}
+use Rattle.aql_words.specs.Settings.{Settings}
 
 -- the answer of a declaration after others, and its outcome: what it denotes or reads; where the files are told, the script's
 -- outcome over them; and which term counts, with what it and reading the outcome took

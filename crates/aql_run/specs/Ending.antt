@@ -16,7 +16,7 @@ use Rattle.aql_script.specs.declared.fault.ScriptFault.TheVariants as refused
 use Rattle.aql_script.specs.Script.{Prepares, ReadsAlone}
 use Rattle.aql_run.specs.Lines.{at_byte, in_declaration}
 use Rattle.aql_run.specs.Sample.{sample_text}
-use Rattle.aql_run.specs.Settings.{Settings}
+use Rattle.aql_words.specs.Settings.{Settings}
 use Rattle.aql_run.specs.Steps.{own, IsPrepared, AnswersAll, EndsAt}
 use Rattle.aql_run.specs.declared.steps.Halt.{Halt}
 use Rattle.aql_run.specs.Codes.{code_of}
@@ -115,8 +115,8 @@ Responds script settings answers sink files e = (written : List ℕ) × Appends 
     Serves e.status settings (told_of input_before input_now left files) files.same taken answers e.stop written)
 
 -- what was written for a script with these declarations
-unfoldable pub Answers : Prepared → Settings → List Answer → (sink : Device (Option (List ℕ))) → (files : Device (Option Content)) → End → Type 0
-Answers p settings answers sink files e = (script : List ℕ) → ReadsAlone script (own p) → Responds script settings answers sink files e
+unfoldable pub AnswersEach : Prepared → Settings → List Answer → (sink : Device (Option (List ℕ))) → (files : Device (Option Content)) → End → Type 0
+AnswersEach p settings answers sink files e = (script : List ℕ) → ReadsAlone script (own p) → Responds script settings answers sink files e
 
 -- what was written for the built-in script of n cells
 unfoldable pub Samples : ℕ → Settings → List Answer → (sink : Device (Option (List ℕ))) → (files : Device (Option Content)) → End → Type 0

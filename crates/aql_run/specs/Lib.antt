@@ -1,4 +1,3 @@
-pub mod Settings
 pub mod Answered
 pub mod Steps
 pub mod Sample

@@ -20,7 +20,7 @@ use Rattle.aql_session.specs.declared.answer.Answer.{Answer}
 use Rattle.aql_session.specs.declared.answer.StepFault.{StepFault}
 use Rattle.aql_session.specs.declared.answer.StepFault.TheVariants as faults
 use Rattle.aql_words.specs.Words.{HasReading, options_of}
-use Rattle.aql_run.specs.Settings.{Settings, settings_of}
+use Rattle.aql_words.specs.Settings.{Settings, settings_of}
 use Rattle.aql_run.specs.Answered.{AreAnswered, IsStopped, ReadNoFile, reached}
 use Rattle.aql_run.specs.Entry.{entries}
 use Rattle.aql_run.specs.Lines.{at_byte, in_declaration, of_file, of_table}

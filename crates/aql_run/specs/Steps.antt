@@ -18,7 +18,7 @@ use Rattle.aql_session.specs.Device.{Device}
 use Rattle.aql_session.specs.Step.{IsOverTurns, OutcomesFit, ReadsNoFile}
 use Rattle.aql_session.specs.declared.answer.Answer.{Answer}
 use Rattle.aql_session.specs.declared.answer.StepFault.TheVariants as faults
-use Rattle.aql_run.specs.Settings.{Settings}
+use Rattle.aql_words.specs.Settings.{Settings}
 use Rattle.aql_run.specs.Answered.{AreAnswered, IsStopped, ReadNoFile, reached}
 use Rattle.aql_run.specs.Entry.{entry, entries}
 use Rattle.aql_run.specs.declared.steps.Halt.{Halt}

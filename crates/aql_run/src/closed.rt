@@ -4,7 +4,7 @@ ghost use Rattle.std.specs.Prelude.{◌≡◌, [], map, IfOk, IsErrOf};
 ghost use Rattle.std.specs.String.{string_bytes};
 ghost use Rattle.aql_words.specs.Words.{AreInRange};
 ghost use Rattle.aql_session.specs.Device.{sink_of, files_of, BlamesSink, BlamesFiles};
-ghost use Rattle.aql_run.specs.Settings.{settings_of};
+ghost use Rattle.aql_words.specs.Settings.{settings_of};
 ghost use Rattle.aql_run.specs.Steps.{IsOfDevice};
 ghost use Rattle.aql_run.specs.Ending.{Answering, Asks, IsReady, Readies};
 
@@ -33,7 +33,7 @@ pub(crate) fn read_options(alloc: Global, words: &[String]) -> Result<Options, W
 }
 
 // The positions of a script.
-pub(crate) fn ready(alloc: Global, script: &[u8]) -> Result<Prepared, ScriptFault>
+pub(crate) fn prepare_script(alloc: Global, script: &[u8]) -> Result<Prepared, ScriptFault>
     ensures { Readies script.now result }
 {
     prepare(alloc, script)

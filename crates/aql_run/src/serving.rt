@@ -4,11 +4,11 @@ ghost use Rattle.std.specs.String.{string_bytes};
 ghost use Rattle.aql_words.specs.Words.{AreInRange};
 ghost use Rattle.aql_session.specs.Device.{source_of, sink_of, files_of, BlamesSink};
 ghost use Rattle.aql_run.specs.Lines.{in_declaration};
-ghost use Rattle.aql_run.specs.Settings.{settings_of};
+ghost use Rattle.aql_words.specs.Settings.{settings_of};
 ghost use Rattle.aql_run.specs.Devices.{NoticesFiles, NoticesInput};
-ghost use Rattle.aql_run.specs.Ending.{Answers, AsksSample, EndsWith, IsReady, Refused, Responds, Running, Samples, Serving, Stopped};
+ghost use Rattle.aql_run.specs.Ending.{AnswersEach, AsksSample, EndsWith, IsReady, Refused, Responds, Running, Samples, Serving, Stopped};
 
-use crate::closed::{Machine, answer_each, read_options, ready};
+use crate::closed::{Machine, answer_each, prepare_script, read_options};
 use crate::lines::{byte_line, declaration_line, file_line, table_line};
 use crate::reading::{ReadFault, read_script};
 use crate::report::{End, Stop};
@@ -179,7 +179,7 @@ fn respond<R: Threads + Sync, O: Sink, F: Files, G: Gate>(
     ensures later_files { F.faults files.old ≤ F.faults files.new }
     ensures noticed_files { NoticesFiles F.Files files.old files.new result.status }
 {
-    match ready(machine.alloc, script) {
+    match prepare_script(machine.alloc, script) {
         Ok(prepared) => answer(machine, &prepared, options, output, files, answers),
         Err(fault) => End {
             status: refuse(machine.alloc, fault, output),
@@ -200,7 +200,7 @@ fn answer<R: Threads + Sync, O: Sink, F: Files, G: Gate>(
     requires prepared { IsReady prepared.now }
     requires none { answers.old.items ≡ [] }
     requires options { AreInRange options.now }
-    ensures written { Answers prepared.now (settings_of options.now) answers.new.items
+    ensures written { AnswersEach prepared.now (settings_of options.now) answers.new.items
         (sink_of O.Sink output.old output.new) (files_of F.Files files.old files.new) result }
     ensures output { BlamesSink O.Sink output.old output.new (result.status ≡ Status.Output) }
     ensures kept { F.holds files.new ≡ F.holds files.old }
@@ -249,22 +249,22 @@ fn stop_at<O: Sink>(alloc: Global, n: u64, fault: StepFault, output: &mut O) -> 
                 trace,
                 moved,
             };
-            kept(status, Status::Spent, stop)
+            keep_stop(status, Status::Spent, stop)
         }
         StepFault::Cells { cells } => {
             let line = declaration_line(alloc, b"budget", n);
             let status = end_with_made(output, line, Status::Spent);
-            kept(status, Status::Spent, Stop::Cells { cells })
+            keep_stop(status, Status::Spent, Stop::Cells { cells })
         }
         StepFault::File { fault } => {
             let line = file_line(alloc, n, &fault);
             let status = end_with_made(output, line, Status::File);
-            kept(status, Status::File, Stop::File { fault })
+            keep_stop(status, Status::File, Stop::File { fault })
         }
         StepFault::Csv { fault } => {
             let line = table_line(alloc, n, &fault);
             let status = end_with_made(output, line, Status::File);
-            kept(status, Status::File, Stop::Csv { fault })
+            keep_stop(status, Status::File, Stop::Csv { fault })
         }
         StepFault::Device => End {
             status: end_with(output, b"fault files\n", Status::Files),
@@ -278,7 +278,7 @@ fn stop_at<O: Sink>(alloc: Global, n: u64, fault: StepFault, output: &mut O) -> 
 }
 
 // Keeps the end of a run that has the status that was meant.
-fn kept(status: Status, wanted: Status, stop: Stop) -> End
+fn keep_stop(status: Status, wanted: Status, stop: Stop) -> End
     ensures status { result.status ≡ status }
     ensures kept { status ≡ wanted → result.stop ≡ stop }
     ensures other { status ≢ wanted → result.stop ≡ Stop.Other }

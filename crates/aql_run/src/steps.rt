@@ -5,7 +5,7 @@ ghost use Rattle.aql_prelude.specs.Prelude.{prelude_count};
 ghost use Rattle.aql_session.specs.Bound.{outcomes};
 ghost use Rattle.aql_session.specs.Device.{sink_of, files_of, BlamesSink, BlamesFiles};
 ghost use Rattle.aql_run.specs.Entry.{entry, lent};
-ghost use Rattle.aql_run.specs.Settings.{settings_of};
+ghost use Rattle.aql_words.specs.Settings.{settings_of};
 ghost use Rattle.aql_run.specs.Steps.{IsPrepared, Progress, AnswersOne, Halts, IsNoFault, IsOver, Declared, NextReadsNoFile, AnswersAll, EndsAt, IsOfDevice};
 ghost use Rattle.aql_run.specs.Writing.{WritesFront};
 
@@ -127,11 +127,11 @@ fn declare_next<R: Threads + Sync, F: Files, G: Gate>(
         script.gate,
     );
     // A macro has no fault but want of memory.
-    done(stepped)
+    discard_made(stepped)
 }
 
 // That something was made. A fault is taken for want of memory.
-fn done<T: Drop, E: Drop>(made: Result<T, E>) -> Result<(), Memory>
+fn discard_made<T: Drop, E: Drop>(made: Result<T, E>) -> Result<(), Memory>
     ensures { OnOk result (IsOk made) }
 {
     match made {

@@ -3,15 +3,10 @@ use Rattle.std.proofs.Common.{ℕ, zero, suc, ◌≡◌, ◌+◌, ◌-◌, ◌<�
 use Rattle.std.specs.Prelude.{◌&&◌, nat_le, Result, Ok, Err, IfOk, Option, Some, None}
 use Rattle.std.specs.Cmp.{first_so, second_so}
 use Rattle.std.proofs.lemmas.Bool.{leb-true, cases_lt}
-use Rattle.aql_syntax.specs.declared.token.Token.{Token}
-use Rattle.aql_syntax.specs.Lexis.{Lexeme, AreTokens}
-use Rattle.aql_syntax.specs.Grammar.{ReadsScript, SyntaxFaultAt}
 use Rattle.aql_syntax.specs.Size.{expanded_size, expanded_levels, most_nodes, most_levels, IsWithinLimits, AreWithinLimits, IsLarge}
 use Rattle.aql_syntax.specs.Tree.{Declaration}
 use Rattle.aql_syntax.specs.View.{decl_of, decls_of}
 use Rattle.aql_syntax.specs.declared.ast.Decl.{Decl}
-use Rattle.aql_lex.specs.Lexed.{IsShallow, OneList}
-use Rattle.aql_parse_spec.specs.Scripts.{OneReading}
 use Rattle.aql_infer.specs.Checked.{IsChecked, IsFirstUntyped}
 use Rattle.aql_infer.specs.declared.fault.TypeFault.{TypeFault}
 use Rattle.aql_infer.specs.declared.fault.TypeFault.TheVariants as type_faults
@@ -20,22 +15,7 @@ use Rattle.aql_prelude.specs.Typing.{HaveSorts}
 use Rattle.aql_prelude.specs.Laws.Typing.{prelude_typed}
 use Rattle.aql_script.specs.Laws.Position.{positions_are, length_positions}
 use Rattle.aql_script.specs.Limits.{SearchesLarge, WithinBetween}
-use Rattle.aql_script.specs.Script.{IsTokenisedAs, ReadsAlone, positions, IsFirstLarge, IsFirstPast}
-
--- what the parser reads of the tokens is the one reading of the bytes
-pub alone : OneList → OneReading → (bytes : List ℕ) (ts : List Token) (ds : List Declaration) → IsShallow bytes ts →
-    ((ls : List Lexeme) → AreTokens bytes ts ls → ReadsScript ds ls) → ReadsAlone bytes ds
-alone one reading bytes ts ds (ls, (tokens, shallow)) h =
-    ((ls, (ts, tokens, shallow), h ls tokens), λ others other. same others other)
-  where
-    same : (others : List Declaration) → ((ms : List Lexeme) × IsTokenisedAs bytes ms × ReadsScript others ms) → others ≡ ds
-    same others (ms, (us, t, s), r) =
-        let list = one bytes ts us ls ms tokens t in
-        reading others ds ms r (subst (λ l. ReadsScript ds l) list.lexemes (h ls tokens))
-
-pub refused : (bytes : List ℕ) (ts : List Token) (n : ℕ) → IsShallow bytes ts → ((ls : List Lexeme) → AreTokens bytes ts ls → SyntaxFaultAt n ls) →
-    (ls : List Lexeme) × IsTokenisedAs bytes ls × SyntaxFaultAt n ls
-refused bytes ts n (ls, (tokens, shallow)) h = (ls, (ts, tokens, shallow), h ls tokens)
+use Rattle.aql_script.specs.Script.{positions, IsFirstLarge, IsFirstPast}
 
 -- a declaration without a typing stands behind those that have one
 behind_typed : (front ds earlier : List Declaration) (k : ℕ) → HaveSorts earlier front → IsFirstUntyped earlier (front ++ ds) k → length front < k

@@ -32,12 +32,6 @@ numbers_push vs v =
     go (Some ys) None = refl
     go (Some ys) (Some y) = refl
 
--- an index of another rank than 1 is a tuple of numbers
-pub index-tuple : (rank : ℕ) (v : Datum) → (rank ≡ 1 → ⊥) → index_numbers rank v ≡ (as_tuple v >>= each as_natural >>= λ at. if nat_eq (length at) rank then Some at else None)
-index-tuple zero v h = refl
-index-tuple (suc zero) v h = absurd (h refl)
-index-tuple (suc (suc k)) v h = refl
-
 naturals-typed : (k : ℕ) (vs : List Datum) → AllHaveTypes (tys_of (replicate k types.natural)) vs → (ns : List ℕ) × (each as_natural vs ≡ Some ns) × (length ns ≡ k)
 naturals-typed zero [] h = ([], refl, refl)
 naturals-typed zero (v ∷ vs) h = absurd h

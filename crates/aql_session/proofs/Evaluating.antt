@@ -17,7 +17,7 @@ use Rattle.nrca_term.specs.View.{term_of}
 use Rattle.nrca_term.specs.declared.trace.Step as code
 use Rattle.nrca_normal.specs.Planned.{IsPlan}
 use Rattle.nrca_motion.specs.declared.still.Moved.{Moved}
-use Rattle.aql_desugar_spec.specs.Laws.{outcomes_of}
+use Rattle.aql_desugar_spec.specs.Positions.{outcomes_of}
 use Rattle.aql_desugar_spec.specs.Start.{query}
 use Rattle.aql_session.specs.Bound.{earlier_of}
 use Rattle.aql_session.specs.Planned.{IsPlanned, Evaluates, PassAll}

@@ -88,10 +88,6 @@ each-valid : (V : Outcomes) → EachValid V → AreValidOutcomes V
 each-valid V h zero v e = cc
 each-valid V h (suc i) v e = h i v (found (slice_get V i) v e)
 
--- nothing is bound
-pub known-none : Knows [] []
-known-none = record { many = refl; tells = each-tells [] [] refl (λ i b o e f. cc); valid = each-valid [] (λ i v e. cc) }
-
 -- one position more is bound
 pub known-push : (gs hs : List (Option Bounds)) (V W : Outcomes) (b : Option Bounds) (o : Option Datum) → Knows gs V → hs ≡ gs ++ b ∷ [] → W ≡ V ++ o ∷ [] →
     HasShapeThere b o → ForSome o IsValue → Knows hs W

@@ -1,6 +1,5 @@
 -- What was read by a reader's argument.
 use Rattle.std.proofs.Common.{◌≡◌, ℕ, ◌-◌, ◌^◌, ◌≤◌, min, Bool, true, false, List, [], ◌∷◌, length, Option, Some, None, refl, sym, ap, ◌∙◌, subst, arith, if◌then◌else◌}
-use Rattle.std.specs.Option.{ForSome}
 use Rattle.aql_outside.specs.Contents.{Content}
 use Rattle.aql_value.specs.Datum as datum
 use Rattle.aql_value.specs.Datum.{Datum, Table, data_of}
@@ -18,10 +17,8 @@ use Rattle.nrca_array.specs.Held.{table_datum}
 use Rattle.nrca_loops.specs.Scope.{held_value}
 use Rattle.aql_value.specs.Limits.{most_budget}
 use Rattle.aql_session.specs.Asked.{Hyperslab, Asked, hyperslab, asked_of, cells}
-use Rattle.aql_session.specs.Runs.{IsProper, IsReadBy, IsReadCause, IsReadOf, IsRequestOf, IsArgumentCause, IsSlabOf, asked_in, asked_type, cell_type, request_asked}
-use Rattle.aql_session.specs.Step.{CallsNoFile, IsCountOf, IsReadable}
-use Rattle.aql_session.specs.declared.answer.StepFault.{StepFault}
-use Rattle.aql_session.specs.declared.answer.StepFault.TheVariants as faults
+use Rattle.aql_session.specs.Runs.{IsProper, IsReadBy, IsReadOf, IsRequestOf, IsSlabOf, asked_type, cell_type, request_asked}
+use Rattle.aql_session.specs.Step.{IsCountOf, IsReadable}
 use Rattle.aql_session.specs.declared.readings.Read.{Read}
 use Rattle.aql_session.specs.declared.readings.Request.{Request}
 use Rattle.aql_session.proofs.Asking.{asks-typed}
@@ -94,15 +91,3 @@ module _ (r : Reader) (v : Datum) (request : Request) (asked : IsRequestOf r v r
     );
     valid = λ w e. subst IsValue (let z : h.value ≡ w = (let y = sym h.is ∙ e in cc) in z) h.valid;
   }
-
-  pub argument-cause : (before now : ℕ) (f : StepFault) → IsReadCause (request_asked request) budget holds before now f → IsArgumentCause r (Some v) budget holds before now f
-  argument-cause before now (faults.Query s p t m) h = absurd h
-  argument-cause before now (faults.Cells c) h = (request_asked request, asked.is, h)
-  argument-cause before now (faults.File f) h = (request_asked request, asked.is, h)
-  argument-cause before now (faults.Csv f) h = (request_asked request, asked.is, h)
-  argument-cause before now faults.Device h = (request_asked request, asked.is, h)
-  argument-cause before now faults.Memory h = tt
-
-  -- where no call is made for what the argument asks for, none is made for the request
-  pub unread : ForSome (asked_in r (Some v)) (CallsNoFile budget) → CallsNoFile budget (request_asked request)
-  unread h = h (request_asked request) asked.is

@@ -1,5 +1,5 @@
 -- Opening a file and reading a hyperslab of it, beside the definitions.
-use Rattle.std.proofs.Common.{◌≡◌, ℕ, ◌≤◌, Bool, true, false, List, length, Option, Some, None, Result, Ok, Err, refl, sym, ap, ◌∙◌, subst, inl, inr, if◌then◌else◌}
+use Rattle.std.proofs.Common.{◌≡◌, ℕ, Bool, true, false, List, length, Option, Some, None, Result, Ok, Err, refl, sym, ap, ◌∙◌, subst, inl, inr, if◌then◌else◌}
 use Rattle.std.specs.Prelude.{option_map}
 use Rattle.std.specs.Option.{ForSome}
 use Rattle.std.specs.Str.{IsUtf8, is_utf8}
@@ -16,12 +16,10 @@ use Rattle.cdf_header.specs.declared.fault.CdfFault.{CdfFault}
 use Rattle.cdf_header.specs.declared.fault.CdfFault.TheVariants as file_faults
 use Rattle.cdf_slab.specs.Slab.{slab, slab_fault, IsSlabAnswer, IsOfRequest}
 use Rattle.nrca_array.specs.Held.{table_datum}
-use Rattle.aql_session.specs.Asked.{Hyperslab, hyperslab, cells}
+use Rattle.aql_session.specs.Asked.{Hyperslab}
 use Rattle.aql_session.specs.Reading.{in_header, in_file, at_name, opened, fault_in, read_fault, value_in, unless, read_hyperslab}
-use Rattle.aql_session.specs.Runs.{handed_on, IsFileAt, IsFileCause, IsReadCause}
+use Rattle.aql_session.specs.Runs.{handed_on, IsFileAt, IsFileCause}
 use Rattle.aql_session.specs.Step.{IsOfFile, IsOfVersion}
-use Rattle.aql_session.specs.declared.answer.StepFault.{StepFault}
-use Rattle.aql_session.specs.declared.answer.StepFault.TheVariants as faults
 use Rattle.aql_session.specs.declared.readings.Found.{Found}
 use Rattle.aql_session.proofs.Headers.{header-failed, lost-is}
 
@@ -166,16 +164,6 @@ handed-cause a holds before now (file_faults.Cut n) r u v q t = (record { own = 
 handed-cause a holds before now (file_faults.Negative n) r u v q t = (record { own = tt; unnamed = u; version = v; request = q }, t tt)
 handed-cause a holds before now file_faults.Device r u v q t = r refl
 handed-cause a holds before now file_faults.Memory r u v q t = tt
-
--- a fault of the file of a hyperslab whose cells are within the budget
-pub read-cause : (a : Hyperslab) (budget : ℕ) (holds : Option Content) (before now : ℕ) (f : StepFault) → cells a ≤ budget → IsFileCause a holds before now f →
-    IsReadCause (hyperslab a) budget holds before now f
-read-cause a budget holds before now (faults.Query s p t m) w h = absurd h
-read-cause a budget holds before now (faults.Cells c) w h = absurd h
-read-cause a budget holds before now (faults.File f) w h = (w, h.0, h.1)
-read-cause a budget holds before now (faults.Csv f) w h = absurd h
-read-cause a budget holds before now faults.Device w h = (w, h)
-read-cause a budget holds before now faults.Memory w h = tt
 
 -- what is said of the files at hand is said of those that are held
 pub says-of : (a : Hyperslab) (holds : Option Content) (files : Content) (r : Result Head CdfFault) → holds ≡ Some files →

@@ -32,7 +32,7 @@ use Rattle.nrca_normal.specs.Planned.{IsReplayed, IsNormalIn, IsPlan}
 use Rattle.nrca_motion.specs.Moved.{IsChained, IsStillIn, KeepsMeaning}
 use Rattle.nrca_motion.specs.Moves.{MoveChain}
 use Rattle.nrca_motion.specs.declared.still.Moved.{Moved}
-use Rattle.aql_desugar_spec.specs.Laws.{value_type}
+use Rattle.aql_desugar_spec.specs.Positions.{value_type}
 use Rattle.aql_desugar_spec.specs.Start.{query}
 use Rattle.aql_desugar.specs.Translation.{IsTranslated, types_before, query_of, query_at}
 use Rattle.aql_session.specs.Bound.{onto}

@@ -11,12 +11,11 @@ use Rattle.aql_syntax.specs.Sound.{declarations_of}
 use Rattle.aql_syntax.specs.Tree.{Tree, Declaration}
 use Rattle.aql_infer_steps.specs.Typed.{ArePrincipal, IsPrincipalScheme}
 use Rattle.nrca_term.specs.Meaning.{Outcomes, cden}
-use Rattle.nrca_term.specs.Turns.{settle}
-use Rattle.aql_desugar_spec.specs.Laws.{outcomes_of}
+use Rattle.aql_desugar_spec.specs.Positions.{outcomes_of}
 use Rattle.aql_desugar_spec.specs.Laws.Positions.{start-means}
 use Rattle.aql_desugar_spec.specs.Start.{query}
 use Rattle.aql_session.specs.Bound.{onto, earlier_of}
-use Rattle.aql_session.specs.Step.{start_term, start_of, query_turns}
+use Rattle.aql_session.specs.Step.{start_term, start_of}
 use Rattle.aql_session.specs.Runs.{query_value}
 
 reverse-cons : {A : Type 0} (x : A) (xs : List A) → reverse (x ∷ xs) ≡ reverse xs ++ x ∷ []
@@ -52,9 +51,6 @@ module _ (ds : List Declaration) (V : Outcomes) (n : ℕ) (many : length V ≡ n
 
   pub start-at : (d : Declaration) → start_term (query d) (before ds n) ≡ start_of d (earlier_of ds V)
   start-at d = ap (start_term (query d)) (sym (declarations-before ds V n many))
-
-  pub turns-at : (d : Declaration) → settle V [] (start_of d (earlier_of ds V)) ≡ query_turns d (earlier_of ds V)
-  turns-at d = ap (λ W. settle W [] (start_of d (earlier_of ds V))) (sym (outcomes-earlier ds V covered))
 
   -- the start term is worth what the query denotes
   pub value-at : (d : Declaration) (e : Tree) → query d ≡ Some e → cden V [] (start_of d (earlier_of ds V)) ≡ query_value d (earlier_of ds V)

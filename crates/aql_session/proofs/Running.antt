@@ -20,38 +20,25 @@ use Rattle.aql_syntax.specs.Sound.{OutcomesTyped, ReadsHave}
 use Rattle.aql_syntax.specs.Laws.Sound.{typed-value, outcome-has, apply-reader_type}
 use Rattle.aql_syntax.specs.Tree.{Name, Tree, Reader, Declaration, val, mac, read, bare, declared}
 use Rattle.aql_syntax.specs.Typing.{Has, DeclHas, IsPrincipal, scope_of, reader_type, argument_type}
-use Rattle.aql_syntax.specs.View.{decl_of, decls_of}
-use Rattle.aql_syntax.specs.declared.ast.Decl.{Decl}
-use Rattle.aql_desugar_spec.specs.Laws.{outcomes_of}
+use Rattle.aql_desugar_spec.specs.Positions.{outcomes_of}
 use Rattle.nrca_encoded.specs.declared.ran.Graph.{Graph}
 use Rattle.nrca_loops.specs.Scope.{held_value}
-use Rattle.nrca_term.specs.Laws.Equations.{term_of-Bottom}
 use Rattle.nrca_term.specs.View.{term_of}
 use Rattle.nrca_term.specs.Meaning.{Outcomes}
-use Rattle.nrca_term.specs.declared.term.Core.TheVariants as core
 use Rattle.aql_value.specs.Limits.{most_budget}
 use Rattle.aql_session.specs.Bound.{Bound, AreBound, earlier_of, outcomes}
 use Rattle.aql_session.specs.Reading.{read_value, reading}
-use Rattle.aql_session.specs.Runs.{IsReadyAt, IsValueDeclaration, IsSpentFault, IsEvaluated, IsReadBy, IsArgumentCause, IsRun, IsAnswerOf, asked_in, query_value, run_with}
-use Rattle.aql_session.specs.Step.{CallsNoFile, HasGraph, HasMotion, HasPlan, IsAnswer, IsCounted, IsCountOf, IsGraphBy, IsOutcome, IsReadable, IsReadOutcome, BindsPosition, IsCause, IsOverTurns, NoMacroHasValue, OutcomesFit, ReadsNoFile, asks, start_of}
+use Rattle.aql_session.specs.Runs.{IsReadyAt, IsValueDeclaration, IsSpentFault, IsEvaluated, IsReadBy, IsArgumentCause, IsExecution, IsAnswerOf, asked_in, query_value, execution_with}
+use Rattle.aql_session.specs.Step.{CallsNoFile, HasGraph, HasMotion, HasPlan, IsAnswer, IsCounted, IsCountOf, IsGraphBy, IsOutcome, IsReadable, IsReadOutcome, BindsPosition, IsCause, NoMacroHasValue, OutcomesFit, ReadsNoFile, asks, start_of}
 use Rattle.aql_session.specs.declared.answer.Answer.{Answer}
 use Rattle.aql_session.specs.declared.answer.Ran.TheVariants as ran
 use Rattle.aql_session.specs.declared.answer.StepFault.{StepFault}
 use Rattle.aql_session.specs.declared.answer.StepFault.TheVariants as faults
 use Rattle.aql_session.specs.declared.queries.Evaluated.{Evaluated}
 use Rattle.aql_session.specs.declared.readings.Read.{Read}
-use Rattle.aql_session.specs.declared.runs.Run.{Run}
+use Rattle.aql_session.specs.declared.runs.Execution.{Execution}
 use Rattle.aql_session.proofs.Evaluating.{evaluated-may, evaluated-within}
 use Rattle.aql_session.proofs.Positions.{declarations-before, sort-at}
-
--- the declaration at a place
-pub declaration-at : (xs : List Decl) (i : ℕ) (x : Decl) → i < length xs → x ≡ get_or xs i x → slice_get (decls_of xs) i ≡ Some (decl_of x)
-declaration-at xs i x l e = go xs i ∙ ap (option_map decl_of) (slice_get-get_or xs i x l ∙ ap Some (sym e))
-  where
-    go : (xs : List Decl) (i : ℕ) → slice_get (decls_of xs) i ≡ option_map decl_of (slice_get xs i)
-    go [] i = refl
-    go (x ∷ xs) zero = refl
-    go (x ∷ xs) (suc i) = go xs i
 
 found-there : (ds : List Declaration) (i : ℕ) → i < length ds → (d : Declaration) × (slice_get ds i ≡ Some d)
 found-there [] i h = absurd (omega (arith, h))
@@ -68,7 +55,7 @@ same-position p c d e f = let y = sym e ∙ f in cc
 -- a query that is evaluated and kept
 pub plain-run : (d : Declaration) (earlier : Earlier) (motion graphs : Bool) (budget : ℕ) (holds : Option Content) (q : Evaluated) (g : Option (Box Graph)) → IsValueDeclaration d →
     IsEvaluated d earlier motion budget q → IsGraphBy graphs (outcomes_of earlier) budget (term_of q.plan) (query_value d earlier) g →
-    IsRun d earlier motion graphs budget holds (run_with q g)
+    IsExecution d earlier motion graphs budget holds (execution_with q g)
 plain-run (val x e) earlier motion graphs budget holds q g p h k = record {
   start = h.start;
   planned = h.planned;
@@ -92,21 +79,6 @@ plain-run (bare e) earlier motion graphs budget holds q g p h k = record {
   valid = h.valid;
 }
 
--- a macro
-pub macro-run : (f : Name) (p : _) (body : Tree) (earlier : Earlier) (motion graphs : Bool) (budget : ℕ) (holds : Option Content) →
-    IsRun (mac f p body) earlier motion graphs budget holds
-    (record { start = core.Bottom; plan = core.Bottom; trace = []; moved = None; graph = None; by = ran.Declared; turns = 0; value = None })
-macro-run f p body earlier motion graphs budget holds = record {
-  start = term_of-Bottom;
-  planned = (term_of-Bottom, refl);
-  moved = refl;
-  graph = refl;
-  counts = refl;
-  answerable = λ a k. cc;
-  outcome = refl;
-  valid = λ v k. cc;
-}
-
 -- want of memory is no fault of anything
 pub memory-cause : (d : Declaration) (earlier : Earlier) (motion : Bool) (budget : ℕ) (holds : Option Content) (before now : ℕ) (f : StepFault) → f ≡ faults.Memory →
     IsCause d earlier motion budget holds before now f
@@ -122,11 +94,11 @@ spent-cause d earlier motion budget holds before now faults.Device h = absurd h
 spent-cause d earlier motion budget holds before now faults.Memory h = tt
 
 -- a query that is no readval's argument does not blame the files
-pub plain-device : (position : Option Declaration) (d : Declaration) (earlier : Earlier) (motion : Bool) (budget : ℕ) (r : Result Run StepFault) → position ≡ Some d →
+pub plain-device : (position : Option Declaration) (d : Declaration) (earlier : Earlier) (motion : Bool) (budget : ℕ) (r : Result Execution StepFault) → position ≡ Some d →
     ((holds : Option Content) (before now : ℕ) → IfErr r (λ f. ForSome position (λ e. IsCause e earlier motion budget holds before now f))) → r ≡ Err faults.Device → ⊥
 plain-device position d earlier motion budget r there cause device =
-    let h : IfErr (let x : Result Run StepFault = Err faults.Device in x) (λ f. ForSome position (λ e. IsCause e earlier motion budget None 1 0 f)) =
-    subst (λ (x : Result Run StepFault). IfErr x (λ f. ForSome position (λ e. IsCause e earlier motion budget None 1 0 f))) device (cause None 1 0) in
+    let h : IfErr (let x : Result Execution StepFault = Err faults.Device in x) (λ f. ForSome position (λ e. IsCause e earlier motion budget None 1 0 f)) =
+    subst (λ (x : Result Execution StepFault). IfErr x (λ f. ForSome position (λ e. IsCause e earlier motion budget None 1 0 f))) device (cause None 1 0) in
     let rose = (h d there).3.1 in absurd (omega (arith, rose))
 
 module _ (x : Name) (r : Reader) (e : Tree) (earlier : Earlier) (motion : Bool) (budget : ℕ) (q : Evaluated) (h : IsEvaluated (read x r e) earlier motion budget q) where
@@ -138,7 +110,7 @@ module _ (x : Name) (r : Reader) (e : Tree) (earlier : Earlier) (motion : Bool) 
 
   -- a readval: its argument, and what it asks for
   pub readval-run : (graphs : Bool) (holds : Option Content) (y : Read) → IsReadBy r (held_value q.value) budget holds y →
-      IsRun (read x r e) earlier motion graphs budget holds
+      IsExecution (read x r e) earlier motion graphs budget holds
       (record { start = q.start; plan = q.plan; trace = q.trace; moved = q.moved; graph = None; by = ran.Read; turns = q.turns + y.turns; value = y.value })
   readval-run graphs holds y k = record {
     start = h.start;
@@ -167,15 +139,6 @@ module _ (x : Name) (r : Reader) (e : Tree) (earlier : Earlier) (motion : Bool) 
   pub readval-unread : ReadsNoFile (read x r e) earlier budget → ForSome (asked_in r (held_value q.value)) (CallsNoFile budget)
   readval-unread k = subst (λ o. ForSome o (CallsNoFile budget)) (sym asked-is) k
 
-  -- a fault of the reading is none of the turns
-  pub readval-turns : (holds : Option Content) (before now : ℕ) (f : StepFault) → IsArgumentCause r (held_value q.value) budget holds before now f → IsOverTurns f → ⊥
-  readval-turns holds before now (faults.Query s p t m) k over = k.2
-  readval-turns holds before now (faults.Cells c) k over = over
-  readval-turns holds before now (faults.File f) k over = over
-  readval-turns holds before now (faults.Csv f) k over = over
-  readval-turns holds before now faults.Device k over = over
-  readval-turns holds before now faults.Memory k over = over
-
 -- what the check says of a readval
 record ReadHas (r : Reader) (e : Tree) (earlier : List Declaration) : Type 0 where
   pub within : IsWithin (reader_type r)
@@ -200,8 +163,8 @@ module _ (ds : List Declaration) (sorts : List Sort) (n : ℕ) (V : Outcomes) (s
         (subst (λ l. Has e (scope_of l) [] (argument_type r)) (sym (declarations-before ds V n stands.many)) read-has.has) (sym q ∙ k)
 
   -- the answer of a run
-  pub answer-is : (d : Declaration) → slice_get ds (n - 1) ≡ Some d → (motion graphs : Bool) (budget : ℕ) (holds : Option Content) (r : Run) (a : Answer) →
-      IsRun d (earlier_of ds V) motion graphs budget holds r → IsAnswerOf d (slice_get sorts (n - 1)) r a → IsAnswer d (earlier_of ds V) (slice_get sorts (n - 1)) motion graphs budget a
+  pub answer-is : (d : Declaration) → slice_get ds (n - 1) ≡ Some d → (motion graphs : Bool) (budget : ℕ) (holds : Option Content) (r : Execution) (a : Answer) →
+      IsExecution d (earlier_of ds V) motion graphs budget holds r → IsAnswerOf d (slice_get sorts (n - 1)) r a → IsAnswer d (earlier_of ds V) (slice_get sorts (n - 1)) motion graphs budget a
   answer-is d e motion graphs budget holds r a h k =
       let s = sort-at ds sorts n d stands.checked e in
       let z : s.0 ≡ sort_of a.ty = (let y = sym s.1 ∙ k.found in cc) in
@@ -261,8 +224,8 @@ outcome-told (read x r e) earlier holds o k files l = go (den e (globals_of earl
         ap (λ w. option_map (λ y. Some y) (w >>= read_value files)) k.2 ∙ ap (option_map (λ y. Some y)) (k.4.told files l) ∙ ap Some (sym k.3)
 
 -- the position that a run binds
-pub binds-is : (d : Declaration) (earlier : Earlier) (motion graphs : Bool) (budget : ℕ) (holds : Option Content) (r : Run) (sort : Option Sort) (a : Answer) (old new : Bound) →
-    OutcomesFit earlier → IsRun d earlier motion graphs budget holds r → IsAnswerOf d sort r a → new ≡ old ++ (declared d, held_value r.value) ∷ [] → BindsPosition d earlier budget holds old new a
+pub binds-is : (d : Declaration) (earlier : Earlier) (motion graphs : Bool) (budget : ℕ) (holds : Option Content) (r : Execution) (sort : Option Sort) (a : Answer) (old new : Bound) →
+    OutcomesFit earlier → IsExecution d earlier motion graphs budget holds r → IsAnswerOf d sort r a → new ≡ old ++ (declared d, held_value r.value) ∷ [] → BindsPosition d earlier budget holds old new a
 binds-is d earlier motion graphs budget holds r sort a old new t h k e = record {
   outcome = held_value r.value;
   bound = e;

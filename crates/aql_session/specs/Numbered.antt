@@ -12,7 +12,7 @@ use Rattle.aql_syntax.specs.Tree.{Declaration}
 use Rattle.aql_syntax.specs.View.{decls_of}
 use Rattle.aql_syntax.specs.declared.ast.Decls.{Decls}
 use Rattle.nrca_term.specs.Meaning.{Outcomes}
-use Rattle.aql_words.specs.declared.words.Options.{Options}
+use Rattle.aql_words.specs.Settings.{Settings}
 use Rattle.aql_session.specs.Bound.{Bound, earlier_of, outcomes}
 use Rattle.aql_session.specs.Step.{IsAnswer, IsAnswerable, BindsPosition, IsCause, ReadsNoFile}
 use Rattle.aql_session.specs.declared.answer.Answer.{Answer}
@@ -39,28 +39,28 @@ abbrev pub so_far : Decls → Outcomes → Earlier
 so_far decls V = earlier_of (declarations decls) V
 
 -- this is the answer of declaration n over the outcomes of those before it
-abbrev pub IsAnswerTo : Decls → Typed → (n : ℕ) → Outcomes → Options → Answer → Type 0
-IsAnswerTo decls typed n V options a =
-    ForSome (declaration_numbered decls n) (λ d. IsAnswer d (so_far decls V) (sort_numbered typed n) options.motion options.graph options.budget a)
+abbrev pub IsAnswerTo : Decls → Typed → (n : ℕ) → Outcomes → Settings → Answer → Type 0
+IsAnswerTo decls typed n V settings a =
+    ForSome (declaration_numbered decls n) (λ d. IsAnswer d (so_far decls V) (sort_numbered typed n) settings.motion settings.graph settings.budget a)
 
 -- declaration n is answerable within the budget over files that hold this
-abbrev pub MayBeAnswered : Decls → (n : ℕ) → Outcomes → Options → Option Content → Type 0
-MayBeAnswered decls n V options holds = ForSome (declaration_numbered decls n) (λ d. IsAnswerable d (so_far decls V) options.budget holds)
+abbrev pub MayBeAnswered : Decls → (n : ℕ) → Outcomes → Settings → Option Content → Type 0
+MayBeAnswered decls n V settings holds = ForSome (declaration_numbered decls n) (λ d. IsAnswerable d (so_far decls V) settings.budget holds)
 
 -- declaration n is bound behind the positions before it, to its outcome over files that hold this, and the answer says what that took
-abbrev pub BindsNext : Decls → (n : ℕ) → Options → Option Content → (old new : Bound) → Answer → Type 0
-BindsNext decls n options holds old new a =
-    ForSome (declaration_numbered decls n) (λ d. BindsPosition d (so_far decls (outcomes old)) options.budget holds old new a)
+abbrev pub BindsNext : Decls → (n : ℕ) → Settings → Option Content → (old new : Bound) → Answer → Type 0
+BindsNext decls n settings holds old new a =
+    ForSome (declaration_numbered decls n) (λ d. BindsPosition d (so_far decls (outcomes old)) settings.budget holds old new a)
 
 -- why declaration n has no answer; the counts of faults are those of the files before and after
-abbrev pub IsCauseOf : Decls → (n : ℕ) → Outcomes → Options → Option Content → (before now : ℕ) → StepFault → Type 0
-IsCauseOf decls n V options holds before now f =
-    ForSome (declaration_numbered decls n) (λ d. IsCause d (so_far decls V) options.motion options.budget holds before now f)
+abbrev pub IsCauseOf : Decls → (n : ℕ) → Outcomes → Settings → Option Content → (before now : ℕ) → StepFault → Type 0
+IsCauseOf decls n V settings holds before now f =
+    ForSome (declaration_numbered decls n) (λ d. IsCause d (so_far decls V) settings.motion settings.budget holds before now f)
 
 -- why it has none over files as they were and are
-abbrev pub StepFails : {F : Type 0} → Decls → (n : ℕ) → Outcomes → Options → files.Ghosts F → (old new : F) → StepFault → Type 0
-StepFails decls n V options f old new fault = IsCauseOf decls n V options (f.holds old) (f.faults old) (f.faults new) fault
+abbrev pub StepFails : {F : Type 0} → Decls → (n : ℕ) → Outcomes → Settings → files.Ghosts F → (old new : F) → StepFault → Type 0
+StepFails decls n V settings f old new fault = IsCauseOf decls n V settings (f.holds old) (f.faults old) (f.faults new) fault
 
 -- this holds where declaration n reads no file
-abbrev pub UnlessRead : Decls → (n : ℕ) → Outcomes → Options → Type 0 → Type 0
-UnlessRead decls n V options P = ForSome (declaration_numbered decls n) (λ d. ReadsNoFile d (so_far decls V) options.budget → P)
+abbrev pub UnlessRead : Decls → (n : ℕ) → Outcomes → Settings → Type 0 → Type 0
+UnlessRead decls n V settings P = ForSome (declaration_numbered decls n) (λ d. ReadsNoFile d (so_far decls V) settings.budget → P)

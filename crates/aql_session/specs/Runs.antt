@@ -37,13 +37,14 @@ use Rattle.nrca_term.specs.Meaning.{Outcomes, cden}
 use Rattle.nrca_term.specs.Term.{Term}
 use Rattle.nrca_term.specs.View.{term_of}
 use Rattle.nrca_normal.specs.Planned.{IsPlan}
-use Rattle.aql_desugar_spec.specs.Laws.{outcomes_of}
+use Rattle.aql_desugar_spec.specs.Positions.{outcomes_of}
 use Rattle.aql_desugar_spec.specs.Start.{query}
 use Rattle.cdf_header.specs.Places.{variable_at}
 use Rattle.cdf_header.specs.declared.fault.CdfFault.{CdfFault}
 use Rattle.cdf_header.specs.declared.fault.CdfFault.TheVariants as file_faults
 use Rattle.cdf_slab.specs.Slab.{IsShaped, first_zero}
 use Rattle.aql_value.specs.Limits.{most_workers}
+use Rattle.aql_words.specs.Settings.{settings_of}
 use Rattle.aql_session.specs.Asked.{Hyperslab, Asked, hyperslab, table, asked, asked_of}
 use Rattle.aql_session.specs.Bound.{Bound, earlier_of}
 use Rattle.aql_session.specs.Numbered.{declarations, sorts, declaration_numbered, sort_numbered, so_far, IsCauseOf, UnlessRead}
@@ -58,8 +59,8 @@ use Rattle.aql_session.specs.declared.readings.Read.{Read}
 use Rattle.aql_session.specs.declared.readings.Request.{Request}
 use Rattle.aql_session.specs.declared.readings.Request.TheVariants as requests
 use Rattle.aql_session.specs.declared.readings.SlabRequest.{SlabRequest}
-use Rattle.aql_session.specs.declared.runs.Position.{Position}
-use Rattle.aql_session.specs.declared.runs.Run.{Run}
+use Rattle.aql_session.specs.declared.runs.CheckedDeclaration.{CheckedDeclaration}
+use Rattle.aql_session.specs.declared.runs.Execution.{Execution}
 
 -- n is a position of declarations that were checked, and the outcomes of those before it are at hand, each of its types
 pub record IsReadyAt (ds : List Declaration) (sorts : List Sort) (n : ℕ) (V : Outcomes) : Type 0 where
@@ -230,7 +231,7 @@ abbrev pub IsReadval : Option Declaration → Reader → Type 0
 IsReadval position r = (x : Name) × (e : Tree) × (position ≡ Some (read x r e))
 
 -- a declaration was run
-pub record IsRun (d : Declaration) (earlier : Earlier) (motion graphs : Bool) (budget : ℕ) (holds : Option Content) (r : Run) : Type 0 where
+pub record IsExecution (d : Declaration) (earlier : Earlier) (motion graphs : Bool) (budget : ℕ) (holds : Option Content) (r : Execution) : Type 0 where
   pub start : term_of r.start ≡ start_of d earlier
   pub planned : HasPlan d earlier (start_of d earlier) r.trace (term_of r.plan)
   pub moved : HasMotion d earlier motion (term_of r.plan) r.moved
@@ -241,7 +242,7 @@ pub record IsRun (d : Declaration) (earlier : Earlier) (motion graphs : Bool) (b
   pub valid : ForSome (held_value r.value) IsValue
 
 -- the answer of a run
-pub record IsAnswerOf (d : Declaration) (sort : Option Sort) (r : Run) (a : Answer) : Type 0 where
+pub record IsAnswerOf (d : Declaration) (sort : Option Sort) (r : Execution) (a : Answer) : Type 0 where
   pub name : a.name ≡ declared d
   pub found : sort ≡ Some (sort_of a.ty)
   pub start : term_of a.start ≡ term_of r.start
@@ -302,90 +303,90 @@ FileFails a f old new fault = IsFileCause a (f.holds old) (f.faults old) (f.faul
 -- Of a position: declaration n of a script that was checked, and how it is run.
 
 -- the declarations of its script
-abbrev pub declarations_at : Position → List Declaration
+abbrev pub declarations_at : CheckedDeclaration → List Declaration
 declarations_at p = declarations p.decls.now
 
 -- the sorts of these
-abbrev pub sorts_at : Position → List Sort
+abbrev pub sorts_at : CheckedDeclaration → List Sort
 sorts_at p = sorts p.typed.now
 
 -- its declaration
-abbrev pub declaration_of : Position → Option Declaration
+abbrev pub declaration_of : CheckedDeclaration → Option Declaration
 declaration_of p = declaration_numbered p.decls.now p.n
 
 -- the budget that it is run with
-abbrev pub budget_of : Position → ℕ
+abbrev pub budget_of : CheckedDeclaration → ℕ
 budget_of p = p.options.now.budget
 
 -- whether it is run with the word `--motion`
-abbrev pub motion_of : Position → Bool
+abbrev pub motion_of : CheckedDeclaration → Bool
 motion_of p = p.options.now.motion
 
 -- whether it is run with the word `--graph`
-abbrev pub graphs_of : Position → Bool
+abbrev pub graphs_of : CheckedDeclaration → Bool
 graphs_of p = p.options.now.graph
 
 -- the number of workers is one that evaluation takes
-abbrev pub HasWorkers : Position → Type 0
+abbrev pub HasWorkers : CheckedDeclaration → Type 0
 HasWorkers p = (1 ≤ p.options.now.workers) × (p.options.now.workers ≤ most_workers)
 
 -- it stands over these outcomes
-abbrev pub StandsAt : Position → Outcomes → Type 0
+abbrev pub StandsAt : CheckedDeclaration → Outcomes → Type 0
 StandsAt p V = IsReadyAt (declarations_at p) (sorts_at p) p.n V
 
 -- these are the names of the positions before it
-abbrev pub AreNamesAt : Position → List Name → Type 0
+abbrev pub AreNamesAt : CheckedDeclaration → List Name → Type 0
 AreNamesAt p names = names ≡ map declared (take (p.n - 1) (declarations_at p))
 
 -- its declaration was run
-abbrev pub RunsPosition : Position → Outcomes → Option Content → Run → Type 0
-RunsPosition p V holds r = ForSome (declaration_of p) (λ d. IsRun d (so_far p.decls.now V) (motion_of p) (graphs_of p) (budget_of p) holds r)
+abbrev pub RunsPosition : CheckedDeclaration → Outcomes → Option Content → Execution → Type 0
+RunsPosition p V holds r = ForSome (declaration_of p) (λ d. IsExecution d (so_far p.decls.now V) (motion_of p) (graphs_of p) (budget_of p) holds r)
 
 -- why its declaration has no answer; the counts of faults are those of the files before and after
-abbrev pub IsPositionCause : Position → Outcomes → Option Content → (before now : ℕ) → StepFault → Type 0
-IsPositionCause p V holds before now f = IsCauseOf p.decls.now p.n V p.options.now holds before now f
+abbrev pub IsPositionCause : CheckedDeclaration → Outcomes → Option Content → (before now : ℕ) → StepFault → Type 0
+IsPositionCause p V holds before now f = IsCauseOf p.decls.now p.n V (settings_of p.options.now) holds before now f
 
 -- why it has none over files as they were and are
-abbrev pub PositionFails : {F : Type 0} → Position → Outcomes → files.Ghosts F → (old new : F) → StepFault → Type 0
+abbrev pub PositionFails : {F : Type 0} → CheckedDeclaration → Outcomes → files.Ghosts F → (old new : F) → StepFault → Type 0
 PositionFails p V f old new fault = IsPositionCause p V (f.holds old) (f.faults old) (f.faults new) fault
 
 -- this holds where its declaration reads no file
-abbrev pub UnlessReadAt : Position → Outcomes → Type 0 → Type 0
-UnlessReadAt p V P = UnlessRead p.decls.now p.n V p.options.now P
+abbrev pub UnlessReadAt : CheckedDeclaration → Outcomes → Type 0 → Type 0
+UnlessReadAt p V P = UnlessRead p.decls.now p.n V (settings_of p.options.now) P
 
 -- the start term of its query
-abbrev pub IsStartAt : Position → Term → Type 0
+abbrev pub IsStartAt : CheckedDeclaration → Term → Type 0
 IsStartAt p t = ForSome (declaration_of p) (λ d. t ≡ start_term (query d) (before (declarations_at p) p.n))
 
 -- over outcomes over which it stands that term has a type
-abbrev pub IsQueryTermAt : Position → Term → Type 0
+abbrev pub IsQueryTermAt : CheckedDeclaration → Term → Type 0
 IsQueryTermAt p t = (V : Outcomes) → StandsAt p V → IsTypedOver V t
 
 -- its query was evaluated within the budget
-abbrev pub IsEvaluatedAt : Position → Outcomes → Evaluated → Type 0
+abbrev pub IsEvaluatedAt : CheckedDeclaration → Outcomes → Evaluated → Type 0
 IsEvaluatedAt p V q = ForSome (declaration_of p) (λ d. IsEvaluated d (so_far p.decls.now V) (motion_of p) (budget_of p) q)
 
 -- the run of a query that was evaluated, with this array-free form
-abbrev pub run_with : Evaluated → Option (Box Graph) → Run
-run_with q g = record { start = q.start; plan = q.plan; trace = q.trace; moved = q.moved; graph = g; by = q.by; turns = q.turns; value = q.value }
+abbrev pub execution_with : Evaluated → Option (Box Graph) → Execution
+execution_with q g = record { start = q.start; plan = q.plan; trace = q.trace; moved = q.moved; graph = g; by = q.by; turns = q.turns; value = q.value }
 
 -- with the word `--graph` it has the array-free form of its plan
-abbrev pub IsRunWithGraph : Position → Outcomes → Evaluated → Run → Type 0
-IsRunWithGraph p V q r =
-    (r ≡ run_with q r.graph) × IsGraphBy (graphs_of p) V (budget_of p) (term_of q.plan) (cden V [] (term_of q.plan)) r.graph
+abbrev pub IsExecutionWithGraph : CheckedDeclaration → Outcomes → Evaluated → Execution → Type 0
+IsExecutionWithGraph p V q r =
+    (r ≡ execution_with q r.graph) × IsGraphBy (graphs_of p) V (budget_of p) (term_of q.plan) (cden V [] (term_of q.plan)) r.graph
 
 -- or it was not
-abbrev pub IsSpentAt : Position → Outcomes → StepFault → Type 0
+abbrev pub IsSpentAt : CheckedDeclaration → Outcomes → StepFault → Type 0
 IsSpentAt p V f = ForSome (declaration_of p) (λ d. IsSpentFault d (so_far p.decls.now V) (motion_of p) (budget_of p) f)
 
 -- the answer of a run of it
-abbrev pub AnswersRun : Position → Run → Answer → Type 0
-AnswersRun p r a = ForSome (declaration_of p) (λ d. IsAnswerOf d (sort_numbered p.typed.now p.n) r a)
+abbrev pub AnswersExecution : CheckedDeclaration → Execution → Answer → Type 0
+AnswersExecution p r a = ForSome (declaration_of p) (λ d. IsAnswerOf d (sort_numbered p.typed.now p.n) r a)
 
 -- the name that it binds
-abbrev pub IsNameAt : Position → Name → Type 0
+abbrev pub IsNameAt : CheckedDeclaration → Name → Type 0
 IsNameAt p name = ForSome (declaration_of p) (λ d. name ≡ declared d)
 
 -- one position more is bound, to the value of a run of it
-abbrev pub BindsRun : Position → Run → (old new : Bound) → Type 0
-BindsRun p r old new = ForSome (declaration_of p) (λ d. new ≡ old ++ (declared d, held_value r.value) ∷ [])
+abbrev pub BindsExecution : CheckedDeclaration → Execution → (old new : Bound) → Type 0
+BindsExecution p r old new = ForSome (declaration_of p) (λ d. new ≡ old ++ (declared d, held_value r.value) ∷ [])

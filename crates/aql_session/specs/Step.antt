@@ -31,7 +31,7 @@ use Rattle.nrca_encoded.specs.declared.ran.Graph.{Graph}
 use Rattle.nrca_motion.specs.Moved.{IsMotion}
 use Rattle.nrca_motion.specs.declared.moves.Move as motion_code
 use Rattle.nrca_motion.specs.declared.still.Moved.{Moved}
-use Rattle.aql_desugar_spec.specs.Laws.{outcomes_of}
+use Rattle.aql_desugar_spec.specs.Positions.{outcomes_of}
 use Rattle.aql_desugar_spec.specs.Start.{start, knowns_of, query}
 use Rattle.cdf_header.specs.declared.fault.CdfFault.{CdfFault}
 use Rattle.cdf_header.specs.declared.fault.CdfFault.TheVariants as file_faults

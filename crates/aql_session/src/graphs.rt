@@ -5,12 +5,12 @@ ghost use Rattle.nrca_encoded.specs.Encodings.{AreEncodings};
 ghost use Rattle.nrca_encoded.specs.Graphs.{IsTypedOver};
 ghost use Rattle.nrca_term.specs.Meaning.{cden};
 ghost use Rattle.nrca_term.specs.View.{term_of};
-ghost use Rattle.aql_session.specs.Runs.{HasWorkers, budget_of, IsRunWithGraph, run_with};
+ghost use Rattle.aql_session.specs.Runs.{HasWorkers, budget_of, IsExecutionWithGraph, execution_with};
 ghost use Rattle.aql_session.specs.Step.{IsGraphBy};
 
 use crate::answer::StepFault;
 use crate::queries::Evaluated;
-use crate::runs::{Position, Run};
+use crate::runs::{CheckedDeclaration, Execution};
 use aql_outside::Gate;
 use aql_value::Memory;
 use aql_value::made::make_box;
@@ -28,15 +28,15 @@ pub(crate) fn with_graph<R: Threads + Sync, G: Gate>(
     alloc: Global,
     globals: &Globals,
     encodings: &mut Globals,
-    at: &Position,
+    at: &CheckedDeclaration,
     evaluated: Evaluated,
     gate: &G,
-) -> Result<Run, StepFault>
+) -> Result<Execution, StepFault>
     requires typed { IsTypedOver globals.now (term_of evaluated.plan) }
     requires encodings { AreEncodings globals.now encodings.old }
     requires workers { HasWorkers at.now }
     requires budget { budget_of at.now ≤ most_budget }
-    ensures ran { IfOk result (IsRunWithGraph at.now globals.now evaluated) }
+    ensures ran { IfOk result (IsExecutionWithGraph at.now globals.now evaluated) }
     ensures fault { IfErr result (λ f. f ≡ StepFault.Memory) }
     ensures encodings { AreEncodings globals.now encodings.new }
 {
@@ -49,7 +49,7 @@ pub(crate) fn with_graph<R: Threads + Sync, G: Gate>(
         at.options,
         gate,
     ) {
-        Ok(graph) => Ok(beside(evaluated, graph)),
+        Ok(graph) => Ok(add_graph(evaluated, graph)),
         Err(Memory) => {
             drop(evaluated);
             Err(StepFault::Memory)
@@ -96,8 +96,8 @@ fn graph_by<R: Threads + Sync, G: Gate>(
 }
 
 // What a query came to, beside its graph.
-fn beside(evaluated: Evaluated, graph: Option<Box<Graph>>) -> Run
-    ensures { result ≡ run_with evaluated graph }
+fn add_graph(evaluated: Evaluated, graph: Option<Box<Graph>>) -> Execution
+    ensures { result ≡ execution_with evaluated graph }
 {
     let Evaluated {
         start,
@@ -108,7 +108,7 @@ fn beside(evaluated: Evaluated, graph: Option<Box<Graph>>) -> Run
         value,
         turns,
     } = evaluated;
-    Run {
+    Execution {
         start,
         plan,
         trace,

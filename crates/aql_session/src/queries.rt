@@ -15,7 +15,7 @@ ghost use Rattle.aql_session.specs.Runs.{StandsAt, AreNamesAt, HasWorkers, budge
 ghost use Rattle.aql_session.specs.Step.{IsMovedBy};
 
 use crate::answer::{Ran, StepFault};
-use crate::runs::Position;
+use crate::runs::CheckedDeclaration;
 use aql_desugar::translate::translate_within;
 use aql_names::names::Names;
 use aql_outside::Gate;
@@ -63,7 +63,7 @@ pub(crate) fn run_query<R: Threads + Sync, G: Gate>(
     globals: &Globals,
     names: &Names,
     shapes: &mut GlobalShapes,
-    at: &Position,
+    at: &CheckedDeclaration,
     gate: &G,
 ) -> Result<Evaluated, StepFault>
     requires stands { StandsAt at.now globals.now }
@@ -86,7 +86,7 @@ pub(crate) fn run_query<R: Threads + Sync, G: Gate>(
 
 // The start term of a query. It is within the limits, and the names of the positions before it are at
 // hand.
-fn start_of_query(alloc: Global, names: &Names, at: &Position) -> Result<Core, Memory>
+fn start_of_query(alloc: Global, names: &Names, at: &CheckedDeclaration) -> Result<Core, Memory>
     requires first { 1 ≤ at.now.n }
     requires last { at.now.n ≤ length at.now.decls.now.items.items }
     requires query { IsQuery (declaration_of at.now) }

@@ -1,9 +1,8 @@
 //! The run of a declaration, which binds nothing.
-ghost use Rattle.std.specs.Prelude.{◌≡◌, ◌≤◌, ◌-◌, ℕ, length, Some, Option, IfOk, IfErr, IsErrOf};
-ghost use Rattle.std.specs.List.{slice_get};
+ghost use Rattle.std.specs.Prelude.{◌≡◌, ◌≤◌, ℕ, length, Some, Option, IfOk, IfErr, IsErrOf};
 ghost use Rattle.std.specs.Option.{ForSome};
 ghost use Rattle.aql_outside.specs.Contents.{Content};
-ghost use Rattle.aql_syntax.specs.View.{decl_of, decls_of, reader_of};
+ghost use Rattle.aql_syntax.specs.View.{decl_of, reader_of};
 ghost use Rattle.aql_value.specs.Limits.{most_budget};
 ghost use Rattle.nrca_ranges.specs.Shapes.{shapes_in};
 ghost use Rattle.nrca_encoded.specs.Encodings.{AreEncodings};
@@ -21,6 +20,7 @@ use aql_infer_steps::typed::Typed;
 use aql_names::names::Names;
 use aql_outside::{Files, Gate};
 use aql_syntax::ast::{Decl, Decls, Reader};
+use aql_syntax::positions::declaration_at;
 use aql_words::Options;
 use nrca_array::Held;
 use nrca_encoded::Graph;
@@ -33,7 +33,7 @@ use std::thread::Threads;
 
 /// Declaration n of a script that was checked, counted from 1, and how it is run.
 #[derive(Drop)]
-pub(crate) struct Position<'a> {
+pub(crate) struct CheckedDeclaration<'a> {
     pub(crate) decls: &'a Decls,
     // What the check answered.
     pub(crate) typed: &'a Typed,
@@ -43,7 +43,7 @@ pub(crate) struct Position<'a> {
 
 /// What the run of a declaration came to.
 #[derive(Drop)]
-pub(crate) struct Run {
+pub(crate) struct Execution {
     pub(crate) start: Core,
     pub(crate) plan: Core,
     pub(crate) trace: Trace,
@@ -62,10 +62,10 @@ pub(crate) fn run_declaration<R: Threads + Sync, F: Files, G: Gate>(
     names: &Names,
     shapes: &mut GlobalShapes,
     encodings: &mut Globals,
-    at: &Position,
+    at: &CheckedDeclaration,
     files: &mut F,
     gate: &G,
-) -> Result<Run, StepFault>
+) -> Result<Execution, StepFault>
     requires stands { StandsAt at.now globals.now }
     requires named { AreNamesAt at.now names.now }
     requires workers { HasWorkers at.now }
@@ -89,7 +89,7 @@ pub(crate) fn run_declaration<R: Threads + Sync, F: Files, G: Gate>(
             name: _,
             pattern: _,
             body: _,
-        } => Ok(Run {
+        } => Ok(Execution {
             start: Core::Bottom,
             plan: Core::Bottom,
             trace: Trace(Vec::new(alloc)),
@@ -117,14 +117,6 @@ pub(crate) fn declaration(decls: &Decls, n: u64) -> &Decl
     declaration_at(&decls.items, n)
 }
 
-fn declaration_at(decls: &[Decl], n: u64) -> &Decl
-    requires first { 1 ≤ n }
-    requires last { n ≤ length decls.now }
-    ensures { slice_get (decls_of decls.now) (n - 1) ≡ Some (decl_of result.now) }
-{
-    &decls[(n - 1) as usize]
-}
-
 // A query that is no readval's argument, and with the word `--graph` the array-free form of its plan.
 fn run_plain<R: Threads + Sync, G: Gate>(
     rt: &R,
@@ -133,9 +125,9 @@ fn run_plain<R: Threads + Sync, G: Gate>(
     names: &Names,
     shapes: &mut GlobalShapes,
     encodings: &mut Globals,
-    at: &Position,
+    at: &CheckedDeclaration,
     gate: &G,
-) -> Result<Run, StepFault>
+) -> Result<Execution, StepFault>
     requires stands { StandsAt at.now globals.now }
     requires named { AreNamesAt at.now names.now }
     requires query { IsQuery (declaration_of at.now) }
@@ -163,11 +155,11 @@ fn run_readval<R: Threads + Sync, F: Files, G: Gate>(
     globals: &Globals,
     names: &Names,
     shapes: &mut GlobalShapes,
-    at: &Position,
+    at: &CheckedDeclaration,
     reader: &Reader,
     files: &mut F,
     gate: &G,
-) -> Result<Run, StepFault>
+) -> Result<Execution, StepFault>
     requires stands { StandsAt at.now globals.now }
     requires named { AreNamesAt at.now names.now }
     requires reads { IsReadval (declaration_of at.now) (reader_of reader.now) }
@@ -194,7 +186,7 @@ fn run_readval<R: Threads + Sync, F: Files, G: Gate>(
                 turns,
             },
         ) => match read_argument(alloc, files, reader, value, at.options.budget) {
-            Ok(Read { value, turns: read }) => Ok(Run {
+            Ok(Read { value, turns: read }) => Ok(Execution {
                 start,
                 plan,
                 trace,

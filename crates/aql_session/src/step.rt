@@ -8,14 +8,15 @@ ghost use Rattle.aql_types.specs.View.{sort_of};
 ghost use Rattle.aql_value.specs.Limits.{most_budget, most_workers};
 ghost use Rattle.aql_value.specs.Valid.{IsValue};
 ghost use Rattle.nrca_loops.specs.Scope.{held_value};
+ghost use Rattle.aql_words.specs.Settings.{settings_of};
 ghost use Rattle.aql_session.specs.Bound.{AreBound, names, outcomes};
 ghost use Rattle.aql_session.specs.Device.{BlamesFiles};
 ghost use Rattle.aql_session.specs.Numbered.{declarations, sorts, declaration_numbered, sort_numbered, so_far, IsAnswerTo, MayBeAnswered, BindsNext, StepFails, UnlessRead};
-ghost use Rattle.aql_session.specs.Runs.{StandsAt, AreNamesAt, HasWorkers, budget_of, declaration_of, declarations_at, sorts_at, RunsPosition, PositionFails, UnlessReadAt, AnswersRun, IsNameAt, BindsRun};
+ghost use Rattle.aql_session.specs.Runs.{StandsAt, AreNamesAt, HasWorkers, budget_of, declaration_of, declarations_at, sorts_at, RunsPosition, PositionFails, UnlessReadAt, AnswersExecution, IsNameAt, BindsExecution};
 ghost use Rattle.aql_session.specs.Step.{OutcomesFit, IsOverTurns};
 
 use crate::answer::{Answer, StepFault};
-use crate::runs::{Position, Run, declaration, run_declaration};
+use crate::runs::{CheckedDeclaration, Execution, declaration, run_declaration};
 use crate::session::Session;
 use aql_infer_steps::typed::Typed;
 use aql_outside::{Files, Gate};
@@ -63,28 +64,31 @@ impl Session {
 
         // The answer, which comes only within the budget.
         ensures answer { IfOk result
-            (IsAnswerTo decls.now typed.now n (outcomes self.old) options.now) }
+            (IsAnswerTo decls.now typed.now n (outcomes self.old) (settings_of options.now)) }
         ensures answerable { OnOk result
-            (MayBeAnswered decls.now n (outcomes self.old) options.now (F.holds files.old)) }
+            (MayBeAnswered decls.now n (outcomes self.old) (settings_of options.now)
+            (F.holds files.old)) }
         // The session has one position more, with the declaration's outcome; and the answer says
         // what was evaluated, and what that and reading the outcome took.
         ensures binds { IfOk result
-            (BindsNext decls.now n options.now (F.holds files.old) self.old self.new) }
+            (BindsNext decls.now n (settings_of options.now) (F.holds files.old)
+            self.old self.new) }
 
         // Each fault has its cause, and leaves the session as it was.
         ensures cause { IfErr result
-            (StepFails decls.now n (outcomes self.old) options.now F.Files files.old files.new) }
+            (StepFails decls.now n (outcomes self.old) (settings_of options.now)
+            F.Files files.old files.new) }
         ensures as_before { OnErr result (self.new ≡ self.old) }
 
         // The files keep what they hold, their faults end in `Device`, and no call is made on them
         // unless a file is read.
         ensures kept { F.holds files.new ≡ F.holds files.old }
         ensures blamed { BlamesFiles F.Files files.old files.new (IsErrOf result StepFault.Device) }
-        ensures untouched { UnlessRead decls.now n (outcomes self.old) options.now
+        ensures untouched { UnlessRead decls.now n (outcomes self.old) (settings_of options.now)
             (files.new ≡ files.old) }
         ensures unread { IfErr result (λ f. IsOverTurns f → files.new ≡ files.old) }
     {
-        let at = Position {
+        let at = CheckedDeclaration {
             decls,
             typed,
             n,
@@ -101,10 +105,10 @@ impl Session {
         &mut self,
         rt: &R,
         alloc: Global,
-        at: &Position,
+        at: &CheckedDeclaration,
         files: &mut F,
         gate: &G,
-    ) -> Result<Run, StepFault>
+    ) -> Result<Execution, StepFault>
         requires stands { StandsAt at.now (outcomes self.old) }
         requires named { AreNamesAt at.now (names self.old) }
         requires workers { HasWorkers at.now }
@@ -132,13 +136,18 @@ impl Session {
     }
 
     // The answer of a run, with the position bound.
-    fn keep(&mut self, alloc: Global, at: &Position, run: Run) -> Result<Answer, Memory>
+    fn keep(
+        &mut self,
+        alloc: Global,
+        at: &CheckedDeclaration,
+        run: Execution,
+    ) -> Result<Answer, Memory>
         requires first { 1 ≤ at.now.n }
         requires last { at.now.n ≤ length (declarations_at at.now) }
         requires typed { length (sorts_at at.now) ≡ length (declarations_at at.now) }
         requires valid { ForSome (held_value run.value) IsValue }
-        ensures answer { IfOk result (AnswersRun at.now run) }
-        ensures bound { OnOk result (BindsRun at.now run self.old self.new) }
+        ensures answer { IfOk result (AnswersExecution at.now run) }
+        ensures bound { OnOk result (BindsExecution at.now run self.old self.new) }
         ensures as_before { OnErr result (self.new ≡ self.old) }
     {
         let (answer, value) = answer_of(alloc, at, run)?;
@@ -153,18 +162,22 @@ impl Session {
 }
 
 // The answer of a run, and its value.
-fn answer_of(alloc: Global, at: &Position, run: Run) -> Result<(Answer, Option<Held>), Memory>
+fn answer_of(
+    alloc: Global,
+    at: &CheckedDeclaration,
+    run: Execution,
+) -> Result<(Answer, Option<Held>), Memory>
     requires first { 1 ≤ at.now.n }
     requires last { at.now.n ≤ length (declarations_at at.now) }
     requires typed { length (sorts_at at.now) ≡ length (declarations_at at.now) }
-    ensures answer { IfOk result (λ x. AnswersRun at.now run x.0) }
+    ensures answer { IfOk result (λ x. AnswersExecution at.now run x.0) }
     ensures name { IfOk result (λ x. IsNameAt at.now x.0.name) }
     ensures value { IfOk result (λ x. held_value x.1 ≡ held_value run.value) }
 {
     let name = declaration(at.decls, at.n).name_copy(alloc);
     match both(name, scheme(at.typed, at.n).copy(alloc)) {
         Ok((name, ty)) => {
-            let Run {
+            let Execution {
                 start,
                 plan,
                 trace,

@@ -1,4 +1,4 @@
--- Laws of names, macros, rows and turns.
+-- Laws of names, macros and rows.
 pub mod Index
 pub mod Measuring
 pub mod Sound
@@ -6,27 +6,23 @@ pub mod Uses
 pub mod View
 pub mod Weakening
 pub mod Written
-use Rattle.std.proofs.Common.{◌≡◌, ℕ, ◌+◌, Bool, true, false, List, [], ◌∷◌, ◌++◌, length, Option, Some, None, refl, sym, ap, ◌∙◌, if◌then◌else◌, append_assoc}
+use Rattle.std.proofs.Common.{◌≡◌, ℕ, Bool, true, false, List, [], ◌∷◌, ◌++◌, Option, Some, None, refl, sym, ap, ◌∙◌, if◌then◌else◌, append_assoc}
 use Rattle.std.proofs.Math.Path.{fun_ext}
 use Rattle.std.proofs.lemmas.Slice.Eq.{bytes_eq-Decides}
 use Rattle.aql_value.specs.Datum.{Datum}
-use Rattle.aql_value.specs.Partial.{◌>>=◌, each, concat, total, if_some}
+use Rattle.aql_value.specs.Partial.{◌>>=◌, each, concat}
 use Rattle.aql_value.specs.Operations.{as_truth, as_set, dims_of, cell_of}
 use Rattle.aql_value.specs.Lists.{below}
-use Rattle.aql_syntax.specs.Tree.{Name, Pat, Tree, apply, function, summap, Quals, no_qual, from, cells, same, test, mac, append_quals, count_pats, axes}
+use Rattle.aql_syntax.specs.Tree.{Name, Pat, Tree, apply, Quals, no_qual, from, cells, same, test, mac, append_quals, count_pats, axes}
 use Rattle.aql_syntax.specs.Names.{names_equal, find}
-use Rattle.aql_syntax.specs.Matching.{Env, macro, Globals, outcome_of, lookup, Match, hit, miss, undefined, on_match, match, match_axes}
+use Rattle.aql_syntax.specs.Matching.{Env, Globals, outcome_of, lookup, Match, hit, miss, undefined, on_match, match, match_axes}
 use Rattle.aql_syntax.specs.Denotation.{over_indices, den, rows}
-use Rattle.aql_syntax.specs.Work.{work, work_rows}
 use Rattle.aql_syntax.specs.Script.{Earlier, globals_of}
 
 -- Names.
 
 pub names_equal-self : (x : Name) → names_equal x x ≡ true
 names_equal-self x = (bytes_eq-Decides x x).1 refl
-
-pub names_equal-true : (x y : Name) → names_equal x y ≡ true → x ≡ y
-names_equal-true x y e = (bytes_eq-Decides x y).0 e
 
 -- the first entry of a name is found
 pub find-here : {A : Type 0} (x : Name) (a : A) (rest : List (Name × A)) → find x ((x, a) ∷ rest) ≡ Some a
@@ -46,44 +42,11 @@ lookup-global globals env x e = rw e refl
 
 -- Applications.
 
--- the application of a macro: its meaning at the argument's value
-pub den-apply : (f : Name) (a : Tree) (globals : Globals) (env : Env) (F : Datum → Option Datum) (turns : Datum → ℕ) →
-    find f env ≡ None → find f globals ≡ Some (macro F turns) → den (apply f a) globals env ≡ (den a globals env >>= F)
-den-apply f a globals env F turns e h = rw (e, h) refl
-
-pub work-apply : (f : Name) (a : Tree) (globals : Globals) (env : Env) (F : Datum → Option Datum) (turns : Datum → ℕ) →
-    find f env ≡ None → find f globals ≡ Some (macro F turns) → work (apply f a) globals env ≡ work a globals env + if_some (den a globals env) turns
-work-apply f a globals env F turns e h = rw (e, h) refl
-
 -- the application of the latest macro: its body under the match of its pattern alone, over the positions before it
 pub den-latest : (f : Name) (p : Pat) (body a : Tree) (o : Option Datum) (earlier : Earlier) (env : Env) → find f env ≡ None →
     den (apply f a) (globals_of ((mac f p body, o) ∷ earlier)) env
     ≡ (den a (globals_of ((mac f p body, o) ∷ earlier)) env >>= λ w. on_match (match p (globals_of earlier) w []) (den body (globals_of earlier)) None None)
 den-latest f p body a o earlier env e = rw (e, names_equal-self f) refl
-
-pub work-latest : (f : Name) (p : Pat) (body a : Tree) (o : Option Datum) (earlier : Earlier) (env : Env) → find f env ≡ None →
-    work (apply f a) (globals_of ((mac f p body, o) ∷ earlier)) env
-    ≡ work a (globals_of ((mac f p body, o) ∷ earlier)) env
-    + if_some (den a (globals_of ((mac f p body, o) ∷ earlier)) env) (λ w. on_match (match p (globals_of earlier) w []) (work body (globals_of earlier)) 0 0)
-work-latest f p body a o earlier env e = rw (e, names_equal-self f) refl
-
--- the application of a function written in place: its body under the match, with the names around it
-pub den-function : (p : Pat) (body a : Tree) (globals : Globals) (env : Env) →
-    den (function p body a) globals env ≡ (den a globals env >>= λ w. on_match (match p globals w env) (den body globals) None None)
-den-function p body a globals env = refl
-
--- Turns of the forms that loop.
-
--- a summation: its set's, one a member, and the body's at each member that matches
-pub work-summap : (p : Pat) (body e : Tree) (globals : Globals) (env : Env) (ws : List Datum) → (den e globals env >>= as_set) ≡ Some ws →
-    work (summap p body e) globals env ≡ work e globals env + (length ws + total (λ w. on_match (match p globals w env) (work body globals) 0 0) ws)
-work-summap p body e globals env ws h = rw h refl
-
--- a generator: its set's, one a member, and what follows at each member that matches
-pub work-from : (p : Pat) (e : Tree) (rest : Quals) (head : Env → ℕ) (globals : Globals) (env : Env) (ws : List Datum) → (den e globals env >>= as_set) ≡ Some ws →
-    work_rows (from p e rest) head globals env
-    ≡ work e globals env + (length ws + total (λ w. on_match (match p globals w env) (work_rows rest head globals) 0 0) ws)
-work-from p e rest head globals env ws h = rw h refl
 
 -- Rows of qualifiers one after another.
 

@@ -64,10 +64,10 @@ abbrev pub Ends : (ℕ → Bool) → List ℕ → Type 0
 Ends p [] = Unit {0}
 Ends p (b ∷ s) = p b ≡ false
 
--- Run p t s r: s is the bytes t, all of that kind and as many as there are, and then r
-pub data Run (p : ℕ → Bool) : List ℕ → List ℕ → List ℕ → Type 0 where
-  run_end : {r : List ℕ} → Ends p r → Run p [] r r
-  run_more : {b : ℕ} {t s r : List ℕ} → p b ≡ true → Run p t s r → Run p (b ∷ t) (b ∷ s) r
+-- MaximalMunch p t s r: s is the bytes t, all of that kind and as many as there are, and then r
+pub data MaximalMunch (p : ℕ → Bool) : List ℕ → List ℕ → List ℕ → Type 0 where
+  munch_end : {r : List ℕ} → Ends p r → MaximalMunch p [] r r
+  munch_more : {b : ℕ} {t s r : List ℕ} → p b ≡ true → MaximalMunch p t s r → MaximalMunch p (b ∷ t) (b ∷ s) r
 
 -- Digits n s r v: s is digits, as many as there are, and then r; with n before them they make the number v
 pub data Digits : ℕ → List ℕ → List ℕ → ℕ → Type 0 where
@@ -103,8 +103,8 @@ IsNoWord t = (w : Sign) → is_word w ≡ true → spelling w ≡ t → ⊥
 
 -- Begins l s r: s begins with that token, the longest that stands there, and r follows
 pub data Begins : Lexeme → List ℕ → List ℕ → Type 0 where
-  begins_name : {b : ℕ} {t s r : List ℕ} → is_letter b ≡ true → Run is_name_byte t s r → IsNoWord (b ∷ t) → Begins (named (b ∷ t)) (b ∷ s) r
-  begins_word : {w : Sign} {b : ℕ} {t s r : List ℕ} → is_letter b ≡ true → Run is_name_byte t s r → is_word w ≡ true → spelling w ≡ b ∷ t →
+  begins_name : {b : ℕ} {t s r : List ℕ} → is_letter b ≡ true → MaximalMunch is_name_byte t s r → IsNoWord (b ∷ t) → Begins (named (b ∷ t)) (b ∷ s) r
+  begins_word : {w : Sign} {b : ℕ} {t s r : List ℕ} → is_letter b ≡ true → MaximalMunch is_name_byte t s r → is_word w ≡ true → spelling w ≡ b ∷ t →
       Begins (mark w) (b ∷ s) r
   begins_number : {b v : ℕ} {s r : List ℕ} → is_digit b ≡ true → Digits (b - 48) s r v → v < 2 ^ 128 → Begins (numeral v) (b ∷ s) r
   begins_text : {t s r : List ℕ} → InString t s r → Begins (quoted t) (34 ∷ s) r

@@ -68,9 +68,9 @@ popped (c ∷ []) = c ∷ []
 popped (c ∷ d ∷ cs) = d ∷ cs
 
 -- 1 more on top
-abbrev pub raised : List ℕ → List ℕ
-raised [] = []
-raised (c ∷ cs) = (c + 1) ∷ cs
+abbrev pub incremented : List ℕ → List ℕ
+incremented [] = []
+incremented (c ∷ cs) = (c + 1) ∷ cs
 
 -- 0 on top
 abbrev pub reset : List ℕ → List ℕ
@@ -82,7 +82,7 @@ abbrev pub sign_scanned : Sign → List ℕ → List ℕ
 sign_scanned s counters =
     if opens s then pushed counters
     else if closes s then popped counters
-    else if raises s then raised counters
+    else if raises s then incremented counters
     else if resets s then reset counters
     else counters
 

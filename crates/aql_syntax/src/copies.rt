@@ -7,9 +7,9 @@ ghost use Rattle.aql_syntax.specs.View.{tree_of, trees_of, quals_of, qual_of, ax
 use crate::ast::{Bind, CsvReader, Decl, Expr, Kind, Kinds, LetBind, Pattern, Qual, Reader};
 use crate::build::tuple_pattern;
 use crate::nodes::{
-    Functional, Operation, Operator, application, bound, choice, function, length,
-    make_comprehension, make_default, make_literal, make_negation, make_subscript, make_tabulation,
-    on_one, on_two, set, tuple,
+    Functional, Operation, Operator, application, choice, function, length, make_comprehension,
+    make_default, make_let, make_literal, make_negation, make_subscript, make_tabulation, on_one,
+    on_two, set, tuple,
 };
 use aql_value::Memory;
 use aql_value::made::{both, make_box};
@@ -65,7 +65,7 @@ impl Expr {
                 )
             }
             Expr::Let { binds, body } => {
-                bound(copy_lets(alloc, &binds.items), copy_parts(alloc, body))
+                make_let(copy_lets(alloc, &binds.items), copy_parts(alloc, body))
             }
             Expr::Sub { array, at } => {
                 make_subscript(copy_parts(alloc, array), copy_exprs(alloc, &at.items))

@@ -1,9 +1,10 @@
 //! The surface language: its trees, tokens and grammar, and what its queries mean.
 //!
 //! `size` and `levels` measure a declaration with every macro put in place, by the sums of `counts`; the copies are equal
-//! trees; `build` and `nodes` make trees of parts; `name` of a declaration is what it binds. All else is definitions: read
-//! `specs/Tree`, `specs/Lexis`, `specs/Scan`, `specs/Grammar` for the text, `specs/Typing` for types, `specs/Matching`,
-//! `specs/Denotation`, `specs/Work` for values and turns, `specs/Script` for whole scripts, and `specs/Size`.
+//! trees; `build` and `nodes` make trees of parts; `name` of a declaration is what it binds, and `declaration_at` the one of a
+//! number. All else is definitions: read `specs/Tree`, `specs/Lexis`, `specs/Scan`, `specs/Grammar` for the text,
+//! `specs/Typing` for types, `specs/Matching`, `specs/Denotation`, `specs/Work` for values and turns, `specs/Script` for
+//! whole scripts, and `specs/Size`.
 #![tactic(auto)]
 
 pub mod ast;
@@ -12,6 +13,7 @@ pub mod copies;
 pub mod counts;
 mod names;
 pub mod nodes;
+pub mod positions;
 pub mod sign;
 pub mod sizes;
 pub mod token;

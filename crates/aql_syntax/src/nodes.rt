@@ -235,7 +235,7 @@ pub fn make_literal(
 }
 
 /// A let.
-pub fn bound(
+pub fn make_let(
     binds: Result<Vec<LetBind>, Memory>,
     body: Result<Box<Expr>, Memory>,
 ) -> Result<Expr, Memory>

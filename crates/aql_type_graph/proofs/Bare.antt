@@ -8,7 +8,7 @@ use Rattle.aql_type_graph.specs.Forms.{Form, form_of, forms, at}
 use Rattle.aql_type_graph.specs.Forms as form
 use Rattle.aql_type_graph.specs.Valuations.{IsRoot, IsOrdered, Points}
 use Rattle.aql_type_graph.specs.Steps.{LinksDown, bare, IsFlat, link_in}
-use Rattle.aql_type_graph.specs.Extents.{place, end}
+use Rattle.aql_type_graph.specs.Extents.{link_target, end}
 
 pub forms_at : (ps : List ℕ) (ns : List Node) (i : ℕ) → at (forms ps ns) i ≡ form_of ps (get_or ns i (node.Var 0))
 forms_at ps ns i = get_or-map (form_of ps) ns i (node.Var 0)
@@ -41,15 +41,15 @@ root_node ps qs (node.Set p) h = tt
 root_node ps qs (node.Array rank p) h = tt
 root_node ps qs (node.Link k) h = h
 
-place_node : (ps qs : List ℕ) (n : Node) (i : ℕ) → place (form_of ps n) i ≡ place (form_of qs n) i
-place_node ps qs (node.Var x) i = refl
-place_node ps qs node.Nat i = refl
-place_node ps qs node.Bool i = refl
-place_node ps qs node.Text i = refl
-place_node ps qs (node.Tuple first count) i = refl
-place_node ps qs (node.Set p) i = refl
-place_node ps qs (node.Array rank p) i = refl
-place_node ps qs (node.Link k) i = refl
+target_node : (ps qs : List ℕ) (n : Node) (i : ℕ) → link_target (form_of ps n) i ≡ link_target (form_of qs n) i
+target_node ps qs (node.Var x) i = refl
+target_node ps qs node.Nat i = refl
+target_node ps qs node.Bool i = refl
+target_node ps qs node.Text i = refl
+target_node ps qs (node.Tuple first count) i = refl
+target_node ps qs (node.Set p) i = refl
+target_node ps qs (node.Array rank p) i = refl
+target_node ps qs (node.Link k) i = refl
 
 pub same_link : (ps qs : List ℕ) (ns : List Node) (i j : ℕ) → at (forms ps ns) i ≡ form.link j → at (forms qs ns) i ≡ form.link j
 same_link ps qs ns i j e = forms_at qs ns i ∙ link_node ps qs (get_or ns i (node.Var 0)) j (sym (forms_at ps ns i) ∙ e)
@@ -59,7 +59,7 @@ same_root ps qs ns i h = subst IsRoot (sym (forms_at qs ns i)) (root_node ps qs 
 
 pub same_end : (ps qs : List ℕ) (ns : List Node) (i : ℕ) → end (forms ps ns) i ≡ end (forms qs ns) i
 same_end ps qs ns i =
-    ap (λ x. place x i) (forms_at ps ns i) ∙ place_node ps qs (get_or ns i (node.Var 0)) i ∙ ap (λ x. place x i) (sym (forms_at qs ns i))
+    ap (λ x. link_target x i) (forms_at ps ns i) ∙ target_node ps qs (get_or ns i (node.Var 0)) i ∙ ap (λ x. link_target x i) (sym (forms_at qs ns i))
 
 pub same_flat : (ps : List ℕ) (ns : List Node) → IsFlat (bare ns) → IsFlat (forms ps ns)
 same_flat ps ns h i j e = same_root [] ps ns j (h i j (same_link ps [] ns i j e))
@@ -87,12 +87,12 @@ root_is (form.made s) e = tt
 root_is (form.link k) e = let bad : ⊥ = cc in absurd bad
 
 pub end_link : (fs : List Form) (i j : ℕ) → link_in (at fs i) ≡ Some j → end fs i ≡ j
-end_link fs i j e = ap (λ x. place x i) (link_is (at fs i) j e)
+end_link fs i j e = ap (λ x. link_target x i) (link_is (at fs i) j e)
 
 pub end_self : (fs : List Form) (i : ℕ) → link_in (at fs i) ≡ None → end fs i ≡ i
 end_self fs i e = go (at fs i) (root_is (at fs i) e)
   where
-    go : (f : Form) → IsRoot f → place f i ≡ i
+    go : (f : Form) → IsRoot f → link_target f i ≡ i
     go (form.var z) r = refl
     go (form.made s) r = refl
     go (form.link k) r = absurd r

@@ -1,15 +1,10 @@
 -- Lists of numbers as chains of cells: what a cell more leaves as it was.
-use Rattle.std.proofs.Common.{ℕ, zero, suc, ◌≡◌, ◌+◌, ◌-◌, ◌<◌, ◌≤◌, Bool, true, false, if◌then◌else◌, List, [], ◌∷◌, ◌++◌, length, take, drop, get_or, Some, refl, sym, ap, ◌∙◌, subst, arith, inl, inr, length-append}
+use Rattle.std.proofs.Common.{ℕ, zero, suc, ◌≡◌, ◌+◌, ◌-◌, ◌<◌, ◌≤◌, List, [], ◌∷◌, ◌++◌, length, take, drop, Some, refl, sym, ap, ◌∙◌, subst, arith, inl, inr, length-append}
 use Rattle.std.specs.Prelude.{slice_get}
 use Rattle.std.proofs.lemmas.Bool.{cases_lt}
 use Rattle.std.proofs.lemmas.List.{get_or_append_left, get_or-append_right}
-use Rattle.std.proofs.Math.Seq.{drop-cons}
 use Rattle.aql_type_graph.specs.declared.closed.Cell.{Cell}
 use Rattle.aql_type_graph.specs.Closed.{cell_at, list_down, list_at, AreCells, GainsCell}
-
-pub gains : (old new : List Cell) (c : Cell) (b : Bool) → new ≡ (if b then old else old ++ c ∷ []) → GainsCell old new c
-gains old new c true e = inl e
-gains old new c false e = inr e
 
 gained_same : (old new : List Cell) (c : Cell) → GainsCell old new c → (k : ℕ) → k < length old → cell_at new k ≡ cell_at old k
 gained_same old new c (inl e) k lt = ap (λ cs. cell_at cs k) e
@@ -40,14 +35,6 @@ stay_same (x ∷ xs) = ap (λ ys. x ∷ ys) (stay_same xs)
 pub no_list : (cs : List Cell) → list_at cs 0 ≡ []
 unfolding list_down
 no_list cs = refl
-
-pub gained_stay : (old new : List Cell) (c : Cell) → GainsCell old new c → take (length old) new ≡ old
-gained_stay old new c (inl e) = ap (take (length old)) e ∙ stay_same old
-gained_stay old new c (inr e) = ap (take (length old)) e ∙ front old
-  where
-    front : (xs : List Cell) → take (length xs) (xs ++ c ∷ []) ≡ xs
-    front [] = refl
-    front (x ∷ xs) = ap (λ ys. x ∷ ys) (front xs)
 
 -- any room that is enough
 room : (cs : List Cell) → AreCells cs → (m n k : ℕ) → k ≤ m → k ≤ n → k ≤ length cs → list_down m cs k ≡ list_down n cs k
@@ -80,9 +67,6 @@ at_get (x ∷ cs) zero c e = (omega arith, some_is e)
     some_is e = cc
 at_get (x ∷ cs) (suc i) c e = let h = at_get cs i c e in (omega (arith, h.0), h.1)
 
-pub get_below : (cs : List Cell) (i : ℕ) (c : Cell) → slice_get cs i ≡ Some c → i < length cs
-get_below cs i c e = (at_get cs i c e).0
-
 -- the list that begins with a cell
 pub gained_first : (old new : List Cell) (c : Cell) (i n : ℕ) → GainsCell old new c → AreCells old → c.rest ≤ length old → slice_get new i ≡ Some c → n ≡ i + 1 → list_at new n ≡ c.part ∷ list_at old c.rest
 unfolding list_down
@@ -94,27 +78,6 @@ gained_first old new c i n g h le e q =
     ap (list_at new) z
     ∙ ap (λ (x : Cell). x.part ∷ list_down i new x.rest) a.1
     ∙ ap (λ ps. c.part ∷ ps) (room new hs i c.rest c.rest r (omega arith) (omega (arith, le, gained_length old new c g)) ∙ kept old new c g h c.rest c.rest le)
-
--- what stays over two steps
-pub stay_stay : (a b c : List Cell) → take (length a) b ≡ a → take (length b) c ≡ b → length a ≤ length b → take (length a) c ≡ a
-stay_stay a b c h k le = sym (shorter (length a) (length b) c le) ∙ ap (take (length a)) k ∙ h
-  where
-    shorter : (m n : ℕ) (xs : List Cell) → m ≤ n → take m (take n xs) ≡ take m xs
-    shorter zero n xs le = refl
-    shorter (suc m) zero xs le = let bad : ⊥ = omega (arith, le) in absurd bad
-    shorter (suc m) (suc n) [] le = refl
-    shorter (suc m) (suc n) (x ∷ xs) le = ap (λ ys. x ∷ ys) (shorter m n xs (omega (arith, le)))
-
-pub stay_length : (a b : List Cell) → take (length a) b ≡ a → length a ≤ length b
-stay_length a b h = omega (arith, ap length h, short (length a) b)
-  where
-    short : (n : ℕ) (xs : List Cell) → length (take n xs) ≤ length xs
-    short zero xs = omega arith
-    short (suc n) [] = omega arith
-    short (suc n) (x ∷ xs) = omega (arith, short n xs)
-
-pub from_next : (ps : List ℕ) (i j : ℕ) → j ≡ i + 1 → i < length ps → drop i ps ≡ get_or ps i 0 ∷ drop j ps
-from_next ps i j e lt = drop-cons ps i 0 lt ∙ ap (λ k. get_or ps i 0 ∷ drop k ps) (let z : suc i ≡ j = omega arith in z)
 
 pub from_last : (ps : List ℕ) (i : ℕ) → i ≡ length ps → drop i ps ≡ []
 from_last ps i e = ap (λ k. drop k ps) e ∙ none_left ps

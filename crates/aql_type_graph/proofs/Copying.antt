@@ -1,25 +1,13 @@
 -- Instances, node by node.
-use Rattle.std.proofs.Common.{ℕ, zero, suc, ◌≡◌, ◌+◌, ◌<◌, ◌≤◌, List, [], ◌∷◌, ◌++◌, length, map, take, get_or, refl, sym, ap, ◌∙◌, subst, arith, append_assoc, length-take}
-use Rattle.std.proofs.lemmas.List.{map_more}
+use Rattle.std.proofs.Common.{ℕ, zero, suc, ◌≡◌, ◌+◌, ◌≤◌, List, [], ◌∷◌, ◌++◌, length, map, take, refl, sym, ap, ◌∙◌, subst, arith, append_assoc, length-take}
 use Rattle.std.specs.List.{range_with_len}
 use Rattle.aql_value.specs.Lists.{below}
-use Rattle.aql_type_graph.specs.declared.node.Node.{Node}
-use Rattle.aql_type_graph.specs.declared.node.Node.TheVariants as node
-use Rattle.aql_type_graph.specs.Forms.{Form, form_of, forms}
+use Rattle.aql_type_graph.specs.Forms.{Form}
 use Rattle.aql_type_graph.specs.Forms as form
 use Rattle.aql_type_graph.specs.Trees.{IsBuilt}
 use Rattle.aql_type_graph.specs.Ranges.{variable_in, variables_in}
 use Rattle.aql_type_graph.specs.Schemes.{shifted}
 use Rattle.aql_type_graph.specs.Laws.Schemes.{instance_built}
-
--- one node more
-pub shifted_more : (f : Form → Form) (ps : List ℕ) (ns : List Node) (i : ℕ) → i < length ns → map f (forms ps (take (i + 1) ns)) ≡ map f (forms ps (take i ns)) ++ f (form_of ps (get_or ns i (node.Var 0))) ∷ []
-shifted_more f ps ns i lt =
-    ap (map f) (map_more (form_of ps) ns i (node.Var 0) lt) ∙ map_last (forms ps (take i ns)) (form_of ps (get_or ns i (node.Var 0)))
-  where
-    map_last : (fs : List Form) (x : Form) → map f (fs ++ x ∷ []) ≡ map f fs ++ f x ∷ []
-    map_last [] x = refl
-    map_last (y ∷ fs) x = ap (λ zs. f y ∷ zs) (map_last fs x)
 
 -- Variables of an instance.
 

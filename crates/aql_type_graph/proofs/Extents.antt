@@ -10,7 +10,7 @@ use Rattle.aql_type_graph.specs.Shapes.{Shape, Valuation, parts, types_at, is_fo
 use Rattle.aql_type_graph.specs.Forms.{Form, at}
 use Rattle.aql_type_graph.specs.Forms as form
 use Rattle.aql_type_graph.specs.Valuations.{Says, Holds}
-use Rattle.aql_type_graph.specs.Extents.{place, end, nothing, beside, above, together, over, extent}
+use Rattle.aql_type_graph.specs.Extents.{link_target, end, nothing, beside, above, together, over, extent}
 use Rattle.aql_type_graph.specs.Laws.Shapes.{levels_whole, nodes_whole, type_formed}
 
 -- Of what an extent is made.
@@ -93,7 +93,7 @@ parts_some most f (p ∷ ps) e h =
 
 -- A node is as large as the one that stands for it.
 
-placed : (v : Valuation) (f : Form) (i : ℕ) → Says v f (v i) → v i ≡ v (place f i)
+placed : (v : Valuation) (f : Form) (i : ℕ) → Says v f (v i) → v i ≡ v (link_target f i)
 placed v (form.var z) i h = refl
 placed v (form.made s) i h = refl
 placed v (form.link j) i h = h

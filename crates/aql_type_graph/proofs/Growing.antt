@@ -1,5 +1,5 @@
 -- Graphs with nodes and parts behind theirs.
-use Rattle.std.proofs.Common.{ℕ, zero, suc, ◌≡◌, ◌+◌, ◌-◌, ◌≤◌, List, [], ◌∷◌, ◌++◌, length, take, get_or, refl, sym, ap, ◌∙◌, subst, arith, inl, inr, length-append, append_assoc}
+use Rattle.std.proofs.Common.{ℕ, zero, suc, ◌≡◌, ◌+◌, ◌-◌, ◌≤◌, List, [], ◌∷◌, ◌++◌, length, get_or, refl, sym, ap, ◌∙◌, subst, arith, inl, inr, length-append, append_assoc}
 use Rattle.std.proofs.lemmas.Bool.{cases_lt}
 use Rattle.std.proofs.lemmas.List.{get_or_append_left, get_or-append_right, take-append-le, append-nil}
 use Rattle.std.specs.List.{range_with_len}
@@ -55,15 +55,6 @@ inside_push ps ns n h le i = elim (cases_lt i (length ns)) [
     last : (k : ℕ) → range_end (get_or (n ∷ []) k (node.Var 0)) ≤ length ps
     last zero = le
     last (suc k) = omega arith
-
--- a tuple's own parts
-pub from_end : (ps qs : List ℕ) → parts_from (ps ++ qs) (length ps) (length qs) ≡ qs
-from_end [] qs = take_whole qs
-  where
-    take_whole : (xs : List ℕ) → take (length xs) xs ≡ xs
-    take_whole [] = refl
-    take_whole (x ∷ xs) = ap (λ ys. x ∷ ys) (take_whole xs)
-from_end (p ∷ ps) qs = from_end ps qs
 
 -- Variables by number.
 

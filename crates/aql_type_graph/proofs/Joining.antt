@@ -7,9 +7,9 @@ use Rattle.aql_type_graph.specs.Shapes.{Valuation, parts}
 use Rattle.aql_type_graph.specs.Forms.{Form, at}
 use Rattle.aql_type_graph.specs.Forms as form
 use Rattle.aql_type_graph.specs.Valuations.{Says, Holds, Equal, Points, IsOrdered, AreIn, Names, Named, IsRoot}
-use Rattle.aql_type_graph.specs.Steps.{weight, weight_of, is_var, alike_forms, form_parts, paired, Steps}
+use Rattle.aql_type_graph.specs.Steps.{potential, potential_of, is_var, alike_forms, form_parts, paired, Steps}
 use Rattle.aql_type_graph.specs.Laws.Shapes.{whole_alike, alike_whole, alike_length}
-use Rattle.aql_type_graph.proofs.Keeping.{held, ordered_put, holds_put, holds_before, weight_put}
+use Rattle.aql_type_graph.proofs.Keeping.{held, ordered_put, holds_put, holds_before, potential_put}
 
 -- Equations at the end of a list.
 
@@ -88,12 +88,12 @@ united_ordered : (fs : List Form) (low high : ℕ) (k : Form) → low < high →
 united_ordered fs low high k lt inn p o =
     ordered_put (set fs low k) high (form.link low) (omega (arith, inn, length-set fs low k)) lt (ordered_put fs low k (omega arith) (p) o)
 
-united_weighs : (fs : List Form) (low high : ℕ) (k : Form) → low < high → high < length fs → weight (united fs low high k) + weight_of (at fs low) + weight_of (at fs high) ≡ weight fs + weight_of k
-united_weighs fs low high k lt inn =
+united_potential : (fs : List Form) (low high : ℕ) (k : Form) → low < high → high < length fs → potential (united fs low high k) + potential_of (at fs low) + potential_of (at fs high) ≡ potential fs + potential_of k
+united_potential fs low high k lt inn =
     let ne : high ≡ low → ⊥ = λ e. omega arith in
-    let a = weight_put fs low k (omega arith) in
-    let b = weight_put (set fs low k) high (form.link low) (omega (arith, inn, length-set fs low k)) in
-    let same : weight_of (at (set fs low k) high) ≡ weight_of (at fs high) = ap weight_of (get_or-set_other fs low high k (form.var 0) ne) in
+    let a = potential_put fs low k (omega arith) in
+    let b = potential_put (set fs low k) high (form.link low) (omega (arith, inn, length-set fs low k)) in
+    let same : potential_of (at (set fs low k) high) ≡ potential_of (at fs high) = ap potential_of (get_or-set_other fs low high k (form.var 0) ne) in
     omega (arith, a, b, same)
 
 -- What the one form and the equations x say is what both forms say of one type.
@@ -102,7 +102,7 @@ pub record Serves (f g k : Form) (x : List Equation) : Type 0 where
   pub back : (v : Valuation) (t : Ty) → Says v k t → Equal v x → Says v f t × Says v g t
   pub names : (u : Subst) (t : Ty) → Names u f t → Names u g t → Names u k t
   pub points : (i j n : ℕ) → Points f i n → Points g j n → Points k i n × AreIn n x
-  pub lighter : weight_of k + length x < weight_of f + weight_of g
+  pub potential_falls : potential_of k + length x < potential_of f + potential_of g
 
 pub joins : (fs : List Form) (e : Equation) (k : Form) (w x : List Equation) → e.left < e.right → e.right < length fs → IsOrdered fs → AreIn (length fs) w → Serves (at fs e.left) (at fs e.right) k x → Steps fs (united fs e.left e.right k) e w (w ++ x)
 joins fs e k w x lt inn o i s =
@@ -126,7 +126,7 @@ joins fs e k w x lt inn o i s =
             let l = last_equal v w e q in
             united_names u v fs low high k lt inn n (s.names u (v low) (n low) (subst (Names u (at fs high)) (sym l.1) (n high)));
       };
-      lighter = omega (arith, united_weighs fs low high k lt inn, s.lighter, length-append w x);
+      potential_falls = omega (arith, united_potential fs low high k lt inn, s.potential_falls, length-append w x);
     }
 
 -- The three ways of joining.
@@ -143,7 +143,7 @@ serves_high (form.var z) g e r = record {
   back = λ v t h q. (tt, h);
   names = λ u t h k. k;
   points = λ i j n h k. (point_anywhere g j i n r k, tt);
-  lighter = omega arith;
+  potential_falls = omega arith;
 }
 serves_high (form.made s) g e r = let bad : ⊥ = cc in absurd bad
 serves_high (form.link j) g e r = let bad : ⊥ = cc in absurd bad
@@ -155,7 +155,7 @@ serves_low f (form.var z) e = record {
   back = λ v t h q. (h, tt);
   names = λ u t h k. h;
   points = λ i j n h k. (h, tt);
-  lighter = omega arith;
+  potential_falls = omega arith;
 }
 serves_low f (form.made s) e = let bad : ⊥ = cc in absurd bad
 serves_low f (form.link j) e = let bad : ⊥ = cc in absurd bad
@@ -169,7 +169,7 @@ serves_alike (form.made s) (form.made t) e =
       back = λ v a h q. (h, h ∙ alike_whole v s t e q);
       names = λ u a h k. tt;
       points = λ i j m h k. (h, paired_in m (parts s) (parts t) h k);
-      lighter = omega (arith, paired_length (parts s) (parts t) n, n);
+      potential_falls = omega (arith, paired_length (parts s) (parts t) n, n);
     }
 serves_alike f g e = let bad : ⊥ = cc in absurd bad
 

@@ -9,7 +9,7 @@ use Rattle.aql_type_graph.specs.Shapes.{Valuation}
 use Rattle.aql_type_graph.specs.Forms.{Form, form_of, forms, at}
 use Rattle.aql_type_graph.specs.Forms as form
 use Rattle.aql_type_graph.specs.Valuations.{Says, Holds, Names, Points, IsOrdered, IsRoot}
-use Rattle.aql_type_graph.specs.Steps.{weight, weight_of, Keeps, KeepsNodes, LinksDown, bare, IsFlat, IsFlatBelow}
+use Rattle.aql_type_graph.specs.Steps.{potential, potential_of, Keeps, KeepsNodes, LinksDown, bare, IsFlat, IsFlatBelow}
 use Rattle.aql_type_graph.proofs.Bare.{forms_set, forms_length, same_link}
 
 -- What holds of each node stays so where the new one has it.
@@ -35,11 +35,11 @@ holds_put v fs i f lt p h = held (λ k x. Says v x (v k)) fs i f lt p h
 pub holds_before : (v : Valuation) (fs : List Form) (i : ℕ) (f : Form) → Says v (at fs i) (v i) → Holds v (set fs i f) → Holds v fs
 holds_before v fs i f p h = unheld (λ k x. Says v x (v k)) fs i f p h
 
-pub weight_put : (fs : List Form) (i : ℕ) (f : Form) → i < length fs → weight (set fs i f) + weight_of (at fs i) ≡ weight fs + weight_of f
-weight_put fs i f lt = sum_by-set weight_of fs i f (form.var 0) lt
+pub potential_put : (fs : List Form) (i : ℕ) (f : Form) → i < length fs → potential (set fs i f) + potential_of (at fs i) ≡ potential fs + potential_of f
+potential_put fs i f lt = sum_by-set potential_of fs i f (form.var 0) lt
 
 pub keeps_all : (fs : List Form) → Keeps fs fs
-keeps_all fs = record { long = refl; ordered = λ o. o; on = λ v k. k; back = λ v k. k; weighs = refl; names = λ u v h n. n; roots = λ i r. r; stays = λ i s e. e }
+keeps_all fs = record { long = refl; ordered = λ o. o; on = λ v k. k; back = λ v k. k; potential_kept = refl; names = λ u v h n. n; roots = λ i r. r; stays = λ i s e. e }
 
 pub keeps_keeps : {a b c : List Form} → Keeps a b → Keeps b c → Keeps a c
 keeps_keeps h k = record {
@@ -47,7 +47,7 @@ keeps_keeps h k = record {
   ordered = λ o. k.ordered (h.ordered o);
   on = λ v x. k.on v (h.on v x);
   back = λ v x. h.back v (k.back v x);
-  weighs = k.weighs ∙ h.weighs;
+  potential_kept = k.potential_kept ∙ h.potential_kept;
   names = λ u v x n. k.names u v (h.on v x) (h.names u v x n);
   roots = λ i r. k.roots i (h.roots i r);
   stays = λ i s e. k.stays i s (h.stays i s e);
@@ -64,7 +64,7 @@ keeps_shorter fs i j k lt up further e f = record {
       let there : v j ≡ v k = subst (λ x. Says v x (v j)) (get_or-set_other fs i j (form.link k) (form.var 0) ne ∙ f) (h j) in
       let here : v i ≡ v k = subst (λ x. Says v x (v i)) (get_or-set_same fs i (form.link k) (form.var 0) lt) (h i) in
       holds_before v fs i (form.link k) (subst (λ x. Says v x (v i)) (sym e) (here ∙ sym there)) h;
-  weighs = let w = weight_put fs i (form.link k) lt in let z : weight_of (at fs i) ≡ 0 = ap weight_of e in omega (arith, w, z);
+  potential_kept = let w = potential_put fs i (form.link k) lt in let z : potential_of (at fs i) ≡ 0 = ap potential_of e in omega (arith, w, z);
   names = λ u v h n. held (λ m x. Names u x (v m)) fs i (form.link k) lt tt n;
   roots = λ x r. elim (cases_eq x i) [
     | inl q ↦ absurd (subst IsRoot e (subst (λ y. IsRoot (at fs y)) q r))

@@ -10,7 +10,7 @@ use Rattle.aql_type_graph.specs.Forms as form
 use Rattle.aql_type_graph.specs.Valuations.{Says, Holds, Names, Named, IsRoot}
 use Rattle.aql_type_graph.specs.Steps.{IsFlat}
 use Rattle.aql_type_graph.specs.Trees.{grown}
-use Rattle.aql_type_graph.specs.Extents.{place, end, read, nothing, above, together, over, extent}
+use Rattle.aql_type_graph.specs.Extents.{link_target, end, read, nothing, above, together, over, extent}
 use Rattle.aql_type_graph.specs.Laws.Shapes.{each, whole_same, apply_whole, levels_whole, nodes_whole, formed_type}
 use Rattle.aql_type_graph.proofs.Extents.{some_is, beside_some, above_some, same_beside, formed_some, formed_over, parts_some, at_end}
 
@@ -138,18 +138,18 @@ exactly most (suc m) fs i e h =
 
 -- The end of a node stands for it.
 
-root_place : (f : Form) (i : ℕ) → IsRoot f → place f i ≡ i
-root_place (form.var z) i r = refl
-root_place (form.made s) i r = refl
-root_place (form.link j) i r = absurd r
+root_target : (f : Form) (i : ℕ) → IsRoot f → link_target f i ≡ i
+root_target (form.var z) i r = refl
+root_target (form.made s) i r = refl
+root_target (form.link j) i r = absurd r
 
 pub end_end : (fs : List Form) → IsFlat fs → (i : ℕ) → end fs (end fs i) ≡ end fs i
 end_end fs f i = go (at fs i) refl
   where
-    go : (x : Form) → at fs i ≡ x → end fs (place x i) ≡ place x i
-    go (form.var z) e = ap (λ x. place x i) e
-    go (form.made s) e = ap (λ x. place x i) e
-    go (form.link j) e = root_place (at fs j) j (f i j e)
+    go : (x : Form) → at fs i ≡ x → end fs (link_target x i) ≡ link_target x i
+    go (form.var z) e = ap (λ x. link_target x i) e
+    go (form.made s) e = ap (λ x. link_target x i) e
+    go (form.link j) e = root_target (at fs j) j (f i j e)
 
 pub extent_end : (most m : ℕ) (fs : List Form) (i : ℕ) → IsFlat fs → extent most m fs (end fs i) ≡ extent most m fs i
 unfolding extent
@@ -164,7 +164,7 @@ read_end (suc m) fs i f = ap (λ e. grown (read m fs) (at fs e)) (end_end fs f i
 pub end_root : (fs : List Form) → IsFlat fs → (i : ℕ) → IsRoot (at fs (end fs i))
 end_root fs f i = go (at fs i) refl
   where
-    go : (x : Form) → at fs i ≡ x → IsRoot (at fs (place x i))
+    go : (x : Form) → at fs i ≡ x → IsRoot (at fs (link_target x i))
     go (form.var z) e = subst IsRoot (sym e) tt
     go (form.made s) e = subst IsRoot (sym e) tt
     go (form.link j) e = f i j e
@@ -194,10 +194,10 @@ general most u v fs h n f (suc m) i e k =
 pub fits : (most m : ℕ) (fs : List Form) (i : ℕ) (e : Extent) → IsFlat fs → extent most m fs i ≡ Some e → (x : Form) → at fs i ≡ x → Says (read m fs) x (read m fs i)
 unfolding extent read
 fits most m fs i e f h (form.var z) q = tt
-fits most m fs i e f h (form.link j) q = sym (read_end m fs i f) ∙ ap (read m fs) (ap (λ x. place x i) q)
+fits most m fs i e f h (form.link j) q = sym (read_end m fs i f) ∙ ap (read m fs) (ap (λ x. link_target x i) q)
 fits most zero fs i e f h (form.made s) q = let bad : ⊥ = cc in absurd bad
 fits most (suc m) fs i e f h (form.made s) q =
-    let p : end fs i ≡ i = ap (λ x. place x i) q in
+    let p : end fs i ≡ i = ap (λ x. link_target x i) q in
     let o : over most (extent most m fs) (form.made s) ≡ Some e = ap (over most (extent most m fs)) (sym q ∙ ap (at fs) (sym p)) ∙ h in
     let g = formed_some most s (together most (extent most m fs) (parts s)) e o in
     let a = above_some most (together most (extent most m fs) (parts s)) e g.1 in

@@ -29,7 +29,7 @@ stepped (Ok x) a b c e f w k s h =
         names = λ u v p q z. let m = last_equal v w e q in let n = k.on v p in let t = s v n in
             l.names u v n (equal_last v w f m.0 (sym t.0 ∙ m.1 ∙ t.1)) (k.names u v p z);
       };
-      lighter = omega (arith, h.lighter, k.weighs);
+      potential_falls = omega (arith, h.potential_falls, k.potential_kept);
     }
 stepped (Err faults.Clash) a b c e f w k s h = λ v p q. let n = k.on v p in let t = s v n in h v n (sym t.0 ∙ q ∙ t.1)
 stepped (Err faults.Memory) a b c e f w k s h = tt
@@ -50,7 +50,7 @@ turned (Ok x) a b c e f w k s h =
         names = λ u v p q z. let m = last_equal v w e q in let n = k.on v p in let t = s v n in
             l.names u v n (equal_last v w f m.0 (sym (sym t.0 ∙ m.1 ∙ t.1))) (k.names u v p z);
       };
-      lighter = omega (arith, h.lighter, k.weighs);
+      potential_falls = omega (arith, h.potential_falls, k.potential_kept);
     }
 turned (Err faults.Clash) a b c e f w k s h = λ v p q. let n = k.on v p in let t = s v n in h v n (sym (sym t.0 ∙ q ∙ t.1))
 turned (Err faults.Memory) a b c e f w k s h = tt
@@ -66,7 +66,7 @@ met_already a b e i w d k s o = record {
     back = λ v p q. let t = s v p in (k.back v p, equal_last v w e q (t.0 ∙ sym t.1));
     names = λ u v p q z. k.names u v p z;
   };
-  lighter = omega (arith, k.weighs);
+  potential_falls = omega (arith, k.potential_kept);
 }
 
 pub failed : (f : UnifyFault) (a b c d : List Form) (e : Equation) (w x y : List Equation) → Leads a b w y → y ≡ x ++ e ∷ [] → Stepped (Err f) b c e x → Taken (Err f) a d w

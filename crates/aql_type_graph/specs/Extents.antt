@@ -9,14 +9,14 @@ use Rattle.aql_type_graph.specs.Forms as form
 use Rattle.aql_type_graph.specs.Trees.{grown}
 
 -- where a link leads, else the node itself
-abbrev pub place : Form → ℕ → ℕ
-place (form.var z) i = i
-place (form.made s) i = i
-place (form.link j) i = j
+abbrev pub link_target : Form → ℕ → ℕ
+link_target (form.var z) i = i
+link_target (form.made s) i = i
+link_target (form.link j) i = j
 
 -- the node that stands for it, where links lead to roots
 abbrev pub end : List Form → ℕ → ℕ
-end fs i = place (at fs i) i
+end fs i = link_target (at fs i) i
 
 -- the type that the node stands for, down to m levels
 unfoldable pub read : ℕ → List Form → ℕ → Ty

@@ -12,15 +12,15 @@ use Rattle.aql_type_graph.specs.Forms.{Form, forms, at}
 use Rattle.aql_type_graph.specs.Forms as form
 use Rattle.aql_type_graph.specs.Valuations.{Holds, Equal, Named, IsOrdered, AreIn, IsRoot}
 
--- a node that no link has replaced weighs one more than its parts: it pays for their equations
-abbrev pub weight_of : Form → ℕ
-weight_of (form.var z) = 1
-weight_of (form.made s) = length (parts s) + 1
-weight_of (form.link j) = 0
+-- a node that no link has replaced has a potential one above the number of its parts: it pays for their equations
+abbrev pub potential_of : Form → ℕ
+potential_of (form.var z) = 1
+potential_of (form.made s) = length (parts s) + 1
+potential_of (form.link j) = 0
 
--- the weight of all nodes
-abbrev pub weight : List Form → ℕ
-weight fs = sum_by weight_of fs
+-- the potential of all nodes
+abbrev pub potential : List Form → ℕ
+potential fs = sum_by potential_of fs
 
 -- the same types fit both graphs: at most links were changed
 pub record Keeps (fs gs : List Form) : Type 0 where
@@ -28,7 +28,7 @@ pub record Keeps (fs gs : List Form) : Type 0 where
   pub ordered : IsOrdered fs → IsOrdered gs
   pub on : (v : Valuation) → Holds v fs → Holds v gs
   pub back : (v : Valuation) → Holds v gs → Holds v fs
-  pub weighs : weight gs ≡ weight fs
+  pub potential_kept : potential gs ≡ potential fs
   pub names : (u : Subst) (v : Valuation) → Holds v fs → Named u v fs → Named u v gs
   pub roots : (i : ℕ) → IsRoot (at fs i) → IsRoot (at gs i)
   pub stays : (i : ℕ) (s : Shape) → at fs i ≡ form.made s → at gs i ≡ form.made s
@@ -79,7 +79,7 @@ pub record Leads (fs gs : List Form) (w x : List Equation) : Type 0 where
 -- one equation was taken, and less is left to do
 pub record Steps (fs gs : List Form) (e : Equation) (w x : List Equation) : Type 0 where
   pub leads : Leads fs gs (w ++ e ∷ []) x
-  pub lighter : weight gs + length x ≤ weight fs + length w
+  pub potential_falls : potential gs + length x ≤ potential fs + length w
 
 -- one equation taken beside w, or no types solve it
 abbrev pub Stepped : Result (Vec Equation Global) UnifyFault → List Form → List Form → Equation → List Equation → Type 0

@@ -71,7 +71,7 @@ fn intern_cell(cells: &mut IndexSet<Cell>, c: Cell) -> Result<u32, Memory>
         ≡ c.part ∷ list_at (keys cells.old) c.rest) }
     ensures stay { OnOk result (take (length (keys cells.old)) (keys cells.new) ≡ keys cells.old) }
 {
-    let i = place(cells, c)?;
+    let i = number_cell(cells, c)?;
     match i.checked_add(1) {
         Some(number) => Ok(number),
         None => Err(Memory),
@@ -79,7 +79,7 @@ fn intern_cell(cells: &mut IndexSet<Cell>, c: Cell) -> Result<u32, Memory>
 }
 
 // The place of a cell.
-fn place(cells: &mut IndexSet<Cell>, c: Cell) -> Result<u32, Memory>
+fn number_cell(cells: &mut IndexSet<Cell>, c: Cell) -> Result<u32, Memory>
     ensures stands { IfOk result (λ i. slice_get (keys cells.new) i ≡ Some c) }
     ensures gains { OnOk result (GainsCell (keys cells.old) (keys cells.new) c) }
 {

@@ -17,7 +17,11 @@ pub struct Graph {
     pub nodes: Vec<Node>,
     pub parts: Vec<u32>,
     pub variables: u32,
-    ghost built: { IsBuilt (forms parts.items nodes.items) } by { IsBuilt-prop (forms parts.items nodes.items) },
-    ghost inside: { AreInside parts.items nodes.items } by { AreInside-prop parts.items nodes.items },
-    ghost numbered: { variables_in (forms parts.items nodes.items) ≡ below variables } by { Coded-set (coded_list coded_ℕ) (variables_in (forms parts.items nodes.items)) (below variables) },
+    ghost built: { IsBuilt (forms parts.items nodes.items) } by { IsBuilt-prop
+        (forms parts.items nodes.items) },
+    ghost inside: { AreInside parts.items nodes.items } by { AreInside-prop
+        parts.items nodes.items },
+    ghost numbered: { variables_in (forms parts.items nodes.items)
+        ≡ below variables } by { Coded-set (coded_list coded_ℕ)
+            (variables_in (forms parts.items nodes.items)) (below variables) },
 }

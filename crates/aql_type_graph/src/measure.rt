@@ -101,24 +101,24 @@ fn extent_here(
     ensures memo { IsMemo most memo.new (forms ps.now ns.now) }
 {
     match node_at(ns, e) {
-        Node::Var(_) => above(NOTHING, most),
-        Node::Nat => above(NOTHING, most),
-        Node::Bool => above(NOTHING, most),
-        Node::Text => above(NOTHING, most),
-        Node::Link(_) => above(NOTHING, most),
-        Node::Set(p) => above(extent_together(ns, ps, memo, &[p], left, most)?, most),
+        Node::Var(_) => enclose_extent(NOTHING, most),
+        Node::Nat => enclose_extent(NOTHING, most),
+        Node::Bool => enclose_extent(NOTHING, most),
+        Node::Text => enclose_extent(NOTHING, most),
+        Node::Link(_) => enclose_extent(NOTHING, most),
+        Node::Set(p) => enclose_extent(extent_together(ns, ps, memo, &[p], left, most)?, most),
         Node::Array { rank, cell } => {
             if rank < 1 || rank > 8 {
                 return None;
             }
-            above(extent_together(ns, ps, memo, &[cell], left, most)?, most)
+            enclose_extent(extent_together(ns, ps, memo, &[cell], left, most)?, most)
         }
         Node::Tuple { first, count } => {
             let row = parts_of(ps, first, count);
             if row.len() < 2 {
                 return None;
             }
-            above(extent_together(ns, ps, memo, row, left, most)?, most)
+            enclose_extent(extent_together(ns, ps, memo, row, left, most)?, most)
         }
     }
 }
@@ -145,12 +145,12 @@ fn extent_together(
     while i > 0 {
         i -= 1;
         let here = extent(ns, ps, memo, row[i] as usize, left, most)?;
-        total = beside(here, total, most)?;
+        total = add_extents(here, total, most)?;
     }
     Some(total)
 }
 
-fn beside(a: Extent, b: Extent, most: u16) -> Option<Extent>
+fn add_extents(a: Extent, b: Extent, most: u16) -> Option<Extent>
     ensures { result ≡ extents.beside most (Some a) (Some b) }
 {
     let nodes = a.nodes.checked_add(b.nodes)?;
@@ -163,7 +163,7 @@ fn beside(a: Extent, b: Extent, most: u16) -> Option<Extent>
     })
 }
 
-fn above(a: Extent, most: u16) -> Option<Extent>
+fn enclose_extent(a: Extent, most: u16) -> Option<Extent>
     requires { a.levels + 1 < 2 ^ 16 }
     ensures { result ≡ extents.above most (Some a) }
 {

@@ -20,7 +20,7 @@ use aql_value::Memory;
 /// The nodes of a scheme of its own, and how many of them are variables. Parts below a number that goes with the
 /// scheme are nodes that all graphs share; the others are the scheme's own, numbered from there on.
 #[derive(Drop)]
-pub struct Scheme {
+pub struct SchemeNodes {
     pub table: Table,
     pub variables: u32,
 }
@@ -35,7 +35,7 @@ struct Shift {
 
 /// The graph with an instance of a scheme behind its nodes, of which the first are shared: the scheme's own
 /// nodes are copied, with new variables. `Memory` where 32 bits do not hold a number, or an allocation is refused.
-pub fn push_instance(g: Graph, scheme: &Scheme, shared: u32) -> Result<Graph, Memory>
+pub fn push_instance(g: Graph, scheme: &SchemeNodes, shared: u32) -> Result<Graph, Memory>
     requires shared { shared ≤ length g.nodes.items }
     requires built { IsBuilt (take shared (forms_of g) ++ table_forms scheme.now.table) }
     requires numbered { variables_in (table_forms scheme.now.table) ≡ below scheme.now.variables }

@@ -10,5 +10,6 @@ use crate::node::Node;
 pub struct Table {
     pub nodes: Vec<Node>,
     pub parts: Vec<u32>,
-    ghost inside: { AreInside parts.items nodes.items } by { AreInside-prop parts.items nodes.items },
+    ghost inside: { AreInside parts.items nodes.items } by { AreInside-prop
+        parts.items nodes.items },
 }

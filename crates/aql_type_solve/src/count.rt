@@ -8,9 +8,11 @@ use aql_value::Memory;
 
 /// One more than the greatest number of a variable, or 0 where there are none. `Memory` where 32 bits do not hold it.
 pub(crate) fn count_variables(work: &[Equation], uses: &[Ty]) -> Result<u32, Memory> {
-    let mut least = past_all(uses);
+    let mut least = variable_bound_all(uses);
     for e in work {
-        least = least.max(past(&e.left)).max(past(&e.right));
+        least = least
+            .max(variable_bound(&e.left))
+            .max(variable_bound(&e.right));
     }
     to_number(least)
 }
@@ -26,24 +28,24 @@ pub fn to_number(n: u64) -> Result<u32, Memory>
 }
 
 // One more than the greatest number of a variable of a type.
-#[cycle(past)]
-fn past(t: &Ty) -> u64 {
+#[cycle(variable_bound)]
+fn variable_bound(t: &Ty) -> u64 {
     match t {
         Ty::Nat => 0,
         Ty::Bool => 0,
         Ty::Text => 0,
         Ty::Var(x) => x.saturating_add(1),
-        Ty::Tuple(ts) => past_all(&ts.items),
-        Ty::SetOf(t) => past(t),
-        Ty::ArrayOf { rank: _, cell } => past(cell),
+        Ty::Tuple(ts) => variable_bound_all(&ts.items),
+        Ty::SetOf(t) => variable_bound(t),
+        Ty::ArrayOf { rank: _, cell } => variable_bound(cell),
     }
 }
 
-#[cycle(past)]
-fn past_all(ts: &[Ty]) -> u64 {
+#[cycle(variable_bound)]
+fn variable_bound_all(ts: &[Ty]) -> u64 {
     let mut least = 0;
     for t in ts {
-        least = least.max(past(t));
+        least = least.max(variable_bound(t));
     }
     least
 }

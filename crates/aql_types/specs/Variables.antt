@@ -1,4 +1,4 @@
--- The variables of types by first appearance, and their places.
+-- The variables of types by first appearance, and their indices.
 use Rattle.std.specs.Prelude.{ℕ, suc, ◌==◌, ◌||◌, Bool, false, List, [], ◌∷◌, ◌++◌, if◌then◌else◌}
 use Rattle.aql_types.specs.Types as types
 use Rattle.aql_types.specs.Types.{Ty, natural, truth, var, product, set_of, array_of, Tys, no_type, type, Sort, value, macro}
@@ -8,10 +8,10 @@ abbrev pub is_one_of : ℕ → List ℕ → Bool
 is_one_of x [] = false
 is_one_of x (y ∷ ys) = y == x || is_one_of x ys
 
--- the place of a variable among some; their number where it is none of them
-abbrev pub place : ℕ → List ℕ → ℕ
-place x [] = 0
-place x (y ∷ ys) = if y == x then 0 else suc (place x ys)
+-- the index of a variable among some; their number where it is none of them
+abbrev pub variable_index : ℕ → List ℕ → ℕ
+variable_index x [] = 0
+variable_index x (y ∷ ys) = if y == x then 0 else suc (variable_index x ys)
 
 abbrev mutual
   -- the variables seen before, and behind them those of a type that are new, by first appearance from the left

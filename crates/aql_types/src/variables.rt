@@ -1,10 +1,10 @@
-//! The variables of types by first appearance, and their places.
+//! The variables of types by first appearance, and their indices.
 
 ghost use Rattle.std.specs.Prelude.{◌≡◌, IfOk};
 ghost use Rattle.aql_types.specs.Types as types;
 ghost use Rattle.aql_types.specs.View.{type_of, types_of, sort_of};
 ghost use Rattle.aql_types.specs.Variables as variables;
-ghost use Rattle.aql_types.specs.Variables.{is_one_of, place, variables_all, sort_variables};
+ghost use Rattle.aql_types.specs.Variables.{is_one_of, variable_index, variables_all, sort_variables};
 
 use crate::ty::{Scheme, Ty};
 use aql_value::Memory;
@@ -26,10 +26,10 @@ pub fn scheme_variables(alloc: Global, s: &Scheme) -> Result<Vec<u64>, Memory>
     }
 }
 
-/// The place of a variable among some; their number where it is none of them.
-#[tactic(auto, using(crate::proofs::Places::place_steps))]
-pub fn place_of(x: u64, names: &[u64]) -> usize
-    ensures { result ≡ place x names.now }
+/// The index of a variable among some; their number where it is none of them.
+#[tactic(auto, using(crate::proofs::Places::variable_index_steps))]
+pub fn find_index(x: u64, names: &[u64]) -> usize
+    ensures { result ≡ variable_index x names.now }
 {
     for (i, y) in names.iter().enumerate() {
         if *y == x {
@@ -79,7 +79,7 @@ fn with_variable(x: u64, seen: Vec<u64>) -> Result<Vec<u64>, Memory>
     Ok(seen)
 }
 
-#[tactic(auto, using(crate::proofs::Places::place_steps))]
+#[tactic(auto, using(crate::proofs::Places::variable_index_steps))]
 fn is_seen(x: u64, seen: &[u64]) -> bool
     ensures { result ≡ is_one_of x seen.now }
 {

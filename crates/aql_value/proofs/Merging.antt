@@ -116,10 +116,3 @@ module _ (done next : List Value) (v w : Value) (p q o r : Option Value) (ls ls'
             ∙ (λ i. datum w ∷ canon (sym f i ++ map datum (t i)))
             ∙ ap (λ u. datum w ∷ canon (waiting u ls ++ waiting r rs')) g);
       }
-
-  -- both are at their ends
-  pub neither : p ≡ None → q ≡ None → map datum done ≡ all
-  neither e f =
-      sym (append-nil (map datum done))
-      ∙ ap (λ l. map datum done ++ canon l) (λ i. sym (none_left p ls e (h.left_end e)) i ++ sym (none_left q rs f (h.right_end f)) i)
-      ∙ h.split

@@ -11,8 +11,7 @@ use Rattle.std.proofs.Math.Nat.{mul-le-mul_left, mul-le-mul_right}
 use Rattle.aql_value.specs.Datum.{Datum, Table}
 use Rattle.aql_value.specs.Meaning.{datum}
 use Rattle.aql_value.specs.declared.value.Value.{Value}
-use Rattle.aql_value.specs.Indices.{product, cell}
-use Rattle.aql_value.specs.IndicesLaws.{offset}
+use Rattle.aql_value.specs.Indices.{product, cell, offset}
 use Rattle.aql_value.specs.Laws.Indices.{paired_is}
 
 both_true : (a b : Bool) → (a && b) ≡ true → (a ≡ true) × (b ≡ true)

@@ -45,34 +45,34 @@ under [] = []
 under (x ∷ rest) = rest
 
 -- runs the tokens over a stack of data and a stack of lists
-abbrev pub run : List Token → List Datum → List Data → Datum
-run [] one all = top one
-run (inl n ∷ ts) one all = run ts (natural n ∷ one) all
-run (inr (inl b) ∷ ts) one all = run ts (truth b ∷ one) all
-run (inr (inr (inl s)) ∷ ts) one all = run ts (text s ∷ one) all
-run (inr (inr (inr (inl ds))) ∷ ts) one all = run ts (array ds (pop all) ∷ one) (beneath all)
-run (inr (inr (inr (inr (inl true)))) ∷ ts) one all = run ts (tuple (pop all) ∷ one) (beneath all)
-run (inr (inr (inr (inr (inl false)))) ∷ ts) one all = run ts (set (pop all) ∷ one) (beneath all)
-run (inr (inr (inr (inr (inr true)))) ∷ ts) one all = run ts one (nil ∷ all)
-run (inr (inr (inr (inr (inr false)))) ∷ ts) one all = run ts (under one) (cons (top one) (pop all) ∷ beneath all)
+abbrev pub decode : List Token → List Datum → List Data → Datum
+decode [] one all = top one
+decode (inl n ∷ ts) one all = decode ts (natural n ∷ one) all
+decode (inr (inl b) ∷ ts) one all = decode ts (truth b ∷ one) all
+decode (inr (inr (inl s)) ∷ ts) one all = decode ts (text s ∷ one) all
+decode (inr (inr (inr (inl ds))) ∷ ts) one all = decode ts (array ds (pop all) ∷ one) (beneath all)
+decode (inr (inr (inr (inr (inl true)))) ∷ ts) one all = decode ts (tuple (pop all) ∷ one) (beneath all)
+decode (inr (inr (inr (inr (inl false)))) ∷ ts) one all = decode ts (set (pop all) ∷ one) (beneath all)
+decode (inr (inr (inr (inr (inr true)))) ∷ ts) one all = decode ts one (nil ∷ all)
+decode (inr (inr (inr (inr (inr false)))) ∷ ts) one all = decode ts (under one) (cons (top one) (pop all) ∷ beneath all)
 
 -- the tokens of a value put it on the stack
 mutual
   -- what is written out reads back
-  pub run-spell : (x : Datum) (ts : List Token) (one : List Datum) (all : List Data) → run (spell x ts) one all ≡ run ts (x ∷ one) all
-  run-spell (natural n) ts one all = refl
-  run-spell (truth b) ts one all = refl
-  run-spell (text s) ts one all = refl
-  run-spell (array ds xs) ts one all = run-spell_all xs (inr (inr (inr (inl ds))) ∷ ts) one all
-  run-spell (tuple xs) ts one all = run-spell_all xs (inr (inr (inr (inr (inl true)))) ∷ ts) one all
-  run-spell (set xs) ts one all = run-spell_all xs (inr (inr (inr (inr (inl false)))) ∷ ts) one all
+  pub decode-spell : (x : Datum) (ts : List Token) (one : List Datum) (all : List Data) → decode (spell x ts) one all ≡ decode ts (x ∷ one) all
+  decode-spell (natural n) ts one all = refl
+  decode-spell (truth b) ts one all = refl
+  decode-spell (text s) ts one all = refl
+  decode-spell (array ds xs) ts one all = decode-spell_all xs (inr (inr (inr (inl ds))) ∷ ts) one all
+  decode-spell (tuple xs) ts one all = decode-spell_all xs (inr (inr (inr (inr (inl true)))) ∷ ts) one all
+  decode-spell (set xs) ts one all = decode-spell_all xs (inr (inr (inr (inr (inl false)))) ∷ ts) one all
 
   -- the same of the values of a list
-  pub run-spell_all : (xs : Data) (ts : List Token) (one : List Datum) (all : List Data) → run (spell_all xs ts) one all ≡ run ts one (xs ∷ all)
-  run-spell_all nil ts one all = refl
-  run-spell_all (cons x xs) ts one all =
-      run-spell x (spell_all xs (inr (inr (inr (inr (inr false)))) ∷ ts)) one all
-      ∙ run-spell_all xs (inr (inr (inr (inr (inr false)))) ∷ ts) (x ∷ one) all
+  pub decode-spell_all : (xs : Data) (ts : List Token) (one : List Datum) (all : List Data) → decode (spell_all xs ts) one all ≡ decode ts one (xs ∷ all)
+  decode-spell_all nil ts one all = refl
+  decode-spell_all (cons x xs) ts one all =
+      decode-spell x (spell_all xs (inr (inr (inr (inr (inr false)))) ∷ ts)) one all
+      ∙ decode-spell_all xs (inr (inr (inr (inr (inr false)))) ∷ ts) (x ∷ one) all
 
 -- how a token is stored
 abbrev pub coded_token : Coded Token
@@ -80,7 +80,7 @@ coded_token = coded⊎ coded_ℕ (coded⊎ coded_bool (coded⊎ (coded_list code
 
 -- how a value is stored
 abbrev pub coded_datum : Coded Datum
-coded_datum = code_by (List Token) (coded_list coded_token) (λ x. spell x []) (λ ts. run ts [] []) (λ x. run-spell x [] [] [])
+coded_datum = code_by (List Token) (coded_list coded_token) (λ x. spell x []) (λ ts. decode ts [] []) (λ x. decode-spell x [] [] [])
 
 -- how a list of values is stored
 abbrev pub coded_data : Coded (List Datum)

@@ -10,6 +10,11 @@ abbrev pub product : List ℕ → ℕ
 product [] = 1
 product (d ∷ ds) = d * product ds
 
+-- the sum of the products of the first number, of the first two and so on: d1 + d1 * d2 + ..
+abbrev pub prefix_products : List ℕ → ℕ
+prefix_products [] = 0
+prefix_products (d ∷ ds) = d + d * prefix_products ds
+
 -- all indices below the dimensions, in row-major order
 unfoldable pub indices : List ℕ → List (List ℕ)
 indices [] = [] ∷ []
@@ -27,6 +32,12 @@ paired at (p ∷ ps) = cond (pointwise nat_eq at p.0) (Some p.1) (paired at ps)
 -- the cell at an index, or none
 abbrev pub cell : Table → List ℕ → Option Datum
 cell t at = paired at (pairs t)
+
+-- the place of an index in row-major order
+abbrev pub offset : List ℕ → List ℕ → ℕ
+offset [] at = 0
+offset (d ∷ ds) [] = 0
+offset (d ∷ ds) (i ∷ at) = i * product ds + offset ds at
 
 -- the place of an index in row-major order, or none where it is not below the dimensions
 abbrev pub offset_of : (dims at : List ℕ) → Option ℕ

@@ -13,4 +13,4 @@ pub mod Set
 pub mod Sorted
 pub mod Valid
 pub mod ValidLaws
-pub mod WeightFalls
+pub mod NodeCountFalls

@@ -4,6 +4,7 @@ use Rattle.std.specs.List.{All}
 use Rattle.aql_value.specs.Datum.{Datum, natural, truth, text, tuple, set, array, Data, nil, cons, list_of}
 use Rattle.aql_value.specs.Canon.{IsAscending}
 use Rattle.aql_value.specs.Indices.{IsTable}
+use Rattle.aql_value.specs.Strict.{Strict}
 
 -- naturals below 2^128, bytes, two parts or more, ascending members, 1 to 8 dimensions and a cell for each index, at every level
 abbrev mutual
@@ -20,3 +21,9 @@ abbrev mutual
   pub AreValues : Data → Type 0
   AreValues nil = Unit {0}
   AreValues (cons x xs) = IsValue x × AreValues xs
+
+-- a constant of a form is a value
+abbrev pub HasValidConstant : Strict → Type 0
+HasValidConstant (Strict.nat n) = n < 2 ^ 128
+HasValidConstant (Strict.text s) = All (λ b. b < 256) s
+HasValidConstant _ = Unit {0}

@@ -1,7 +1,6 @@
 ghost use Rattle.std.specs.Prelude.{◌≡◌, ◌<◌, ◌*◌, ◌^◌, true, min, nat_lt};
 ghost use Rattle.std.specs.Cmp.Lexicographic.{pointwise};
-ghost use Rattle.aql_value.specs.Indices.{product};
-ghost use Rattle.aql_value.specs.IndicesLaws.{offset};
+ghost use Rattle.aql_value.specs.Indices.{product, offset};
 
 use smallvec::SmallVec;
 

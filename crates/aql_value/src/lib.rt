@@ -12,6 +12,7 @@
 mod arith;
 mod copies;
 mod indices;
+mod limits;
 pub mod made;
 mod memory;
 mod ops;
@@ -22,9 +23,10 @@ mod value;
 
 pub use arith::{add, monus, mul, quotient, remainder};
 pub use indices::{Index, is_below, place, saturating_product};
+pub use limits::{MOST_BUDGET, MOST_WORKERS};
 pub use memory::Memory;
 pub use ops::{ArithOp, CompareOp};
 pub use order::compare;
 pub use sets::{canon, merge};
-pub use validity::valid;
+pub use validity::{all_valid, valid};
 pub use value::{Ascending, Cells, Dims, Items, Parts, Str, Value};

@@ -1,11 +1,12 @@
 //! Boxes, lists and pairs of what was made, where memory may have been wanting for it.
 //!
 //! Each call takes its parts as they were made, and answers `Memory` where it was wanting for a part. So a tree is one
-//! expression of its parts, and no early end of a function stands between two of them.
+//! expression of its parts, and no early end of a function stands between two of them. `naturals` makes values of numbers.
 
-ghost use Rattle.std.specs.Prelude.{◌≡◌, ◌⊎◌, [], ◌∷◌, IfOk, IsOkAnd, IsErr, MatchResult};
+ghost use Rattle.std.specs.Prelude.{◌≡◌, ◌⊎◌, [], ◌∷◌, IfOk, IsOkAnd, IsErr, MatchResult, map};
+ghost use Rattle.aql_value.specs.Datum.{natural};
 
-use crate::Memory;
+use crate::{Items, Memory, Value};
 use std::alloc::Global;
 
 /// Both parts. `Memory` exactly where it is the answer of a part.
@@ -60,4 +61,15 @@ pub fn make_pair_list<T: Drop>(
     items.push(x)?;
     items.push(y)?;
     Ok(items)
+}
+
+/// Numbers as values, in order.
+pub fn naturals(alloc: Global, numbers: &[u128]) -> Result<Items, Memory>
+    ensures { IfOk result (λ items. items ≡ map natural numbers.now) }
+{
+    let mut items = Vec::new(alloc);
+    for n in numbers {
+        items.push(Value::Nat(*n))?;
+    }
+    Ok(Items { items })
 }

@@ -28,8 +28,9 @@ pub fn valid(value: &Value)
     }
 }
 
+/// Shows the same of each value of a list.
 #[cycle(valid)]
-fn all_valid(items: &Items)
+pub fn all_valid(items: &Items)
     ensures { AreValues (data_of items.now) }
 {
     for x in items.items.iter() {

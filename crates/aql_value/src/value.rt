@@ -94,7 +94,7 @@ impl Model for Items {
     ghost use Rattle.std.specs.Prelude.{List};
     ghost use Rattle.aql_value.specs.Datum.{Datum};
     ghost use Rattle.aql_value.specs.DatumCode.{coded_data};
-    ghost use Rattle.aql_value.specs.Weight.{weight_list};
+    ghost use Rattle.aql_value.specs.NodeCount.{node_count_list};
 
     ghost Value = { List Datum };
 
@@ -105,18 +105,18 @@ impl Model for Items {
 
     ghost view = { λ a. map datum a.items.items };
 
-    ghost size = { weight_list };
+    ghost size = { node_count_list };
 
-    ghost use Rattle.aql_value.specs.Laws.WeightFalls.{most_le-weight};
+    ghost use Rattle.aql_value.specs.Laws.NodeCountFalls.{most_le-node_count};
 
-    ghost size_decreases = { λ a h. most_le-weight a.items.items };
+    ghost size_decreases = { λ a h. most_le-node_count a.items.items };
 }
 
 impl Model for Parts {
     ghost use Rattle.std.specs.Prelude.{List, ◌≤◌, length};
     ghost use Rattle.aql_value.specs.Datum.{Datum};
     ghost use Rattle.aql_value.specs.DatumCode.{coded_data};
-    ghost use Rattle.aql_value.specs.Weight.{weight_list};
+    ghost use Rattle.aql_value.specs.NodeCount.{node_count_list};
 
     ghost Value = { List Datum };
 
@@ -128,7 +128,7 @@ impl Model for Parts {
 
     ghost use Rattle.std.specs.Prelude.{suc};
 
-    ghost size = { λ xs. suc (weight_list xs) };
+    ghost size = { λ xs. suc (node_count_list xs) };
 
     ghost use Rattle.std.proofs.Common.{arith};
 
@@ -139,7 +139,7 @@ impl Model for Ascending {
     ghost use Rattle.std.specs.Prelude.{List};
     ghost use Rattle.aql_value.specs.Datum.{Datum};
     ghost use Rattle.aql_value.specs.DatumCode.{coded_data};
-    ghost use Rattle.aql_value.specs.Weight.{weight_list};
+    ghost use Rattle.aql_value.specs.NodeCount.{node_count_list};
 
     ghost Value = { List Datum };
 
@@ -153,7 +153,7 @@ impl Model for Ascending {
 
     ghost use Rattle.std.specs.Prelude.{suc};
 
-    ghost size = { λ xs. suc (weight_list xs) };
+    ghost size = { λ xs. suc (node_count_list xs) };
 
     ghost use Rattle.std.proofs.Common.{arith};
 
@@ -163,7 +163,7 @@ impl Model for Ascending {
 impl Model for Cells {
     ghost use Rattle.aql_value.specs.Datum.{Table};
     ghost use Rattle.aql_value.specs.DatumCode.{coded_table};
-    ghost use Rattle.aql_value.specs.Weight.{weight_list};
+    ghost use Rattle.aql_value.specs.NodeCount.{node_count_list};
 
     ghost Value = { Table };
 
@@ -177,7 +177,7 @@ impl Model for Cells {
 
     ghost use Rattle.std.specs.Prelude.{suc};
 
-    ghost size = { λ t. suc (weight_list t.cells) };
+    ghost size = { λ t. suc (node_count_list t.cells) };
 
     ghost use Rattle.std.proofs.Common.{arith};
 

@@ -4,17 +4,12 @@ ghost use Rattle.std.specs.Prelude.{◌≡◌, false, IfOk};
 ghost use Rattle.aql_words.specs.Words.{aql, flag_rule, number_rule};
 ghost use Rattle.clap.specs.Words.{app_of, rule_of};
 
+use aql_value::{MOST_BUDGET, MOST_WORKERS};
 use clap::builder::ValueParser;
 use clap::{Arg, ArgAction, Command};
 use std::alloc::{AllocError, Global};
 
-/// The most threads that a run may have. Each option takes 1 as its least number.
-pub const MOST_WORKERS: u64 = 64;
-
-/// The most turns that a declaration may take.
-pub const MOST_BUDGET: u64 = 50_000_000;
-
-/// The greatest size of a sample script.
+/// The greatest size of a sample script. Each option takes 1 as its least number.
 pub const MOST_SAMPLE: u64 = 1_000_000;
 
 /// The command, which has the six options and no subcommand.

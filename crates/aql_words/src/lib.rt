@@ -11,6 +11,7 @@ mod command;
 mod fault;
 mod words;
 
-pub use command::{MOST_BUDGET, MOST_SAMPLE, MOST_WORKERS};
+pub use aql_value::{MOST_BUDGET, MOST_WORKERS};
+pub use command::MOST_SAMPLE;
 pub use fault::WordFault;
 pub use words::{Options, read_words};

@@ -5,8 +5,9 @@ ghost use Rattle.std.specs.String.{string_bytes};
 ghost use Rattle.aql_words.specs.Words.{AreInRange, HasReading, is_true_text, number_at, number_of, options_in, options_of, up_to};
 ghost use Rattle.clap.specs.Words.{first_of, found_of, kind_of, one_of, rows_of};
 
-use crate::command::{MOST_BUDGET, MOST_SAMPLE, MOST_WORKERS, command};
+use crate::command::{MOST_SAMPLE, command};
 use crate::fault::WordFault;
+use aql_value::{MOST_BUDGET, MOST_WORKERS};
 use clap::error::ErrorKind;
 use clap::{ArgMatches, Error};
 use std::alloc::Global;

@@ -9,10 +9,10 @@ use Rattle.cdf_header.specs.declared.fault.CdfFault.TheVariants as faults
 use Rattle.cdf_header.specs.declared.fault.ReadError.{ReadError}
 use Rattle.cdf_header.specs.declared.fault.ReadError.TheVariants as errors
 use Rattle.cdf_header.specs.Gives.{FailsAt}
-use Rattle.cdf_header.specs.declared.fault.Fault.{Fault}
+use Rattle.cdf_header.specs.declared.fault.FieldFault.{FieldFault}
 use Rattle.cdf_header.specs.Header.{Head}
-use Rattle.cdf_header.specs.Format.{Format, PartFormat, run}
-use Rattle.cdf_header.proofs.Formats.{IsShort, run_more}
+use Rattle.cdf_header.specs.Format.{Format, PartFormat, parse}
+use Rattle.cdf_header.proofs.Formats.{IsShort, parse_more}
 
 -- the front with what was read behind it is a front
 pub front_read : (bytes front memory new : List ℕ) (start count room : ℕ) → IsFront bytes front → start ≡ length front → new ≡ take (start + count) memory
@@ -42,17 +42,17 @@ limited : (bytes front : List ℕ) → IsFront bytes front → length front ≤ 
 limited bytes front is le = ap (take most_header_bytes) (IsFront-rest bytes front is) ∙ take_past most_header_bytes front (drop (length front) bytes) le
 
 -- what is answered of the front is answered of the first bytes
-pub final : (f : Format) (bytes front : List ℕ) (k : ℕ) (r : Result Head Fault) → IsFront bytes front → length front ≤ most_header_bytes → run f front k ≡ r → (IsShort r → ⊥)
-    → run f (take most_header_bytes bytes) k ≡ r
+pub final : (f : Format) (bytes front : List ℕ) (k : ℕ) (r : Result Head FieldFault) → IsFront bytes front → length front ≤ most_header_bytes → parse f front k ≡ r → (IsShort r → ⊥)
+    → parse f (take most_header_bytes bytes) k ≡ r
 final f bytes front k r is le e h =
-    ap (λ x. run f x k) (limited bytes front is le) ∙ run_more f front (take (most_header_bytes - length front) (drop (length front) bytes)) k (λ s. h (subst IsShort e s)) ∙ e
+    ap (λ x. parse f x k) (limited bytes front is le) ∙ parse_more f front (take (most_header_bytes - length front) (drop (length front) bytes)) k (λ s. h (subst IsShort e s)) ∙ e
 
 -- a front of all the first bytes is those
-pub whole : (f : Format) (bytes front : List ℕ) (k : ℕ) (r : Result Head Fault) → IsFront bytes front → length front ≡ min most_header_bytes (length bytes) → run f front k ≡ r
-    → run f (take most_header_bytes bytes) k ≡ r
+pub whole : (f : Format) (bytes front : List ℕ) (k : ℕ) (r : Result Head FieldFault) → IsFront bytes front → length front ≡ min most_header_bytes (length bytes) → parse f front k ≡ r
+    → parse f (take most_header_bytes bytes) k ≡ r
 whole f bytes front k r is all e =
     let same : front ≡ take most_header_bytes bytes = is ∙ ap (λ n. take n bytes) all ∙ take_min most_header_bytes bytes in
-    ap (λ x. run f x k) (sym same) ∙ e
+    ap (λ x. parse f x k) (sym same) ∙ e
 
 -- a fault of the device or want of memory is answered whatever is meant
 pub outside_answers : (read : Result Head CdfFault) (e : CdfFault) → IsOutside e → IsAnswered read (Err e)
@@ -72,5 +72,5 @@ outside_answers read faults.Device h = tt
 outside_answers read faults.Memory h = tt
 
 -- the fault that a reader stopped with
-pub stopped : {X : Type 0} (part : PartFormat X) (bytes : List ℕ) (k : ℕ) (e : ReadError) (fault : Fault) → e ≡ errors.Fault fault → FailsAt part bytes k e → (next : X → Format) → run (part next) bytes k ≡ Err fault
+pub stopped : {X : Type 0} (part : PartFormat X) (bytes : List ℕ) (k : ℕ) (e : ReadError) (fault : FieldFault) → e ≡ errors.Fault fault → FailsAt part bytes k e → (next : X → Format) → parse (part next) bytes k ≡ Err fault
 stopped part bytes k e fault is h = subst (λ x. FailsAt part bytes k x) is h

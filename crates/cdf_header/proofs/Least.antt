@@ -1,5 +1,5 @@
 -- Variables one after the other: the least begin, the first of a name, and records past the file.
-use Rattle.std.proofs.Common.{◌≡◌, ℕ, zero, suc, ◌+◌, ◌-◌, ◌/◌, ◌<◌, ◌≤◌, min, Bool, true, false, cond, inl, inr, List, [], ◌∷◌, length, drop, map, get_or, Option, Some, None, refl, sym, ap, subst, ◌∙◌, arith, add-one, drop-cons, eqb}
+use Rattle.std.proofs.Common.{◌≡◌, ℕ, zero, suc, ◌+◌, ◌-◌, ◌/◌, ◌<◌, ◌≤◌, min, Bool, true, false, cond, inl, inr, List, [], ◌∷◌, length, drop, map, get_or, Option, Some, None, refl, sym, ap, ◌∙◌, arith, add-one, drop-cons, eqb}
 use Rattle.std.proofs.lemmas.Bool.{cases_lt, ne_eqb}
 use Rattle.cdf_header.specs.declared.header.Variable.{Variable}
 use Rattle.std.specs.Prelude.{nat_eq}
@@ -8,52 +8,12 @@ use Rattle.std.proofs.lemmas.List.{drop_all}
 use Rattle.std.proofs.Math.Nat.{div-eq_of_lt}
 use Rattle.cdf_header.specs.Header.{Var, Head, var}
 use Rattle.std.specs.List.{position_from}
-use Rattle.cdf_header.specs.Places.{find_from, find_in, nearer, with_begin, least, is_record, streamed, var_in, recsize, all_bits, records}
+use Rattle.cdf_header.specs.Places.{find_from, find_in, nearer, least, streamed, recsize, all_bits, records}
 
 -- the begins found so far, and those of the rest
 abbrev pub merged : Option ℕ → Option ℕ → Option ℕ
 merged None rest = rest
 merged (Some b) rest = Some (nearer b rest)
-
-merged_swap : (b : ℕ) (found rest : Option ℕ) → merged (Some (nearer b found)) rest ≡ merged found (Some (nearer b rest))
-merged_swap b None None = refl
-merged_swap b None (Some c) = refl
-merged_swap b (Some a) None = ap Some (omega arith)
-merged_swap b (Some a) (Some c) = ap Some (omega arith)
-
-merged_step : (record_variable : Bool) (b : ℕ) (found rest : Option ℕ) → merged (cond record_variable (Some (nearer b found)) found) rest ≡ merged found (cond record_variable (Some (nearer b rest)) rest)
-merged_step true b found rest = merged_swap b found rest
-merged_step false b found rest = refl
-
-var_from : (vs : List Variable) (k : ℕ) (v : Variable) → k < length vs → v ≡ get_or vs k v → map var (drop k vs) ≡ var v ∷ map var (drop (k + 1) vs)
-var_from vs k v lt is =
-    let e : drop k vs ≡ get_or vs k v ∷ drop (k + 1) vs = rw (add-one, drop-cons vs k v lt) refl in
-    ap (map var) e ∙ ap (λ w. var w ∷ map var (drop (k + 1) vs)) (sym is)
-
-pub least_goes : (ds : List ℕ) (vs : List Variable) (k : ℕ) (v : Variable) (found next total : Option ℕ) → k < length vs → v ≡ get_or vs k v → next ≡ with_begin ds (var v) found
-    → merged found (least ds (map var (drop k vs))) ≡ total → merged next (least ds (map var (drop (k + 1) vs))) ≡ total
-least_goes ds vs k v found next total lt is next-is so_far =
-    ap (λ n. merged n (least ds (map var (drop (k + 1) vs)))) next-is
-    ∙ merged_step (is_record ds (var v)) v.begin found (least ds (map var (drop (k + 1) vs)))
-    ∙ sym (ap (λ xs. merged found (least ds xs)) (var_from vs k v lt is))
-    ∙ so_far
-
-pub merged_none : (found : Option ℕ) → merged found None ≡ found
-merged_none None = refl
-merged_none (Some b) = refl
-
-pub least_done : (ds : List ℕ) (rest : List Var) (found total : Option ℕ) → rest ≡ [] → merged found (least ds rest) ≡ total → found ≡ total
-least_done ds rest found total none so_far = sym (merged_none found) ∙ subst (λ xs. merged found (least ds xs) ≡ total) none so_far
-
-pub var_known : (vs : List Variable) (i : ℕ) (v : Variable) → i < length vs → v ≡ get_or vs i v → var v ≡ var_in (map var vs) i
-var_known [] i v lt is = absurd (omega (arith, lt))
-var_known (x ∷ vs) zero v lt is = ap var is
-var_known (x ∷ vs) (suc i) v lt is = var_known vs i v (omega (arith, lt)) is
-
-pub name_known : (vs : List Variable) (i : ℕ) (v : Variable) → i < length vs → v ≡ get_or vs i v → v.name.items ≡ get_or (map (λ w. w.name) (map var vs)) i []
-name_known [] i v lt is = absurd (omega (arith, lt))
-name_known (x ∷ vs) zero v lt is = ap (λ (w : Variable). w.name.items) is
-name_known (x ∷ vs) (suc i) v lt is = name_known vs i v (omega (arith, lt)) is
 
 pub get_or_mapped : (f : ℕ → ℕ) (xs : List ℕ) (j : ℕ) → j < length xs → get_or (map f xs) j 0 ≡ f (get_or xs j 0)
 get_or_mapped f [] j lt = absurd (omega (arith, lt))

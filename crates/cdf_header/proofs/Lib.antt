@@ -4,4 +4,4 @@ pub mod Fronts
 pub mod Readings
 pub mod Saturate
 pub mod Least
-pub mod Weights
+pub mod Pitches

@@ -6,8 +6,7 @@ use Rattle.std.proofs.Common.{take, length-drop, drop, get_or, add-one, drop-con
 use Rattle.std.proofs.Math.Nat.{mul_assoc}
 use Rattle.std.proofs.lemmas.List.{drop_all, length-map, take_all}
 use Rattle.cdf_header.specs.Header.{Var}
-use Rattle.aql_value.specs.Indices.{product}
-use Rattle.aql_value.specs.IndicesLaws.{offset}
+use Rattle.aql_value.specs.Indices.{product, offset}
 use Rattle.cdf_header.specs.Places.{len_at, lens, record_count, plain_sum, padded_sum, recsize, inner, is_record, place_of}
 use Rattle.cdf_header.specs.Format.{type_size}
 

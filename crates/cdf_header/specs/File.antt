@@ -1,8 +1,8 @@
 -- What the reader of a file answers.
 use Rattle.std.specs.Prelude.{◌≡◌, ◌-◌, ◌≤◌, min, drop, ℕ, Bool, true, ◌&&◌, ◌||◌, nat_le, nat_eq, List, length, take, get_or, Some, Result, Ok, Err, IfOk, IsErrOf, ◌⊎◌, if◌then◌else◌}
-use Rattle.cdf_header.specs.Format.{header, done, run, Field, Kind, Spells, Fails, fault_at}
-use Rattle.cdf_header.specs.declared.fault.Fault.{Fault}
-use Rattle.cdf_header.specs.declared.fault.Fault.TheVariants.{Short, Malformed, TooMany}
+use Rattle.cdf_header.specs.Format.{header, done, parse, Field, Kind, Spells, Fails, fault_at}
+use Rattle.cdf_header.specs.declared.fault.FieldFault.{FieldFault}
+use Rattle.cdf_header.specs.declared.fault.FieldFault.TheVariants.{Short, Malformed, TooMany}
 use Rattle.cdf_header.specs.declared.fault.CdfFault.{CdfFault}
 use Rattle.cdf_header.specs.declared.fault.CdfFault.TheVariants as faults
 use Rattle.cdf_header.specs.Header.{Head}
@@ -51,19 +51,19 @@ abbrev pub first : List ℕ → List ℕ
 first bytes = take most_header_bytes bytes
 
 -- the fault of a file whose first field that fails has this one
-abbrev pub field_fault : Fault → CdfFault
+abbrev pub field_fault : FieldFault → CdfFault
 field_fault (Short k) = faults.Malformed k
 field_fault (Malformed k) = faults.Malformed k
 field_fault (TooMany l) = faults.TooMany l
 
 -- the same beside a header that was read
-abbrev pub fields_answer : Result Head Fault → Result Head CdfFault
+abbrev pub fields_answer : Result Head FieldFault → Result Head CdfFault
 fields_answer (Ok h) = Ok h
 fields_answer (Err f) = Err (field_fault f)
 
 -- what the fields behind the first four bytes of a file say, of so many bytes and of a version, or the fault of the first that fails
 abbrev pub fields_of : (size v : ℕ) → List ℕ → Result Head CdfFault
-fields_of size v bytes = fields_answer (run (header size v done) (first bytes) 4)
+fields_of size v bytes = fields_answer (parse (header size v done) (first bytes) 4)
 
 -- the header of a file of these bytes, or the first fault: NotClassic, Version, then that of the first field that fails
 abbrev pub header_of : List ℕ → Result Head CdfFault
@@ -97,7 +97,7 @@ pub record IsHeader (bytes : List ℕ) (h : Head) : Type 0 where
   pub spells : Spells (header (length bytes) (version bytes) done) (first bytes) 4 fields h
 
 -- good fields spell the bytes before `at`, a field of a kind must come next, and none that is good stands there, for this reason
-pub record FirstFails (bytes : List ℕ) (at : ℕ) (why : Fault) : Type 0 where
+pub record FirstFails (bytes : List ℕ) (at : ℕ) (why : FieldFault) : Type 0 where
   pub classic : IsClassic bytes
   pub known : IsVersion (version bytes)
   pub fields : List Field

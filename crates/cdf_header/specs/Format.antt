@@ -1,8 +1,8 @@
 -- A format says, by the contents of the fields so far, which field must come next.
-use Rattle.std.specs.Prelude.{◌≡◌, ℕ, zero, suc, ◌+◌, ◌*◌, ◌/◌, ◌≤◌, Bool, true, false, cond, nat_lt, nat_eq, List, [], ◌∷◌, ◌++◌, length, take, drop, Option, Some, None, Result, Ok, Err}
+use Rattle.std.specs.Prelude.{◌≡◌, ℕ, zero, suc, ◌+◌, ◌*◌, ◌/◌, ◌≤◌, Bool, false, cond, nat_lt, nat_eq, List, [], ◌∷◌, ◌++◌, length, take, drop, Option, Some, None, Result, Ok, Err, is_some}
 use Rattle.byteorder.specs.Endian.{big_number}
-use Rattle.cdf_header.specs.declared.fault.Fault.{Fault}
-use Rattle.cdf_header.specs.declared.fault.Fault.TheVariants.{Short, Malformed, TooMany}
+use Rattle.cdf_header.specs.declared.fault.FieldFault.{FieldFault}
+use Rattle.cdf_header.specs.declared.fault.FieldFault.TheVariants.{Short, Malformed, TooMany}
 use Rattle.cdf_header.specs.declared.test.Test.{Test}
 use Rattle.cdf_header.specs.declared.test.Test.TheVariants.{Any, Tag, Count, Extent, Id, NcType}
 use Rattle.cdf_header.specs.Header.{Var, Head}
@@ -46,7 +46,7 @@ abbrev pub most_type : ℕ → ℕ
 most_type version = cond (nat_eq version 5) 11 6
 
 -- why a number is no good
-abbrev pub flaw : Test → ℕ → ℕ → Option Fault
+abbrev pub flaw : Test → ℕ → ℕ → Option FieldFault
 flaw Any k n = None
 flaw (Tag own) k n = cond (nat_eq n 0) None (cond (nat_eq n own) None (Some (Malformed k)))
 flaw (Count before list most) k n = cond (nat_lt most n) (Some (TooMany list)) (cond (nat_eq before 0) (cond (nat_eq n 0) None (Some (Malformed k))) None)
@@ -55,23 +55,23 @@ flaw (Id dims unlimited first) k n = cond (nat_lt n dims) (cond first None (cond
 flaw (NcType version) k n = cond (nat_eq n 0) (Some (Malformed k)) (cond (nat_lt (most_type version) n) (Some (Malformed k)) None)
 
 -- why the content of a field at k is no good
-abbrev pub flaw_of : Kind → ℕ → List ℕ → Option Fault
+abbrev pub flaw_of : Kind → ℕ → List ℕ → Option FieldFault
 flaw_of (number w test) k bytes = flaw test k (big_number w bytes)
 flaw_of (text n) k bytes = None
 
 -- why no good field of a kind stands at k
-abbrev pub fault_at : Kind → List ℕ → ℕ → Option Fault
+abbrev pub fault_at : Kind → List ℕ → ℕ → Option FieldFault
 fault_at kind bytes k = cond (nat_lt (length bytes) (k + room kind)) (Some (Short k)) (flaw_of kind k (content kind bytes k))
 
 -- a fault, or where there is none what is read behind it
-abbrev pub unless : Option Fault → Result Head Fault → Result Head Fault
+abbrev pub unless : Option FieldFault → Result Head FieldFault → Result Head FieldFault
 unless None r = r
 unless (Some f) r = Err f
 
 -- reading the fields from k on in order, up to the first that fails
-abbrev pub run : Format → List ℕ → ℕ → Result Head Fault
-run (done h) bytes k = Ok h
-run (ask kind next) bytes k = unless (fault_at kind bytes k) (run (next (content kind bytes k)) bytes (k + room kind))
+abbrev pub parse : Format → List ℕ → ℕ → Result Head FieldFault
+parse (done h) bytes k = Ok h
+parse (ask kind next) bytes k = unless (fault_at kind bytes k) (parse (next (content kind bytes k)) bytes (k + room kind))
 
 -- ---- the relation
 
@@ -158,11 +158,6 @@ record_from i (d ∷ ds) = cond (nat_eq d 0) (Some i) (record_from (i + 1) ds)
 -- the number of the record dimension, where there is one
 abbrev pub record_of : (lengths : List ℕ) → Option ℕ
 record_of ds = record_from 0 ds
-
--- whether there is one
-abbrev pub is_some : {X : Type 0} → Option X → Bool
-is_some None = false
-is_some (Some x) = true
 
 -- so many items, each of a format that may depend on those before it
 unfoldable pub many : {X : Type 0} → (List X → PartFormat X) → ℕ → List X → PartFormat (List X)

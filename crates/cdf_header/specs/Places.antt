@@ -2,14 +2,9 @@
 use Rattle.std.specs.Cmp.Lexicographic.{pointwise}
 use Rattle.std.specs.List.{position_from}
 use Rattle.std.specs.Prelude.{ℕ, ◌+◌, ◌-◌, ◌*◌, ◌/◌, ◌^◌, min, Bool, cond, nat_eq, false, List, [], ◌∷◌, map, get_or, Option, Some, None}
-use Rattle.aql_value.specs.Indices.{product}
-use Rattle.aql_value.specs.IndicesLaws.{offset}
+use Rattle.aql_value.specs.Indices.{product, offset}
 use Rattle.cdf_header.specs.Header.{Var, Head}
 use Rattle.cdf_header.specs.Format.{padded, type_size, wide}
-
--- a number, or 2^128-1 where it is larger
-abbrev pub saturated : ℕ → ℕ
-saturated n = min n (2 ^ 128 - 1)
 
 -- the length in the header of the dimension with this number
 abbrev pub len_at : List ℕ → ℕ → ℕ
@@ -111,13 +106,13 @@ abbrev pub place : Head → Var → List ℕ → ℕ
 place h v at = place_of h.dims h.vars v at
 
 -- the bytes from one index of a dimension to the next, for numbers of so many bytes
-abbrev pub weights_in : ℕ → List ℕ → List ℕ
-weights_in size [] = []
-weights_in size (d ∷ ds) = (product ds * size) ∷ weights_in size ds
+abbrev pub pitches_in : ℕ → List ℕ → List ℕ
+pitches_in size [] = []
+pitches_in size (d ∷ ds) = (product ds * size) ∷ pitches_in size ds
 
 -- those of a variable: a record variable's records stand one record apart
-abbrev pub weights : List ℕ → List Var → Var → List ℕ
-weights ds vs v = cond (is_record ds v) (recsize ds vs ∷ weights_in (type_size v.kind) (lens ds (inner v.ids))) (weights_in (type_size v.kind) (lens ds v.ids))
+abbrev pub pitches : List ℕ → List Var → Var → List ℕ
+pitches ds vs v = cond (is_record ds v) (recsize ds vs ∷ pitches_in (type_size v.kind) (lens ds (inner v.ids))) (pitches_in (type_size v.kind) (lens ds v.ids))
 
 -- the number of the first of these variables of a name, counted from i, where there is one
 abbrev pub find_from : (i : ℕ) → List Var → (name : List ℕ) → Option ℕ

@@ -68,7 +68,7 @@ impl From<Memory> for CdfFault {
 
 /// What is wrong with the first field that fails.
 #[derive(Clone, Copy, Debug, PartialEq, Eq)]
-pub enum Fault {
+pub enum FieldFault {
     /// It passes the end of the bytes.
     Short { at: usize },
     /// It is none of those that may stand there.
@@ -81,7 +81,7 @@ pub enum Fault {
 #[derive(Debug, Drop)]
 pub(crate) enum ReadError {
     Memory,
-    Fault(Fault),
+    Fault(FieldFault),
 }
 
 impl From<AllocError> for ReadError {

@@ -4,7 +4,7 @@ ghost use Rattle.cdf_header.specs.Format.{num, flaw, str, name, list, skip};
 ghost use Rattle.cdf_header.specs.Gives.{GivesPart};
 ghost use Rattle.cdf_header.specs.declared.test.Test.TheVariants.{NcType};
 
-use crate::fault::{Fault, ReadError};
+use crate::fault::{FieldFault, ReadError};
 use crate::front::Front;
 use crate::test::{Test, flaw_of};
 use byteorder::{BigEndian, ByteOrder};
@@ -24,7 +24,7 @@ pub(crate) fn number(
     ensures narrow { IfOk result (λ x. width ≡ 4 → x.0 < 2 ^ 32) }
 {
     if front.bytes.len() - at < width {
-        return Err(ReadError::Fault(Fault::Short { at }));
+        return Err(ReadError::Fault(FieldFault::Short { at }));
     }
     let part = &front.bytes[at..at + width];
     let n = if width == 4 {
@@ -61,7 +61,7 @@ fn text(alloc: Global, front: &Front, at: usize, len: u64) -> Result<(Vec<u8>, u
 {
     let left = (front.bytes.len() - at) as u64;
     if left < len || left < len.div_ceil(4) * 4 {
-        return Err(ReadError::Fault(Fault::Short { at }));
+        return Err(ReadError::Fault(FieldFault::Short { at }));
     }
     let len = len as usize;
     let text = Vec::from_slice(alloc, &front.bytes[at..at + len])?;
@@ -122,11 +122,11 @@ pub(crate) fn skip_over(
 {
     let left = (front.bytes.len() - at) as u64;
     if left < count {
-        return Err(ReadError::Fault(Fault::Short { at }));
+        return Err(ReadError::Fault(FieldFault::Short { at }));
     }
     let len = count * size;
     if left < (len + 3) / 4 * 4 {
-        return Err(ReadError::Fault(Fault::Short { at }));
+        return Err(ReadError::Fault(FieldFault::Short { at }));
     }
     Ok(((), at + ((len + 3) / 4 * 4) as usize))
 }

@@ -6,7 +6,7 @@ ghost use Rattle.aql_outside.specs.Frames.{Leaves};
 ghost use Rattle.cdf_header.specs.File.{IsFront, StaysFront, IsReadBehind, IsOutside, IsDevice, IsAnswered, IsClassic, IsVersion, IsLost, IsOfHeader, fields_of, header_of};
 ghost use Rattle.cdf_header.specs.Limits.{most_header_bytes};
 
-use crate::fault::{CdfFault, Fault, ReadError};
+use crate::fault::{CdfFault, FieldFault, ReadError};
 use crate::front::Front;
 use crate::header::Header;
 use crate::limits::MOST_HEADER_BYTES;
@@ -126,13 +126,13 @@ fn read_fields<F: Files>(
         match header_of(alloc, &read, size) {
             Ok((found, _)) => return Ok(found),
             Err(ReadError::Memory) => return Err(CdfFault::Memory),
-            Err(ReadError::Fault(Fault::Malformed { at })) => return Err(CdfFault::Malformed {
+            Err(ReadError::Fault(FieldFault::Malformed { at })) => return Err(CdfFault::Malformed {
                 at: at as u64,
             }),
-            Err(ReadError::Fault(Fault::TooMany { list })) => return Err(CdfFault::TooMany {
+            Err(ReadError::Fault(FieldFault::TooMany { list })) => return Err(CdfFault::TooMany {
                 list,
             }),
-            Err(ReadError::Fault(Fault::Short { at })) => {
+            Err(ReadError::Fault(FieldFault::Short { at })) => {
                 if ended {
                     return Err(CdfFault::Malformed { at: at as u64 });
                 }

@@ -21,7 +21,7 @@ mod lists;
 mod places;
 mod test;
 
-pub use fault::{CdfFault, Fault};
+pub use fault::{CdfFault, FieldFault};
 pub use file::read_header;
 pub use header::Header;
 pub use limits::{MOST_ATTRIBUTES, MOST_DIMENSIONS, MOST_HEADER_BYTES, MOST_RANK, MOST_VARIABLES};

@@ -6,7 +6,7 @@ ghost use Rattle.cdf_header.specs.Gives.{GivesPart};
 ghost use Rattle.cdf_header.specs.Limits.{most_dimensions};
 
 use crate::dimensions::{Dimensions, record_in};
-use crate::fault::{Fault, ReadError};
+use crate::fault::{FieldFault, ReadError};
 use crate::fields::{list_of, name_of, number, skip_over, type_of};
 use crate::front::Front;
 use crate::header::{Header, Variable};

@@ -1,8 +1,8 @@
 // Where a cell stands, with the greatest number for every larger place.
 ghost use Rattle.std.specs.Prelude.{◌+◌, drop, ◌≡◌, ◌≤◌, ◌<◌, ◌*◌, ◌^◌, ◌-◌, ℕ, List, length, map, min, get_or, nat_eq, IfSome, IsTrue};
-ghost use Rattle.cdf_header.specs.Places.{len_at, lens, is_record, inner, slab_size, recsize, place_of, place, var_in, variable_at, shape, nearer, with_begin, least, streamed, all_bits, records, extent, weights, find_in, saturated};
-ghost use Rattle.aql_value.specs.Indices.{product};
-ghost use Rattle.aql_value.specs.IndicesLaws.{offset};
+ghost use Rattle.cdf_header.specs.Places.{len_at, lens, is_record, inner, slab_size, recsize, place_of, place, var_in, variable_at, shape, nearer, with_begin, least, streamed, all_bits, records, extent, pitches, find_in};
+ghost use Rattle.aql_value.specs.Indices.{product, offset};
+ghost use Rattle.aql_value.specs.Limits.{saturated};
 ghost use Rattle.cdf_header.specs.Header.{var};
 ghost use Rattle.cdf_header.specs.Format.{type_size, padded};
 
@@ -209,7 +209,7 @@ fn first_named(vars: &[Variable], name: &[u8]) -> Option<u64>
 }
 
 // The bytes from one index of a dimension to the next, where the cells stand in row-major order.
-fn row_weight(dims: &[u64], v: &Variable, j: usize) -> u128
+fn row_pitch(dims: &[u64], v: &Variable, j: usize) -> u128
     requires { j < length v.now.ids.items }
     ensures { result ≡ saturated
         (product (lens dims.now (drop (j + 1) v.now.ids.items)) * type_size v.now.kind) }
@@ -218,18 +218,18 @@ fn row_weight(dims: &[u64], v: &Variable, j: usize) -> u128
 }
 
 // The bytes from one index of a dimension to the next.
-fn weight_in(dims: &[u64], vars: &[Variable], v: &Variable, j: usize) -> u128
+fn pitch_in(dims: &[u64], vars: &[Variable], v: &Variable, j: usize) -> u128
     requires { j < length v.now.ids.items }
     ensures { result ≡ saturated
-        (get_or (weights dims.now (map var vars.now) (var v.now)) j 0) }
+        (get_or (pitches dims.now (map var vars.now) (var v.now)) j 0) }
 {
     if j > 0 {
-        return row_weight(dims, v, j);
+        return row_pitch(dims, v, j);
     }
     if over_records(dims, v) {
         record_bytes(dims, vars)
     } else {
-        row_weight(dims, v, j)
+        row_pitch(dims, v, j)
     }
 }
 
@@ -304,13 +304,13 @@ impl Header {
 
     /// The bytes from one index of a variable's dimension to the next, or 2^128-1 where there are
     /// more.
-    pub fn weight(&self, v: u64, j: u64) -> u128
+    pub fn pitch(&self, v: u64, j: u64) -> u128
         requires variable { v < length self.now.vars }
         requires dimension { j < length (variable_at self.now v).ids }
         ensures { result ≡ saturated
-            (get_or (weights self.now.dims self.now.vars (variable_at self.now v)) j 0) }
+            (get_or (pitches self.now.dims self.now.vars (variable_at self.now v)) j 0) }
     {
-        weight_in(
+        pitch_in(
             &self.dims,
             &self.vars,
             variable_in(&self.vars, v),

@@ -2,7 +2,7 @@
 ghost use Rattle.std.specs.Prelude.{◌≡◌};
 ghost use Rattle.cdf_header.specs.Format.{flaw};
 
-use crate::fault::Fault;
+use crate::fault::FieldFault;
 
 /// What the number of a field is held against.
 #[derive(Clone, Copy, Debug, PartialEq, Eq)]
@@ -35,7 +35,7 @@ pub enum Test {
 }
 
 // What is wrong with a number.
-pub(crate) fn flaw_of(test: Test, at: usize, n: u64) -> Option<Fault>
+pub(crate) fn flaw_of(test: Test, at: usize, n: u64) -> Option<FieldFault>
     ensures { result ≡ flaw test at n }
 {
     let wrong = match test {
@@ -43,7 +43,7 @@ pub(crate) fn flaw_of(test: Test, at: usize, n: u64) -> Option<Fault>
         Test::Tag { own } => n != 0 && n != own,
         Test::Count { before, list, most } => {
             if n > most {
-                return Some(Fault::TooMany { list });
+                return Some(FieldFault::TooMany { list });
             }
             before == 0 && n != 0
         }
@@ -56,7 +56,7 @@ pub(crate) fn flaw_of(test: Test, at: usize, n: u64) -> Option<Fault>
         Test::NcType { version } => n == 0 || n > (if version == 5 { 11 } else { 6 }),
     };
     if wrong {
-        Some(Fault::Malformed { at })
+        Some(FieldFault::Malformed { at })
     } else {
         None
     }

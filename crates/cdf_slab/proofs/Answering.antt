@@ -1,5 +1,5 @@
 -- What is answered, from what was read.
-use Rattle.std.proofs.Common.{◌≡◌, ℕ, zero, suc, ◌+◌, ◌*◌, ◌^◌, ◌<◌, ◌≤◌, Bool, true, false, List, [], ◌∷◌, length, map, Option, Some, None, option_map, Result, Ok, Err, refl, sym, ap, subst, ◌∙◌, arith, inl, inr}
+use Rattle.std.proofs.Common.{◌≡◌, ℕ, zero, suc, ◌+◌, ◌*◌, ◌^◌, ◌<◌, ◌≤◌, Bool, true, false, List, [], ◌∷◌, length, map, Option, Some, None, option_map, Result, Ok, Err, refl, sym, ap, subst, ◌∙◌, arith, inl}
 use Rattle.std.specs.List.{All}
 use Rattle.std.proofs.lemmas.List.Elements.{All-nil, All-cons}
 use Rattle.std.proofs.lemmas.List.{length-map}
@@ -11,30 +11,30 @@ use Rattle.cdf_header.specs.declared.fault.CdfFault.{CdfFault}
 use Rattle.cdf_header.specs.declared.fault.CdfFault.TheVariants as faults
 use Rattle.cdf_header.specs.Format.{type_size}
 use Rattle.cdf_header.specs.Header.{Head, Var}
-use Rattle.cdf_header.specs.Places.{place, weights}
+use Rattle.cdf_header.specs.Places.{place, pitches}
 use Rattle.cdf_slab.specs.declared.axes.Axis.{Axis}
 use Rattle.cdf_slab.specs.Numbers.{Number, number_at, cell_of}
 use Rattle.cdf_slab.specs.Slab.{point, cell_places, slab_numbers, slab, first_cut, index_fault, cut_fault, early_fault, negative_fault, slab_fault, IsSlabAnswer, AnswersEarly}
 use Rattle.cdf_slab.specs.Walk.{steps_of, steps, walk, capped, first_past, HaveRoom}
 use Rattle.cdf_slab.specs.Going.{AppendsCells}
-use Rattle.cdf_slab.proofs.Walking.{walk_places, capped-weights}
+use Rattle.cdf_slab.proofs.Walking.{walk_places, capped-pitches}
 use Rattle.cdf_slab.proofs.Cuts.{cut_capped, uncut_within, same_within}
-use Rattle.cdf_slab.proofs.Stepping.{length-weights}
+use Rattle.cdf_slab.proofs.Stepping.{length-pitches}
 use Rattle.cdf_slab.proofs.Goings.{none_negative}
 
 -- the dimensions of a hyperslab of a variable lead to its places, as far as 2^128-1
 pub record Leads (h : Head) (v : Var) (ss cs ts : List ℕ) (axes : List Axis) : Type 0 where
   pub same : capped (walk (steps_of axes) v.begin) ≡ capped (cell_places h v ss cs ts)
 
-pub leads : (h : Head) (v : Var) (ss cs ts : List ℕ) (axes : List Axis) → steps_of axes ≡ steps ss cs ts (capped (weights h.dims h.vars v)) →
+pub leads : (h : Head) (v : Var) (ss cs ts : List ℕ) (axes : List Axis) → steps_of axes ≡ steps ss cs ts (capped (pitches h.dims h.vars v)) →
     length cs ≡ length ss → length ts ≡ length ss → length v.ids ≡ length ss → Leads h v ss cs ts axes
 leads h v ss cs ts axes e a b c =
-    let ws : List ℕ = weights h.dims h.vars v in
+    let ws : List ℕ = pitches h.dims h.vars v in
     record {
       same =
           ap (λ l. capped (walk l v.begin)) e
-          ∙ capped-weights ss cs ts ws v.begin v.begin refl
-          ∙ ap capped (walk_places h v ss cs ts a b (length-weights h.dims h.vars v ∙ c));
+          ∙ capped-pitches ss cs ts ws v.begin v.begin refl
+          ∙ ap capped (walk_places h v ss cs ts a b (length-pitches h.dims h.vars v ∙ c));
     }
 
 pub cut_is : (h : Head) (v : Var) (ss cs ts : List ℕ) (axes : List Axis) (size end : ℕ) → Leads h v ss cs ts axes → end < 2 ^ 64 →
@@ -46,11 +46,6 @@ pub walk_is_places : (h : Head) (v : Var) (ss cs ts : List ℕ) (axes : List Axi
     first_cut size end (cell_places h v ss cs ts) ≡ None → walk (steps_of axes) v.begin ≡ cell_places h v ss cs ts
 walk_is_places h v ss cs ts axes size end l lt e =
     same_within size end (walk (steps_of axes) v.begin) (cell_places h v ss cs ts) (omega (arith, lt)) l.same (uncut_within size end (cell_places h v ss cs ts) e)
-
-pub walk_within : (h : Head) (v : Var) (ss cs ts : List ℕ) (axes : List Axis) (size end : ℕ) → Leads h v ss cs ts axes → end < 2 ^ 64 →
-    first_cut size end (cell_places h v ss cs ts) ≡ None → HaveRoom size end (walk (steps_of axes) v.begin)
-walk_within h v ss cs ts axes size end l lt e =
-    subst (HaveRoom size end) (sym (walk_is_places h v ss cs ts axes size end l lt e)) (uncut_within size end (cell_places h v ss cs ts) e)
 
 abbrev pub tabled : List ℕ → Option (List Datum) → Option Table
 tabled cs o = o >>= λ xs. Some (record { dims = cs; cells = xs })
@@ -84,10 +79,6 @@ read_some signed ns array faults.FloatVariable g = absurd g
 read_some signed ns array (faults.Stride d) g = absurd g
 read_some signed ns array (faults.Outside d) g = absurd g
 read_some signed ns array (faults.Cut a) g = absurd g
-
-pub early-memory : (o : Option CdfFault) → AnswersEarly o (Err faults.Memory)
-early-memory None = tt
-early-memory (Some f) = inr refl
 
 pub early-none : (o : Option CdfFault) (r : Result Table CdfFault) → o ≡ None → AnswersEarly o r
 early-none o r e = subst (λ x. AnswersEarly x r) (sym e) tt

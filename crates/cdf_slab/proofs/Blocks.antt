@@ -21,11 +21,11 @@ left_within rest a base i size end lt w =
 
 -- where the places have room, sums and products stopped nowhere
 pub here_walk : (rest : List DimensionStep) (a : DimensionStep) (base i size end index here : ℕ) → i < a.count → end < 2 ^ 64 → HaveRoom size end (places_left rest a base i) →
-    index ≡ min (min (i * a.stride) (2 ^ 128 - 1) + a.start) (2 ^ 128 - 1) → here ≡ min (min (index * a.weight) (2 ^ 128 - 1) + base) (2 ^ 128 - 1) →
+    index ≡ min (min (i * a.stride) (2 ^ 128 - 1) + a.start) (2 ^ 128 - 1) → here ≡ min (min (index * a.pitch) (2 ^ 128 - 1) + base) (2 ^ 128 - 1) →
     walk rest here ≡ walk rest (along a base i)
 here_walk rest a base i size end index here lt small w e h =
     same_within size end (walk rest here) (walk rest (along a base i)) (omega (arith, small))
-    (capped-walk rest here (along a base i) (stopped a.start i a.stride a.weight base here index (2 ^ 128 - 1) e h))
+    (capped-walk rest here (along a base i) (stopped a.start i a.stride a.pitch base here index (2 ^ 128 - 1) e h))
     (left_within rest a base i size end lt w).0
 
 numbers-next : (bytes : List ℕ) (kind : ℕ) (rest : List DimensionStep) (a : DimensionStep) (base i : ℕ) → i < a.count →
@@ -43,13 +43,13 @@ pub record ReadSoFar (signed : Bool) (bytes : List ℕ) (kind : ℕ) (rest : Lis
   pub whole : Whole signed (map (number_at bytes kind) (places_left rest a base i)) total now before
 
 pub turn : (rest : List DimensionStep) (a : DimensionStep) (base i size end index here : ℕ) → RoomSoFar rest a base i size end → i < a.count → end < 2 ^ 64 →
-    index ≡ min (min (i * a.stride) (2 ^ 128 - 1) + a.start) (2 ^ 128 - 1) → here ≡ min (min (index * a.weight) (2 ^ 128 - 1) + base) (2 ^ 128 - 1) → Turn rest a base i size end here
+    index ≡ min (min (i * a.stride) (2 ^ 128 - 1) + a.start) (2 ^ 128 - 1) → here ≡ min (min (index * a.pitch) (2 ^ 128 - 1) + base) (2 ^ 128 - 1) → Turn rest a base i size end here
 turn rest a base i size end index here w lt small e h =
     let same = here_walk rest a base i size end index here lt small w.within e h in
     record { same = same; next = record { within = (left_within rest a base i size end lt w.within).1 } }
 
 pub turn_room : (rest : List DimensionStep) (a : DimensionStep) (base i size end index here : ℕ) → RoomSoFar rest a base i size end → i < a.count → end < 2 ^ 64 →
-    index ≡ min (min (i * a.stride) (2 ^ 128 - 1) + a.start) (2 ^ 128 - 1) → here ≡ min (min (index * a.weight) (2 ^ 128 - 1) + base) (2 ^ 128 - 1) → HaveRoom size end (walk rest here)
+    index ≡ min (min (i * a.stride) (2 ^ 128 - 1) + a.start) (2 ^ 128 - 1) → here ≡ min (min (index * a.pitch) (2 ^ 128 - 1) + base) (2 ^ 128 - 1) → HaveRoom size end (walk rest here)
 turn_room rest a base i size end index here w lt small e h =
     subst (HaveRoom size end) (sym (here_walk rest a base i size end index here lt small w.within e h)) (left_within rest a base i size end lt w.within).0
 

@@ -29,22 +29,22 @@ pub record CutSoFar (rest : List DimensionStep) (a : DimensionStep) (base i size
   pub same : first_past size end (capped (flat_map (λ j. walk rest (along a base j)) (range_with_len i (a.count - i)))) ≡ total
 
 -- the place of an index, where sums and products stop at m
-pub stopped : (start i stride weight base here index m : ℕ) → index ≡ min (min (i * stride) m + start) m → here ≡ min (min (index * weight) m + base) m →
-    min here m ≡ min (base + (start + i * stride) * weight) m
-stopped start i stride weight base here index m e h =
+pub stopped : (start i stride pitch base here index m : ℕ) → index ≡ min (min (i * stride) m + start) m → here ≡ min (min (index * pitch) m + base) m →
+    min here m ≡ min (base + (start + i * stride) * pitch) m
+stopped start i stride pitch base here index m e h =
     let one : index ≡ min (start + i * stride) m = omega (arith, e) in
-    let two : min (index * weight) m ≡ min ((start + i * stride) * weight) m = ap (λ x. min (x * weight) m) one ∙ saturating_product (start + i * stride) weight m in
+    let two : min (index * pitch) m ≡ min ((start + i * stride) * pitch) m = ap (λ x. min (x * pitch) m) one ∙ saturating_product (start + i * stride) pitch m in
     omega (arith, h, two)
 
 -- one block of places, and the others
 pub cut_next : (rest : List DimensionStep) (a : DimensionStep) (base i size end here index : ℕ) (found total : Option ℕ) → CutSoFar rest a base i size end total → i < a.count
-    → index ≡ min (min (i * a.stride) (2 ^ 128 - 1) + a.start) (2 ^ 128 - 1) → here ≡ min (min (index * a.weight) (2 ^ 128 - 1) + base) (2 ^ 128 - 1)
+    → index ≡ min (min (i * a.stride) (2 ^ 128 - 1) + a.start) (2 ^ 128 - 1) → here ≡ min (min (index * a.pitch) (2 ^ 128 - 1) + base) (2 ^ 128 - 1)
     → found ≡ first_past size end (capped (walk rest here))
     → or_else found (first_past size end (capped (flat_map (λ j. walk rest (along a base j)) (range_with_len (i + 1) (a.count - (i + 1)))))) ≡ total
 cut_next rest a base i size end here index found total so_far lt e h is =
     let f : ℕ → List ℕ = λ j. walk rest (along a base j) in
     let others : List ℕ = flat_map f (range_with_len (i + 1) (a.count - (i + 1))) in
-    let same : capped (walk rest here) ≡ capped (f i) = capped-walk rest here (along a base i) (stopped a.start i a.stride a.weight base here index (2 ^ 128 - 1) e h) in
+    let same : capped (walk rest here) ≡ capped (f i) = capped-walk rest here (along a base i) (stopped a.start i a.stride a.pitch base here index (2 ^ 128 - 1) e h) in
     ap (λ o. or_else o (first_past size end (capped others))) (is ∙ ap (first_past size end) same)
     ∙ sym (first_past-append size end (capped (f i)) (capped others))
     ∙ ap (first_past size end) (sym (map-append (λ p. min p (2 ^ 128 - 1)) (f i) others) ∙ ap capped (sym (blocks_next f i a.count lt)))

@@ -11,7 +11,7 @@ use Rattle.cdf_slab.proofs.Cuts.{stopped}
 along_le : (a : DimensionStep) (base i j : ℕ) → i ≤ j → along a base i ≤ along a base j
 along_le a base i j le =
     let x : i * a.stride ≤ j * a.stride = mul-le-mul_right a.stride le in
-    let y : (a.start + i * a.stride) * a.weight ≤ (a.start + j * a.stride) * a.weight = mul-le-mul_right a.weight (omega (arith, x)) in
+    let y : (a.start + i * a.stride) * a.pitch ≤ (a.start + j * a.stride) * a.pitch = mul-le-mul_right a.pitch (omega (arith, x)) in
     omega (arith, y)
 
 last_le : (axes : List DimensionStep) (b c : ℕ) → b ≤ c → last_place axes b ≤ last_place axes c
@@ -66,13 +66,13 @@ last_stops (a ∷ axes) b c m e = last_stops axes (along a b (a.count - 1)) (alo
 
 -- one dimension more
 pub last_next : (axes : List DimensionStep) (a : DimensionStep) (base index here : ℕ) → index ≡ min (min ((a.count - 1) * a.stride) (2 ^ 128 - 1) + a.start) (2 ^ 128 - 1) →
-    here ≡ min (min (index * a.weight) (2 ^ 128 - 1) + base) (2 ^ 128 - 1) → min (last_place axes here) (2 ^ 128 - 1) ≡ min (last_place (a ∷ axes) base) (2 ^ 128 - 1)
-last_next axes a base index here e h = last_stops axes here (along a base (a.count - 1)) (2 ^ 128 - 1) (stopped a.start (a.count - 1) a.stride a.weight base here index (2 ^ 128 - 1) e h)
+    here ≡ min (min (index * a.pitch) (2 ^ 128 - 1) + base) (2 ^ 128 - 1) → min (last_place axes here) (2 ^ 128 - 1) ≡ min (last_place (a ∷ axes) base) (2 ^ 128 - 1)
+last_next axes a base index here e h = last_stops axes here (along a base (a.count - 1)) (2 ^ 128 - 1) (stopped a.start (a.count - 1) a.stride a.pitch base here index (2 ^ 128 - 1) e h)
 
 -- the same for the dimensions of a slice
 pub last_first : (axes : List Axis) (d : Axis) (base index here found : ℕ) → 1 ≤ length axes →
     index ≡ min (min (((slice_index_or axes 0 d).count - 1) * (slice_index_or axes 0 d).stride) (2 ^ 128 - 1) + (slice_index_or axes 0 d).start) (2 ^ 128 - 1) →
-    here ≡ min (min (index * (slice_index_or axes 0 d).weight) (2 ^ 128 - 1) + base) (2 ^ 128 - 1) →
+    here ≡ min (min (index * (slice_index_or axes 0 d).pitch) (2 ^ 128 - 1) + base) (2 ^ 128 - 1) →
     found ≡ min (last_place (steps_of (take (length axes - 1) (drop 1 axes))) here) (2 ^ 128 - 1) → found ≡ min (last_place (steps_of axes) base) (2 ^ 128 - 1)
 last_first [] d base index here found some e h is = absurd (omega (arith, some))
 last_first (x ∷ axes) d base index here found some e h is =

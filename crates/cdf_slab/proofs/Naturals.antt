@@ -12,7 +12,6 @@ use Rattle.cdf_slab.specs.Numbers.{Number, has_sign, twos, number_of, cell_of}
 use Rattle.cdf_slab.specs.Run.{lowest, IsNatural}
 use Rattle.nrca_array.specs.Runs.{run, AreBelow, IsFirstFrom}
 use Rattle.cdf_slab.specs.Slab.{first_negative}
-use Rattle.cdf_header.specs.File.{IsOutside}
 use Rattle.cdf_slab.specs.Going.{AppendsCells}
 use Rattle.std.proofs.lemmas.Bool.{lt-ltb, le-ltb}
 use Rattle.cdf_slab.proofs.Goings.{goes-then, goes-fails}
@@ -108,23 +107,6 @@ negative_from kind l x e le = from_lowest (has_sign kind) (type_size kind) l x e
 
 pub natural_each : (kind x : ℕ) → lowest kind ≡ None → IsNatural kind x
 natural_each kind x e = no_lowest (has_sign kind) (type_size kind) x e
-
--- a fault of the device, or want of memory, is one of reading any numbers
-pub outside_goes : (signed : Bool) (ns : List Number) (before : List Datum) (e : CdfFault) → IsOutside e → AppendsCells signed ns before (Err e)
-outside_goes signed ns before faults.Device out = tt
-outside_goes signed ns before faults.Memory out = tt
-outside_goes signed ns before faults.Absent out = absurd out
-outside_goes signed ns before faults.NotClassic out = absurd out
-outside_goes signed ns before (faults.Version v) out = absurd out
-outside_goes signed ns before (faults.Malformed k) out = absurd out
-outside_goes signed ns before (faults.TooMany l) out = absurd out
-outside_goes signed ns before faults.NoVariable out = absurd out
-outside_goes signed ns before (faults.Rank r) out = absurd out
-outside_goes signed ns before faults.FloatVariable out = absurd out
-outside_goes signed ns before (faults.Stride d) out = absurd out
-outside_goes signed ns before (faults.Outside d) out = absurd out
-outside_goes signed ns before (faults.Cut k) out = absurd out
-outside_goes signed ns before (faults.Negative c) out = absurd out
 
 -- all of the numbers, where each is below the least that is spelled below 0
 pub run_all : (kind : ℕ) (least : Option ℕ) (ns : List ℕ) (before all : List Datum) → least ≡ lowest kind → AreBelow least ns → all ≡ before ++ map natural ns → AppendsCells false (map (number_of kind) ns) before (Ok all)

@@ -2,13 +2,13 @@
 use Rattle.std.proofs.Common.{ℕ, List, map, Result, subst, arith}
 use Rattle.aql_value.specs.Datum.{Datum}
 use Rattle.cdf_header.specs.declared.fault.CdfFault.{CdfFault}
-use Rattle.cdf_slab.specs.declared.reading.Reading.{Reading}
+use Rattle.cdf_slab.specs.declared.reading.CellFormat.{CellFormat}
 use Rattle.cdf_slab.specs.declared.window.Window.{Window}
 use Rattle.cdf_slab.specs.Going.{AppendsCells, IsPartOf, StaysKind, ReadsPlaces}
 use Rattle.cdf_slab.specs.Numbers.{number_at}
 use Rattle.cdf_slab.specs.Slab.{IsLate}
 
-pub part_reads : (bytes : List ℕ) (whole part : Reading) (before now : Window) (places : List ℕ) (cells : List Datum) (r : Result (List Datum) CdfFault) → IsPartOf whole part →
+pub part_reads : (bytes : List ℕ) (whole part : CellFormat) (before now : Window) (places : List ℕ) (cells : List Datum) (r : Result (List Datum) CdfFault) → IsPartOf whole part →
     ReadsPlaces bytes part before now places cells r → ReadsPlaces bytes whole before now places cells r
 part_reads bytes whole part before now places cells r p h = λ le is.
     let x = h (omega (arith, p.end, le)) is in (
@@ -17,8 +17,8 @@ part_reads bytes whole part before now places cells r p h = λ le is.
       x.1,
     )
 
-pub part_late : (whole part : Reading) (many : ℕ) (e : CdfFault) → IsPartOf whole part → IsLate part.signed many e → IsLate whole.signed many e
+pub part_late : (whole part : CellFormat) (many : ℕ) (e : CdfFault) → IsPartOf whole part → IsLate part.signed many e → IsLate whole.signed many e
 part_late whole part many e p late = subst (λ b. IsLate b many e) p.signed late
 
-pub part_kinds : (whole part : Reading) (before : List Datum) (r : Result (List Datum) CdfFault) → IsPartOf whole part → StaysKind part.signed before r → StaysKind whole.signed before r
+pub part_kinds : (whole part : CellFormat) (before : List Datum) (r : Result (List Datum) CdfFault) → IsPartOf whole part → StaysKind part.signed before r → StaysKind whole.signed before r
 part_kinds whole part before r p k = subst (λ b. StaysKind b before r) p.signed k

@@ -48,15 +48,15 @@ same_ranges f g i j (suc n) h =
     ap f p ∙ h (k + 1) (omega (arith, lt)) ∙ ap g q))
 
 -- the offset of an index further on
-along_on : (a : DimensionStep) (base i k step n : ℕ) → k < n → (2 ≤ n → step ≡ a.stride * a.weight) → along a base (i + k) ≡ along a base i + (0 + k) * step
+along_on : (a : DimensionStep) (base i k step n : ℕ) → k < n → (2 ≤ n → step ≡ a.stride * a.pitch) → along a base (i + k) ≡ along a base i + (0 + k) * step
 along_on a base i zero step n lt e = let z : i + 0 ≡ i = omega arith in ap (along a base) z ∙ omega arith
 along_on a base i (suc k) step n lt e =
     let s = e (omega (arith, lt)) in
-    let m : (a.start + (i + suc k) * a.stride) * a.weight ≡ (a.start + i * a.stride) * a.weight + (0 + suc k) * (a.stride * a.weight) = omega arith in
+    let m : (a.start + (i + suc k) * a.stride) * a.pitch ≡ (a.start + i * a.stride) * a.pitch + (0 + suc k) * (a.stride * a.pitch) = omega arith in
     ap (λ x. base + x) m ∙ omega arith ∙ ap (λ x. along a base i + (0 + suc k) * x) (sym s)
 
 -- the places of n indices from i on are a step apart
-row_apart : (a : DimensionStep) (base i n here step : ℕ) → here ≡ along a base i → (2 ≤ n → step ≡ a.stride * a.weight) → flat_map (λ j. walk [] (along a base j)) (range_with_len i n) ≡ apart here step n
+row_apart : (a : DimensionStep) (base i n here step : ℕ) → here ≡ along a base i → (2 ≤ n → step ≡ a.stride * a.pitch) → flat_map (λ j. walk [] (along a base j)) (range_with_len i n) ≡ apart here step n
 row_apart a base i n here step h e =
     flat_map_single (along a base) (range_with_len i n)
     ∙ same_ranges (along a base) (λ k. here + k * step) i 0 n (λ k lt. along_on a base i k step n lt e ∙ ap (λ x. x + (0 + k) * step) (sym h))
@@ -69,18 +69,18 @@ pub record RowTurn (a : DimensionStep) (base i n size end here step : ℕ) : Typ
 pub here_is : (a : DimensionStep) (base i size end here : ℕ) → Turn [] a base i size end here → here ≡ along a base i
 here_is a base i size end here t = let e = t.same in cc
 
-exact : (stride weight step m n : ℕ) → step ≡ min (stride * weight) m → (2 ≤ n → step < m) → 2 ≤ n → step ≡ stride * weight
-exact stride weight step m n e near two = let l = near two in omega (arith, e, l)
+exact : (stride pitch step m n : ℕ) → step ≡ min (stride * pitch) m → (2 ≤ n → step < m) → 2 ≤ n → step ≡ stride * pitch
+exact stride pitch step m n e near two = let l = near two in omega (arith, e, l)
 
 pub row_turn : (a : DimensionStep) (base i n size end here step m : ℕ) → RoomSoFar [] a base i size end → Turn [] a base i size end here → i + n ≤ a.count →
-    step ≡ min (a.stride * a.weight) m → (2 ≤ n → step < m) → RowTurn a base i n size end here step
+    step ≡ min (a.stride * a.pitch) m → (2 ≤ n → step < m) → RowTurn a base i n size end here step
 row_turn a base i n size end here step m room t le s near =
     let c : a.count - i ≡ n + (a.count - (i + n)) = omega arith in
     let places : places_left [] a base i ≡ apart here step n ++ places_left [] a base (i + n) =
     ap (λ k. flat_map (λ j. walk [] (along a base j)) (range_with_len i k)) c
     ∙ ap (flat_map (λ j. walk [] (along a base j))) (range-append i n (a.count - (i + n)))
     ∙ flat_map-append (λ j. walk [] (along a base j)) (range_with_len i n) (range_with_len (i + n) (a.count - (i + n)))
-    ∙ ap (λ l. l ++ places_left [] a base (i + n)) (row_apart a base i n here step (here_is a base i size end here t) (exact a.stride a.weight step m n s near)) in
+    ∙ ap (λ l. l ++ places_left [] a base (i + n)) (row_apart a base i n here step (here_is a base i size end here t) (exact a.stride a.pitch step m n s near)) in
     record {
       places = places;
       next = record { within = (AreWithin-append size end (apart here step n) (places_left [] a base (i + n)) (subst (HaveRoom size end) places room.within)).1 };

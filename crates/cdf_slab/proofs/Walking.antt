@@ -2,12 +2,11 @@
 use Rattle.std.proofs.Common.{◌≡◌, ℕ, ◌+◌, ◌*◌, ◌-◌, ◌^◌, min, add_assoc, true, false, cond, List, [], ◌∷◌, ◌++◌, length, map, refl, sym, ap, ◌∙◌, arith}
 use Rattle.std.specs.List.{flat_map, range_with_len}
 use Rattle.std.proofs.Math.Nat.{add-mul, mul_assoc, mul_comm}
-use Rattle.aql_value.specs.Indices.{indices, product}
-use Rattle.aql_value.specs.IndicesLaws.{offset}
+use Rattle.aql_value.specs.Indices.{indices, product, offset}
 use Rattle.aql_value.specs.Laws.Saturation.{saturating_product}
 use Rattle.cdf_header.specs.Header.{Var, Head}
 use Rattle.cdf_header.specs.Format.{type_size}
-use Rattle.cdf_header.specs.Places.{lens, inner, is_record, recsize, place_of, weights_in, weights}
+use Rattle.cdf_header.specs.Places.{lens, inner, is_record, recsize, place_of, pitches_in, pitches}
 use Rattle.cdf_slab.specs.Slab.{point, cell_places}
 use Rattle.cdf_slab.specs.Walk.{DimensionStep, steps, along, walk, capped}
 
@@ -36,7 +35,7 @@ map-twice f g (x ∷ xs) = ap (λ ys. f (g x) ∷ ys) (map-twice f g xs)
 abbrev dot : List DimensionStep → List ℕ → ℕ
 dot [] at = 0
 dot (a ∷ axes) [] = 0
-dot (a ∷ axes) (i ∷ at) = (a.start + i * a.stride) * a.weight + dot axes at
+dot (a ∷ axes) (i ∷ at) = (a.start + i * a.stride) * a.pitch + dot axes at
 
 abbrev counts : List DimensionStep → List ℕ
 counts axes = map (λ a. a.count) axes
@@ -47,38 +46,38 @@ walk_is [] base = ap (λ b. b ∷ []) (omega arith)
 walk_is (a ∷ axes) base =
     same_flat (λ i. walk axes (along a base i)) (λ i. map (λ at. base + dot (a ∷ axes) at) (map (λ rest. i ∷ rest) (indices (counts axes)))) (range_with_len 0 a.count)
     (λ i. walk_is axes (along a base i)
-    ∙ same_map (λ at. along a base i + dot axes at) (λ at. base + dot (a ∷ axes) (i ∷ at)) (indices (counts axes)) (λ at. add_assoc base ((a.start + i * a.stride) * a.weight) (dot axes at))
+    ∙ same_map (λ at. along a base i + dot axes at) (λ at. base + dot (a ∷ axes) (i ∷ at)) (indices (counts axes)) (λ at. add_assoc base ((a.start + i * a.stride) * a.pitch) (dot axes at))
     ∙ sym (map-twice (λ at. base + dot (a ∷ axes) at) (λ rest. i ∷ rest) (indices (counts axes))))
     ∙ sym (map-flat (λ at. base + dot (a ∷ axes) at) (λ i. map (λ rest. i ∷ rest) (indices (counts axes))) (range_with_len 0 a.count))
 
--- an index by weights
-abbrev weighted : List ℕ → List ℕ → ℕ
-weighted [] at = 0
-weighted (w ∷ ws) [] = 0
-weighted (w ∷ ws) (i ∷ at) = i * w + weighted ws at
+-- an index by pitches
+abbrev by_pitches : List ℕ → List ℕ → ℕ
+by_pitches [] at = 0
+by_pitches (w ∷ ws) [] = 0
+by_pitches (w ∷ ws) (i ∷ at) = i * w + by_pitches ws at
 
-offset_weighted : (size : ℕ) (ds at : List ℕ) → offset ds at * size ≡ weighted (weights_in size ds) at
-offset_weighted size [] at = omega arith
-offset_weighted size (d ∷ ds) [] = omega arith
-offset_weighted size (d ∷ ds) (i ∷ at) =
+offset_by_pitches : (size : ℕ) (ds at : List ℕ) → offset ds at * size ≡ by_pitches (pitches_in size ds) at
+offset_by_pitches size [] at = omega arith
+offset_by_pitches size (d ∷ ds) [] = omega arith
+offset_by_pitches size (d ∷ ds) (i ∷ at) =
     add-mul (i * product ds) (offset ds at) size
     ∙ ap (λ x. x + offset ds at * size) (mul_assoc i (product ds) size)
-    ∙ ap (λ x. i * (product ds * size) + x) (offset_weighted size ds at)
+    ∙ ap (λ x. i * (product ds * size) + x) (offset_by_pitches size ds at)
 
-weighted_none : (ws : List ℕ) → weighted ws [] ≡ 0
-weighted_none [] = refl
-weighted_none (w ∷ ws) = refl
+by_pitches_none : (ws : List ℕ) → by_pitches ws [] ≡ 0
+by_pitches_none [] = refl
+by_pitches_none (w ∷ ws) = refl
 
-place_weighted : (ds : List ℕ) (vs : List Var) (v : Var) (at : List ℕ) → place_of ds vs v at ≡ v.begin + weighted (weights ds vs v) at
-place_weighted ds vs v [] = let e = weighted_none (weights ds vs v) in omega (arith, e)
-place_weighted ds vs v (r ∷ at) =
+place_by_pitches : (ds : List ℕ) (vs : List Var) (v : Var) (at : List ℕ) → place_of ds vs v at ≡ v.begin + by_pitches (pitches ds vs v) at
+place_by_pitches ds vs v [] = let e = by_pitches_none (pitches ds vs v) in omega (arith, e)
+place_by_pitches ds vs v (r ∷ at) =
     elim (is_record ds v) as (λ b. cond b (r * recsize ds vs + v.begin + offset (lens ds (inner v.ids)) at * type_size v.kind) (offset (lens ds v.ids) (r ∷ at) * type_size v.kind + v.begin)
-    ≡ v.begin + weighted (cond b (recsize ds vs ∷ weights_in (type_size v.kind) (lens ds (inner v.ids))) (weights_in (type_size v.kind) (lens ds v.ids))) (r ∷ at)) [
-      | true ↦ let e = offset_weighted (type_size v.kind) (lens ds (inner v.ids)) at in omega (arith, e)
-      | false ↦ let e = offset_weighted (type_size v.kind) (lens ds v.ids) (r ∷ at) in omega (arith, e)
+    ≡ v.begin + by_pitches (cond b (recsize ds vs ∷ pitches_in (type_size v.kind) (lens ds (inner v.ids))) (pitches_in (type_size v.kind) (lens ds v.ids))) (r ∷ at)) [
+      | true ↦ let e = offset_by_pitches (type_size v.kind) (lens ds (inner v.ids)) at in omega (arith, e)
+      | false ↦ let e = offset_by_pitches (type_size v.kind) (lens ds v.ids) (r ∷ at) in omega (arith, e)
     ]
 
-dot_point : (ss cs ts ws at : List ℕ) → length cs ≡ length ss → length ts ≡ length ss → length ws ≡ length ss → dot (steps ss cs ts ws) at ≡ weighted ws (point ss ts at)
+dot_point : (ss cs ts ws at : List ℕ) → length cs ≡ length ss → length ts ≡ length ss → length ws ≡ length ss → dot (steps ss cs ts ws) at ≡ by_pitches ws (point ss ts at)
 dot_point [] [] [] [] at a b c = refl
 dot_point (s ∷ ss) (n ∷ cs) (t ∷ ts) (w ∷ ws) [] a b c = refl
 dot_point (s ∷ ss) (n ∷ cs) (t ∷ ts) (w ∷ ws) (i ∷ at) a b c = ap (λ x. (s + i * t) * w + x) (dot_point ss cs ts ws at (omega (arith, a)) (omega (arith, b)) (omega (arith, c)))
@@ -99,14 +98,14 @@ counts_of (s ∷ ss) [] ts ws a b c = absurd (omega (arith, a))
 counts_of (s ∷ ss) (n ∷ cs) [] ws a b c = absurd (omega (arith, b))
 counts_of (s ∷ ss) (n ∷ cs) (t ∷ ts) [] a b c = absurd (omega (arith, c))
 
--- the walk with the variable's weights visits the cells' places
-pub walk_places : (h : Head) (v : Var) (ss cs ts : List ℕ) → length cs ≡ length ss → length ts ≡ length ss → length (weights h.dims h.vars v) ≡ length ss
-    → walk (steps ss cs ts (weights h.dims h.vars v)) v.begin ≡ cell_places h v ss cs ts
+-- the walk with the variable's pitches visits the cells' places
+pub walk_places : (h : Head) (v : Var) (ss cs ts : List ℕ) → length cs ≡ length ss → length ts ≡ length ss → length (pitches h.dims h.vars v) ≡ length ss
+    → walk (steps ss cs ts (pitches h.dims h.vars v)) v.begin ≡ cell_places h v ss cs ts
 walk_places h v ss cs ts a b c =
-    walk_is (steps ss cs ts (weights h.dims h.vars v)) v.begin
-    ∙ ap (λ ns. map (λ i. v.begin + dot (steps ss cs ts (weights h.dims h.vars v)) i) (indices ns)) (counts_of ss cs ts (weights h.dims h.vars v) a b c)
-    ∙ same_map (λ i. v.begin + dot (steps ss cs ts (weights h.dims h.vars v)) i) (λ i. place_of h.dims h.vars v (point ss ts i)) (indices cs)
-    (λ i. ap (λ x. v.begin + x) (dot_point ss cs ts (weights h.dims h.vars v) i a b c) ∙ sym (place_weighted h.dims h.vars v (point ss ts i)))
+    walk_is (steps ss cs ts (pitches h.dims h.vars v)) v.begin
+    ∙ ap (λ ns. map (λ i. v.begin + dot (steps ss cs ts (pitches h.dims h.vars v)) i) (indices ns)) (counts_of ss cs ts (pitches h.dims h.vars v) a b c)
+    ∙ same_map (λ i. v.begin + dot (steps ss cs ts (pitches h.dims h.vars v)) i) (λ i. place_of h.dims h.vars v (point ss ts i)) (indices cs)
+    (λ i. ap (λ x. v.begin + x) (dot_point ss cs ts (pitches h.dims h.vars v) i a b c) ∙ sym (place_by_pitches h.dims h.vars v (point ss ts i)))
 
 same_capped : (f g : ℕ → List ℕ) (xs : List ℕ) → ((i : ℕ) → capped (f i) ≡ capped (g i)) → capped (flat_map f xs) ≡ capped (flat_map g xs)
 same_capped f g [] h = refl
@@ -122,17 +121,17 @@ capped-walk [] b c e = ap (λ p. p ∷ []) e
 capped-walk (a ∷ axes) b c e = same_capped (λ i. walk axes (along a b i)) (λ i. walk axes (along a c i)) (range_with_len 0 a.count)
     (λ i. capped-walk axes (along a b i) (along a c i) (omega (arith, e)))
 
-weight_stops : (x w b c m : ℕ) → min b m ≡ min c m → min (b + x * min w m) m ≡ min (c + x * w) m
-weight_stops x w b c m e =
+pitch_stops : (x w b c m : ℕ) → min b m ≡ min c m → min (b + x * min w m) m ≡ min (c + x * w) m
+pitch_stops x w b c m e =
     let p : min (x * min w m) m ≡ min (x * w) m = ap (λ y. min y m) (mul_comm x (min w m)) ∙ saturating_product w x m ∙ ap (λ y. min y m) (mul_comm w x) in
     omega (arith, e, p)
 
--- so do weights that have stopped
-pub capped-weights : (ss cs ts ws : List ℕ) (b c : ℕ) → min b (2 ^ 128 - 1) ≡ min c (2 ^ 128 - 1) → capped (walk (steps ss cs ts (capped ws)) b) ≡ capped (walk (steps ss cs ts ws) c)
-capped-weights [] cs ts ws b c e = ap (λ p. p ∷ []) e
-capped-weights (s ∷ ss) [] ts ws b c e = ap (λ p. p ∷ []) e
-capped-weights (s ∷ ss) (n ∷ cs) [] ws b c e = ap (λ p. p ∷ []) e
-capped-weights (s ∷ ss) (n ∷ cs) (t ∷ ts) [] b c e = ap (λ p. p ∷ []) e
-capped-weights (s ∷ ss) (n ∷ cs) (t ∷ ts) (w ∷ ws) b c e =
+-- so do pitches that have stopped
+pub capped-pitches : (ss cs ts ws : List ℕ) (b c : ℕ) → min b (2 ^ 128 - 1) ≡ min c (2 ^ 128 - 1) → capped (walk (steps ss cs ts (capped ws)) b) ≡ capped (walk (steps ss cs ts ws) c)
+capped-pitches [] cs ts ws b c e = ap (λ p. p ∷ []) e
+capped-pitches (s ∷ ss) [] ts ws b c e = ap (λ p. p ∷ []) e
+capped-pitches (s ∷ ss) (n ∷ cs) [] ws b c e = ap (λ p. p ∷ []) e
+capped-pitches (s ∷ ss) (n ∷ cs) (t ∷ ts) [] b c e = ap (λ p. p ∷ []) e
+capped-pitches (s ∷ ss) (n ∷ cs) (t ∷ ts) (w ∷ ws) b c e =
     same_capped (λ i. walk (steps ss cs ts (capped ws)) (b + (s + i * t) * min w (2 ^ 128 - 1))) (λ i. walk (steps ss cs ts ws) (c + (s + i * t) * w)) (range_with_len 0 n)
-    (λ i. capped-weights ss cs ts ws (b + (s + i * t) * min w (2 ^ 128 - 1)) (c + (s + i * t) * w) (weight_stops (s + i * t) w b c (2 ^ 128 - 1) e))
+    (λ i. capped-pitches ss cs ts ws (b + (s + i * t) * min w (2 ^ 128 - 1)) (c + (s + i * t) * w) (pitch_stops (s + i * t) w b c (2 ^ 128 - 1) e))

@@ -8,7 +8,7 @@ use Rattle.cdf_header.specs.declared.fault.CdfFault.TheVariants as faults
 use Rattle.cdf_slab.specs.Numbers.{Number, IsCell, cell_of, number_at}
 use Rattle.cdf_slab.specs.Slab.{first_negative}
 use Rattle.cdf_slab.specs.Window.{IsPiece}
-use Rattle.cdf_slab.specs.declared.reading.Reading.{Reading}
+use Rattle.cdf_slab.specs.declared.reading.CellFormat.{CellFormat}
 use Rattle.cdf_slab.specs.declared.window.Window.{Window}
 
 -- a cell more for each number, up to the first that gives none
@@ -28,14 +28,14 @@ abbrev pub StaysKind : (signed : Bool) → (before : List Datum) → Result (Lis
 StaysKind signed before result = Every (IsCell signed) before → IfOk result (Every (IsCell signed))
 
 -- the same is read before the same end or an earlier one
-pub record IsPartOf (whole part : Reading) : Type 0 where
+pub record IsPartOf (whole part : CellFormat) : Type 0 where
   pub kind : part.kind ≡ whole.kind
   pub size : part.size ≡ whole.size
   pub signed : part.signed ≡ whole.signed
   pub end : part.end ≤ whole.end
 
 -- where the bytes reach to the end of what is read and the piece is one of them: a cell more for each number at these places, and the piece stays one
-abbrev pub ReadsPlaces : (bytes : List ℕ) → Reading → (before now : Window) → (places : List ℕ) → (cells : List Datum) → Result (List Datum) CdfFault → Type 0
+abbrev pub ReadsPlaces : (bytes : List ℕ) → CellFormat → (before now : Window) → (places : List ℕ) → (cells : List Datum) → Result (List Datum) CdfFault → Type 0
 ReadsPlaces bytes reading before now places cells result =
     reading.end ≤ length bytes → IsPiece bytes before
     → AppendsCells reading.signed (map (number_at bytes reading.kind) places) cells result × IfOk result (λ _. IsPiece bytes now)

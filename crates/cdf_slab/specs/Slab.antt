@@ -5,11 +5,12 @@ use Rattle.aql_value.specs.Datum.{Table}
 use Rattle.aql_value.specs.Indices.{indices, product}
 use Rattle.aql_value.specs.Lists.{Every}
 use Rattle.aql_value.specs.Partial.{◌>>=◌, each, or_else}
+use Rattle.aql_value.specs.Limits.{saturated}
 use Rattle.cdf_header.specs.declared.fault.CdfFault.{CdfFault}
 use Rattle.cdf_header.specs.declared.fault.CdfFault.TheVariants as faults
 use Rattle.cdf_header.specs.Format.{type_size}
 use Rattle.cdf_header.specs.Header.{Head, Var}
-use Rattle.cdf_header.specs.Places.{place, shape, saturated}
+use Rattle.cdf_header.specs.Places.{place, shape}
 use Rattle.cdf_slab.specs.Numbers.{Number, IsCell, number_at, cell_of}
 
 -- the most cells of a hyperslab

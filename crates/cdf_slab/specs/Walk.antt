@@ -1,7 +1,7 @@
 -- The offsets of the cells, dimension after dimension.
 use Rattle.std.specs.Prelude.{◌≡◌, ℕ, ◌+◌, ◌-◌, ◌*◌, ◌≤◌, cond, nat_lt, List, [], ◌∷◌, map, Option, Some, None}
 use Rattle.std.specs.List.{flat_map, range_with_len}
-use Rattle.cdf_header.specs.Places.{saturated}
+use Rattle.aql_value.specs.Limits.{saturated}
 use Rattle.cdf_slab.specs.declared.axes.Axis.{Axis}
 
 -- one dimension of a hyperslab: where it starts, how many, how far apart, and the bytes from one index to the next
@@ -9,24 +9,24 @@ pub record DimensionStep : Type 0 where
   pub start : ℕ
   pub count : ℕ
   pub stride : ℕ
-  pub weight : ℕ
+  pub pitch : ℕ
 
 -- what the code holds as such a dimension
 abbrev pub step_of : Axis → DimensionStep
-step_of a = record { start = a.start; count = a.count; stride = a.stride; weight = a.weight }
+step_of a = record { start = a.start; count = a.count; stride = a.stride; pitch = a.pitch }
 
 -- the same of each
 abbrev pub steps_of : List Axis → List DimensionStep
 steps_of axes = map step_of axes
 
 -- the steps of these lists
-abbrev pub steps : (start count stride weights : List ℕ) → List DimensionStep
-steps (s ∷ ss) (c ∷ cs) (t ∷ ts) (w ∷ ws) = record { start = s; count = c; stride = t; weight = w } ∷ steps ss cs ts ws
+abbrev pub steps : (start count stride pitches : List ℕ) → List DimensionStep
+steps (s ∷ ss) (c ∷ cs) (t ∷ ts) (w ∷ ws) = record { start = s; count = c; stride = t; pitch = w } ∷ steps ss cs ts ws
 steps ss cs ts ws = []
 
 -- the offset of index i of a dimension
 abbrev pub along : DimensionStep → ℕ → ℕ → ℕ
-along a base i = base + (a.start + i * a.stride) * a.weight
+along a base i = base + (a.start + i * a.stride) * a.pitch
 
 -- the offsets of the cells from a base on
 abbrev pub walk : List DimensionStep → ℕ → List ℕ

@@ -2,7 +2,7 @@
 
 ghost use Rattle.std.specs.Prelude.{◌≡◌, ◌<◌, ◌^◌, IfOk, length};
 ghost use Rattle.std.specs.List.{All};
-ghost use Rattle.cdf_header.specs.Places.{variable_at, weights};
+ghost use Rattle.cdf_header.specs.Places.{variable_at, pitches};
 ghost use Rattle.cdf_slab.specs.Walk.{steps_of, steps, capped};
 
 use aql_value::Memory;
@@ -16,7 +16,7 @@ pub(crate) struct Axis {
     pub start: u128,
     pub count: u64,
     pub stride: u128,
-    pub weight: u128,
+    pub pitch: u128,
 }
 
 /// The dimensions of a hyperslab of a variable, whose counts fit 64 bits.
@@ -34,7 +34,7 @@ pub(crate) fn axes_of(
     requires strides { length stride.now ≡ length start.now }
     requires fit { All (λ c. c < 2 ^ 64) count.now }
     ensures { IfOk result (λ axes. steps_of axes.items ≡ steps start.now count.now stride.now
-        (capped (weights header.now.dims header.now.vars (variable_at header.now v)))) }
+        (capped (pitches header.now.dims header.now.vars (variable_at header.now v)))) }
 {
     let mut axes = Vec::new(alloc);
     'axes: for j in 0..start.len() {
@@ -42,7 +42,7 @@ pub(crate) fn axes_of(
             start: start[j],
             count: count[j] as u64,
             stride: stride[j],
-            weight: header.weight(v, j as u64),
+            pitch: header.pitch(v, j as u64),
         })?;
     }
     Ok(axes)

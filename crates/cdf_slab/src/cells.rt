@@ -12,7 +12,7 @@ ghost use Rattle.nrca_array.specs.Runs.{IsWidth};
 use crate::axes::Axis;
 use crate::faults::last_end;
 use crate::loading::{REACH, run_in};
-use crate::reading::Reading;
+use crate::reading::CellFormat;
 use crate::runs::push_run;
 use crate::window::Window;
 use aql_outside::Files;
@@ -23,7 +23,7 @@ use nrca_array::{Builder, Run};
 const RUN: u64 = 8192;
 
 // The place of an index of a dimension, where those behind it have room.
-fn place_along(a: Axis, rest: &[Axis], base: u128, i: u64, reading: Reading) -> u128
+fn place_along(a: Axis, rest: &[Axis], base: u128, i: u64, reading: CellFormat) -> u128
     requires room { RoomSoFar (steps_of rest.now) (step_of a) base i reading.size reading.end }
     requires below { i < a.count }
     ensures turn { Turn (steps_of rest.now) (step_of a) base i reading.size reading.end result }
@@ -32,14 +32,14 @@ fn place_along(a: Axis, rest: &[Axis], base: u128, i: u64, reading: Reading) -> 
     let index = u128::from(i)
         .saturating_mul(a.stride)
         .saturating_add(a.start);
-    index.saturating_mul(a.weight).saturating_add(base)
+    index.saturating_mul(a.pitch).saturating_add(base)
 }
 
 // The bytes from one index of a dimension to the next, or 2^64-1 where there are more.
 fn step_along(a: Axis) -> u64
-    ensures { result ≡ min (a.stride * a.weight) (2 ^ 64 - 1) }
+    ensures { result ≡ min (a.stride * a.pitch) (2 ^ 64 - 1) }
 {
-    let step = a.stride.saturating_mul(a.weight);
+    let step = a.stride.saturating_mul(a.pitch);
     step.min(u128::from(u64::MAX)) as u64
 }
 
@@ -48,7 +48,7 @@ fn span(axes: &[Axis], size: u64) -> u128 {
     let mut bytes = u128::from(size);
     for a in axes {
         let steps = u128::from(a.count.saturating_sub(1)).saturating_mul(a.stride);
-        bytes = bytes.saturating_add(steps.saturating_mul(a.weight));
+        bytes = bytes.saturating_add(steps.saturating_mul(a.pitch));
     }
     bytes
 }
@@ -61,13 +61,13 @@ fn is_scattered(a: Axis, rest: &[Axis], size: u64) -> bool {
 }
 
 // What is read of the cells of one index: where they are read apart, nothing behind the last.
-fn block(reading: Reading, apart: bool, rest: &[Axis], base: u128) -> Reading
+fn block(reading: CellFormat, apart: bool, rest: &[Axis], base: u128) -> CellFormat
     requires { HaveRoom reading.size reading.end (walk (steps_of rest.now) base) }
     ensures part { IsPartOf reading result }
     ensures within { HaveRoom result.size result.end (walk (steps_of rest.now) base) }
 {
     if apart {
-        reading.before(last_end(reading.end, reading.size, rest, base))
+        reading.with_end(last_end(reading.end, reading.size, rest, base))
     } else {
         reading
     }
@@ -78,7 +78,7 @@ fn read_row<F: Files>(
     files: &mut F,
     name: &str,
     window: &mut Window,
-    reading: Reading,
+    reading: CellFormat,
     a: Axis,
     base: u128,
     cells: Builder,
@@ -105,7 +105,7 @@ fn read_row<F: Files>(
         match run_in(files, name, window, reading, here, step, most) {
             Ok(count) => {
                 let run = Run {
-                    bytes: window.from(here),
+                    bytes: window.bytes_from(here),
                     size: reading.size as usize,
                     step: step as usize,
                     count: count as usize,
@@ -130,7 +130,7 @@ pub(crate) fn read_cells<F: Files>(
     files: &mut F,
     name: &str,
     window: &mut Window,
-    reading: Reading,
+    reading: CellFormat,
     axes: &[Axis],
     base: u128,
     cells: Builder,

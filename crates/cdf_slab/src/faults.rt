@@ -1,7 +1,8 @@
 //! The faults of a hyperslab that the header tells.
 
 ghost use Rattle.std.specs.Prelude.{◌≡◌, ◌+◌, ◌<◌, ◌≤◌, min, length};
-ghost use Rattle.cdf_header.specs.Places.{variable_at, shape, saturated};
+ghost use Rattle.aql_value.specs.Limits.{saturated};
+ghost use Rattle.cdf_header.specs.Places.{variable_at, shape};
 ghost use Rattle.cdf_slab.specs.Slab.{first_zero, first_outside, passes, wrong_variable, is_floating};
 ghost use Rattle.cdf_slab.specs.Walk.{steps_of, walk, last_place, first_past, capped, HaveRoom};
 
@@ -17,13 +18,13 @@ pub(crate) fn variable_fault(header: &Header, v: u64, rank: u64) -> Option<CdfFa
     if found != rank {
         return Some(CdfFault::Rank { found });
     }
-    if floating(header.kind(v)) {
+    if is_float_type(header.kind(v)) {
         return Some(CdfFault::FloatVariable);
     }
     None
 }
 
-fn floating(kind: u32) -> bool
+fn is_float_type(kind: u32) -> bool
     ensures { result ≡ is_floating kind }
 {
     kind == 5 || kind == 6
@@ -114,7 +115,7 @@ fn last_from(axes: &[Axis], base: u128) -> u128
             let index = u128::from(a.count.saturating_sub(1))
                 .saturating_mul(a.stride)
                 .saturating_add(a.start);
-            let here = index.saturating_mul(a.weight).saturating_add(base);
+            let here = index.saturating_mul(a.pitch).saturating_add(base);
             last_from(rest, here)
         }
     }
@@ -138,7 +139,7 @@ fn cut_in_order(end: u64, size: u64, axes: &[Axis], base: u128) -> Option<u128>
                 let index = u128::from(i)
                     .saturating_mul(a.stride)
                     .saturating_add(a.start);
-                let here = index.saturating_mul(a.weight).saturating_add(base);
+                let here = index.saturating_mul(a.pitch).saturating_add(base);
                 match cut_in_order(end, size, rest, here) {
                     Some(found) => return Some(found),
                     None => {}

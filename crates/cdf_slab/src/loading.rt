@@ -8,7 +8,7 @@ ghost use Rattle.cdf_slab.specs.Run.{HoldsRun};
 ghost use Rattle.cdf_slab.specs.Window.{HasBytes, IsRead, IsLoaded, StaysPiece, IsOfPiece};
 ghost use Rattle.nrca_array.specs.Runs.{IsWidth};
 
-use crate::reading::Reading;
+use crate::reading::CellFormat;
 use crate::window::Window;
 use aql_outside::Files;
 use cdf_header::CdfFault;
@@ -103,7 +103,7 @@ fn hold<F: Files>(
 
 // How far a piece from an offset on may reach: where the next number is far away, to the end of the
 // first.
-fn reach(reading: Reading, place: u64, step: u64, most: u64) -> u64
+fn reach(reading: CellFormat, place: u64, step: u64, most: u64) -> u64
     requires { place + reading.size ≤ reading.end }
     ensures some { place + reading.size ≤ result }
     ensures within { result ≤ reading.end }
@@ -121,7 +121,7 @@ pub(crate) fn run_in<F: Files>(
     files: &mut F,
     name: &str,
     window: &mut Window,
-    reading: Reading,
+    reading: CellFormat,
     place: u64,
     step: u64,
     most: u64,

@@ -6,7 +6,7 @@ ghost use Rattle.cdf_header.specs.Format.{type_size};
 /// What is read: numbers of a type and so many bytes, before an end; as pairs of whether they are
 /// below 0 and how far from 0, or as naturals.
 #[derive(Clone, Copy)]
-pub(crate) struct Reading {
+pub(crate) struct CellFormat {
     pub kind: u32,
     pub size: u64,
     pub signed: bool,
@@ -15,15 +15,15 @@ pub(crate) struct Reading {
     ghost small: { end < 2 ^ 64 },
 }
 
-impl Reading {
+impl CellFormat {
     /// The same before another end.
-    pub fn before(self, end: u64) -> Reading
+    pub fn with_end(self, end: u64) -> CellFormat
         ensures kind { result.kind ≡ self.kind }
         ensures size { result.size ≡ self.size }
         ensures signed { result.signed ≡ self.signed }
         ensures end { result.end ≡ end }
     {
-        Reading {
+        CellFormat {
             kind: self.kind,
             size: self.size,
             signed: self.signed,

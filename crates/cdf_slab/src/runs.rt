@@ -7,7 +7,7 @@ ghost use Rattle.cdf_slab.specs.Numbers.{number_of};
 ghost use Rattle.nrca_array.specs.Runs.{IsWidth, IsWhole, run_numbers};
 
 use crate::numbers::{lowest_below, number};
-use crate::reading::Reading;
+use crate::reading::CellFormat;
 use cdf_header::CdfFault;
 use nrca_array::{Builder, Run, RunError};
 use std::alloc::Global;
@@ -15,7 +15,7 @@ use std::alloc::Global;
 /// One cell more, of a number as its bytes spell it.
 pub(crate) fn push_number(
     alloc: Global,
-    reading: Reading,
+    reading: CellFormat,
     x: u64,
     cells: Builder,
 ) -> Result<Builder, CdfFault>
@@ -38,7 +38,7 @@ pub(crate) fn push_number(
 /// The cells of a run of numbers more.
 pub(crate) fn push_run(
     alloc: Global,
-    reading: Reading,
+    reading: CellFormat,
     run: Run,
     cells: Builder,
 ) -> Result<Builder, CdfFault>
@@ -57,7 +57,12 @@ pub(crate) fn push_run(
 }
 
 // A cell more for each number.
-fn push_each(alloc: Global, reading: Reading, run: Run, cells: Builder) -> Result<Builder, CdfFault>
+fn push_each(
+    alloc: Global,
+    reading: CellFormat,
+    run: Run,
+    cells: Builder,
+) -> Result<Builder, CdfFault>
     requires size { IsWidth run.size }
     requires whole { IsWhole run }
     ensures goes { AppendsCells reading.signed

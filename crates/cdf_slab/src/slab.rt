@@ -15,7 +15,7 @@ ghost use Rattle.cdf_slab.specs.Slab.{most_cells, index_fault, early_fault, firs
 use crate::axes::axes_of;
 use crate::cells::read_cells;
 use crate::faults::{cut_from, last_end, outside_dimension, variable_fault, zero_stride};
-use crate::reading::Reading;
+use crate::reading::CellFormat;
 use crate::request::Request;
 use crate::window::Window;
 use aql_outside::Files;
@@ -150,7 +150,7 @@ fn read_some<F: Files>(
     if let Some(at) = cut_from(end, size, &axes, base) {
         return Err(CdfFault::Cut { at });
     }
-    let reading = Reading {
+    let reading = CellFormat {
         kind: header.kind(v),
         size,
         signed: asked.signed,

@@ -8,11 +8,11 @@ use Rattle.aql_value.specs.Datum.{Datum, natural, truth, text, tuple, set, array
 use Rattle.aql_value.specs.Laws.Datum.{data_of-list_of}
 use Rattle.aql_value.specs.Operations.{as_natural, as_truth}
 use Rattle.aql_value.specs.Laws.Operations.{each-naturals}
-use Rattle.aql_value.specs.Partial.{◌>>=◌, each}
+use Rattle.aql_value.specs.Partial.{◌>>=◌, each, or_else}
 use Rattle.aql_value.specs.Laws.Partial.{then-none, each-append_none}
 use Rattle.nrca_array.specs.Groups.{numbers_set}
 use Rattle.nrca_array.specs.Places.{natural_of}
-use Rattle.nrca_array.specs.Packing.{width_for, spelled, truth_byte, naturals_packing, truths_packing, pairs_packing, first, packing, as_pair, parts_pair, pair_datum}
+use Rattle.nrca_array.specs.Packing.{width_for, spelled, truth_byte, naturals_packing, truths_packing, pairs_packing, packing, as_pair, parts_pair, pair_datum}
 
 each-truths : (bs : List Bool) → each as_truth (map truth bs) ≡ Some bs
 each-truths [] = refl
@@ -26,13 +26,13 @@ each-pairs (p ∷ ps) = ap (λ o. o >>= λ l. Some (p ∷ l)) (each-pairs ps)
 pub naturals-pack : (ns : List ℕ) → 1 ≤ length ns → packing (map natural ns) ≡ Some (naturals_packing ns)
 unfolding packing
 naturals-pack [] h = absurd (omega (arith, h))
-naturals-pack (n ∷ ns) h = ap (λ o. first (option_map naturals_packing o) (first (option_map truths_packing (each as_truth (map natural (n ∷ ns)))) (option_map pairs_packing (each as_pair (map natural (n ∷ ns)))))) (each-naturals (n ∷ ns))
+naturals-pack (n ∷ ns) h = ap (λ o. or_else (option_map naturals_packing o) (or_else (option_map truths_packing (each as_truth (map natural (n ∷ ns)))) (option_map pairs_packing (each as_pair (map natural (n ∷ ns)))))) (each-naturals (n ∷ ns))
 
 -- truth values are packed
 pub truths-pack : (bs : List Bool) → 1 ≤ length bs → packing (map truth bs) ≡ Some (truths_packing bs)
 unfolding packing
 truths-pack [] h = absurd (omega (arith, h))
-truths-pack (b ∷ bs) h = ap (λ o. first (option_map truths_packing o) (option_map pairs_packing (each as_pair (map truth (b ∷ bs))))) (each-truths (b ∷ bs))
+truths-pack (b ∷ bs) h = ap (λ o. or_else (option_map truths_packing o) (option_map pairs_packing (each as_pair (map truth (b ∷ bs))))) (each-truths (b ∷ bs))
 
 -- pairs are packed
 pub pairs-pack : (ps : List (Bool × ℕ)) → 1 ≤ length ps → packing (map pair_datum ps) ≡ Some (pairs_packing ps)
@@ -44,13 +44,13 @@ pairs-pack (p ∷ ps) h = ap (λ o. option_map pairs_packing o) (each-pairs (p �
 pub none-packs : (cs : List Datum) → each as_natural cs ≡ None → each as_truth cs ≡ None → each as_pair cs ≡ None → packing cs ≡ None
 unfolding packing
 none-packs [] a b c = refl
-none-packs (x ∷ xs) a b c = λ i. first (option_map naturals_packing (a i)) (first (option_map truths_packing (b i)) (option_map pairs_packing (c i)))
+none-packs (x ∷ xs) a b c = λ i. or_else (option_map naturals_packing (a i)) (or_else (option_map truths_packing (b i)) (option_map pairs_packing (c i)))
 
 pub no_cells : (cs : List Datum) → cs ≡ [] → packing cs ≡ None
 unfolding packing
 no_cells cs e = ap packing e
 
-parts-none : {A B C D : Type 0} (f : A → D) (g : B → D) (h : C → D) (a : Option A) (b : Option B) (c : Option C) → first (option_map f a) (first (option_map g b) (option_map h c)) ≡ None → (a ≡ None) × (b ≡ None) × (c ≡ None)
+parts-none : {A B C D : Type 0} (f : A → D) (g : B → D) (h : C → D) (a : Option A) (b : Option B) (c : Option C) → or_else (option_map f a) (or_else (option_map g b) (option_map h c)) ≡ None → (a ≡ None) × (b ≡ None) × (c ≡ None)
 parts-none f g h None None None e = (refl, refl, refl)
 parts-none f g h None None (Some z) e = cc
 parts-none f g h None (Some y) c e = cc

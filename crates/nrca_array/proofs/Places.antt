@@ -3,8 +3,7 @@ use Rattle.std.proofs.Common.{◌≡◌, ℕ, ◌<◌, true, false, cond, List, 
 use Rattle.std.specs.Prelude.{slice_get, nat_lt}
 use Rattle.std.specs.Cmp.Lexicographic.{pointwise}
 use Rattle.aql_value.specs.Datum.{Table}
-use Rattle.aql_value.specs.Indices.{product, cell, IsTable}
-use Rattle.aql_value.specs.IndicesLaws.{offset}
+use Rattle.aql_value.specs.Indices.{product, cell, IsTable, offset}
 use Rattle.aql_value.specs.Laws.Indices.{paired_is}
 use Rattle.aql_value.specs.Laws.RowMajor.{offset_of_below, offset_of_within}
 

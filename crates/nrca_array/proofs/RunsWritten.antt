@@ -1,5 +1,5 @@
 -- Runs of numbers, written one after the other.
-use Rattle.std.proofs.Common.{◌≡◌, ℕ, ◌+◌, ◌*◌, ◌<◌, ◌≤◌, ◌-◌, List, [], length, take, drop, get_or, sym, ◌∙◌, ap, subst, arith, get_or-drop}
+use Rattle.std.proofs.Common.{◌≡◌, ℕ, ◌+◌, ◌*◌, ◌<◌, ◌≤◌, ◌-◌, List, length, take, drop, get_or, sym, ◌∙◌, ap, subst, arith, get_or-drop}
 use Rattle.std.specs.Prelude.{slice_index}
 use Rattle.std.specs.Int.Bits.{bit_or}
 use Rattle.std.proofs.lemmas.List.{take_all, take_rest}
@@ -17,9 +17,6 @@ run_get size step n bytes k lt = get_or-map-range_with_len (λ j. big_number siz
 
 pub length-run : (size step n : ℕ) (bytes : List ℕ) → length (run size step n bytes) ≡ n
 length-run size step n bytes = length-map-range_with_len (λ j. big_number size (drop (j * step) bytes)) 0 n
-
-pub bits_none : HaveBits [] 0
-bits_none = record { most = omega arith; least = λ m h. h }
 
 -- the bits of one number more
 pub bits_more : (ns : List ℕ) (k x bits : ℕ) → k < length ns → x ≡ slice_index ns k → HaveBits (take k ns) bits → HaveBits (take (k + 1) ns) (bit_or bits x)

@@ -5,7 +5,7 @@ use Rattle.std.specs.List.{flat_map}
 use Rattle.byteorder.specs.Endian.{little_bytes}
 use Rattle.aql_value.specs.Datum.{Datum, natural, truth, tuple, data_of}
 use Rattle.aql_value.specs.Operations.{as_natural, as_truth, as_tuple}
-use Rattle.aql_value.specs.Partial.{◌>>=◌, each}
+use Rattle.aql_value.specs.Partial.{◌>>=◌, each, or_else}
 
 -- the least of 1, 2, 4, 8 and 16 bytes in which a natural below 2^128 fits
 unfoldable pub bytes_for : ℕ → ℕ
@@ -57,14 +57,9 @@ pairs_packing ps =
     let ns = map (λ p. p.1) ps in
     (8 * width_for ns, spelled (width_for ns) ns ++ map (λ p. truth_byte p.0) ps)
 
--- the first of two outcomes that has a value
-abbrev pub first : {A : Type 0} → Option A → Option A → Option A
-first None o = o
-first (Some x) o = Some x
-
 -- the width in bits and the bytes of cells that are packed: one cell or more, all of them naturals, or all truth values, or all pairs of a truth value and a natural
 unfoldable pub packing : List Datum → Option (ℕ × List ℕ)
 packing [] = None
 packing (c ∷ cs) =
-    first (option_map naturals_packing (each as_natural (c ∷ cs)))
-    (first (option_map truths_packing (each as_truth (c ∷ cs))) (option_map pairs_packing (each as_pair (c ∷ cs))))
+    or_else (option_map naturals_packing (each as_natural (c ∷ cs)))
+    (or_else (option_map truths_packing (each as_truth (c ∷ cs))) (option_map pairs_packing (each as_pair (c ∷ cs))))

@@ -6,8 +6,8 @@ use Rattle.nrca_array.specs.Kept.{paired_up}
 use Rattle.nrca_array.specs.Groups.{numbers_set}
 use Rattle.nrca_array.specs.declared.builder.Store.{Store}
 use Rattle.nrca_array.specs.declared.builder.Store.TheVariants as store
-use Rattle.nrca_array.specs.declared.flat.Kept.{Kept}
-use Rattle.nrca_array.specs.declared.flat.Kept.TheVariants as kept
+use Rattle.nrca_array.specs.declared.flat.FlatCells.{FlatCells}
+use Rattle.nrca_array.specs.declared.flat.FlatCells.TheVariants as kept
 
 -- the pairs of truth values and naturals, as values
 abbrev pub pair_cells : List Bool → List ℕ → List Datum
@@ -28,7 +28,7 @@ IsStored (store.Truths bs) = 1 ≤ length bs
 IsStored (store.Pairs ns bs) = (1 ≤ length ns) × (length bs ≡ length ns)
 
 -- the cells of an array
-abbrev pub kept_cells : Kept → List Datum
+abbrev pub kept_cells : FlatCells → List Datum
 kept_cells (kept.Plain items) = items
 kept_cells (kept.Naturals ns) = map natural ns
 kept_cells (kept.Truths bs) = map truth bs
@@ -36,7 +36,7 @@ kept_cells (kept.Pairs ps) = map pair_datum ps
 kept_cells (kept.Groups gs) = map numbers_set gs
 
 -- cells that are packed where they can be, as no sets can
-abbrev pub IsKept : Kept → Type 0
+abbrev pub IsKept : FlatCells → Type 0
 IsKept (kept.Plain items) = packing items ≡ None
 IsKept (kept.Naturals ns) = 1 ≤ length ns
 IsKept (kept.Truths bs) = 1 ≤ length bs
@@ -44,5 +44,5 @@ IsKept (kept.Pairs ps) = 1 ≤ length ps
 IsKept (kept.Groups gs) = Unit {0}
 
 -- the array of these dimensions and cells
-abbrev pub kept_table : List ℕ → Kept → Table
+abbrev pub kept_table : List ℕ → FlatCells → Table
 kept_table ds cells = record { dims = ds; cells = kept_cells cells }

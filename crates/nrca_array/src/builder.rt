@@ -8,7 +8,7 @@ ghost use Rattle.nrca_array.specs.Kept.{paired_up};
 ghost use Rattle.nrca_array.specs.Runs.{IsWidth, IsWhole, AppendsRun, run_numbers};
 ghost use Rattle.nrca_array.specs.Stored.{stored, IsStored, kept_cells, IsKept, pair_cells};
 
-use crate::flat::{Flat, Kept};
+use crate::flat::{Flat, FlatCells};
 use crate::numbers::Numbers;
 use crate::pairs::Pairs;
 use crate::run::{Run, RunError};
@@ -253,18 +253,18 @@ impl Builder {
         ensures { IfOk result (λ flat. flat ≡ table dims self) }
     {
         if saturating_product(dims.dims.as_slice()) == self.len() as u128 {
-            Ok(Some(self.shaped(dims)?))
+            Ok(Some(self.shape_cells(dims)?))
         } else {
             Ok(None)
         }
     }
 
     // The array of dimensions whose product is the number of cells.
-    pub(crate) fn shaped(self, dims: Dims) -> Result<Flat, Memory>
+    pub(crate) fn shape_cells(self, dims: Dims) -> Result<Flat, Memory>
         requires { IsTable (record { dims = dims; cells = self }) }
         ensures { IfOk result (λ flat. flat ≡ record { dims = dims; cells = self }) }
     {
-        let cells = kept(self.cells)?;
+        let cells = pack_cells(self.cells)?;
         Ok(Flat::new(dims, cells))
     }
 
@@ -387,16 +387,16 @@ fn pairs_appended(
 
 // The same cells, no more to be added to.
 #[tactic(auto, using(crate::proofs::PairsKept::pair_lengths))]
-fn kept(cells: Store) -> Result<Kept, Memory>
+fn pack_cells(cells: Store) -> Result<FlatCells, Memory>
     requires { IsStored cells }
     ensures cells { IfOk result (λ kept. kept_cells kept ≡ stored cells) }
     ensures packed { IfOk result (λ kept. IsKept kept) }
 {
     match cells {
-        Store::Plain(items) => Ok(Kept::Plain(items)),
-        Store::Naturals(numbers) => Ok(Kept::Naturals(numbers)),
-        Store::Truths(truths) => Ok(Kept::Truths(truths)),
-        Store::Pairs(numbers, truths) => Ok(Kept::Pairs(Pairs::new(numbers, truths)?)),
+        Store::Plain(items) => Ok(FlatCells::Plain(items)),
+        Store::Naturals(numbers) => Ok(FlatCells::Naturals(numbers)),
+        Store::Truths(truths) => Ok(FlatCells::Truths(truths)),
+        Store::Pairs(numbers, truths) => Ok(FlatCells::Pairs(Pairs::new(numbers, truths)?)),
     }
 }
 

@@ -15,9 +15,8 @@ use crate::groups::Groups;
 use crate::numbers::Numbers;
 use crate::pairs::Pairs;
 use crate::truths::Truths;
-use crate::validity::all_valid;
 use crate::values::pair_value;
-use aql_value::{Cells, Dims, Index, Items, Memory, Value, is_below, place};
+use aql_value::{Cells, Dims, Index, Items, Memory, Value, all_valid, is_below, place};
 use std::alloc::Global;
 use std::marker::Model;
 
@@ -28,12 +27,12 @@ use std::marker::Model;
 #[derive(Drop)]
 pub struct Flat {
     dims: Dims,
-    cells: Kept,
+    cells: FlatCells,
 }
 
 /// The cells of an array, packed where they can be.
 #[derive(Drop)]
-pub(crate) enum Kept {
+pub(crate) enum FlatCells {
     Plain(Items),
     Naturals(Numbers),
     Truths(Truths),
@@ -60,7 +59,7 @@ impl Model for Flat {
 
 impl Flat {
     // The array of these dimensions and cells.
-    pub(crate) fn new(dims: Dims, cells: Kept) -> Flat
+    pub(crate) fn new(dims: Dims, cells: FlatCells) -> Flat
         requires table { IsTable (record { dims = dims; cells = kept_cells cells }) }
         requires packed { IsKept cells }
         ensures { result ≡ record { dims = dims; cells = kept_cells cells } }
@@ -77,7 +76,7 @@ impl Flat {
         for value in items.items {
             packed = packed.push(alloc, value)?;
         }
-        packed.shaped(dims)
+        packed.shape_cells(dims)
     }
 
     /// The array of rank 1 that has so many cells: at an index the set of the second numbers of the
@@ -88,7 +87,7 @@ impl Flat {
     {
         let cells = Groups::of_pairs(alloc, pairs, count)?;
         let dims = vec![in alloc; count as u128]?;
-        Ok(Flat::new(Dims { dims }, Kept::Groups(cells)))
+        Ok(Flat::new(Dims { dims }, FlatCells::Groups(cells)))
     }
 
     /// The dimensions, of which there are 1 to 8. It takes no memory.
@@ -173,7 +172,7 @@ impl Flat {
     pub fn packed(&self) -> Option<(u64, &[u8])>
         ensures { option_map (λ p. (p.0, p.1.now)) result ≡ packing self.now.cells }
     {
-        self.cells.packed()
+        self.cells.packed_bytes()
     }
 
     // Shows that the cells are values of the language.
@@ -206,17 +205,17 @@ impl Flat {
     }
 }
 
-impl Kept {
+impl FlatCells {
     // How many cells.
     fn len(&self) -> usize
         ensures { result ≡ length (kept_cells self.now) }
     {
         match self {
-            Kept::Plain(items) => items.items.len(),
-            Kept::Naturals(numbers) => numbers.len(),
-            Kept::Truths(truths) => truths.len(),
-            Kept::Pairs(pairs) => pairs.len(),
-            Kept::Groups(groups) => groups.len(),
+            FlatCells::Plain(items) => items.items.len(),
+            FlatCells::Naturals(numbers) => numbers.len(),
+            FlatCells::Truths(truths) => truths.len(),
+            FlatCells::Pairs(pairs) => pairs.len(),
+            FlatCells::Groups(groups) => groups.len(),
         }
     }
 
@@ -226,14 +225,14 @@ impl Kept {
         ensures { IfOk result (λ v. slice_get (kept_cells self.now) at ≡ Some (datum v)) }
     {
         match self {
-            Kept::Plain(items) => items.items[at].copy(alloc),
-            Kept::Naturals(numbers) => Ok(Value::Nat(numbers.get(at))),
-            Kept::Truths(truths) => Ok(Value::Bool(truths.get(at))),
-            Kept::Pairs(pairs) => {
+            FlatCells::Plain(items) => items.items[at].copy(alloc),
+            FlatCells::Naturals(numbers) => Ok(Value::Nat(numbers.get(at))),
+            FlatCells::Truths(truths) => Ok(Value::Bool(truths.get(at))),
+            FlatCells::Pairs(pairs) => {
                 let (b, n) = pairs.get(at);
                 pair_value(alloc, b, n)
             }
-            Kept::Groups(groups) => groups.get(alloc, at),
+            FlatCells::Groups(groups) => groups.get(alloc, at),
         }
     }
 
@@ -245,23 +244,23 @@ impl Kept {
         ensures { option_map natural result ≡ natural_of (kept_cells self.now) at }
     {
         match self {
-            Kept::Naturals(numbers) => Some(numbers.get(at)),
+            FlatCells::Naturals(numbers) => Some(numbers.get(at)),
             _ => None,
         }
     }
 
     // The width in bits and the bytes of cells that are packed.
     #[tactic(auto, using(crate::proofs::CellKinds::lent))]
-    fn packed(&self) -> Option<(u64, &[u8])>
+    fn packed_bytes(&self) -> Option<(u64, &[u8])>
         requires { IsKept self.now }
         ensures { option_map (λ p. (p.0, p.1.now)) result ≡ packing (kept_cells self.now) }
     {
         match self {
-            Kept::Plain(_) => None,
-            Kept::Naturals(numbers) => Some(numbers.lend()),
-            Kept::Truths(truths) => Some((8, truths.lend())),
-            Kept::Pairs(pairs) => Some(pairs.lend()),
-            Kept::Groups(_) => None,
+            FlatCells::Plain(_) => None,
+            FlatCells::Naturals(numbers) => Some(numbers.lend()),
+            FlatCells::Truths(truths) => Some((8, truths.lend())),
+            FlatCells::Pairs(pairs) => Some(pairs.lend()),
+            FlatCells::Groups(_) => None,
         }
     }
 
@@ -271,25 +270,25 @@ impl Kept {
         ensures { AreValues (data_of (kept_cells self.now)) }
     {
         match self {
-            Kept::Plain(items) => all_valid(items),
-            Kept::Naturals(numbers) => numbers.fit(),
-            Kept::Truths(_) => (),
-            Kept::Pairs(pairs) => pairs.fit(),
-            Kept::Groups(groups) => groups.valid(),
+            FlatCells::Plain(items) => all_valid(items),
+            FlatCells::Naturals(numbers) => numbers.fit(),
+            FlatCells::Truths(_) => (),
+            FlatCells::Pairs(pairs) => pairs.fit(),
+            FlatCells::Groups(groups) => groups.valid(),
         }
     }
 
     // Equal cells, kept in the same way.
-    fn copy(&self, alloc: Global) -> Result<Kept, Memory>
+    fn copy(&self, alloc: Global) -> Result<FlatCells, Memory>
         ensures cells { IfOk result (λ cells. kept_cells cells ≡ kept_cells self.now) }
         ensures packed { IfOk result (λ cells. IsKept self.now → IsKept cells) }
     {
         Ok(match self {
-            Kept::Plain(items) => Kept::Plain(items.copy(alloc)?),
-            Kept::Naturals(numbers) => Kept::Naturals(numbers.copy(alloc)?),
-            Kept::Truths(truths) => Kept::Truths(truths.copy(alloc)?),
-            Kept::Pairs(pairs) => Kept::Pairs(pairs.copy(alloc)?),
-            Kept::Groups(groups) => Kept::Groups(groups.copy(alloc)?),
+            FlatCells::Plain(items) => FlatCells::Plain(items.copy(alloc)?),
+            FlatCells::Naturals(numbers) => FlatCells::Naturals(numbers.copy(alloc)?),
+            FlatCells::Truths(truths) => FlatCells::Truths(truths.copy(alloc)?),
+            FlatCells::Pairs(pairs) => FlatCells::Pairs(pairs.copy(alloc)?),
+            FlatCells::Groups(groups) => FlatCells::Groups(groups.copy(alloc)?),
         })
     }
 }

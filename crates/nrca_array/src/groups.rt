@@ -2,14 +2,14 @@ ghost use Rattle.std.specs.Prelude.{◌≡◌, ◌<◌, ◌≤◌, ◌^◌, leng
 ghost use Rattle.std.specs.List.{All};
 ghost use Rattle.std.specs.List.Sorted.{IsStrictlySortedBy};
 ghost use Rattle.std.specs.Ordering.{nat_cmp};
-ghost use Rattle.aql_value.specs.Canon.{IsAscending};
 ghost use Rattle.aql_value.specs.Datum.{data_of, natural};
 ghost use Rattle.aql_value.specs.Meaning.{datum};
 ghost use Rattle.aql_value.specs.Valid.{AreValues};
 ghost use Rattle.nrca_sets.specs.Pairs.{pair_cmp};
 ghost use Rattle.nrca_array.specs.Groups.{numbers_set, second_numbers, seconds_below};
 
-use aql_value::{Ascending, Items, Memory, Value};
+use aql_value::{Items, Memory, Value};
+use nrca_sets::ascending;
 use nrca_sets::runs::starts;
 use std::alloc::Global;
 use std::marker::Model;
@@ -138,15 +138,6 @@ fn number_items(alloc: Global, numbers: &[u64]) -> Result<Items, Memory>
         items.push(Value::Nat(u128::from(*n)))?;
     }
     Ok(Items { items })
-}
-
-// Members that ascend as an `Ascending`.
-#[tactic(auto, using(aql_value::specs::Laws::Set::ascending_sorted, aql_value::specs::Laws::Canon::canon_ascending))]
-fn ascending(items: Items) -> Ascending
-    requires { IsAscending items }
-    ensures { result ≡ items }
-{
-    Ascending::from_sorted(items)
 }
 
 // What the type of the members says of them.

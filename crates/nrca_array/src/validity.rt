@@ -2,13 +2,12 @@
 
 ghost use Rattle.std.specs.Prelude.{◌<◌, ◌^◌};
 ghost use Rattle.std.specs.List.{All};
-ghost use Rattle.aql_value.specs.Datum.{data_of};
-ghost use Rattle.aql_value.specs.Valid.{IsValue, AreValues};
+ghost use Rattle.aql_value.specs.Valid.{IsValue};
 ghost use Rattle.nrca_array.specs.Held.{held_datum, table_datum};
 
 use crate::flat::Flat;
 use crate::held::Held;
-use aql_value::{Dims, Items, valid};
+use aql_value::{Dims, valid};
 
 /// Shows that what is held obeys the rules of its kind, at every level: anything that is held does.
 /// Packed cells and members are not visited. It takes no memory.
@@ -40,12 +39,4 @@ fn numbers_small(numbers: &[u128])
     ensures { All (λ n. n < 2 ^ 128) numbers.now }
 {
     let _len = numbers.len();
-}
-
-pub(crate) fn all_valid(items: &Items)
-    ensures { AreValues (data_of items.now) }
-{
-    for x in items.items.iter() {
-        valid(x);
-    }
 }

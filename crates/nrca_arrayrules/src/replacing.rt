@@ -9,7 +9,7 @@ ghost use Rattle.nrca_arrayrules.specs.Replacing.{DimVariable, HasRoom, Replaces
 
 use aql_value::Memory;
 use nrca_subst::shift;
-use nrca_term::Core;
+use nrca_term::{Core, discard};
 use std::alloc::Global;
 
 // Whether the term has the dimensions of variable `at`.
@@ -139,7 +139,3 @@ fn replace_in_parts(alloc: Global, term: &mut Core, depth: u64, size: &Core) -> 
     discard(part);
     Ok(())
 }
-
-// A call of its own, so that a term is let go in frames of its own.
-#[inline(never)]
-fn discard(_term: Core) {}

@@ -83,7 +83,7 @@ pub fn place(dims: &Terms, at: &Terms) -> Option<u128>
 {
     let mut place: u128 = 0;
     for j in 0..dims.0.len() {
-        match below(&dims.0[j], &at.0[j]) {
+        match index_below(&dims.0[j], &at.0[j]) {
             Some((d, i)) => place = place.saturating_mul(d).saturating_add(i),
             None => return None,
         }
@@ -92,7 +92,7 @@ pub fn place(dims: &Terms, at: &Terms) -> Option<u128>
 }
 
 // Both numbers, where the second is below the first.
-fn below(dim: &Core, at: &Core) -> Option<(u128, u128)>
+fn index_below(dim: &Core, at: &Core) -> Option<(u128, u128)>
     ensures { AreBelow (term_of dim.now) (term_of at.now) result }
 {
     match dim.number() {

@@ -36,7 +36,7 @@ pub fn a2(term: Core) -> Core
         Core::Tab { bounds, body: _ } => {
             let mut bounds = bounds;
             let first = mem::replace(&mut bounds.0[0], Core::Bottom);
-            let array = measured(first);
+            let array = measured_array(first);
             array
         }
         _ => unreachable!(),
@@ -164,7 +164,7 @@ fn is_dim_of(term: &Core, rank: u64, array: &Core) -> bool
 }
 
 // The array whose dimension the term is.
-fn measured(dimension: Core) -> Core
+fn measured_array(dimension: Core) -> Core
     requires { (a : Term) × IsDimensionOf a (term_of dimension) }
     ensures { IsDimensionOf (term_of result) (term_of dimension) }
 {

@@ -1,4 +1,3 @@
-pub mod Writes
 pub mod Arms
 pub mod Places
 pub mod Rows

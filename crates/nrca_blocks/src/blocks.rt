@@ -8,7 +8,7 @@ use crate::columns::{
 };
 use crate::lanes::{
     arith_lanes, cells_lanes, chosen_lanes, compared_lanes, nothing, pair_sets_lanes, parts,
-    repeated, sets_lanes, table_lanes, truth_repeated,
+    repeat_number, sets_lanes, table_lanes, truth_repeated,
 };
 use aql_value::Memory;
 use nrca_array::Held;
@@ -33,7 +33,7 @@ pub fn numbers(
 {
     match term {
         Core::Nat(n) => match small(*n) {
-            Some(number) => repeated(alloc, number, count),
+            Some(number) => repeat_number(alloc, number, count),
             None => Ok(None),
         },
         Core::Var(at) => variable(alloc, columns, *at, count),

@@ -6,10 +6,10 @@ ghost use Rattle.nrca_array.specs.Held.{held_datum};
 ghost use Rattle.nrca_term.specs.Meaning.{outcome};
 ghost use Rattle.nrca_blocks.specs.Blocks.{AreLong, ArePairs, ArePairsAt, AreVariable, AreAll, IsLent, IsLentVariable};
 
-use crate::lanes::{copied, repeated};
+use crate::lanes::{copy_front, repeat_number};
 use aql_value::Memory;
 use nrca_array::Held;
-use nrca_loops::{Env, Globals, lent};
+use nrca_loops::{Env, Globals, lend_value};
 use nrca_quick::small::{small_dim, small_held, small_part, small_variable};
 use nrca_term::Core;
 use std::alloc::Global;
@@ -39,7 +39,7 @@ pub(crate) fn variable(
 {
     match columns {
         Columns::Outside(env) => match small_variable(env, at) {
-            Some(number) => repeated(alloc, number, count),
+            Some(number) => repeat_number(alloc, number, count),
             None => Ok(None),
         },
         Columns::Bound(value, rest) => {
@@ -53,7 +53,7 @@ pub(crate) fn variable(
             if at > 0 {
                 variable(alloc, rest, at - 1, count)
             } else {
-                copied(alloc, numbers, count)
+                copy_front(alloc, numbers, count)
             }
         }
         Columns::Pairs(_, rest) => {
@@ -76,7 +76,7 @@ pub(crate) fn held_repeated(
         (λ ns. AreAll (Some (held_datum value.now)) count ns.items)) }
 {
     match small_held(value) {
-        Some(number) => repeated(alloc, number, count),
+        Some(number) => repeat_number(alloc, number, count),
         None => Ok(None),
     }
 }
@@ -93,7 +93,7 @@ pub(crate) fn part_repeated(
         (λ ns. AreAll (part_of at of (held_datum value.now)) count ns.items)) }
 {
     match small_part(value, at, of) {
-        Some(number) => repeated(alloc, number, count),
+        Some(number) => repeat_number(alloc, number, count),
         None => Ok(None),
     }
 }
@@ -109,7 +109,7 @@ pub(crate) fn dim_repeated(
         (λ ns. AreAll (dim_of rank (held_datum array.now)) count ns.items)) }
 {
     match small_dim(array, rank) {
-        Some(number) => repeated(alloc, number, count),
+        Some(number) => repeat_number(alloc, number, count),
         None => Ok(None),
     }
 }
@@ -141,7 +141,7 @@ fn lent_variable<'a, 'b>(
     match columns {
         Columns::Outside(env) => {
             let term = Core::Var(at);
-            let found = lent(&term, globals, &**env);
+            let found = lend_value(&term, globals, &**env);
             drop(term);
             found
         }
@@ -176,7 +176,7 @@ fn lent_position<'a, 'b>(globals: &'a Globals, columns: &'a Columns<'b>, n: u64)
     match columns {
         Columns::Outside(env) => {
             let term = Core::Global(n);
-            let found = lent(&term, globals, &**env);
+            let found = lend_value(&term, globals, &**env);
             drop(term);
             found
         }

@@ -12,7 +12,11 @@ use nrca_quick::{AtMostOne, Small};
 use std::alloc::Global;
 
 /// The number in each lane.
-pub(crate) fn repeated(alloc: Global, number: u64, count: usize) -> Result<Option<Vec<u64>>, Memory>
+pub(crate) fn repeat_number(
+    alloc: Global,
+    number: u64,
+    count: usize,
+) -> Result<Option<Vec<u64>>, Memory>
     ensures { IfOk result (λ o. IfSome o (λ ns. Repeats 0 number count ns.items)) }
 {
     let all = vec![in alloc; number; count]?;
@@ -41,7 +45,7 @@ pub(crate) fn nothing(alloc: Global, count: usize) -> Result<Option<Vec<AtMostOn
 }
 
 /// The first numbers of a column.
-pub(crate) fn copied(
+pub(crate) fn copy_front(
     alloc: Global,
     numbers: &[u64],
     count: usize,

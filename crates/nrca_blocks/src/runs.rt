@@ -46,7 +46,7 @@ pub fn numbers_run(
 {
     match members {
         Members::Below(_) => {
-            let column = counted(alloc, from, to)?;
+            let column = count_up(alloc, from, to)?;
             let found = numbers_over(alloc, body, globals, env, column.as_slice());
             drop(column);
             found
@@ -97,7 +97,7 @@ pub fn few_run(
 {
     match members {
         Members::Below(_) => {
-            let column = counted(alloc, from, to)?;
+            let column = count_up(alloc, from, to)?;
             let found = few_over(alloc, body, globals, env, column.as_slice());
             drop(column);
             found
@@ -130,7 +130,7 @@ pub fn few_run(
 }
 
 // The numbers from one up to another.
-fn counted(alloc: Global, from: u64, to: u64) -> Result<Vec<u64>, Memory>
+fn count_up(alloc: Global, from: u64, to: u64) -> Result<Vec<u64>, Memory>
     requires { from ≤ to }
     ensures { IfOk result (λ ns. ns.items ≡ range_with_len from (to - from)) }
 {
@@ -264,7 +264,7 @@ fn row_run(
     if u128::from(first + count) > dims[rank - 1] {
         return Ok(None);
     }
-    let column = counted(alloc, first, first + count)?;
+    let column = count_up(alloc, first, first + count)?;
     let found = row_over(
         alloc,
         body,

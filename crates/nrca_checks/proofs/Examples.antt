@@ -1,11 +1,11 @@
 -- Comparisons inside of `[[.. | \i<10]]`, computed.
 use Rattle.std.specs.Prelude.{◌≡◌, true, false, [], ◌∷◌, Some, None, refl}
 use Rattle.nrca_term.specs.Nodes.{variable, number, less_term}
-use Rattle.nrca_term.specs.Facts.{Facts, fact, domain}
+use Rattle.nrca_term.specs.Facts.{Context, fact, domain}
 use Rattle.nrca_checks.specs.Deciding.{decided_of}
 
 -- i is below 10
-abbrev below_ten : Facts
+abbrev below_ten : Context
 below_ten = record { facts = fact (less_term (variable 0) (number 10)) domain 1 ∷ []; depth = 1 }
 
 -- `i < 20`

@@ -7,7 +7,7 @@ use Rattle.aql_value.specs.Ops.{compare_by}
 use Rattle.aql_value.specs.Partial.{◌>>=◌}
 use Rattle.aql_value.specs.Strict.{Strict}
 use Rattle.nrca_term.specs.Term.{Term, node, none, part, Form}
-use Rattle.nrca_term.specs.Facts.{Facts, Stands}
+use Rattle.nrca_term.specs.Facts.{Context, FactsHold}
 use Rattle.nrca_term.specs.Meaning.{Outcomes, cden}
 use Rattle.nrca_term.specs.Nodes.{compare_term}
 use Rattle.nrca_term.specs.Firm.{Span, span}
@@ -21,16 +21,16 @@ abbrev pub decision : CompareOp → Span → Span → Option Bool
 decision op a b = a >>= λ x. b >>= decided_by op x
 
 -- the truth value of a comparison that the spans of its sides decide
-abbrev pub decided_of : Facts → Term → Option Bool
+abbrev pub decided_of : Context → Term → Option Bool
 decided_of c (node (Form.strict (Strict.compare op)) (part zero a (part zero b none))) = decision op (span c a) (span c b)
 decided_of c _ = None
 
 -- the comparison has that truth value, wherever the facts hold and both sides have values
-abbrev pub DecidesTruth : Facts → Term → Option Bool → Type 0
-DecidesTruth c t o = (V : Outcomes) (vals : List Datum) → Stands V c vals → (op : CompareOp) (a b : Term) (v w : Datum) (k : Bool) →
+abbrev pub DecidesTruth : Context → Term → Option Bool → Type 0
+DecidesTruth c t o = (V : Outcomes) (vals : List Datum) → FactsHold V c vals → (op : CompareOp) (a b : Term) (v w : Datum) (k : Bool) →
     t ≡ compare_term op a b → o ≡ Some k → cden V vals a ≡ Some v → cden V vals b ≡ Some w → cden V vals t ≡ Some (truth k)
 
 -- the comparison is decided, wherever its sides have spans of which one lies wholly below the other
-abbrev pub DecidesApart : Facts → Term → Option Bool → Type 0
+abbrev pub DecidesApart : Context → Term → Option Bool → Type 0
 DecidesApart c t o = (op : CompareOp) (a b : Term) (x y : ℕ × ℕ) → t ≡ compare_term op a b → span c a ≡ Some x → span c b ≡ Some y →
     (x.1 < y.0) ⊎ (y.1 < x.0) → (k : Bool) × (o ≡ Some k)

@@ -5,7 +5,7 @@ use Rattle.nrca_term.specs.Term.{Term}
 use Rattle.nrca_term.specs.View.{term_of}
 use Rattle.nrca_term.specs.Subst.{shift_term}
 use Rattle.nrca_term.specs.Facts as facts
-use Rattle.nrca_term.specs.Facts.{Facts, SomeFact, LiterallyKnown}
+use Rattle.nrca_term.specs.Facts.{Context, SomeFact, LiterallyKnown}
 use Rattle.nrca_ranges.specs.Context.{known_of, fact_of, context_of}
 use Rattle.nrca_ranges.specs.declared.context.Ctx.{Ctx}
 use Rattle.nrca_ranges.specs.declared.context.Fact.{Fact}
@@ -25,11 +25,11 @@ abbrev pub IsAmong : facts.Known → ℕ → Term → List facts.Fact → Type 0
 IsAmong k d t fs = SomeFact fs (IsFactOf k d t)
 
 -- the term is no fact of this kind
-abbrev pub IsUnknown : facts.Known → Facts → Term → Type 0
+abbrev pub IsUnknown : facts.Known → Context → Term → Type 0
 IsUnknown k c t = LiterallyKnown k c t → ⊥
 
 -- how the term is known, the first of the three kinds
-abbrev pub IsKnown : Facts → Term → Option Known → Type 0
+abbrev pub IsKnown : Context → Term → Option Known → Type 0
 IsKnown c t (Some Domain) = LiterallyKnown facts.domain c t
 IsKnown c t (Some Test) = IsUnknown facts.domain c t × LiterallyKnown facts.test c t
 IsKnown c t (Some Denied) = IsUnknown facts.domain c t × IsUnknown facts.test c t × LiterallyKnown facts.denied c t

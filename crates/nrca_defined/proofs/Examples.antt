@@ -9,7 +9,7 @@ use Rattle.nrca_term.specs.Term.{Term}
 use Rattle.nrca_term.specs.Meaning.{outcome, cden}
 use Rattle.nrca_term.specs.Typing.{arg, ctyped, instances, OutcomesHave}
 use Rattle.nrca_term.specs.Nodes.{variable, number, arith_term, tab_term, sub_term}
-use Rattle.nrca_term.specs.Facts.{Facts, facts_at}
+use Rattle.nrca_term.specs.Facts.{Context, facts_at}
 use Rattle.nrca_term.specs.Firm.{span, firm, is_defined}
 use Rattle.nrca_ranges.specs.Bounds.{Bounds, HasShape, number as of_number}
 use Rattle.nrca_ranges.specs.Certain.{certain}
@@ -24,7 +24,7 @@ abbrev none_defined : ℕ → Bool
 none_defined n = false
 
 -- the facts of the body of `[[b | \i<n]]`
-abbrev below : ℕ → Term → Facts
+abbrev below : ℕ → Term → Context
 below n b = facts_at (tab_term (number n ∷ []) b) (1 ∷ [])
 
 abbrev sum : Term

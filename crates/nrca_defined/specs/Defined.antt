@@ -5,7 +5,7 @@ use Rattle.aql_types.specs.Types.{Ty}
 use Rattle.aql_types.specs.ValueTypes.{HaveTypes}
 use Rattle.nrca_term.specs.Term.{Term}
 use Rattle.nrca_term.specs.Meaning.{Outcomes, cden}
-use Rattle.nrca_term.specs.Facts.{Facts, Stands}
+use Rattle.nrca_term.specs.Facts.{Context, FactsHold}
 use Rattle.nrca_term.specs.Typing.{ctyped, instances, OutcomesHave}
 use Rattle.nrca_laws.specs.Operations.{Valued}
 use Rattle.nrca_ranges.specs.declared.context.Ctx.{Ctx}
@@ -15,10 +15,10 @@ use Rattle.nrca_ranges.specs.Shapes.{Tells, known_shapes}
 
 -- A term with a type has a value wherever the positions' values and those of the variables are of their types, each position has a
 -- value exactly where it has a shape, the shapes are those of the values, and the facts hold.
-unfoldable pub IsDefinedAt : List (Option Bounds) → Facts → Term → Type 0
+unfoldable pub IsDefinedAt : List (Option Bounds) → Context → Term → Type 0
 IsDefinedAt gs c t =
     (given : List Ty) (V : Outcomes) (env : List Ty) (vals : List Datum) (T : Ty) →
-    OutcomesHave (instances given) V → HaveTypes env vals → Tells gs V → Stands V c vals → ctyped (instances given) env t T → Valued (cden V vals t)
+    OutcomesHave (instances given) V → HaveTypes env vals → Tells gs V → FactsHold V c vals → ctyped (instances given) env t T → Valued (cden V vals t)
 
 -- the same in a context
 abbrev pub IsDefinedIn : Ctx → Term → Type 0

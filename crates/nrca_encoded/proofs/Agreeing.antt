@@ -1,14 +1,14 @@
 -- A term has the same value and the same turns over outcomes that agree at each position that it uses.
-use Rattle.std.proofs.Common.{◌≡◌, ℕ, suc, ◌+◌, ◌<◌, List, [], ◌∷◌, ◌++◌, Option, Some, None, refl, sym, ap, ◌∙◌, arith}
+use Rattle.std.proofs.Common.{◌≡◌, ℕ, suc, ◌+◌, ◌<◌, List, [], ◌∷◌, ◌++◌, Option, Some, refl, sym, ap, ◌∙◌, arith}
 use Rattle.std.proofs.Math.Path.{fun_ext}
 use Rattle.aql_value.specs.Datum.{Datum}
 use Rattle.aql_value.specs.Partial.{total}
 use Rattle.nrca_term.specs.Laws.Shifting.{at_length-ext}
 use Rattle.nrca_term.specs.Meaning.{Outcomes, Part, outcome, form_value, at_length, cden, part_values}
 use Rattle.nrca_term.specs.Places.{entered}
-use Rattle.nrca_term.specs.Term.{Term, Parts, node, none, part, Form, child_of, form_of, parts_of}
+use Rattle.nrca_term.specs.Term.{Term, Parts, node, none, part, Form, child_of}
 use Rattle.nrca_term.specs.Turns.{own_turns, settle, parts_settle}
-use Rattle.nrca_encoded.specs.Positions.{IfPosition, EachPosition, EachPositionIn, position_of}
+use Rattle.nrca_encoded.specs.Positions.{IfPosition, EachPosition, EachPositionIn}
 
 -- at this position both have the same outcome
 abbrev pub Same : (V W : Outcomes) → ℕ → Type 0
@@ -73,18 +73,3 @@ mutual
 pub each-part : (P : ℕ → Type 0) (ps : Parts) → ((j : ℕ) (u : Term) → child_of ps j ≡ Some u → EachPosition P u) → EachPositionIn P ps
 each-part P none h = tt
 each-part P (part k t ps) h = (h 0 t refl, each-part P ps (λ j u e. h (suc j) u e))
-
-if-none : (P : ℕ → Type 0) (f : Form) → position_of f ≡ None → IfPosition P f
-if-none P (Form.var i) e = tt
-if-none P (Form.global n) e = cc
-if-none P Form.bind e = tt
-if-none P Form.choose e = tt
-if-none P Form.default e = tt
-if-none P Form.big_union e = tt
-if-none P Form.sum e = tt
-if-none P (Form.tab rank) e = tt
-if-none P (Form.strict s) e = tt
-
--- of a term that is no position, the positions of its parts
-pub each-within : (P : ℕ → Type 0) (t : Term) → position_of (form_of t) ≡ None → EachPositionIn P (parts_of t) → EachPosition P t
-each-within P (node f ps) e h = (if-none P f e, h)

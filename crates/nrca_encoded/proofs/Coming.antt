@@ -13,6 +13,7 @@ use Rattle.nrca_graph.specs.ArrayFree.{array_free}
 use Rattle.nrca_graph.specs.Encoding.{encoded}
 use Rattle.nrca_graph.specs.GraphTurns.{graph_turns}
 use Rattle.nrca_graph.specs.Kept.{MeansEncoded, TurnsWithin}
+use Rattle.nrca_graph.specs.Laws.KeptForms.{outcome-encoded}
 use Rattle.nrca_encoded.specs.Encodings.{IsKept}
 use Rattle.nrca_encoded.specs.Graphs.{IsTypedOver, IsGraph, HasRun, HasValue, RunsEncoded, encoded_turns}
 use Rattle.nrca_encoded.specs.Positions.{EachPosition}
@@ -20,7 +21,6 @@ use Rattle.nrca_encoded.specs.declared.ran.Graph.{Graph}
 use Rattle.nrca_encoded.specs.declared.ran.GraphRan.{GraphRan}
 use Rattle.nrca_encoded.specs.declared.ran.GraphRan.TheVariants as ran
 use Rattle.nrca_encoded.proofs.Agreeing.{Same, cden-agrees, settle-agrees, each-weaker}
-use Rattle.nrca_encoded.proofs.Kept.{outcome-encoded}
 
 -- the numbers of the variables are far below 64 bits
 pub variables-fit : (V : Outcomes) (t : Term) → IsTypedOver V t → top_var t < 2 ^ 62

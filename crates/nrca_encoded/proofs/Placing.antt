@@ -43,12 +43,6 @@ none-more hs (suc i) = at hs i
     at (h ∷ hs) (suc i) = at hs i
 
 module _ (n : ℕ) (old now new : List (Option Held)) where
-  pub no-places : SameOutcomes (outcomes_in old) (outcomes_in old)
-  no-places k = refl
-
-  pub same-reach : ReachesTo n (outcomes_in old) (outcomes_in old)
-  same-reach m l k = k
-
   pub place-more : SameOutcomes (outcomes_in old) (outcomes_in now) → new ≡ now ++ None ∷ [] → SameOutcomes (outcomes_in old) (outcomes_in new)
   place-more s e k = ap (λ hs. outcome (outcomes_in hs) k) e ∙ none-more now k ∙ s k
 

@@ -1,6 +1,5 @@
 -- What blocks of the members of a loop, or of the cells of a tabulation, come to behind each other.
-use Rattle.std.proofs.Common.{◌≡◌, ℕ, ◌+◌, ◌-◌, ◌<◌, ◌≤◌, List, [], ◌∷◌, ◌++◌, Option, Some, None, refl, sym, ◌∙◌, ap, append_assoc, arith}
-use Rattle.std.proofs.lemmas.List.{append-nil}
+use Rattle.std.proofs.Common.{◌≡◌, ℕ, ◌+◌, ◌-◌, ◌<◌, ◌≤◌, List, [], ◌∷◌, ◌++◌, Option, Some, None, refl, ◌∙◌, ap, append_assoc, arith}
 use Rattle.std.specs.List.{slice_range}
 use Rattle.std.specs.Option.{option_map}
 use Rattle.aql_value.specs.Canon.{canon}
@@ -23,16 +22,6 @@ sets_first o = go (all_members o)
     go : (p : Option (List Datum)) → sets_join (Some []) (option_map canon p) ≡ option_map canon p
     go None = refl
     go (Some xs) = ap Some (canon_canon xs)
-
--- no cells more
-pub lists_nothing : (o : Option (List Datum)) → o ≡ lists_join o (Some [])
-lists_nothing None = refl
-lists_nothing (Some xs) = ap Some (sym (append-nil xs))
-
--- the cells of a run, behind none
-pub lists_first : (o : Option (List Datum)) → lists_join (Some []) o ≡ o
-lists_first None = refl
-lists_first (Some xs) = refl
 
 -- one cell more behind others
 pub lists_more : (o vs : Option (List Datum)) (v : Option Datum) → list_with (lists_join o vs) v ≡ lists_join o (list_with vs v)

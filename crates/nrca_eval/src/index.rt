@@ -3,7 +3,6 @@
 
 ghost use Rattle.std.specs.Prelude.{◌≡◌, ◌≤◌, ◌∷◌, [], None, Some, IfOk, IfSome, length};
 ghost use Rattle.std.specs.List.Sorted.{IsStrictlySortedBy};
-ghost use Rattle.aql_value.specs.Operations.{only};
 ghost use Rattle.nrca_array.specs.Held.{held_datum};
 ghost use Rattle.nrca_loops.specs.Parts.{held_values, parts_value};
 ghost use Rattle.nrca_loops.specs.Scope.{boxed_value, held_value};
@@ -20,7 +19,8 @@ use aql_outside::Gate;
 use aql_value::Memory;
 use nrca_array::Held;
 use nrca_forms::{
-    Indexed, index_packed, index_pairs, index_run, join_pairs, packed_pairs, strict, strict_boxed,
+    Indexed, index_packed, index_pairs, index_run, join_pairs, one_part, packed_pairs, strict,
+    strict_boxed,
 };
 use nrca_loops::{Counted, set_of, to_box};
 use nrca_par::EvalFault;
@@ -64,13 +64,13 @@ fn strict_pieces<R: Threads + Sync, G: Gate>(
     match term {
         Core::Index { rank, pairs: _ } => match parts {
             Some(parts) => index_parts(pool, alloc, *rank, parts, budget),
-            None => Ok(undefined()),
+            None => Ok(undefined_answer()),
         },
         _ => strict(alloc, term, parts, budget),
     }
 }
 
-fn undefined() -> Counted<Option<Held>>
+fn undefined_answer() -> Counted<Option<Held>>
     ensures answer { result.answer ≡ None }
     ensures turns { result.turns ≡ 0 }
 {
@@ -92,17 +92,8 @@ fn index_parts<R: Threads + Sync, G: Gate>(
 {
     match one_part(parts) {
         Some(value) => index_value(pool, alloc, rank, value, budget),
-        None => Ok(undefined()),
+        None => Ok(undefined_answer()),
     }
-}
-
-// The one part: none where there is another number of parts.
-#[tactic(auto, using(nrca_forms::proofs::Strictly::parts))]
-fn one_part(parts: Vec<Held>) -> Option<Held>
-    ensures { held_value result ≡ only (held_values parts) }
-{
-    let mut parts = parts;
-    if parts.len() == 1 { parts.pop() } else { None }
 }
 
 // What `index` makes of a value: a turn for each member, and one for each cell of the array.
@@ -117,7 +108,7 @@ fn index_value<R: Threads + Sync, G: Gate>(
     ensures { Applies held_value budget (Strict.index rank) (Some (held_datum value ∷ [])) result }
 {
     let Some(set) = set_of(value) else {
-        return Ok(undefined());
+        return Ok(undefined_answer());
     };
     let count = set.count() as u64;
     if count > budget {

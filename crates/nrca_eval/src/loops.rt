@@ -10,7 +10,7 @@ ghost use Rattle.nrca_eval.specs.Loops.{Adds, Collects, Extends, Fills, Sums, Un
 
 use crate::blocks::{Span, block_cells, block_end, block_sets, block_sum, in_rows, row_end};
 use crate::evaluator::node;
-use crate::members::{Added, all_members, finished, members_and, one_member};
+use crate::members::{Added, all_members, finish_members, members_and, one_member};
 use crate::pieces::in_pieces;
 use crate::scope::{Mode, Scope};
 use aql_outside::Gate;
@@ -22,7 +22,7 @@ use nrca_loops::{
     joined_sets, joined_sums, set_index, sum_and, zeros,
 };
 use nrca_par::EvalFault;
-use nrca_quick::{chosen, few, members_and_few, quick};
+use nrca_quick::{chosen_branch, few, members_and_few, quick};
 use nrca_sets::{Gather, Set};
 use nrca_term::Core;
 use std::thread::Threads;
@@ -79,7 +79,7 @@ pub(crate) fn union_members<R: Threads + Sync, G: Gate>(
     let Mode::Pieces(pool) = &scope.mode else {
         let run = members_run(scope, body, env, members, 0, count, budget)?;
         return Ok(Counted {
-            answer: finished(run.answer),
+            answer: finish_members(run.answer),
             turns: run.turns,
         });
     };
@@ -96,7 +96,7 @@ pub(crate) fn union_members<R: Threads + Sync, G: Gate>(
         };
         let run = members_run(&here, body, env, members, from, to, budget)?;
         Ok(Counted {
-            answer: finished(run.answer),
+            answer: finish_members(run.answer),
             turns: run.turns,
         })
     };
@@ -379,7 +379,7 @@ fn members_each<R: Threads + Sync, G: Gate>(
         } = members.get(scope.alloc, i, sides)?;
         sides = after;
         let inner = Env::Bound(&member, &*env);
-        let branch = chosen(body, scope.globals, &inner);
+        let branch = chosen_branch(body, scope.globals, &inner);
         if let Some(set) = few(branch, scope.globals, &inner) {
             drop(member);
             all = members_and_few(scope.alloc, all, set)?;

@@ -86,7 +86,7 @@ fn extend(alloc: Global, members: Gather, set: Set) -> Result<Gather, Memory>
 }
 
 /// The set of the members, packed as they were gathered. It takes no memory.
-pub(crate) fn finished(members: Option<Gather>) -> Option<Set>
+pub(crate) fn finish_members(members: Option<Gather>) -> Option<Set>
     ensures { result ≡ option_map canon members }
 {
     match members {

@@ -6,11 +6,12 @@ ghost use Rattle.nrca_par.specs.Pieces.{IsPieceAnswer, Joins, SpentOnRun};
 
 use crate::scope::Pool;
 use aql_outside::Gate;
+use aql_value::MOST_WORKERS;
 use nrca_par::{EvalFault, map_pieces};
 use std::alloc::Global;
 use std::thread::Threads;
 
-/// The answers that `work` gives on pieces of n members, in their order: in at most 64 threads, and
+/// The answers that `work` gives on pieces of n members, in their order: in at most `MOST_WORKERS` threads, and
 /// in one piece where the members are more than 2^32.
 pub(crate) fn in_pieces<
     R: Threads + Sync,
@@ -28,7 +29,7 @@ pub(crate) fn in_pieces<
             pool.rt,
             alloc,
             n,
-            pool.workers.max(1).min(64),
+            pool.workers.max(1).min(MOST_WORKERS),
             pool.gate,
             work,
         );

@@ -48,10 +48,6 @@ module _ (rank : ℕ) (ps : List (List ℕ × Datum)) (ranked : AreRanked rank (
   pub none_turns : pairs_value rank (Some ps) ≡ None → pairs_turns rank (Some ps) ≡ 0
   none_turns h = ap (λ o. if_some (o >>= as_array) (λ t. length t.cells)) h
 
-  -- a dimension is past the range
-  pub past_none : all_in_range (dims_of rank ps) ≡ false → pairs_value rank (Some ps) ≡ None
-  past_none h = ap (λ b. if b then array_of (dims_of rank ps) (cells_of (dims_of rank ps) ps) else None) h
-
   module _ (some : 1 ≤ rank) (few : rank ≤ 8) (fits : all_in_range (dims_of rank ps) ≡ true) where
     pub value_made : pairs_value rank (Some ps) ≡ array_of (dims_of rank ps) (cells_of (dims_of rank ps) ps)
     value_made = ap (λ b. if b then array_of (dims_of rank ps) (cells_of (dims_of rank ps) ps) else None) fits

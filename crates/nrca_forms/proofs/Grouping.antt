@@ -11,8 +11,7 @@ use Rattle.std.proofs.Common.{inl, inr}
 use Rattle.std.proofs.lemmas.List.{map-append, append-nil}
 use Rattle.std.proofs.lemmas.List.Elements.{filter-append}
 use Rattle.aql_value.specs.Datum.{Datum}
-use Rattle.aql_value.specs.Indices.{product, indices, offset_of}
-use Rattle.aql_value.specs.IndicesLaws.{offset}
+use Rattle.aql_value.specs.Indices.{product, indices, offset_of, offset}
 use Rattle.aql_value.specs.Laws.Lists.{Every-get}
 use Rattle.aql_value.specs.Operations.{values_at}
 use Rattle.aql_value.specs.Laws.RowMajor.{place_of_index, indices_below, row_major, offset_of_below, offset_of_within}

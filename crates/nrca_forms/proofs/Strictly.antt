@@ -1,12 +1,10 @@
 -- What the strict forms make of values, step by step.
-use Rattle.std.proofs.Common.{◌≡◌, ℕ, zero, suc, ◌+◌, ◌-◌, ◌<◌, ◌≤◌, List, [], ◌∷◌, ◌++◌, length, map, take, drop, Option, Some, None, refl, sym, ◌∙◌, ap, arith, eq-eqb}
+use Rattle.std.proofs.Common.{◌≡◌, ℕ, zero, suc, ◌-◌, ◌<◌, ◌≤◌, List, [], ◌∷◌, ◌++◌, length, map, take, drop, Option, Some, None, refl, sym, ◌∙◌, ap, arith, eq-eqb}
 use Rattle.std.specs.Prelude.{slice_get, nat_eq, if◌then◌else◌}
 use Rattle.std.specs.Option.{option_map}
 use Rattle.std.proofs.lemmas.List.{length-map, map-append, length-take, take-map, drop-map}
 use Rattle.std.proofs.lemmas.Option.{slice_get_past}
-use Rattle.aql_value.specs.Datum.{Datum, natural}
-use Rattle.aql_value.specs.Lists.{below}
-use Rattle.aql_value.specs.Laws.Lists.{below-last}
+use Rattle.aql_value.specs.Datum.{Datum}
 use Rattle.aql_value.specs.Laws.Operations.{index_one, index_more, length_indexed}
 use Rattle.aql_value.specs.Operations.{as_natural, only, nth, array_of, literal_of}
 use Rattle.aql_value.specs.Laws.Operations.{tuple_of-if}
@@ -31,9 +29,6 @@ only_else [] h = refl
 only_else (v ∷ []) h = absurd (h refl)
 only_else (v ∷ w ∷ vs) h = refl
 
-pub nth_suc : (n i : ℕ) (vs : List Datum) → n ≡ suc i → nth n vs ≡ slice_get vs i
-nth_suc n i vs e = ap (λ k. nth k vs) e
-
 pub nth_there : (n i : ℕ) (vs : List Datum) (x : Datum) → i ≡ n - 1 → (n ≡ 0 → ⊥) → slice_get vs i ≡ Some x → nth n vs ≡ Some x
 nth_there zero i vs x e h g = absurd (h refl)
 nth_there (suc n) i vs x e h g = ap (slice_get vs) (let k : n ≡ i = omega (arith, e) in k) ∙ g
@@ -56,9 +51,6 @@ numbers_push hs h = ap (each as_natural) (map-append held_datum hs (h ∷ [])) �
     go None p = refl
     go (Some ys) None = refl
     go (Some ys) (Some y) = refl
-
-pub below_more : (n : ℕ) → map natural (below (n + 1)) ≡ map natural (below n) ++ natural n ∷ []
-below_more n = ap (λ k. map natural (below k)) (let e : n + 1 ≡ suc n = omega arith in e) ∙ ap (map natural) (below-last n) ∙ map-append natural (below n) (n ∷ [])
 
 -- no values take no turns
 pub no_turns : (s : Strict) → strict_turns s None ≡ 0

@@ -5,11 +5,10 @@ use Rattle.std.specs.List.{slice_get, slice_range}
 use Rattle.std.specs.Cmp.Lexicographic.{pointwise}
 use Rattle.std.proofs.Math.ListN.{set}
 use Rattle.std.proofs.Common.{get_or}
-use Rattle.aql_value.specs.IndicesLaws.{offset}
 use Rattle.std.specs.declared.vec.Vec.{Vec}
 use Rattle.std.proofs.Common.{Global}
 use Rattle.aql_value.specs.Datum.{Datum}
-use Rattle.aql_value.specs.Indices.{indices}
+use Rattle.aql_value.specs.Indices.{indices, offset}
 use Rattle.aql_value.specs.Lists.{Every}
 use Rattle.aql_value.specs.Meaning.{datum}
 use Rattle.aql_value.specs.Operations.{as_array, as_indexed, dims_above, indexed, index_numbers, set_of, values_at, all_in_range, greater_each}

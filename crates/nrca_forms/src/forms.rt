@@ -40,6 +40,15 @@ pub fn strict(
     }
 }
 
+/// The one part: none where there is another number of parts.
+#[tactic(auto, using(crate::proofs::Strictly::parts))]
+pub fn one_part(parts: Vec<Held>) -> Option<Held>
+    ensures { held_value result ≡ only (held_values parts) }
+{
+    let mut parts = parts;
+    if parts.len() == 1 { parts.pop() } else { None }
+}
+
 #[tactic(auto, using(crate::proofs::Arities::made_forms))]
 fn make_value(
     alloc: Global,
@@ -83,15 +92,6 @@ fn free_value(value: Result<Option<Held>, Memory>) -> Result<Counted<Option<Held
     ensures { IsFreed value result }
 {
     Ok(free(value?))
-}
-
-// The one part: none where there is another number of parts.
-#[tactic(auto, using(crate::proofs::Strictly::parts))]
-fn one_part(parts: Vec<Held>) -> Option<Held>
-    ensures { held_value result ≡ only (held_values parts) }
-{
-    let mut parts = parts;
-    if parts.len() == 1 { parts.pop() } else { None }
 }
 
 // The two parts: none where there is another number of parts.

@@ -19,7 +19,7 @@ mod runs;
 pub use boxes::{
     cell_boxed, copy_boxed, dim_boxed, strict_boxed, value_cell_boxed, value_dim_boxed,
 };
-pub use forms::strict;
+pub use forms::{one_part, strict};
 pub use index::{Indexed, index_pairs, index_run, join_pairs};
 pub use operations::{numbers, sum_of, table_of, union_of};
 pub use runs::{index_packed, packed_pairs};

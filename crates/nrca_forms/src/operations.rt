@@ -1,6 +1,6 @@
 //! What the operations make of values as they are kept.
 
-ghost use Rattle.std.specs.Prelude.{◌≡◌, ◌<◌, ◌≤◌, ◌∷◌, [], vec_len, IfOk, Some, length, map, slice_get};
+ghost use Rattle.std.specs.Prelude.{◌≡◌, ◌<◌, ◌≤◌, ◌∷◌, [], vec_len, IfOk, Some, length, slice_get};
 ghost use Rattle.std.specs.Option.{option_map};
 ghost use Rattle.aql_value.specs.Datum.{natural, set, data_of};
 ghost use Rattle.aql_value.specs.Meaning.{datum};
@@ -15,7 +15,7 @@ ghost use Rattle.nrca_loops.specs.Parts.{held_values, parts_value, numbers_in, n
 ghost use Rattle.nrca_forms.specs.Made.{dims_datum, items_in, kept_cell};
 ghost use Rattle.nrca_loops.specs.Evaluates.{Applies};
 
-use aql_value::made::both;
+use aql_value::made::{both, naturals};
 use aql_value::{
     ArithOp, Cells, CompareOp, Dims, Index, Items, Memory, Parts, Value, compare as compare_values,
 };
@@ -51,7 +51,7 @@ pub(crate) fn gen_set(
     if n > u128::from(budget) {
         return Err(EvalFault::Spent);
     }
-    let set = Set::below(alloc, n as u64)?;
+    let set = Set::naturals_below(alloc, n as u64)?;
     Ok(Counted {
         answer: Some(Held::Set(set)),
         turns: n as u64,
@@ -349,12 +349,12 @@ pub(crate) fn literal(alloc: Global, rank: usize, parts: Vec<Held>) -> Result<Op
     let Some(dims) = numbers(alloc, Some(front))? else {
         return Ok(None);
     };
-    let cells = packed(alloc, back)?;
+    let cells = pack_cells(alloc, back)?;
     let found = table_of(dims, Some(cells))?;
     Ok(found)
 }
 
-fn packed(alloc: Global, cells: Vec<Held>) -> Result<Builder, Memory>
+fn pack_cells(alloc: Global, cells: Vec<Held>) -> Result<Builder, Memory>
     ensures { IfOk result (λ b. b ≡ held_values cells) }
 {
     let mut packed = Builder::new(alloc);
@@ -381,16 +381,6 @@ fn dims_value(alloc: Global, dims: &Dims, rank: u64) -> Result<Option<Held>, Mem
         Some(parts) => Ok(Some(Held::Value(Value::Row(parts)))),
         None => unreachable!(),
     }
-}
-
-fn naturals(alloc: Global, numbers: &[u128]) -> Result<Items, Memory>
-    ensures { IfOk result (λ items. items ≡ map natural numbers.now) }
-{
-    let mut items = Vec::new(alloc);
-    for n in numbers {
-        items.push(Value::Nat(*n))?;
-    }
-    Ok(Items { items })
 }
 
 fn dims_and(dims: Option<Vec<u128>>, part: Held) -> Result<Option<Vec<u128>>, Memory>

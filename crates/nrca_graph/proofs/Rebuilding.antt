@@ -2,13 +2,13 @@
 use Rattle.std.proofs.Common.{◌≡◌, ◌+◌, ◌<◌, ◌≤◌, ◌^◌, List, [], ◌∷◌, ◌++◌, length, map, take, drop, Result, refl, sym, ap, subst, ◌∙◌, arith, append-nil}
 use Rattle.aql_value.specs.declared.memory.Memory.{Memory}
 use Rattle.nrca_term.specs.declared.term.Core.{Core}
-use Rattle.nrca_term.specs.Term.{Term, Parts, none, part, plain, parts_of, count}
+use Rattle.nrca_term.specs.Term.{Term, Parts, none, part, plain, parts_of, count, terms_in}
 use Rattle.nrca_term.specs.Nodes.{tab_term, sub_term, literal_term}
 use Rattle.nrca_term.specs.Subst.{top_var, parts_top, list_top}
 use Rattle.nrca_term.specs.View.{term_of}
 use Rattle.nrca_term.specs.Laws.Shift.{parts_top-plain}
 use Rattle.nrca_term.specs.Laws.Variants.{count-plain}
-use Rattle.nrca_graph.specs.ArrayFree.{terms_in, term_at, subscript_graph, literal_graph}
+use Rattle.nrca_graph.specs.ArrayFree.{term_at, subscript_graph, literal_graph}
 use Rattle.nrca_graph.specs.Tabulation.{tabulation_graph}
 use Rattle.nrca_graph.specs.Made.{Makes, MayShift, PartsHaveRoom, array_free_of}
 

@@ -3,7 +3,8 @@ use Rattle.std.proofs.Common.{◌≡◌, ℕ, zero, suc, ◌+◌, ◌≤◌, Som
 use Rattle.nrca_term.specs.Term.{Term, Parts, node, none, part, form_of, parts_of, count, child_of, set_child, with_part}
 use Rattle.nrca_term.specs.Subst.{top_var, parts_top}
 use Rattle.nrca_term.specs.Laws.Measure.{form-positive, weight_of-child}
-use Rattle.nrca_graph.specs.ArrayFree.{array_free, array_free_parts, array_free_node}
+use Rattle.nrca_term.specs.Laws.Exchange.{set_child-again}
+use Rattle.nrca_graph.specs.ArrayFree.{array_free, array_free_parts}
 use Rattle.nrca_graph.specs.Laws.Tops.{parts_free-top, parts_free-few}
 use Rattle.nrca_graph.specs.Made.{HasRoom, PartsHaveRoom, with_array_free_parts}
 
@@ -36,19 +37,6 @@ all_free : (ps : Parts) → first_free (count ps) ps ≡ array_free_parts ps
 unfolding first_free
 all_free none = refl
 all_free (part k t ps) = ap (part k (array_free t)) (all_free ps)
-
-set_child-again : (ps : Parts) (i : ℕ) (u v : Term) → set_child (set_child ps i u) i v ≡ set_child ps i v
-set_child-again none i u v = refl
-set_child-again (part k t ps) zero u v = refl
-set_child-again (part k t ps) (suc i) u v = ap (part k t) (set_child-again ps i u v)
-
-count-set_child : (ps : Parts) (i : ℕ) (u : Term) → count (set_child ps i u) ≡ count ps
-count-set_child none i u = refl
-count-set_child (part k t ps) zero u = refl
-count-set_child (part k t ps) (suc i) u = ap suc (count-set_child ps i u)
-
-pub count-with_part : (t : Term) (i : ℕ) (u : Term) → count (parts_of (with_part t i u)) ≡ count (parts_of t)
-count-with_part (node f ps) i u = count-set_child ps i u
 
 -- the state of the walk: the first n parts are done
 unfoldable pub with_first_free : ℕ → Term → Term
@@ -102,7 +90,3 @@ room-free (node f ps) s h e =
       omega (arith, h, form-positive f, a, parts_free-top ps),
       omega (arith, h, form-positive f, c, parts_free-few ps),
     )
-
--- a node is translated after its parts
-pub free-node : (t s u : Term) → s ≡ with_array_free_parts t → u ≡ array_free_node (form_of s) (parts_of s) → u ≡ array_free t
-free-node (node f ps) s u e h = h ∙ ap (λ x. array_free_node (form_of x) (parts_of x)) e

@@ -5,7 +5,7 @@ use Rattle.aql_value.specs.declared.ops.CompareOp.TheVariants as compare_op
 use Rattle.aql_value.specs.Lists.{below}
 use Rattle.aql_value.specs.Operations.{is_rank}
 use Rattle.aql_value.specs.Strict.{Strict}
-use Rattle.nrca_term.specs.Term.{Term, Parts, node, none, part, Form}
+use Rattle.nrca_term.specs.Term.{Term, Parts, node, none, part, Form, terms_in}
 use Rattle.nrca_term.specs.Nodes.{variable, number, truth_term, bottom_term, let_term, if_term, tuple_term, proj_term, arith_term, compare_term, less_term, empty_term, single_term, union_term, big_union_term, get_term}
 use Rattle.nrca_term.specs.Subst.{shift_term}
 use Rattle.nrca_term.specs.Rules.{lets, sizes_term, index_variables}
@@ -14,11 +14,6 @@ use Rattle.nrca_graph.specs.Tabulation.{tabulation_graph, table_term}
 -- whether two terms are equal
 abbrev pub equal_term : Term → Term → Term
 equal_term a b = compare_term compare_op.Equal a b
-
--- the terms of parts, in order
-abbrev pub terms_in : Parts → List Term
-terms_in none = []
-terms_in (part k t ps) = t ∷ terms_in ps
 
 -- the term at a place, counted from 0; `Bottom` where there is none
 abbrev pub term_at : List Term → ℕ → Term

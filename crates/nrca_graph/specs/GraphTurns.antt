@@ -4,15 +4,11 @@ use Rattle.aql_value.specs.Datum.{Datum}
 use Rattle.aql_value.specs.Operations.{as_set, as_array, index_of}
 use Rattle.aql_value.specs.Partial.{◌>>=◌, each, total, if_some}
 use Rattle.aql_value.specs.Strict.{Strict}
+use Rattle.aql_value.specs.Indices.{prefix_products}
 use Rattle.nrca_term.specs.Term.{Term, Parts, node, none, part, Form}
 use Rattle.nrca_term.specs.Meaning.{Outcomes, Part, here, bounds_value, part_values}
 use Rattle.nrca_term.specs.Places.{entered}
 use Rattle.nrca_term.specs.Turns.{own_turns}
-
--- the sum of the products of the first number, of the first two and so on: the members of all sets that nested loops go over
-abbrev pub prefix_products : List ℕ → ℕ
-prefix_products [] = 0
-prefix_products (d ∷ ds) = d + d * prefix_products ds
 
 -- of a subscript: the cells of the array
 abbrev pub subscript_graph_turns : List Datum → ℕ

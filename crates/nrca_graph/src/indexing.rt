@@ -12,7 +12,7 @@ ghost use Rattle.nrca_graph.specs.Made.{Makes, MakesAll, dimensions_above, index
 ghost use Rattle.nrca_graph.specs.Made.{pairs_at_index};
 
 use crate::nodes::{arith, big_union, bind, choose, compare, member, project, single};
-use crate::subscripts::paired;
+use crate::subscripts::values_at;
 use crate::tables::{bind_all, table, variables};
 use aql_value::{ArithOp, CompareOp, Memory};
 use nrca_subst::shift;
@@ -53,7 +53,7 @@ fn values(alloc: Global, rank: u64) -> Result<Core, Memory>
     ensures { Makes result (pairs_at_index rank) }
 {
     let index = index_under(alloc, rank);
-    paired(alloc, Ok(Core::Var(2 * rank)), index)
+    values_at(alloc, Ok(Core::Var(2 * rank)), index)
 }
 
 // The index under one more variable.

@@ -27,7 +27,7 @@ pub(crate) fn literal(alloc: Global, dims: Terms, cells: Terms) -> Result<Core, 
     ensures { Makes result (literal_graph (terms_of dims) (terms_of cells)) }
 {
     let rank = dims.0.len() as u64;
-    let test = filled(alloc, rank, cells.0.len() as u128);
+    let test = test_filled(alloc, rank, cells.0.len() as u128);
     let graph = graph(alloc, rank, cells);
     let table = pair(alloc, variables(alloc, rank), graph);
     let body = choose(alloc, test, table, Ok(Core::Bottom));
@@ -35,7 +35,7 @@ pub(crate) fn literal(alloc: Global, dims: Terms, cells: Terms) -> Result<Core, 
 }
 
 // Whether the dimensions, which are the innermost variables, have n cells.
-fn filled(alloc: Global, rank: u64, n: u128) -> Result<Core, Memory>
+fn test_filled(alloc: Global, rank: u64, n: u128) -> Result<Core, Memory>
     ensures { Makes result (is_filled (index_variables rank) n) }
 {
     let full = compare(
@@ -179,13 +179,13 @@ fn neighbours(alloc: Global, sets: Terms) -> Result<Terms, Memory>
     let mut left = sets.0.into_iter();
     while let Some(set) = left.next() {
         let next = left.next();
-        let joined = joined(alloc, set, next)?;
+        let joined = unite_next(alloc, set, next)?;
         made.push(joined)?;
     }
     Ok(Terms(made))
 }
 
-fn joined(alloc: Global, set: Core, next: Option<Core>) -> Result<Core, Memory>
+fn unite_next(alloc: Global, set: Core, next: Option<Core>) -> Result<Core, Memory>
     ensures { Makes result (joined_term (term_of set) (option_map term_of next)) }
 {
     match next {

@@ -20,13 +20,13 @@ pub(crate) fn subscript(alloc: Global, array: Core, at: Terms) -> Result<Core, M
     ensures { Makes result (subscript_graph (term_of array ∷ terms_of at)) }
 {
     let graph = project(alloc, 2, 2, Ok(Core::Var(1)));
-    let cell = member(alloc, paired(alloc, graph, Ok(Core::Var(1))));
+    let cell = member(alloc, values_at(alloc, graph, Ok(Core::Var(1))));
     let index = shift(sizes(at), 0, 1);
     bind(alloc, Ok(array), bind(alloc, Ok(index), cell))
 }
 
 // The second parts of the pairs of a set whose first part is the index, which stands under the member.
-pub(crate) fn paired(
+pub(crate) fn values_at(
     alloc: Global,
     set: Result<Core, Memory>,
     index: Result<Core, Memory>,

@@ -16,7 +16,7 @@ use crate::literals::literal;
 use crate::subscripts::subscript;
 use crate::tables::tabulation;
 use aql_value::Memory;
-use nrca_term::Core;
+use nrca_term::{Core, discard};
 use std::alloc::Global;
 use std::mem;
 
@@ -67,10 +67,6 @@ fn translate_parts(alloc: Global, term: &mut Core) -> Result<(), Memory>
     discard(part);
     Ok(())
 }
-
-// A call of its own, so that a term is let go in frames of its own.
-#[inline(never)]
-fn discard(_term: Core) {}
 
 #[inline(never)]
 fn replace(alloc: Global, term: &mut Core) -> Result<(), Memory>

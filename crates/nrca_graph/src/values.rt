@@ -1,7 +1,7 @@
 //! The encoding of values.
 
 ghost use Rattle.std.specs.Prelude.{◌≡◌, ◌<◌, ◌≤◌, length, map, IfOk, IsOkAnd};
-ghost use Rattle.aql_value.specs.Datum.{array, data_of, natural};
+ghost use Rattle.aql_value.specs.Datum.{array, data_of};
 ghost use Rattle.aql_value.specs.Indices.{product, indices};
 ghost use Rattle.aql_value.specs.Meaning.{datum};
 ghost use Rattle.aql_value.specs.Operations.{index_value};
@@ -9,7 +9,7 @@ ghost use Rattle.nrca_graph.specs.Encoding.{encoding, graph, IsPairAt};
 ghost use Rattle.nrca_graph.specs.EncodingOrder.{IsOrderedAs};
 ghost use Rattle.nrca_graph.specs.Coded.{IsPair, graph_set};
 
-use aql_value::made::make_pair_list;
+use aql_value::made::{make_pair_list, naturals};
 use aql_value::{Ascending, Cells, Items, Memory, Parts, Value, canon};
 use nrca_loops::{set_index, zeros};
 use std::alloc::Global;
@@ -146,14 +146,4 @@ fn index_value(alloc: Global, at: &[u128]) -> Result<Value, Memory>
         Some(parts) => Ok(Value::Row(parts)),
         None => unreachable!(),
     }
-}
-
-fn naturals(alloc: Global, numbers: &[u128]) -> Result<Items, Memory>
-    ensures { IfOk result (λ items. items ≡ map natural numbers.now) }
-{
-    let mut items = Vec::new(alloc);
-    for n in numbers {
-        items.push(Value::Nat(*n))?;
-    }
-    Ok(Items { items })
 }

@@ -13,7 +13,7 @@ use Rattle.nrca_term.specs.Term.{Term, Parts, node, none, part, plain, Form, chi
 use Rattle.nrca_term.specs.Nodes.{variable, position, number, bottom_term, let_term, tuple_term, arith_term, compare_term, tab_term, sub_term, dim_term}
 use Rattle.nrca_term.specs.Subst.{shift_term, subst_term, uses_of}
 use Rattle.nrca_term.specs.Meaning.{Outcomes}
-use Rattle.nrca_term.specs.Facts.{Facts, no_facts, enter_facts}
+use Rattle.nrca_term.specs.Facts.{Context, no_facts, enter_facts}
 use Rattle.nrca_term.specs.Firm.{is_defined}
 use Rattle.nrca_term.specs.Rules.{Way, Redex, Folds, arithmetic, numbers, truths, texts, generated, member, misshapen, dimension_terms, index_variables}
 use Rattle.nrca_term.specs.Normal.{is_check, FirmAt, IsNormalAt, IsNormal}
@@ -28,10 +28,10 @@ nothing : (i : ℕ) (u : Term) → child_of none i ≡ Some u → ⊥
 nothing i u e = cc
 
 -- a property of each place, from the node and its parts
-no-part : (N : Facts → Term → Type 0) (c : Facts) (f : Form) → N c (node f none) → AllPlaces N c (node f none)
+no-part : (N : Context → Term → Type 0) (c : Context) (f : Form) → N c (node f none) → AllPlaces N c (node f none)
 no-part N c f h = all-node N c (node f none) 0 h (λ i u l e. absurd (nothing i u e)) (λ i u e. absurd (nothing i u e))
 
-one-part : (N : Facts → Term → Type 0) (c : Facts) (f : Form) (j : ℕ) (a : Term) → N c (node f (part j a none)) → AllPlaces N (enter_facts c (node f (part j a none)) 0) a → AllPlaces N c (node f (part j a none))
+one-part : (N : Context → Term → Type 0) (c : Context) (f : Form) (j : ℕ) (a : Term) → N c (node f (part j a none)) → AllPlaces N (enter_facts c (node f (part j a none)) 0) a → AllPlaces N c (node f (part j a none))
 one-part N c f j a h x = all-node N c (node f (part j a none)) 1 h parts few
   where
     parts : FirstParts N c (node f (part j a none)) 1
@@ -42,7 +42,7 @@ one-part N c f j a h x = all-node N c (node f (part j a none)) 1 h parts few
     few zero u e = omega arith
     few (suc i) u e = cc
 
-two-parts : (N : Facts → Term → Type 0) (c : Facts) (f : Form) (j k : ℕ) (a b : Term) → N c (node f (part j a (part k b none))) →
+two-parts : (N : Context → Term → Type 0) (c : Context) (f : Form) (j k : ℕ) (a b : Term) → N c (node f (part j a (part k b none))) →
     AllPlaces N (enter_facts c (node f (part j a (part k b none))) 0) a → AllPlaces N (enter_facts c (node f (part j a (part k b none))) 1) b → AllPlaces N c (node f (part j a (part k b none)))
 two-parts N c f j k a b h x y = all-node N c (node f (part j a (part k b none))) 2 h parts few
   where
@@ -57,11 +57,11 @@ two-parts N c f j k a b h x y = all-node N c (node f (part j a (part k b none)))
     few (suc (suc i)) u e = cc
 
 -- no rule but the checks that may have the node on its left fits it with firm conditions
-abbrev Unfit : (ℕ → Bool) → Facts → Term → Type 0
+abbrev Unfit : (ℕ → Bool) → Context → Term → Type 0
 Unfit D c t = (R : Rule) (r : Term) (ws : List Way) → is_check R ≡ false → left_form R (form_of t) ≡ true → Redex R t r ws → Every (FirmAt D c t) ws → ⊥
 
 -- such a node that is no comparison is normal
-normal-node : (D : ℕ → Bool) (c : Facts) (t : Term) → ((op : CompareOp) (a b : Term) → t ≡ compare_term op a b → ⊥) → Unfit D c t → IsNormalAt D c t
+normal-node : (D : ℕ → Bool) (c : Context) (t : Term) → ((op : CompareOp) (a b : Term) → t ≡ compare_term op a b → ⊥) → Unfit D c t → IsNormalAt D c t
 normal-node D c t not_compared h = record {
   unfit = λ R r ws k x f. h R r ws k (redex-left R t r ws x) x f;
   unknown = λ b i k. not_compared i.0 i.1 i.2 i.3;
@@ -69,21 +69,21 @@ normal-node D c t not_compared h = record {
 }
 
 -- numbers, variables and positions fit no rule
-number-normal : (D : ℕ → Bool) (c : Facts) (n : ℕ) → AllPlaces (IsNormalAt D) c (number n)
+number-normal : (D : ℕ → Bool) (c : Context) (n : ℕ) → AllPlaces (IsNormalAt D) c (number n)
 number-normal D c n = no-part (IsNormalAt D) c (Form.strict (Strict.nat n)) (normal-node D c (number n) (λ op a b e. cc) by)
   where
     by : Unfit D c (number n)
     by B1 r ws k l x f = nothing x.0 bottom_term x.2
     by _ r ws k l x f = cc
 
-variable-normal : (D : ℕ → Bool) (c : Facts) (i : ℕ) → AllPlaces (IsNormalAt D) c (variable i)
+variable-normal : (D : ℕ → Bool) (c : Context) (i : ℕ) → AllPlaces (IsNormalAt D) c (variable i)
 variable-normal D c i = no-part (IsNormalAt D) c (Form.var i) (normal-node D c (variable i) (λ op a b e. cc) by)
   where
     by : Unfit D c (variable i)
     by B1 r ws k l x f = nothing x.0 bottom_term x.2
     by _ r ws k l x f = cc
 
-position-normal : (D : ℕ → Bool) (c : Facts) (n : ℕ) → AllPlaces (IsNormalAt D) c (position n)
+position-normal : (D : ℕ → Bool) (c : Context) (n : ℕ) → AllPlaces (IsNormalAt D) c (position n)
 position-normal D c n = no-part (IsNormalAt D) c (Form.global n) (normal-node D c (position n) (λ op a b e. cc) by)
   where
     by : Unfit D c (position n)
@@ -109,7 +109,7 @@ pair-normal V =
     by _ r ws k l x f = cc
 
 -- arithmetic on a variable is not computed
-arith-normal : (D : ℕ → Bool) (c : Facts) (op : ArithOp) (a : Term) (i : ℕ) → ((d : Facts) → AllPlaces (IsNormalAt D) d a) → (a ≡ bottom_term → ⊥) → AllPlaces (IsNormalAt D) c (arith_term op a (variable i))
+arith-normal : (D : ℕ → Bool) (c : Context) (op : ArithOp) (a : Term) (i : ℕ) → ((d : Context) → AllPlaces (IsNormalAt D) d a) → (a ≡ bottom_term → ⊥) → AllPlaces (IsNormalAt D) c (arith_term op a (variable i))
 arith-normal D c op a i h apart =
     two-parts (IsNormalAt D) c (Form.strict (Strict.arith op)) 0 0 a (variable i) (normal-node D c (arith_term op a (variable i)) (λ op a b e. cc) by) (h _) (variable-normal D _ i)
   where

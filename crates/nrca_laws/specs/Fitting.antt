@@ -7,7 +7,7 @@ use Rattle.nrca_term.specs.Term.{Term, Closed, IsSmall}
 use Rattle.nrca_term.specs.Meaning.{Outcomes, cden}
 use Rattle.nrca_term.specs.Typing.{instances}
 use Rattle.nrca_term.specs.TypedPlaces.{Keeps}
-use Rattle.nrca_term.specs.Facts.{Facts}
+use Rattle.nrca_term.specs.Facts.{Context}
 use Rattle.nrca_term.specs.Rules.{Way, Redex, Side, KnownAt}
 use Rattle.nrca_laws.specs.Keeping.{Given}
 
@@ -22,7 +22,7 @@ IsSmallPart t = (n : ℕ) × Closed n t × IsSmall n t
 
 -- the right side is worth what the left side is, wherever the condition holds
 abbrev pub HasMeaning : Rule → Term → Term → Type 0
-HasMeaning R l r = (given : List Ty) (V : Outcomes) (c : Facts) (env : List Ty) (vals : List Datum) (T : Ty) (ws : List Way) → Given (instances given) V c env vals l T → Redex R l r ws → Side V R vals l r ws → KnownAt R c l → cden V vals l ≡ cden V vals r
+HasMeaning R l r = (given : List Ty) (V : Outcomes) (c : Context) (env : List Ty) (vals : List Datum) (T : Ty) (ws : List Way) → Given (instances given) V c env vals l T → Redex R l r ws → Side V R vals l r ws → KnownAt R c l → cden V vals l ≡ cden V vals r
 
 -- the right side of a rule, with its ways, its meaning and its types
 pub record IsRight (R : Rule) (l r : Term) : Type 0 where

@@ -8,16 +8,16 @@ use Rattle.aql_types.specs.ValueTypes.{HaveTypes}
 use Rattle.nrca_term.specs.Term.{Term}
 use Rattle.nrca_term.specs.Meaning.{Outcomes}
 use Rattle.nrca_term.specs.Typing.{ctyped, OutcomesHave}
-use Rattle.nrca_term.specs.Facts.{Facts, Stands}
+use Rattle.nrca_term.specs.Facts.{Context, FactsHold}
 use Rattle.nrca_term.specs.Valid.{HasConstants, AreValidOutcomes}
 
 -- What is supposed: outcomes of their types that are values of the language, values of the variables likewise, facts of the place
 -- that hold, a term of a type with valid constants.
-pub record Given (G : ℕ → Ty → Type 0) (V : Outcomes) (c : Facts) (env : List Ty) (vals : List Datum) (l : Term) (T : Ty) : Type 0 where
+pub record Given (G : ℕ → Ty → Type 0) (V : Outcomes) (c : Context) (env : List Ty) (vals : List Datum) (l : Term) (T : Ty) : Type 0 where
   pub outcomes : OutcomesHave G V
   pub are : AreValidOutcomes V
   pub have : HaveTypes env vals
   pub values : Every IsValue vals
-  pub facts : Stands V c vals
+  pub facts : FactsHold V c vals
   pub typed : ctyped G env l T
   pub constants : HasConstants l

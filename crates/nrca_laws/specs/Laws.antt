@@ -34,9 +34,8 @@ use Rattle.nrca_term.specs.Meaning.{Outcomes, cden}
 use Rattle.nrca_term.specs.Places.{place_of, reach, put_at}
 use Rattle.nrca_term.specs.Typing.{instances, ctyped, OutcomesHave}
 use Rattle.nrca_term.specs.TypedPlaces.{Keeps}
-use Rattle.nrca_term.specs.Measure.{Below}
-use Rattle.nrca_term.specs.MeasureLaws.{Lowers}
-use Rattle.nrca_term.specs.Facts.{Facts, facts_at, Stands}
+use Rattle.nrca_term.specs.Measure.{Below, Lowers}
+use Rattle.nrca_term.specs.Facts.{Context, facts_at, FactsHold}
 use Rattle.nrca_term.specs.Firm.{span, firm, is_defined}
 use Rattle.nrca_term.specs.Rules.{Way, Redex, IsDefined, DefinedAt, Step, Replay}
 use Rattle.nrca_term.specs.Normal.{FirmAt, IsNormalAt}
@@ -69,13 +68,13 @@ RulesFixWays = (R : Rule) (l r s : Term) (ws us : List Way) → Redex R l r ws �
 
 -- the value of a term is a number within its span, wherever the facts hold
 abbrev pub SpansHold : Type 0
-SpansHold = (V : Outcomes) (vals : List Datum) (c : Facts) → Stands V c vals →
+SpansHold = (V : Outcomes) (vals : List Datum) (c : Context) → FactsHold V c vals →
     (t : Term) (x : ℕ × ℕ) (v : Datum) → span c t ≡ Some x → cden V vals t ≡ Some v → IsInSpan x v
 
 -- a firm typed term has a value, wherever the facts hold
 abbrev pub FirmTermsAreDefined : Type 0
 FirmTermsAreDefined = (given : List Ty) (V : Outcomes) → OutcomesHave (instances given) V →
-    (c : Facts) (t : Term) (env : List Ty) (vals : List Datum) (T : Ty) → HaveTypes env vals → Stands V c vals →
+    (c : Context) (t : Term) (env : List Ty) (vals : List Datum) (T : Ty) → HaveTypes env vals → FactsHold V c vals →
     ctyped (instances given) env t T → firm (is_defined V) c t ≡ true → IsDefined V vals t
 
 -- where the ways from a place of a closed typed term lead to firm terms, these are defined whenever an evaluation comes there
@@ -121,5 +120,5 @@ ChainsAreShort = (given : List Ty) (V : Outcomes) (trace : List code.Step) (t u 
 
 -- places that come before a place and are not above it stay normal where that place is rewritten
 abbrev pub SearchKeeps : Type 0
-SearchKeeps = (V : Outcomes) (c : Facts) (t u : Term) (path : List ℕ) → AllBefore (IsNormalAt (is_defined V)) c t path →
+SearchKeeps = (V : Outcomes) (c : Context) (t u : Term) (path : List ℕ) → AllBefore (IsNormalAt (is_defined V)) c t path →
     AllBefore (IsNormalAt (is_defined V)) c (put_at t path u) path

@@ -58,7 +58,7 @@ impl Globals {
     }
 
     // The value of a position, where it has one.
-    fn lent(&self, n: u64) -> Option<&Held>
+    fn lend_outcome(&self, n: u64) -> Option<&Held>
         ensures { IfSome result (λ h. outcome self.now n ≡ Some (held_datum h.now)) }
     {
         if n == 0 {
@@ -128,13 +128,13 @@ pub fn index_variable(numbers: &[u128], at: u64) -> Result<u128, u64>
 /// The value that a variable or a position holds, where the term is one of these: it is lent and not
 /// copied.
 #[inline(never)]
-pub fn lent<'a, 'b>(term: &Core, globals: &'a Globals, env: &'a Env<'b>) -> Option<&'a Held>
+pub fn lend_value<'a, 'b>(term: &Core, globals: &'a Globals, env: &'a Env<'b>) -> Option<&'a Held>
     ensures value { IfSome result (λ h. IsWorth globals.now env.now term.now h.now) }
     ensures turns { IfSome result (λ h. TakesNone globals.now env.now term.now) }
 {
     match term {
         Core::Var(at) => lent_variable(env, *at),
-        Core::Global(n) => globals.lent(*n),
+        Core::Global(n) => globals.lend_outcome(*n),
         _ => None,
     }
 }

@@ -1,5 +1,5 @@
 //! What an evaluation of core terms is made of: the values that it stands among, and runs of the
-//! members or cells of a loop. `lookup` and `lent` answer what a variable holds; `members_below` and
+//! members or cells of a loop. `lookup` and `lend_value` answer what a variable holds; `members_below` and
 //! its kin the members of a loop, and `Members` each of them by its number. `sum_and` and its kin add
 //! one member or cell to what a run came to; `joined_sums` and its kin join runs that follow each
 //! other, by the laws in `specs/Laws/Run.antt`. Answers that take turns stand within a budget
@@ -20,7 +20,7 @@ mod walk;
 
 pub use boxes::{from_box, keep_part, parts_kept, to_box, truth_kept};
 pub use done::{Counted, Done, join_done};
-pub use env::{Env, Globals, index_variable, lent, lookup, position, variable};
+pub use env::{Env, Globals, index_variable, lend_value, lookup, position, variable};
 pub use joins::{join_sums, joined_cells, joined_sets, joined_sums, merge_sets};
 pub use members::{
     Members, Next, as_members, members_below, members_of_both, natural, row_of, set_of, truth,

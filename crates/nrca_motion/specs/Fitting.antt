@@ -4,7 +4,7 @@ use Rattle.aql_value.specs.Lists.{Every}
 use Rattle.nrca_term.specs.Term.{Term, Form, form_of, parts_of, child_of}
 use Rattle.nrca_term.specs.Nodes.{let_term, if_term, loop_term}
 use Rattle.nrca_term.specs.Subst.{shift_term, is_strict}
-use Rattle.nrca_term.specs.Facts.{Facts}
+use Rattle.nrca_term.specs.Facts.{Context}
 use Rattle.nrca_term.specs.Firm.{firm}
 use Rattle.nrca_term.specs.Rules.{LoopOf}
 use Rattle.nrca_ranges.specs.declared.context.Ctx.{Ctx}
@@ -61,17 +61,17 @@ FitsAt M3 i t = TabBody (form_of t) i × ((a b : Term) × LetBelow t i a b)
 FitsAt M4 i t = IsStrictLet t i
 
 -- A move may be made at a node: it is a left side, and what has to be defined is sure to have a value at the place.
-pub record MayMove (gs : List (Option Bounds)) (c : Facts) (t : Term) (f : Fit) : Type 0 where
+pub record MayMove (gs : List (Option Bounds)) (c : Context) (t : Term) (f : Fit) : Type 0 where
   pub fits : FitsAt f.rule f.part t
   pub defined : (r : Term) (needs : List Term) → MoveRedex f.rule t r needs → Every (IsDefinedAt gs c) needs
 
 -- The rule does not fit, or one of the terms that have to be defined is not firm.
-unfoldable pub IsRefused : List (Option Bounds) → Facts → MoveRule → Term → Type 0
+unfoldable pub IsRefused : List (Option Bounds) → Context → MoveRule → Term → Type 0
 IsRefused gs c R t = (r : Term) (needs : List Term) → MoveRedex R t r needs → Every (λ x. firm (is_shaped gs) c x ≡ true) needs → ⊥
 
 -- Of a term under `count` further variables: it uses none of them, and outside of them it is sure to have a value; or it uses one, or is
 -- not firm there.
-abbrev pub TellsOutside : List (Option Bounds) → Facts → ℕ → Term → Bool → Type 0
+abbrev pub TellsOutside : List (Option Bounds) → Context → ℕ → Term → Bool → Type 0
 TellsOutside gs c count t true = ((u : Term) × (t ≡ shift_term 0 count u)) × ((u : Term) → t ≡ shift_term 0 count u → IsDefinedAt gs c u)
 TellsOutside gs c count t false = (u : Term) → t ≡ shift_term 0 count u → firm (is_shaped gs) c u ≡ true → ⊥
 
@@ -90,7 +90,7 @@ TellsMove c t f true = MayMove (known_shapes c) (context_of c) t f
 TellsMove c t f false = IsRefused (known_shapes c) (context_of c) f.rule t
 
 -- no move is left at a place, by the positions that have a shape
-abbrev pub IsQuietAt : List (Option Bounds) → Facts → Term → Type 0
+abbrev pub IsQuietAt : List (Option Bounds) → Context → Term → Type 0
 IsQuietAt gs c t = IsStillAt (is_shaped gs) c t
 
 -- which move may be made at a node

@@ -2,7 +2,7 @@
 use Rattle.std.proofs.Common.{◌≡◌, ℕ, ◌+◌, ◌<◌, ◌⊎◌, List, [], ◌∷◌, ◌++◌, length, reverse, Option, Some, None}
 use Rattle.nrca_term.specs.Term.{Term}
 use Rattle.nrca_term.specs.Places.{place_of}
-use Rattle.nrca_term.specs.Facts.{Facts, enter_facts, context_at}
+use Rattle.nrca_term.specs.Facts.{Context, enter_facts, context_at}
 use Rattle.nrca_laws.specs.Search.{AllPlaces, AllBefore, FirstParts}
 use Rattle.nrca_ranges.specs.declared.context.Ctx.{Ctx}
 use Rattle.nrca_ranges.specs.Bounds.{Bounds}
@@ -13,23 +13,23 @@ use Rattle.nrca_motion.specs.declared.search.Site.{Site}
 use Rattle.nrca_motion.specs.Fitting.{IsQuietAt, MayMove}
 
 -- no move is left at the places that come before a path and are not above it
-unfoldable pub QuietBefore : List (Option Bounds) → Facts → Term → List ℕ → Type 0
+unfoldable pub QuietBefore : List (Option Bounds) → Context → Term → List ℕ → Type 0
 QuietBefore gs c t p = AllBefore (IsQuietAt gs) c t p
 
 -- no move is left at any place
-unfoldable pub QuietEverywhere : List (Option Bounds) → Facts → Term → Type 0
+unfoldable pub QuietEverywhere : List (Option Bounds) → Context → Term → Type 0
 QuietEverywhere gs c t = AllPlaces (IsQuietAt gs) c t
 
 -- no move is left in the first n parts
-unfoldable pub QuietParts : List (Option Bounds) → Facts → Term → ℕ → Type 0
+unfoldable pub QuietParts : List (Option Bounds) → Context → Term → ℕ → Type 0
 QuietParts gs c t n = FirstParts (IsQuietAt gs) c t n
 
 -- a move may be made at the end of the path
-unfoldable pub MovesAt : List (Option Bounds) → Facts → Term → List ℕ → Fit → Type 0
+unfoldable pub MovesAt : List (Option Bounds) → Context → Term → List ℕ → Fit → Type 0
 MovesAt gs c t p f = (s : Term) × (place_of t p ≡ Some s) × MayMove gs (context_at enter_facts c t p) s f
 
 -- the first place, if there is one
-unfoldable pub TellsPlace : List (Option Bounds) → Facts → Term → Option Site → Type 0
+unfoldable pub TellsPlace : List (Option Bounds) → Context → Term → Option Site → Type 0
 TellsPlace gs c t None = QuietEverywhere gs c t
 TellsPlace gs c t (Some site) = MovesAt gs c t (reverse site.way.items) site.fit × QuietBefore gs c t (reverse site.way.items)
 

@@ -1,12 +1,8 @@
 -- What each move lowers.
 use Rattle.std.proofs.Common.{ℕ, suc, ◌+◌, ◌*◌, Bool, true, false, nat_le}
 use Rattle.nrca_term.specs.Term.{Term, Form}
+use Rattle.nrca_laws.specs.Laws.Lefts.{is_bind}
 use Rattle.nrca_motion.specs.Counting.{Count, pairs_of}
-
--- the let
-abbrev pub is_bind : Form → Bool
-is_bind Form.bind = true
-is_bind _ = false
 
 -- every form but the let, above each of its parts
 abbrev pub is_other : Form → ℕ → Bool

@@ -5,7 +5,7 @@ use Rattle.nrca_term.specs.Term.{Term, weight_of}
 use Rattle.nrca_term.specs.View.{term_of}
 use Rattle.nrca_term.specs.Meaning.{Outcomes, cden}
 use Rattle.nrca_term.specs.Typing.{ctyped, instances, OutcomesHave}
-use Rattle.nrca_term.specs.TypedPlaces.{Keeps}
+use Rattle.nrca_term.specs.TypedPlaces.{KeepsTypes}
 use Rattle.nrca_ranges.specs.Bounds.{Bounds}
 use Rattle.nrca_ranges.specs.Shapes.{Tells}
 use Rattle.nrca_motion.specs.declared.moves.Move as code
@@ -25,10 +25,6 @@ IsStillIn gs t = (V : Outcomes) → Tells gs V → IsStill V t
 unfoldable pub KeepsMeaning : List (Option Bounds) → Term → Term → Type 0
 KeepsMeaning gs t u =
     (given : List Ty) (T : Ty) (V : Outcomes) → ctyped (instances given) [] t T → OutcomesHave (instances given) V → Tells gs V → cden V [] u ≡ cden V [] t
-
--- the second term has each type of the first, whatever types are given for the positions
-unfoldable pub KeepsTypes : Term → Term → Type 0
-KeepsTypes t u = (given : List Ty) → Keeps (instances given) t u
 
 -- Code motion of a plan over the outcomes of the positions: the moves lead to the term, in which no move is left whose terms are firm,
 -- and they are few.

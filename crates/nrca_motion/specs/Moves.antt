@@ -6,7 +6,7 @@ use Rattle.nrca_term.specs.Nodes.{variable, let_term, if_term, loop_term}
 use Rattle.nrca_term.specs.Meaning.{Outcomes}
 use Rattle.nrca_term.specs.Places.{place_of, reach, put_at}
 use Rattle.nrca_term.specs.Subst.{shift_term, subst_term, is_strict}
-use Rattle.nrca_term.specs.Facts.{Facts, context_at, enter_facts, no_facts}
+use Rattle.nrca_term.specs.Facts.{Context, context_at, enter_facts, no_facts}
 use Rattle.nrca_term.specs.Firm.{firm, is_defined}
 use Rattle.nrca_term.specs.Rules.{LoopOf, IsDefined}
 use Rattle.nrca_motion.specs.declared.moves.MoveRule.{MoveRule}
@@ -67,11 +67,11 @@ MoveChain V [] t u = t ≡ u
 MoveChain V (s ∷ moves) t u = (m : Term) × MoveStep V s.rule s.path t m × MoveChain V moves m u
 
 -- at a place with these facts no move fits whose terms are firm, D telling which positions are defined
-abbrev pub IsStillAt : (ℕ → Bool) → Facts → Term → Type 0
+abbrev pub IsStillAt : (ℕ → Bool) → Context → Term → Type 0
 IsStillAt D c t = (R : MoveRule) (r : Term) (needs : List Term) → MoveRedex R t r needs → Every (λ x. firm D c x ≡ true) needs → ⊥
 
 -- at no place of the term is a move left whose terms are firm, from the facts around it
-abbrev pub StillFrom : (ℕ → Bool) → Facts → Term → Type 0
+abbrev pub StillFrom : (ℕ → Bool) → Context → Term → Type 0
 StillFrom D c t = (path : List ℕ) (s : Term) → place_of t path ≡ Some s → IsStillAt D (context_at enter_facts c t path) s
 
 -- a closed term in which no move is left whose terms are firm

@@ -4,6 +4,7 @@ use Rattle.nrca_term.specs.Term.{Term, weight_of}
 use Rattle.nrca_term.specs.View.{term_of}
 use Rattle.nrca_term.specs.Typing.{IsTyped}
 use Rattle.nrca_term.specs.Facts.{no_facts}
+use Rattle.nrca_term.specs.TypedPlaces.{KeepsTypes}
 use Rattle.nrca_ranges.specs.Bounds.{Bounds}
 use Rattle.nrca_ranges.specs.Context.{context_of}
 use Rattle.nrca_ranges.specs.Shapes.{known_shapes}
@@ -13,7 +14,7 @@ use Rattle.nrca_motion.specs.declared.search.Site.{Site}
 use Rattle.nrca_motion.specs.Counting.{number_of}
 use Rattle.nrca_motion.specs.Lowering.{in_loops, measure_of}
 use Rattle.nrca_motion.specs.Found.{QuietBefore, QuietEverywhere, MovesAt}
-use Rattle.nrca_motion.specs.Moved.{IsChained, KeepsTypes}
+use Rattle.nrca_motion.specs.Moved.{IsChained}
 
 -- a typed small term, no move left before the place of the last one, and the context of the root
 pub record IsReady (p : Progress) : Type 0 where

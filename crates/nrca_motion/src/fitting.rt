@@ -8,7 +8,7 @@ ghost use Rattle.nrca_motion.specs.declared.moves.MoveRule.TheVariants.{M1};
 ghost use Rattle.nrca_motion.specs.Fitting.{TellsPart, TellsStrict, TellsLet, HasForm, TellsForm, TellsOut, TellsOperand, TellsMove, TellsNode};
 
 use crate::moves::MoveRule;
-use crate::outside::outside;
+use crate::outside::strengthen;
 use aql_value::Memory;
 use nrca_defined::defined;
 use nrca_ranges::Ctx;
@@ -185,7 +185,7 @@ fn is_sure_outside(alloc: Global, term: &Core, count: u64, ctx: &Ctx) -> Result<
         return Ok(false);
     }
     let copied = term.copy(alloc)?;
-    match outside(alloc, copied, count)? {
+    match strengthen(alloc, copied, count)? {
         Some(lowered) => {
             let found = defined(alloc, &lowered, ctx)?;
             Ok(found)

@@ -10,7 +10,7 @@ ghost use Rattle.nrca_motion.specs.Outside.{HasRoom};
 
 use crate::fitting::Fit;
 use crate::moves::MoveRule;
-use crate::outside::{outside, rotate};
+use crate::outside::{rotate, strengthen};
 use aql_value::Memory;
 use nrca_subst::shift;
 use nrca_term::{Core, open, put};
@@ -52,7 +52,7 @@ fn test_out(alloc: Global, term: Core) -> Result<Core, Memory>
             match chosen {
                 Core::If(test, yes, no) => {
                     let (place, inner) = open(test);
-                    match outside(alloc, inner, 1)? {
+                    match strengthen(alloc, inner, 1)? {
                         Some(outer) => {
                             let looped = put(room, Core::BigUnion { over, body: yes });
                             Ok(Core::If(put(place, outer), looped, no))
@@ -68,7 +68,7 @@ fn test_out(alloc: Global, term: Core) -> Result<Core, Memory>
             match chosen {
                 Core::If(test, yes, no) => {
                     let (place, inner) = open(test);
-                    match outside(alloc, inner, 1)? {
+                    match strengthen(alloc, inner, 1)? {
                         Some(outer) => {
                             let looped = put(room, Core::Sum { over, body: yes });
                             Ok(Core::If(put(place, outer), looped, no))
@@ -95,10 +95,10 @@ fn let_out(alloc: Global, term: Core, i: u64) -> Result<Core, Memory>
         Core::Let(bound, body) => {
             let (first, inner) = open(bound);
             let (second, under) = open(body);
-            match outside(alloc, inner, count)? {
+            match strengthen(alloc, inner, count)? {
                 Some(outer) => {
                     let turned = rotate(alloc, under, count)?;
-                    Ok(around(put(first, outer), second, rest, i, turned))
+                    Ok(wrap_in_let(put(first, outer), second, rest, i, turned))
                 }
                 None => unreachable!(),
             }
@@ -117,14 +117,14 @@ fn strict_out(term: Core, i: u64) -> Core
     match part {
         Core::Let(bound, body) => {
             let (second, under) = open(body);
-            around(bound, second, rest, i, under)
+            wrap_in_let(bound, second, rest, i, under)
         }
         _ => unreachable!(),
     }
 }
 
 // A let around the node, which has room for its variable, with another part i.
-fn around(bound: Box<Core>, room: Box<Core>, rest: Core, i: u64, part: Core) -> Core
+fn wrap_in_let(bound: Box<Core>, room: Box<Core>, rest: Core, i: u64, part: Core) -> Core
     requires has { i < count (parts_of (term_of rest)) }
     requires room { HasRoom (term_of rest) }
     ensures { IsAround (term_of bound.value) (term_of rest) i (term_of part) (term_of result) }

@@ -11,7 +11,7 @@ use nrca_term::Core;
 use std::alloc::Global;
 
 /// The term without its `count` innermost variables, where it uses none of them.
-pub fn outside(alloc: Global, term: Core, count: u64) -> Result<Option<Core>, Memory>
+pub fn strengthen(alloc: Global, term: Core, count: u64) -> Result<Option<Core>, Memory>
     requires { HasRoom (term_of term) }
     ensures { IfOk result (IsOutside count (term_of term)) }
 {

@@ -2,10 +2,11 @@
 
 ghost use Rattle.std.specs.Prelude.{◌≡◌, ◌≤◌, ◌+◌, ◌^◌, IfOk, OnOk, length};
 ghost use Rattle.nrca_term.specs.Term.{weight_of};
+ghost use Rattle.nrca_term.specs.TypedPlaces.{KeepsTypes};
 ghost use Rattle.nrca_term.specs.Typing.{IsTyped};
 ghost use Rattle.nrca_term.specs.View.{term_of};
 ghost use Rattle.nrca_ranges.specs.Shapes.{shapes_in, known_shapes};
-ghost use Rattle.nrca_motion.specs.Moved.{IsChained, IsStillIn, KeepsMeaning, KeepsTypes, IsMovedFrom};
+ghost use Rattle.nrca_motion.specs.Moved.{IsChained, IsStillIn, KeepsMeaning, IsMovedFrom};
 ghost use Rattle.nrca_motion.specs.Progress.{IsBegun, IsReady, IsSiteOf, HasGone, GoesOn};
 
 use crate::moves::{Move, Moves};
@@ -163,7 +164,7 @@ fn take_step(alloc: Global, progress: &mut Progress, site: Site) -> Result<(), M
     let fit = site.fit;
     let mut path = site.way;
     path.reverse();
-    progress.room = left(progress.room, path.len() as u64)?;
+    progress.room = reduce_room(progress.room, path.len() as u64)?;
     move_at(alloc, &mut progress.term, &path, 0, fit)?;
     let copied = Path::from_numbers(alloc, &path)?;
     progress.moves.push(Move {
@@ -175,7 +176,7 @@ fn take_step(alloc: Global, progress: &mut Progress, site: Site) -> Result<(), M
 }
 
 // What is left of the room for numbers, where so many fit in.
-fn left(room: u64, numbers: u64) -> Result<u64, Memory> {
+fn reduce_room(room: u64, numbers: u64) -> Result<u64, Memory> {
     match room.checked_sub(numbers) {
         Some(left) => Ok(left),
         None => Err(Memory),

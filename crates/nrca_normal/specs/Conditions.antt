@@ -12,7 +12,7 @@ use Rattle.nrca_term.specs.Nodes.{truth_term, compare_term}
 use Rattle.nrca_term.specs.Meaning.{Outcomes}
 use Rattle.nrca_term.specs.Typing.{ctyped, instances, OutcomesHave}
 use Rattle.nrca_term.specs.Places.{place_of}
-use Rattle.nrca_term.specs.Facts.{Facts, enter_facts, context_at, Stands, Literally}
+use Rattle.nrca_term.specs.Facts.{Context, enter_facts, context_at, FactsHold, Literally}
 use Rattle.nrca_term.specs.Firm.{span}
 use Rattle.nrca_term.specs.Rules.{Way, Redex, Side, KnownAt, IsComparison}
 use Rattle.nrca_term.specs.Normal.{FirmAt, IsNormalAt}
@@ -27,15 +27,15 @@ use Rattle.nrca_normal.specs.declared.firing.Firing.{Firing}
 use Rattle.nrca_normal.specs.declared.firing.Firing.TheVariants.{Plain, Decided}
 
 -- the term at the end of the way is sure to have a value at its place
-abbrev pub IsDefinedAlong : List (Option Bounds) → Facts → Term → Way → Type 0
+abbrev pub IsDefinedAlong : List (Option Bounds) → Context → Term → Way → Type 0
 IsDefinedAlong gs c t w = (s : Term) → place_of t w ≡ Some s → IsDefinedAt gs (context_at enter_facts c t w) s
 
 -- the answer is true only where the term at the end of the way is sure to have a value, and wherever it is firm
-unfoldable pub TellsAt : List (Option Bounds) → Facts → Term → Way → Bool → Type 0
+unfoldable pub TellsAt : List (Option Bounds) → Context → Term → Way → Bool → Type 0
 TellsAt gs c t w b = (b ≡ true → IsDefinedAlong gs c t w) × (FirmAt (is_shaped gs) c t w → b ≡ true)
 
 -- the same of the terms at the ends of all ways
-unfoldable pub TellsAll : List (Option Bounds) → Facts → Term → List Way → Bool → Type 0
+unfoldable pub TellsAll : List (Option Bounds) → Context → Term → List Way → Bool → Type 0
 TellsAll gs c t ws b = (b ≡ true → Every (IsDefinedAlong gs c t) ws) × (Every (FirmAt (is_shaped gs) c t) ws → b ≡ true)
 
 -- the same in a context: of one way
@@ -66,19 +66,19 @@ abbrev pub IsMade : Firing → Term → Term → Type 0
 IsMade f t r = IsRight (name_of f) t r × Chooses f r
 
 -- The condition of a rule holds with a right side wherever the term is typed, the shapes tell of the outcomes and the facts hold.
-unfoldable pub HasCondition : List (Option Bounds) → Facts → Rule → Term → Term → List Way → Type 0
+unfoldable pub HasCondition : List (Option Bounds) → Context → Rule → Term → Term → List Way → Type 0
 HasCondition gs c R t r ws =
     (given : List Ty) (V : Outcomes) (env : List Ty) (vals : List Datum) (T : Ty) →
-    OutcomesHave (instances given) V → HaveTypes env vals → Tells gs V → Stands V c vals → ctyped (instances given) env t T → Side V R vals t r ws
+    OutcomesHave (instances given) V → HaveTypes env vals → Tells gs V → FactsHold V c vals → ctyped (instances given) env t T → Side V R vals t r ws
 
 -- A rewriting may be done at a node: its rule fits, knows what it must know of the place, and its condition holds.
-pub record MayFire (gs : List (Option Bounds)) (c : Facts) (t : Term) (f : Firing) : Type 0 where
+pub record MayFire (gs : List (Option Bounds)) (c : Context) (t : Term) (f : Firing) : Type 0 where
   pub applicable : IsApplicable f t
   pub known : KnownAt (name_of f) c t
   pub condition : (r : Term) (ws : List Way) → Redex (name_of f) t r ws → Chooses f r → HasCondition gs c (name_of f) t r ws
 
 -- The rule does not fit, or one of the terms that it wants defined is not firm.
-unfoldable pub IsRefused : List (Option Bounds) → Facts → Rule → Term → Type 0
+unfoldable pub IsRefused : List (Option Bounds) → Context → Rule → Term → Type 0
 IsRefused gs c R t = (r : Term) (ws : List Way) → Redex R t r ws → Every (FirmAt (is_shaped gs) c t) ws → ⊥
 
 -- whether a rule may be applied
@@ -91,11 +91,11 @@ abbrev pub IsRefusedAt : Ctx → Term → Rule → Type 0
 IsRefusedAt c t R = IsRefused (known_shapes c) (context_of c) R t
 
 -- the comparison is no fact of the place, whatever its truth value
-unfoldable pub IsUnknown : Facts → Term → Type 0
+unfoldable pub IsUnknown : Context → Term → Type 0
 IsUnknown c t = (b : Bool) → IsComparison t → Literally c b t → ⊥
 
 -- the term is no comparison of two firm sides with spans of which one lies wholly below the other
-unfoldable pub IsUndecided : List (Option Bounds) → Facts → Term → Type 0
+unfoldable pub IsUndecided : List (Option Bounds) → Context → Term → Type 0
 IsUndecided gs c t =
     (op : CompareOp) (a b : Term) (x y : ℕ × ℕ) → t ≡ compare_term op a b → Every (FirmAt (is_shaped gs) c t) ((0 ∷ []) ∷ (1 ∷ []) ∷ []) →
     span c a ≡ Some x → span c b ≡ Some y → (x.1 < y.0) ⊎ (y.1 < x.0) → ⊥
@@ -110,7 +110,7 @@ abbrev pub IsUnknownAt : Ctx → Term → Type 0
 IsUnknownAt c t = IsUnknown (context_of c) t
 
 -- normal at a place, by the positions that have a shape
-abbrev pub IsQuietAt : List (Option Bounds) → Facts → Term → Type 0
+abbrev pub IsQuietAt : List (Option Bounds) → Context → Term → Type 0
 IsQuietAt gs c t = IsNormalAt (is_shaped gs) c t
 
 -- which rewriting may be done at a node

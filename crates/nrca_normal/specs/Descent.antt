@@ -7,7 +7,7 @@ use Rattle.nrca_term.specs.Term.{Term, weight_of}
 use Rattle.nrca_term.specs.Typing.{ctyped, instances}
 use Rattle.nrca_term.specs.Places.{put_at}
 use Rattle.nrca_term.specs.Facts.{enter_facts, no_facts}
-use Rattle.nrca_term.specs.MeasureLaws.{left_of}
+use Rattle.nrca_term.specs.Measure.{left_of}
 use Rattle.nrca_ranges.specs.declared.context.Mark.{Mark}
 use Rattle.nrca_ranges.specs.Bounds.{Bounds}
 use Rattle.nrca_ranges.specs.Context.{context_of, at_mark}

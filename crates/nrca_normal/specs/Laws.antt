@@ -2,7 +2,6 @@
 pub mod Ways
 pub mod Order
 pub mod Conditions
-pub mod Entering
 pub mod Rewriting
 pub mod Typed
 pub mod Quiet

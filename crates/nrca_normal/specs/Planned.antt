@@ -6,7 +6,7 @@ use Rattle.nrca_term.specs.Term.{Term, weight_of}
 use Rattle.nrca_term.specs.View.{term_of}
 use Rattle.nrca_term.specs.Meaning.{Outcomes}
 use Rattle.nrca_term.specs.Typing.{ctyped, instances, OutcomesHave}
-use Rattle.nrca_term.specs.TypedPlaces.{Keeps}
+use Rattle.nrca_term.specs.TypedPlaces.{KeepsTypes}
 use Rattle.nrca_term.specs.Rules.{Replay}
 use Rattle.nrca_term.specs.Normal.{IsNormal}
 use Rattle.nrca_ranges.specs.Bounds.{Bounds}
@@ -21,10 +21,6 @@ IsReplayed gs t trace u =
 -- the term is normal, where the shapes tell which positions have a value
 unfoldable pub IsNormalIn : List (Option Bounds) → Term → Type 0
 IsNormalIn gs t = (V : Outcomes) → Tells gs V → IsNormal V t
-
--- the second term has each type of the first, whatever types are given for the positions
-unfoldable pub KeepsTypes : Term → Term → Type 0
-KeepsTypes t u = (given : List Ty) → Keeps (instances given) t u
 
 -- a plan of a closed term over the outcomes of the positions: the recorded rewritings lead to it, no rule is left whose condition is seen
 -- to hold, and the rewritings are few

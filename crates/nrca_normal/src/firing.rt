@@ -129,8 +129,8 @@ fn decided_at(alloc: Global, term: &Core, ctx: &mut Ctx) -> Result<Option<Firing
     }
 }
 
-// Whether the term is a left side of the rule.
-fn fits(rule: Rule, term: &Core) -> bool
+/// Whether the term is a left side of the rule.
+pub fn fits(rule: Rule, term: &Core) -> bool
     ensures { RuleFits rule result (term_of term.now) }
 {
     match rule {

@@ -16,4 +16,5 @@ mod normal;
 mod order;
 mod ways;
 
+pub use firing::fits;
 pub use normal::{Plan, normalise, normalise_over};

@@ -2,11 +2,12 @@
 
 ghost use Rattle.std.specs.Prelude.{◌≡◌, ◌≤◌, ◌<◌, ◌+◌, ◌^◌, IfOk, length};
 ghost use Rattle.nrca_term.specs.Term.{weight_of};
+ghost use Rattle.nrca_term.specs.TypedPlaces.{KeepsTypes};
 ghost use Rattle.nrca_term.specs.Typing.{IsTyped};
 ghost use Rattle.nrca_term.specs.View.{term_of};
 ghost use Rattle.nrca_ranges.specs.Shapes.{shapes_in};
 ghost use Rattle.nrca_normal.specs.Descent.{IsAtRoot};
-ghost use Rattle.nrca_normal.specs.Planned.{IsReplayed, IsNormalIn, KeepsTypes, IsPlanOf};
+ghost use Rattle.nrca_normal.specs.Planned.{IsReplayed, IsNormalIn, IsPlanOf};
 
 use crate::descent::{Descent, settle};
 use aql_value::Memory;

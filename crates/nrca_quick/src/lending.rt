@@ -11,7 +11,7 @@ ghost use Rattle.nrca_quick.specs.Quick.{item_of};
 
 use aql_value::{Items, Value};
 use nrca_array::Held;
-use nrca_loops::{Env, Globals, lent};
+use nrca_loops::{Env, Globals, lend_value};
 use nrca_term::Core;
 
 /// A value that is lent: one that a variable or a position holds, as it is kept, or a part of a
@@ -33,7 +33,7 @@ pub fn lent_part<'a, 'b>(term: &Core, globals: &'a Globals, env: &'a Env<'b>) ->
             Some(value) => Some(Lent::Part(value)),
             None => None,
         },
-        _ => match lent(term, globals, env) {
+        _ => match lend_value(term, globals, env) {
             Some(held) => Some(Lent::Kept(held)),
             None => None,
         },
@@ -52,7 +52,7 @@ pub fn lent_value<'a, 'b>(term: &Core, globals: &'a Globals, env: &'a Env<'b>) -
             Some(tuple) => part_lent(tuple, *at, *of),
             None => None,
         },
-        _ => match lent(term, globals, env) {
+        _ => match lend_value(term, globals, env) {
             Some(held) => plain(held),
             None => None,
         },

@@ -15,7 +15,7 @@ mod numbers;
 mod sets;
 pub mod small;
 
-pub use choices::chosen;
+pub use choices::chosen_branch;
 pub use lending::{Lent, lent_part, lent_value, part_lent};
 pub use numbers::{quick, quick_test, quick_truth};
 pub use sets::{AtMostOne, Small, few, members_and_few};

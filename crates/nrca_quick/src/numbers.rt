@@ -9,7 +9,7 @@ use crate::lending::{Lent, lent_part, lent_value};
 use crate::naturals::{
     held_number, lent_cell, lent_dim, number_compare, value_number, variable_number,
 };
-use nrca_loops::{Env, Globals, lent};
+use nrca_loops::{Env, Globals, lend_value};
 use nrca_term::{Core, Terms};
 
 /// The number that a term is, where it is found so; it takes no turns then. Of arrays that are lent
@@ -23,7 +23,7 @@ pub fn quick(term: &Core, globals: &Globals, env: &Env) -> Option<u128>
     match term {
         Core::Nat(n) => Some(*n),
         Core::Var(at) => variable_number(env, *at),
-        Core::Global(_) => match lent(term, &*globals, &*env) {
+        Core::Global(_) => match lend_value(term, &*globals, &*env) {
             Some(held) => held_number(held),
             None => None,
         },
@@ -41,7 +41,7 @@ pub fn quick(term: &Core, globals: &Globals, env: &Env) -> Option<u128>
             Some(false) => quick(no, globals, env),
             None => None,
         },
-        Core::Let(bound, body) => match lent(bound, &*globals, &*env) {
+        Core::Let(bound, body) => match lend_value(bound, &*globals, &*env) {
             Some(value) => {
                 let inner = Env::Bound(value, &*env);
                 quick(body, &*globals, &inner)

@@ -9,7 +9,7 @@ ghost use Rattle.nrca_quick.specs.Quick.{IsNumber, TakeNone};
 use crate::numbers::{quick, quick_truth};
 use crate::small::small;
 use aql_value::Memory;
-use nrca_loops::{Env, Globals, lent};
+use nrca_loops::{Env, Globals, lend_value};
 use nrca_sets::Gather;
 use nrca_term::{Core, Terms};
 use std::alloc::Global;
@@ -45,7 +45,7 @@ pub fn few(term: &Core, globals: &Globals, env: &Env) -> Option<AtMostOne>
             Some(false) => few(no, globals, env),
             None => None,
         },
-        Core::Let(bound, body) => match lent(bound, &*globals, &*env) {
+        Core::Let(bound, body) => match lend_value(bound, &*globals, &*env) {
             Some(value) => {
                 let inner = Env::Bound(value, &*env);
                 few(body, &*globals, &inner)

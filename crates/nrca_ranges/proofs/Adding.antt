@@ -14,13 +14,13 @@ use Rattle.nrca_term.specs.Laws.TypedForm.{top_var-closed}
 use Rattle.nrca_term.specs.Laws.WellFormed.{well_formed-Core}
 use Rattle.nrca_term.specs.View.{term_of, terms_of}
 use Rattle.nrca_term.specs.Facts as facts
-use Rattle.nrca_term.specs.Facts.{Facts, fact, bound_facts, tab_facts, added}
+use Rattle.nrca_term.specs.Facts.{Context, fact, bound_facts, tab_facts, added}
 use Rattle.nrca_ranges.specs.declared.context.Fact.{Fact}
 use Rattle.nrca_ranges.specs.Context.{fact_of, facts_in, IsSmallTerm, HasRoom, HaveRoom, below_bounds}
 use Rattle.nrca_term.specs.Laws.Variants.{parts_weight-plain}
 
 -- facts and a number of variables
-abbrev pub context : List facts.Fact → ℕ → Facts
+abbrev pub context : List facts.Fact → ℕ → Context
 context l d = record { facts = l; depth = d }
 
 -- what is kept of the list of facts is what is kept of the facts

@@ -49,18 +49,6 @@ widened xs bs cur new i x d w l e h p k z =
     step (a ∷ xs) (b ∷ bs) zero l e = refl
     step (a ∷ xs) (b ∷ bs) (suc i) l e = ap (λ c. hull a b ∷ c) (step xs bs i (omega (arith, l)) (omega (arith, e)))
 
--- at the end all are widened
-pub widened-all : (xs bs cur : List Interval) (i : ℕ) → length bs ≤ i → length xs ≡ length bs → cur ≡ hulls (take i xs) (take i bs) ++ drop i xs → cur ≡ hulls xs bs
-widened-all xs bs cur i l e h = h ∙ go xs bs i l e
-  where
-    go : (xs bs : List Interval) (i : ℕ) → length bs ≤ i → length xs ≡ length bs → hulls (take i xs) (take i bs) ++ drop i xs ≡ hulls xs bs
-    go [] [] zero l e = refl
-    go [] [] (suc i) l e = refl
-    go [] (b ∷ bs) i l e = absurd (omega (arith, e))
-    go (a ∷ xs) [] i l e = absurd (omega (arith, e))
-    go (a ∷ xs) (b ∷ bs) zero l e = absurd (omega (arith, l))
-    go (a ∷ xs) (b ∷ bs) (suc i) l e = ap (λ c. hull a b ∷ c) (go xs bs i (omega (arith, l)) (omega (arith, e)))
-
 -- another shape in the place of one entry leaves the others
 pub kept-others : (xs : List Shape) (i : ℕ) (y : Shape) (j : ℕ) → (j ≡ i → ⊥) → entry_at (bounds_each (set xs i y)) j ≡ entry_at (bounds_each xs) j
 kept-others [] i y j n = refl

@@ -2,7 +2,7 @@
 use Rattle.std.proofs.Common.{ℕ, suc, Bool, true, false, ◌&&◌, ◌||◌, List, [], ◌∷◌, Option, if◌then◌else◌}
 use Rattle.aql_value.specs.Strict.{Strict}
 use Rattle.nrca_term.specs.Term.{Term, Parts, node, none, part, Form}
-use Rattle.nrca_term.specs.Facts.{Facts, enter_facts}
+use Rattle.nrca_term.specs.Facts.{Context, enter_facts}
 use Rattle.nrca_term.specs.Firm.{wants_all, firm}
 use Rattle.nrca_ranges.specs.declared.interval.Interval.{Interval}
 use Rattle.nrca_ranges.specs.Bounds.{Bounds, unknown, number, row, members, grid}
@@ -64,17 +64,17 @@ form_certain D (Form.strict s) bs = strict_certain s bs
 
 abbrev mutual
   -- a term that is certain to have a value at a place with these facts, the positions' values having these shapes
-  pub certain : List (Option Bounds) → Facts → Term → Bool
+  pub certain : List (Option Bounds) → Context → Term → Bool
   certain gs c (node f ps) =
       firm (is_shaped gs) c (node f ps)
       || (form_certain (is_shaped gs) f (all_bounds gs c (node f ps) 0 ps) && (if wants_all f then all_certain gs c (node f ps) 0 ps else some_certain gs c (node f ps) 0 ps))
 
   -- all of the parts from part i of a term on
-  pub all_certain : List (Option Bounds) → Facts → Term → ℕ → Parts → Bool
+  pub all_certain : List (Option Bounds) → Context → Term → ℕ → Parts → Bool
   all_certain gs c t i none = true
   all_certain gs c t i (part k u ps) = certain gs (enter_facts c t i) u && all_certain gs c t (suc i) ps
 
   -- one of the parts from part i of a term on
-  pub some_certain : List (Option Bounds) → Facts → Term → ℕ → Parts → Bool
+  pub some_certain : List (Option Bounds) → Context → Term → ℕ → Parts → Bool
   some_certain gs c t i none = false
   some_certain gs c t i (part k u ps) = certain gs (enter_facts c t i) u || some_certain gs c t (suc i) ps

@@ -9,7 +9,7 @@ use Rattle.nrca_term.specs.View.{term_of, terms_of}
 use Rattle.nrca_term.specs.Nodes.{variable, less_term}
 use Rattle.nrca_term.specs.Subst.{top_var, shift_term}
 use Rattle.nrca_term.specs.Facts as facts
-use Rattle.nrca_term.specs.Facts.{Facts, fact}
+use Rattle.nrca_term.specs.Facts.{Context, fact}
 use Rattle.nrca_ranges.specs.declared.context.Known.{Known}
 use Rattle.nrca_ranges.specs.declared.context.Known.TheVariants.{Domain, Test, Denied}
 use Rattle.nrca_ranges.specs.declared.context.Fact.{Fact}
@@ -31,7 +31,7 @@ abbrev pub facts_in : List Fact → List facts.Fact
 facts_in = map fact_of
 
 -- the facts of a context, and its number of variables
-abbrev pub context_of : Ctx → Facts
+abbrev pub context_of : Ctx → Context
 context_of c = record { facts = map fact_of c.facts.items; depth = c.depth }
 
 -- the facts that are known at the place of a context
@@ -43,11 +43,11 @@ abbrev pub around : Ctx → ℕ
 around c = (context_of c).depth
 
 -- what the context was at the mark
-abbrev pub at_mark : Mark → Facts → Facts
+abbrev pub at_mark : Mark → Context → Context
 at_mark m c = record { facts = take m.facts c.facts; depth = m.depth }
 
 -- the context of a part of the term that stands at the place of a context
-abbrev pub entered : Ctx → Term → ℕ → Facts
+abbrev pub entered : Ctx → Term → ℕ → Context
 entered c t i = facts.enter_facts (context_of c) t i
 
 -- the context in part i of a term

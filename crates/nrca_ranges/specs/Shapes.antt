@@ -10,7 +10,7 @@ use Rattle.nrca_term.specs.View.{term_of, pure_form, pure_strict}
 use Rattle.nrca_term.specs.Places.{entered_in}
 use Rattle.nrca_term.specs.Term.{Term}
 use Rattle.nrca_term.specs.Meaning.{Outcomes, outcome, cden, at_position}
-use Rattle.nrca_term.specs.Facts.{Facts, Stands}
+use Rattle.nrca_term.specs.Facts.{Context, FactsHold}
 use Rattle.nrca_term.specs.Firm.{Span, is_defined, span, firm}
 use Rattle.nrca_ranges.specs.declared.interval.Interval.{Interval}
 use Rattle.nrca_ranges.specs.declared.shape.Shape.{Shape}
@@ -74,14 +74,14 @@ Tells gs V = ((n : ℕ) (b : Bounds) (v : Datum) → at_position gs n ≡ Some (
 
 -- the values of positions and variables that a context allows: the shapes are theirs, and the facts hold
 abbrev pub Allows : Outcomes → Ctx → List Datum → Type 0
-Allows V c vals = Tells (known_shapes c) V × Stands V (context_of c) vals
+Allows V c vals = Tells (known_shapes c) V × FactsHold V (context_of c) vals
 
 -- each value that the term has at values that the context allows has the shape
 unfoldable pub IsShapeIn : Ctx → Term → Bounds → Type 0
 IsShapeIn c t b = (V : Outcomes) (vals : List Datum) (v : Datum) → Allows V c vals → cden V vals t ≡ Some v → HasShape b v
 
 -- where the term has a span, the shape is that interval
-abbrev pub IsTight : Facts → Term → Bounds → Type 0
+abbrev pub IsTight : Context → Term → Bounds → Type 0
 IsTight c t b = (x : ℕ × ℕ) → span c t ≡ Some x → b ≡ number (between x.0 x.1)
 
 -- each number that the term has as its value, at values that the context allows, is in the interval

@@ -2,7 +2,7 @@
 use Rattle.std.proofs.Common.{◌≡◌, ℕ, zero, suc, Bool, true, false, nat_eq, List, [], ◌∷◌, length, map, take, Some, None, Option}
 use Rattle.aql_value.specs.Strict.{Strict}
 use Rattle.nrca_term.specs.Term.{Term, Parts, node, none, part, Form}
-use Rattle.nrca_term.specs.Facts.{Facts, enter_facts}
+use Rattle.nrca_term.specs.Facts.{Context, enter_facts}
 use Rattle.nrca_term.specs.Firm.{Span, span}
 use Rattle.nrca_ranges.specs.declared.interval.Interval.{Interval}
 use Rattle.nrca_ranges.specs.Bounds.{Bounds, Row, unknown, number, row, members, grid, end, entry, row_of}
@@ -177,10 +177,10 @@ by_span None b = b
 
 abbrev mutual
   -- what is known of a term's value at a place with these facts, the positions' values having these shapes
-  pub bounds : List (Option Bounds) → Facts → Term → Bounds
+  pub bounds : List (Option Bounds) → Context → Term → Bounds
   bounds gs c (node f ps) = by_span (span c (node f ps)) (form_bounds gs f (all_bounds gs c (node f ps) 0 ps))
 
   -- the same of the parts from part i of a term on, each at its own place
-  pub all_bounds : List (Option Bounds) → Facts → Term → ℕ → Parts → List Bounds
+  pub all_bounds : List (Option Bounds) → Context → Term → ℕ → Parts → List Bounds
   all_bounds gs c t i none = []
   all_bounds gs c t i (part k u ps) = bounds gs (enter_facts c t i) u ∷ all_bounds gs c t (suc i) ps

@@ -6,7 +6,7 @@ use Rattle.nrca_term.specs.declared.term.Core.{Core}
 use Rattle.nrca_term.specs.View.{term_of}
 use Rattle.nrca_term.specs.Term.{Term, Parts, none, part, Form, form_of, parts_of, child_of}
 use Rattle.nrca_term.specs.Nodes.{arith_term}
-use Rattle.nrca_term.specs.Facts.{Facts, enter_facts}
+use Rattle.nrca_term.specs.Facts.{Context, enter_facts}
 use Rattle.nrca_term.specs.Firm as pure
 use Rattle.nrca_ranges.specs.declared.context.Ctx.{Ctx}
 use Rattle.nrca_ranges.specs.declared.context.Fact.{Fact}
@@ -25,7 +25,7 @@ use Rattle.nrca_ranges.specs.Intervals as intervals
 use Rattle.nrca_ranges.specs.Transfer as transfer
 
 -- the facts of a place inside of a term that stands at the context: its own behind the context's
-abbrev pub facts_below : Ctx → List Fact → ℕ → Facts
+abbrev pub facts_below : Ctx → List Fact → ℕ → Context
 facts_below c own d = record { facts = facts_in c.facts.items ++ facts_in own; depth = d }
 
 -- the span of a term of the code there
@@ -47,24 +47,24 @@ IsOther _ = Unit {0}
 
 -- a truth value of a term at a place
 abbrev pub Test : Type 0
-Test = Facts → Term → Bool
+Test = Context → Term → Bool
 
 -- whether the test holds of all parts from part i of a term on, each at its own place
-abbrev pub all_true : Test → Facts → Term → ℕ → Parts → Bool
+abbrev pub all_true : Test → Context → Term → ℕ → Parts → Bool
 all_true T c t i none = true
 all_true T c t i (part k u ps) = T (enter_facts c t i) u && all_true T c t (suc i) ps
 
 -- whether it holds of one of them
-abbrev pub some_true : Test → Facts → Term → ℕ → Parts → Bool
+abbrev pub some_true : Test → Context → Term → ℕ → Parts → Bool
 some_true T c t i none = false
 some_true T c t i (part k u ps) = T (enter_facts c t i) u || some_true T c t (suc i) ps
 
 -- whether it holds of all, or else of one of them
-abbrev pub rest_true : Test → Facts → Term → Bool → ℕ → Parts → Bool
+abbrev pub rest_true : Test → Context → Term → Bool → ℕ → Parts → Bool
 rest_true T c t all i ps = if all then all_true T c t i ps else some_true T c t i ps
 
 -- whether it holds of the parts as the form of the term wants it
-abbrev pub parts_true : Test → Facts → Term → Bool
+abbrev pub parts_true : Test → Context → Term → Bool
 parts_true T c t = rest_true T c t (pure.wants_all (form_of t)) 0 (parts_of t)
 
 -- both, or else one of them
@@ -78,7 +78,7 @@ later_parts (suc n) none = none
 later_parts (suc n) (part k t ps) = later_parts n ps
 
 -- what is told of a term at a place is true of it
-pub record IsTold (gs : List (Option Bounds)) (c : Facts) (t : Term) (x : Told) : Type 0 where
+pub record IsTold (gs : List (Option Bounds)) (c : Context) (t : Term) (x : Told) : Type 0 where
   pub firm : x.firm ≡ pure.firm (is_shaped gs) c t
   pub certain : x.certain ≡ certainty.certain gs c t
   pub span : span_of x.span ≡ pure.span c t
@@ -109,16 +109,16 @@ unfoldable pub summary_of : Told → Summary
 summary_of x = summary_with x.firm x.certain (span_of x.span) (bounds_of x.shape)
 
 -- what is to be told of a term at a place
-unfoldable pub summary : List (Option Bounds) → Facts → Term → Summary
+unfoldable pub summary : List (Option Bounds) → Context → Term → Summary
 summary gs c t = summary_with (pure.firm (is_shaped gs) c t) (certainty.certain gs c t) (pure.span c t) (transfer.bounds gs c t)
 
 -- the same of a part that is there, at its own place
-abbrev pub part_summary : List (Option Bounds) → Facts → Term → ℕ → Option Term → List Summary
+abbrev pub part_summary : List (Option Bounds) → Context → Term → ℕ → Option Term → List Summary
 part_summary gs c t i None = []
 part_summary gs c t i (Some u) = summary gs (enter_facts c t i) u ∷ []
 
 -- the same of the parts from part i of a term on
-abbrev pub summaries : List (Option Bounds) → Facts → Term → ℕ → Parts → List Summary
+abbrev pub summaries : List (Option Bounds) → Context → Term → ℕ → Parts → List Summary
 summaries gs c t i none = []
 summaries gs c t i (part k u ps) = summary gs (enter_facts c t i) u ∷ summaries gs c t (suc i) ps
 
@@ -177,7 +177,7 @@ pub record IsArithTold (op : ArithOp) (a b : Told) (n : Option ℕ) (x : Told) :
   pub shape : bounds_of x.shape ≡ transfer.by_span (span_of x.span) (number (intervals.arith_interval op (number_told a) (number_told b)))
 
 -- what is told of all parts of a term, and their shapes, is true of them
-pub record AreTold (gs : List (Option Bounds)) (c : Facts) (t : Term) (x : Gathered) (ss : List Shape) : Type 0 where
+pub record AreTold (gs : List (Option Bounds)) (c : Context) (t : Term) (x : Gathered) (ss : List Shape) : Type 0 where
   pub firm : x.firm ≡ parts_true (pure.firm (is_shaped gs)) c t
   pub certain : x.certain ≡ parts_true (certainty.certain gs) c t
   pub shapes : bounds_each ss ≡ transfer.all_bounds gs c t 0 (parts_of t)

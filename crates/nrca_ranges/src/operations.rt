@@ -24,7 +24,7 @@ fn is_end(high: u128) -> bool
 }
 
 /// The upper end of what is below the numbers that have this one.
-pub(crate) fn before(high: u128) -> u128
+pub(crate) fn end_below(high: u128) -> u128
     ensures { result ≡ pure.before high }
 {
     if is_end(high) {
@@ -99,7 +99,7 @@ pub(crate) fn arith_interval(op: ArithOp, a: Interval, b: Interval) -> Interval
         },
         ArithOp::Remainder => Interval {
             low: 0,
-            high: a.high.min(before(b.high)),
+            high: a.high.min(end_below(b.high)),
         },
     }
 }

@@ -10,7 +10,7 @@ ghost use Rattle.nrca_ranges.specs.Transfer.{index_bounds, dimensions_of, part_a
 ghost use Rattle.nrca_ranges.specs.Transfer.{union_bounds, loop_bounds, below_bounds, tab_bounds};
 
 use crate::interval::{Interval, Intervals};
-use crate::operations::{arith_interval, before, everything, loop_count, loop_sum, union_count};
+use crate::operations::{arith_interval, end_below, everything, loop_count, loop_sum, union_count};
 use crate::positions::GlobalShapes;
 use crate::shape::{
     Shape, Shapes, cell_shape, count_interval, join, member_shape, number_interval,
@@ -182,7 +182,7 @@ fn below_shape(alloc: Global, bound: Interval) -> Result<Shape, Memory>
 {
     let member = Shape::Number(Interval {
         low: 0,
-        high: before(bound.high),
+        high: end_below(bound.high),
     });
     make_members(alloc, bound, member)
 }

@@ -268,7 +268,7 @@ fn gather(all: bool, a: bool, b: bool) -> bool
 }
 
 // The interval, where there is one, and else the shape.
-fn spanned(span: Option<Interval>, shape: Shape) -> Shape
+fn narrow_shape(span: Option<Interval>, shape: Shape) -> Shape
     ensures { bounds_of result ≡ by_span (span_of span) (bounds_of shape) }
 {
     match span {
@@ -324,7 +324,7 @@ fn shaped_told(
     let told = node_shape(alloc, form, shapes, &ctx.globals)?;
     let firm = both(sure, found.firm);
     let certain = either(firm, both(fits, found.certain));
-    let shape = spanned(span, told);
+    let shape = narrow_shape(span, told);
     Ok(Told {
         firm,
         certain,
@@ -346,7 +346,7 @@ fn arith_told(op: ArithOp, left: &Told, right: &Told, n: Option<u128>) -> Told
     let firm = all_of(own, left.firm, right.firm);
     let fits = always_fits(op, first, second);
     let certain = either(firm, all_of(fits, left.certain, right.certain));
-    let shape = spanned(span, Shape::Number(arith_interval(op, first, second)));
+    let shape = narrow_shape(span, Shape::Number(arith_interval(op, first, second)));
     Told {
         firm,
         certain,

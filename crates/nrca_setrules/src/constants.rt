@@ -54,11 +54,11 @@ pub fn k1(term: Core) -> Core
 {
     match term {
         Core::Arith(op, left, right) => {
-            let number = computed(op, &left, &right);
+            let number = compute(op, &left, &right);
             number
         }
         Core::Compare(op, left, right) => {
-            let truth = compared(op, Box::into_inner(left), Box::into_inner(right));
+            let truth = compare_constants(op, Box::into_inner(left), Box::into_inner(right));
             truth
         }
         Core::Gen(_) => Core::Empty,
@@ -143,7 +143,7 @@ fn differ(product: u128, cells: u64) -> bool
 }
 
 // What the operation makes of two numbers: Bottom where it is undefined, and of other terms.
-fn computed(op: ArithOp, left: &Core, right: &Core) -> Core
+fn compute(op: ArithOp, left: &Core, right: &Core) -> Core
     ensures { Computes op (term_of left.now) (term_of right.now) (term_of result) }
 {
     match left.number() {
@@ -169,7 +169,7 @@ fn as_number(number: Option<u128>) -> Core
 }
 
 // Whether the comparison holds of two constants; Bottom of other terms.
-fn compared(op: CompareOp, left: Core, right: Core) -> Core
+fn compare_constants(op: CompareOp, left: Core, right: Core) -> Core
     ensures { Compares op (term_of left) (term_of right) (term_of result) }
 {
     match constant(left) {

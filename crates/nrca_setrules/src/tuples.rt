@@ -6,7 +6,7 @@ ghost use Rattle.nrca_term.specs.Term.{parts_of, child_of, count};
 ghost use Rattle.nrca_term.specs.declared.trace.Rule.TheVariants.{P1, P2};
 ghost use Rattle.nrca_laws.specs.Fitting.{RuleFits, IsRight};
 
-use nrca_term::{Core, open, put};
+use nrca_term::{Core, discard, open, put};
 
 /// Whether the term is a component of a tuple that has it.
 pub fn fits_p1(term: &Core) -> bool
@@ -90,7 +90,3 @@ fn take_part(term: Core, i: u64) -> Core
     discard(whole);
     part
 }
-
-// Kept out of line, so that the drop of a term stands once.
-#[inline(never)]
-fn discard(_term: Core) {}

@@ -55,7 +55,7 @@ impl Gather {
     }
 
     /// How many values are kept: no more than 1,024, or twice the distinct ones. It takes no memory.
-    pub fn kept(&self) -> usize
+    pub fn len(&self) -> usize
         ensures count { result ≡ length self.now }
         ensures few { length self.now ≤ most_kept self.now }
     {
@@ -71,7 +71,7 @@ impl Gather {
             Some(n) => self.one(alloc, n),
             None => match pair_below(&value) {
                 Some((m, n)) => self.two(alloc, m, n),
-                None => Ok(settled(self.rows.push_value(alloc, value)?, self.limit)),
+                None => Ok(limit_repeats(self.rows.push_value(alloc, value)?, self.limit)),
             },
         }
     }
@@ -81,7 +81,7 @@ impl Gather {
     pub fn one(self, alloc: Global, n: u64) -> Result<Gather, Memory>
         ensures { IfOk result (λ g. canon g ≡ canon (self ++ natural n ∷ [])) }
     {
-        Ok(settled(self.rows.push_number(alloc, n)?, self.limit))
+        Ok(limit_repeats(self.rows.push_number(alloc, n)?, self.limit))
     }
 
     /// A pair of naturals as a member.
@@ -89,7 +89,7 @@ impl Gather {
     pub fn two(self, alloc: Global, m: u64, n: u64) -> Result<Gather, Memory>
         ensures { IfOk result (λ g. canon g ≡ canon (self ++ pair_value (m, n) ∷ [])) }
     {
-        Ok(settled(self.rows.push_pair(alloc, (m, n))?, self.limit))
+        Ok(limit_repeats(self.rows.push_pair(alloc, (m, n))?, self.limit))
     }
 
     // Values as members.
@@ -110,7 +110,7 @@ impl Gather {
     {
         match set.into_rows() {
             Rows::Plain(items) => self.add_all(alloc, items),
-            rows => Ok(settled(self.rows.append(alloc, rows)?, self.limit)),
+            rows => Ok(limit_repeats(self.rows.append(alloc, rows)?, self.limit)),
         }
     }
 
@@ -124,7 +124,7 @@ impl Gather {
 }
 
 // A gather of these values, of which repeats are dropped where there are more than the limit says.
-fn settled(rows: Rows, limit: usize) -> Gather
+fn limit_repeats(rows: Rows, limit: usize) -> Gather
     requires { limit ≤ most_kept (row_data rows) }
     ensures { canon result ≡ canon (row_data rows) }
 {

@@ -17,7 +17,7 @@ mod validity;
 mod values;
 
 pub use gather::Gather;
-pub use set::Set;
+pub use set::{Set, ascending};
 
 // A set may be sent to another thread, and lent to several.
 fn crosses_threads<T: Send + Sync>(_value: &T) {}

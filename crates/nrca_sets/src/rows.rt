@@ -208,8 +208,10 @@ impl Rows {
             return Ok(self);
         }
         match (self, others) {
-            (Rows::Ones(numbers), Rows::Ones(more)) => Ok(Rows::Ones(followed(numbers, &more)?)),
-            (Rows::Twos(pairs), Rows::Twos(more)) => Ok(Rows::Twos(followed(pairs, &more)?)),
+            (Rows::Ones(numbers), Rows::Ones(more)) => Ok(Rows::Ones(append_slice(
+                numbers, &more,
+            )?)),
+            (Rows::Twos(pairs), Rows::Twos(more)) => Ok(Rows::Twos(append_slice(pairs, &more)?)),
             (rows, more) => {
                 let items = rows.into_items(alloc)?;
                 let more = more.into_items(alloc)?;
@@ -234,15 +236,15 @@ impl Rows {
 
     // The set of the values, in linear time where they are a few ascending runs.
     #[tactic(auto, using(crate::specs::Laws::Kinds::numbers_distinct, crate::specs::Laws::Kinds::pairs_distinct, crate::specs::Laws::Kinds::values_distinct))]
-    pub(crate) fn merged(self) -> Result<Rows, Memory>
+    pub(crate) fn merge_runs(self) -> Result<Rows, Memory>
         ensures { IfOk result (λ rows. row_data rows ≡ canon (row_data self)) }
     {
         match self {
             Rows::Plain(items) => Ok(Rows::Plain(Items {
-                items: merged(items.items)?,
+                items: merge_runs(items.items)?,
             })),
-            Rows::Ones(numbers) => Ok(Rows::Ones(merged(numbers)?)),
-            Rows::Twos(pairs) => Ok(Rows::Twos(merged(pairs)?)),
+            Rows::Ones(numbers) => Ok(Rows::Ones(merge_runs(numbers)?)),
+            Rows::Twos(pairs) => Ok(Rows::Twos(merge_runs(pairs)?)),
         }
     }
 }
@@ -298,7 +300,7 @@ fn pair_pushed(pairs: Vec<(u64, u64)>, pair: (u64, u64)) -> Result<Rows, Memory>
 }
 
 // One list, and then the other.
-fn followed<T: Copy + Drop>(items: Vec<T>, more: &[T]) -> Result<Vec<T>, Memory>
+fn append_slice<T: Copy + Drop>(items: Vec<T>, more: &[T]) -> Result<Vec<T>, Memory>
     ensures { IfOk result (λ all. all.items ≡ items.items ++ more.now) }
 {
     let mut items = items;
@@ -326,7 +328,7 @@ fn distinct<T: Ord + Drop>(items: Vec<T>) -> Vec<T>
 }
 
 // The elements in order, each once, in linear time where they are a few ascending runs.
-fn merged<T: Ord + Drop>(items: Vec<T>) -> Result<Vec<T>, Memory>
+fn merge_runs<T: Ord + Drop>(items: Vec<T>) -> Result<Vec<T>, Memory>
     ensures { IfOk result (λ made. IsDistinct T.cmp T.eq items.items made.items) }
 {
     let mut items = items;

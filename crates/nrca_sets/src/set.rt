@@ -55,7 +55,7 @@ impl Set {
     }
 
     /// The naturals below a number.
-    pub fn below(alloc: Global, n: u64) -> Result<Set, Memory>
+    pub fn naturals_below(alloc: Global, n: u64) -> Result<Set, Memory>
         ensures { IfOk result (λ s. s ≡ map natural (below n)) }
     {
         let numbers = numbers_below(alloc, n)?;
@@ -219,7 +219,7 @@ impl Set {
     pub fn merge(self, alloc: Global, other: Set) -> Result<Set, Memory>
         ensures { IfOk result (λ s. s ≡ canon (self ++ other)) }
     {
-        let rows = self.rows.append(alloc, other.rows)?.merged()?;
+        let rows = self.rows.append(alloc, other.rows)?.merge_runs()?;
         Ok(Set { rows })
     }
 
@@ -242,9 +242,9 @@ fn numbers_below(alloc: Global, n: u64) -> Result<Vec<u64>, Memory>
     Ok(numbers)
 }
 
-// Members that ascend as an `Ascending`.
+/// Members that ascend as an `Ascending`.
 #[tactic(auto, using(aql_value::specs::Laws::Set::ascending_sorted, aql_value::specs::Laws::Canon::canon_ascending))]
-fn ascending(items: Items) -> Ascending
+pub fn ascending(items: Items) -> Ascending
     requires { IsAscending items }
     ensures { result ≡ items }
 {

@@ -8,7 +8,7 @@ ghost use Rattle.nrca_sets.specs.Pairs.{pair_value};
 ghost use Rattle.nrca_sets.specs.Rows.{row_data};
 
 use crate::rows::Rows;
-use aql_value::{Items, valid};
+use aql_value::all_valid;
 
 /// Shows that the values of rows are values of the language.
 pub(crate) fn valid_rows(rows: &Rows)
@@ -18,14 +18,6 @@ pub(crate) fn valid_rows(rows: &Rows)
         Rows::Plain(items) => all_valid(items),
         Rows::Ones(numbers) => valid_numbers(numbers),
         Rows::Twos(pairs) => valid_pairs(pairs),
-    }
-}
-
-fn all_valid(items: &Items)
-    ensures { AreValues (data_of items.now) }
-{
-    for x in items.items.iter() {
-        valid(x);
     }
 }
 

@@ -1,8 +1,6 @@
 -- The uses of a variable in the first parts of a node.
-use Rattle.std.proofs.Common.{◌≡◌, ℕ, zero, suc, ◌+◌, ◌-◌, ◌<◌, ◌^◌, min, Some, None, refl, sym, ap, ◌∙◌, arith, eq-eqb, add-one}
-use Rattle.std.proofs.lemmas.Bool.{ne_eqb}
+use Rattle.std.proofs.Common.{◌≡◌, ℕ, zero, suc, ◌+◌, ◌-◌, ◌^◌, min, Some, None, refl, sym, ap, ◌∙◌, arith, add-one}
 use Rattle.nrca_term.specs.Term.{Term, Parts, node, none, part, Form, form_of, parts_of, child_of, count, binders_of, variable_of}
-use Rattle.nrca_term.specs.Nodes.{variable}
 use Rattle.nrca_term.specs.Subst.{uses_of, parts_uses}
 use Rattle.nrca_subst.specs.Depth.{IsDepth, CountsUses}
 use Rattle.nrca_subst.proofs.Deeper.{is_depth-deeper}
@@ -44,13 +42,6 @@ uses-other n (node (Form.strict s) ps) e = omega arith
 
 pub uses-counted : (n i : ℕ) (t : Term) → variable_of (form_of t) ≡ None → i ≡ count (parts_of t) → first_uses n i (parts_of t) ≡ uses_of n t
 uses-counted n i t e c = ap (λ j. first_uses n j (parts_of t)) c ∙ first_uses-all n (parts_of t) ∙ sym (uses-other n t e)
-
--- a variable
-pub counts-here : (at i : ℕ) → i < 2 ^ 64 → i ≡ at → CountsUses at (variable i) 1
-counts-here at i l e n d = let z : i ≡ n = omega (arith, d) in rw (eq-eqb i n z) refl
-
-pub counts-apart : (at i : ℕ) → i < 2 ^ 64 → (i ≡ at → ⊥) → CountsUses at (variable i) 0
-counts-apart at i l e n d = rw (ne_eqb i n (λ z. e (omega (arith, z, d)))) refl
 
 -- one part more
 pub counts-part : (at k n total more : ℕ) (i : ℕ) (t u : Term) → child_of (parts_of t) i ≡ Some u → k ≡ binders_of (parts_of t) i → CountsUses (min (at + k) (2 ^ 128 - 1)) u more → IsDepth at n →

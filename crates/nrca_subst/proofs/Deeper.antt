@@ -14,9 +14,6 @@ is_depth-deeper depth k n h = omega (arith, h)
 pub is_depth-start : IsDepth 0 0
 is_depth-start = refl
 
-pub is_depth-zero : (n : ℕ) → IsDepth 0 n → n ≡ 0
-is_depth-zero n h = omega (arith, h)
-
 -- the answer for a part, in the words of the walk
 pub substitutes-part : (at depth k n : ℕ) (w t u : Term) → Substitutes at (min (depth + k) (2 ^ 128 - 1)) w t u → IsDepth depth n → u ≡ subst_part (at + n) (shift_term 0 n w) k t
 substitutes-part at depth k n w t u h d =

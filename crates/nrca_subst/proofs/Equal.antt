@@ -1,8 +1,6 @@
 -- Two nodes of one form are one term exactly where their parts are.
-use Rattle.std.proofs.Common.{◌≡◌, ℕ, zero, suc, ◌+◌, ◌-◌, ◌<◌, ◌≤◌, ◌^◌, ◌↔◌, min, Bool, true, false, IsTrue, nat_lt, Some, None, refl, sym, ap, ◌∙◌, subst, arith, if◌then◌else◌, inl, inr}
-use Rattle.std.proofs.lemmas.Bool.{cases_lt, lt-ltb, le-ltb}
+use Rattle.std.proofs.Common.{◌≡◌, ℕ, zero, suc, ◌+◌, ◌-◌, ◌<◌, ◌≤◌, ◌^◌, min, true, false, Some, None, refl, sym, ap, ◌∙◌, subst, arith}
 use Rattle.nrca_term.specs.Term.{Term, Parts, node, none, part, Form, form_of, parts_of, child_of, count, binders_of, variable_of, WellFormed, PartsWellFormed}
-use Rattle.nrca_term.specs.Nodes.{variable}
 use Rattle.nrca_term.specs.Subst.{shift_form, shift_term, shift_parts}
 use Rattle.nrca_subst.specs.Depth.{IsDepth, TellsShifted}
 use Rattle.nrca_subst.proofs.Deeper.{is_depth-deeper}
@@ -13,22 +11,8 @@ abbrev pub FirstShifted : ℕ → ℕ → Term → Term → ℕ → Type 0
 FirstShifted depth by t u i = (n : ℕ) → IsDepth depth n → (j : ℕ) (x y : Term) → j < i → child_of (parts_of t) j ≡ Some x → child_of (parts_of u) j ≡ Some y →
     y ≡ shift_term (n + binders_of (parts_of t) j) by x
 
-pub first_shifted-none : (depth by : ℕ) (t u : Term) → FirstShifted depth by t u 0
-first_shifted-none depth by t u n d j x y l e f = absurd (omega (arith, l))
-
 some-is : {A : Type 0} (x y : A) → Some x ≡ Some y → x ≡ y
 some-is x y e = cc
-
-pub first_shifted-next : (depth by k : ℕ) (t u : Term) (i : ℕ) (x y : Term) → FirstShifted depth by t u i → child_of (parts_of t) i ≡ Some x → child_of (parts_of u) i ≡ Some y → k ≡ binders_of (parts_of t) i →
-    TellsShifted (min (depth + k) (2 ^ 128 - 1)) by x y true → FirstShifted depth by t u (i + 1)
-first_shifted-next depth by k t u i x y h e f b r n d j v w l g m =
-    elim (cases_lt j i) [
-      | inl s ↦ h n d j v w s g m
-      | inr s ↦ let z : j ≡ i = omega (arith, l, s) in
-          let same_v : x ≡ v = some-is x v (sym e ∙ ap (child_of (parts_of t)) (sym z) ∙ g) in
-          let same_w : y ≡ w = some-is y w (sym f ∙ ap (child_of (parts_of u)) (sym z) ∙ m) in
-          sym same_w ∙ (r (n + k) (is_depth-deeper depth k n d)).0 refl ∙ ap (λ q. shift_term (n + q) by x) (b ∙ ap (binders_of (parts_of t)) (sym z)) ∙ ap (shift_term (n + binders_of (parts_of t) j) by) same_v
-    ]
 
 -- parts of one form that are equal one by one
 equal-parts : (f : Form) (i m by : ℕ) (ps qs : Parts) → PartsWellFormed f i ps → PartsWellFormed f i qs → count ps ≡ count qs →
@@ -72,10 +56,6 @@ child-shift n by (part k t ps) (suc i) x e = child-shift n by ps i x e
 not_true : false ≡ true → ⊥
 not_true e = cc
 
--- where something differs
-pub tells-form : (depth by : ℕ) (t u : Term) → variable_of (form_of t) ≡ None → (form_of t ≡ form_of u → ⊥) → TellsShifted depth by t u false
-tells-form depth by (node f ps) u o h n d = ((λ x. absurd (not_true x)), (λ e. absurd (h (sym (ap form_of e ∙ shift_form-other n by f o)))))
-
 pub tells-count : (depth by : ℕ) (t u : Term) → (count (parts_of t) ≡ count (parts_of u) → ⊥) → TellsShifted depth by t u false
 tells-count depth by (node f ps) u h n d = ((λ x. absurd (not_true x)), (λ e. absurd (h (sym (ap (λ x. count (parts_of x)) e ∙ count-shift n by ps)))))
 
@@ -86,26 +66,3 @@ tells-part depth by k i (node f ps) u x y e g b r n d = (
   (λ q. (r (n + k) (is_depth-deeper depth k n d)).1
       (some-is y (shift_term (n + k) by x) (sym g ∙ ap (λ z. child_of (parts_of z) i) q ∙ child-shift n by ps i x e ∙ ap (λ m. Some (shift_term (n + m) by x)) (sym b)))),
 )
-
--- variables
-pub tells-variable : (depth by i j : ℕ) (b : Bool) → i < 2 ^ 64 → IsTrue b ↔ ((if nat_lt i depth then i else i + by) ≡ j) → TellsShifted depth by (variable i) (variable j) b
-tells-variable depth by i j b l h n d =
-    elim (cases_lt i depth) [
-      | inl s ↦ let z : i < n = omega (arith, s, d) in rw (lt-ltb i n z) (renamed i (rw (lt-ltb i depth s) at h))
-      | inr s ↦ let z : n ≤ i = omega (arith, s, d) in rw (le-ltb i n z) (renamed (i + by) (rw (le-ltb i depth s) at h))
-    ]
-  where
-    renamed : (m : ℕ) → IsTrue b ↔ (m ≡ j) → IsTrue b ↔ (variable j ≡ variable m)
-    renamed m k = ((λ x. ap variable (sym (k.0 x))), (λ e. k.1 (number e)))
-      where
-        number : variable j ≡ variable m → m ≡ j
-        number e = cc
-
-pub tells-no_variable : (depth by i : ℕ) (u : Term) → variable_of (form_of u) ≡ None → TellsShifted depth by (variable i) u false
-tells-no_variable depth by i u o n d = ((λ x. absurd (not_true x)), (λ e. absurd (never (sym o ∙ ap (λ t. variable_of (form_of t)) e))))
-  where
-    never : {j : ℕ} → None ≡ Some j → ⊥
-    never z = cc
-
-pub is_depth-zero_from : (n : ℕ) → IsDepth 0 n → n ≡ 0
-is_depth-zero_from n h = omega (arith, h)

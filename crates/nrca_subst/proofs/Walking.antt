@@ -2,6 +2,7 @@
 use Rattle.std.proofs.Common.{◌≡◌, ℕ, zero, suc, ◌+◌, ◌≤◌, Some, None, refl, sym, ap, ◌∙◌, arith, add-one}
 use Rattle.nrca_term.specs.Term.{Term, Parts, Form, node, none, part, form_of, parts_of, count, child_of, binders_of, set_child, with_part, variable_of}
 use Rattle.nrca_term.specs.Subst.{shift_form, shift_term, shift_parts, top_var, parts_top}
+use Rattle.nrca_term.specs.Laws.Exchange.{set_child-again}
 
 -- the first n parts replaced
 unfoldable pub first_parts : (ℕ → Term → Term) → ℕ → Parts → Parts
@@ -39,16 +40,6 @@ step_parts g zero (part k t ps) u e = let same : u ≡ t = cc in ap (λ s. part 
 step_parts g (suc n) none u e = refl
 step_parts g (suc n) (part k t ps) u e = ap (part k (g k t)) (step_parts g n ps u e)
 
-set_child-again : (ps : Parts) (i : ℕ) (u v : Term) → set_child (set_child ps i u) i v ≡ set_child ps i v
-set_child-again none i u v = refl
-set_child-again (part k t ps) zero u v = refl
-set_child-again (part k t ps) (suc i) u v = ap (part k t) (set_child-again ps i u v)
-
-set_child-same : (ps : Parts) (i : ℕ) (u : Term) → child_of ps i ≡ Some u → set_child ps i u ≡ ps
-set_child-same none i u e = refl
-set_child-same (part k t ps) zero u e = let same : u ≡ t = cc in ap (λ s. part k s ps) same
-set_child-same (part k t ps) (suc i) u e = ap (part k t) (set_child-same ps i u e)
-
 -- the state of a walk: the first n parts are done
 unfoldable pub with_first_parts : (ℕ → Term → Term) → ℕ → Term → Term
 with_first_parts g n t = node (form_of t) (first_parts g n (parts_of t))
@@ -76,16 +67,6 @@ unfolding with_first_parts
 with_first_parts-step g n t s u v e c d b =
     ap (λ x. with_part (with_part x n b) n v) e
     ∙ ap (node (form_of t)) (set_child-again (first_parts g n (parts_of t)) n b v)
-    ∙ ap (λ x. node (form_of t) (set_child (first_parts g n (parts_of t)) n x)) d
-    ∙ ap (node (form_of t)) (step_parts g n (parts_of t) u c)
-    ∙ ap (λ m. node (form_of t) (first_parts g m (parts_of t))) (sym (add-one n))
-
--- a part that stays as it is
-pub with_first_parts-skip : (g : ℕ → Term → Term) (n : ℕ) (t s u : Term) → s ≡ with_first_parts g n t → child_of (parts_of t) n ≡ Some u → u ≡ g (binders_of (parts_of t) n) u → s ≡ with_first_parts g (n + 1) t
-unfolding with_first_parts
-with_first_parts-skip g n t s u e c d =
-    e
-    ∙ ap (node (form_of t)) (sym (set_child-same (first_parts g n (parts_of t)) n u (child_of-first_parts g n (parts_of t) ∙ c)))
     ∙ ap (λ x. node (form_of t) (set_child (first_parts g n (parts_of t)) n x)) d
     ∙ ap (node (form_of t)) (step_parts g n (parts_of t) u c)
     ∙ ap (λ m. node (form_of t) (first_parts g m (parts_of t))) (sym (add-one n))
@@ -129,11 +110,3 @@ top_var-child from by (node f ps) i u e = omega (arith, parts_top-child from by 
 -- the part that a walk takes out is the node's own
 pub with_first_parts-part : (g : ℕ → Term → Term) (n : ℕ) (t s u : Term) → s ≡ with_first_parts g n t → Some u ≡ child_of (parts_of s) n → child_of (parts_of t) n ≡ Some u
 with_first_parts-part g n t s u e c = sym (child_of-with_first_parts g n t s e) ∙ sym c
-
-count-set_child : (ps : Parts) (i : ℕ) (u : Term) → count (set_child ps i u) ≡ count ps
-count-set_child none i u = refl
-count-set_child (part k t ps) zero u = refl
-count-set_child (part k t ps) (suc i) u = ap suc (count-set_child ps i u)
-
-pub count-with_part : (t : Term) (i : ℕ) (u : Term) → count (parts_of (with_part t i u)) ≡ count (parts_of t)
-count-with_part (node f ps) i u = count-set_child ps i u

@@ -7,7 +7,7 @@ ghost use Rattle.nrca_term.specs.Subst.{shift_term, top_var};
 ghost use Rattle.nrca_term.specs.View.{term_of};
 ghost use Rattle.nrca_subst.specs.Laws.{IsShifted, KeepsTypesShifted};
 
-use nrca_term::Core;
+use nrca_term::{Core, discard};
 
 /// Adds `by` to each variable that is free at `from` and above. No variable number may pass 64 bits.
 pub fn shift(term: Core, from: u64, by: u64) -> Core
@@ -72,7 +72,3 @@ fn shift_under(part: &mut Core, from: u64, binders: u64, by: u64)
         shift_in(part, deeper, by);
     }
 }
-
-// A call of its own, so that a term is let go in frames of its own.
-#[inline(never)]
-pub(crate) fn discard(_term: Core) {}

@@ -8,9 +8,9 @@ ghost use Rattle.nrca_term.specs.View.{term_of};
 ghost use Rattle.nrca_subst.specs.Laws.{IsSubst, KeepsMeaning, StaysUndefined, KeepsTypes};
 ghost use Rattle.nrca_subst.specs.Depth.{DepthFits, FitsDeeper, SubstitutesIn, SubstitutesBoth, ReplacesVariable};
 
-use crate::shifting::{discard, shift};
+use crate::shifting::shift;
 use aql_value::Memory;
-use nrca_term::Core;
+use nrca_term::{Core, discard};
 use std::alloc::Global;
 
 /// The term with variable `at` replaced, and those above it lowered by one. `with` is read among the

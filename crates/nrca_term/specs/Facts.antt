@@ -32,12 +32,12 @@ abbrev pub fact : Term → Known → ℕ → Fact
 fact t k d = record { comparison = t; known = k; depth = d }
 
 -- the facts of a place, and its number of variables
-pub record Facts : Type 0 where
+pub record Context : Type 0 where
   pub facts : List Fact
   pub depth : ℕ
 
 -- the facts of a closed term's root
-abbrev pub no_facts : Facts
+abbrev pub no_facts : Context
 no_facts = record { facts = []; depth = 0 }
 
 -- a test that is a comparison is a fact
@@ -91,7 +91,7 @@ added d Form.default ps i = []
 added d (Form.strict s) ps i = []
 
 -- the facts of part i of a term, from those of the term
-abbrev pub enter_facts : Facts → Term → ℕ → Facts
+abbrev pub enter_facts : Context → Term → ℕ → Context
 enter_facts c t i = record { facts = c.facts ++ added c.depth (form_of t) (parts_of t) i; depth = c.depth + binders_of (parts_of t) i }
 
 -- the context in a part that is there, and that of the node where there is none
@@ -105,7 +105,7 @@ context_at enter c t [] = c
 context_at enter c t (i ∷ path) = context_below c (child_of (parts_of t) i) (λ u. context_at enter (enter c t i) u path)
 
 -- the facts of the place at a path of a closed term
-abbrev pub facts_at : Term → List ℕ → Facts
+abbrev pub facts_at : Term → List ℕ → Context
 facts_at t path = context_at enter_facts no_facts t path
 
 -- the fact holds at values of a place with d variables: its comparison has its truth value at the values that stand around it
@@ -113,8 +113,8 @@ abbrev pub Holds : Outcomes → List Datum → ℕ → Fact → Type 0
 Holds V vals d f = (f.depth ≤ d) × (cden V (drop (d - f.depth) vals) f.comparison ≡ Some (truth (truth_of f.known)))
 
 -- the values are as many as the variables, and each fact holds at them
-abbrev pub Stands : Outcomes → Facts → List Datum → Type 0
-Stands V c vals = (length vals ≡ c.depth) × Every (Holds V vals c.depth) c.facts
+abbrev pub FactsHold : Outcomes → Context → List Datum → Type 0
+FactsHold V c vals = (length vals ≡ c.depth) × Every (Holds V vals c.depth) c.facts
 
 -- one of the facts has the property
 abbrev pub SomeFact : List Fact → (Fact → Type 0) → Type 0
@@ -122,13 +122,13 @@ SomeFact [] P = ⊥
 SomeFact (f ∷ F) P = P f ⊎ SomeFact F P
 
 -- the term is literally a fact: the comparison of one, shifted to the place
-abbrev pub IsFact : Facts → Term → Fact → Type 0
+abbrev pub IsFact : Context → Term → Fact → Type 0
 IsFact c t f = t ≡ shift_term 0 (c.depth - f.depth) f.comparison
 
 -- the term is literally a fact of this kind
-abbrev pub LiterallyKnown : Known → Facts → Term → Type 0
+abbrev pub LiterallyKnown : Known → Context → Term → Type 0
 LiterallyKnown k c t = SomeFact c.facts (λ f. (f.known ≡ k) × IsFact c t f)
 
 -- the term is literally a fact of this truth value
-abbrev pub Literally : Facts → Bool → Term → Type 0
+abbrev pub Literally : Context → Bool → Term → Type 0
 Literally c b t = SomeFact c.facts (λ f. (truth_of f.known ≡ b) × IsFact c t f)

@@ -7,7 +7,7 @@ use Rattle.aql_value.specs.Partial.{◌>>=◌}
 use Rattle.aql_value.specs.Strict.{Strict}
 use Rattle.nrca_term.specs.Term.{Term, Parts, node, none, part, Form}
 use Rattle.nrca_term.specs.Meaning.{Outcomes, outcome}
-use Rattle.nrca_term.specs.Facts.{Known, domain, test, denied, Fact, Facts, enter_facts}
+use Rattle.nrca_term.specs.Facts.{Known, domain, test, denied, Fact, Context, enter_facts}
 
 -- the least and the greatest number that a term may be, where they are told
 abbrev pub Span : Type 0
@@ -75,7 +75,7 @@ variable_span d i [] = None
 variable_span d i (f ∷ F) = or_span (fact_span d i f) (variable_span d i F)
 
 -- the span of a term at a place with these facts
-abbrev pub span : Facts → Term → Span
+abbrev pub span : Context → Term → Span
 span c (node (Form.var i) none) = variable_span c.depth i c.facts
 span c (node (Form.strict (Strict.nat n)) none) = Some (n, n)
 span c (node (Form.strict (Strict.arith op)) (part zero a (part zero b none))) = arith_span op (span c a) (span c b) (number_of b)
@@ -173,16 +173,16 @@ form_firm D f s ps = form_sure D f
 
 abbrev mutual
   -- a term that is firm to have a value at a place with these facts; each part at its own place
-  pub firm : (ℕ → Bool) → Facts → Term → Bool
+  pub firm : (ℕ → Bool) → Context → Term → Bool
   firm D c (node f ps) =
       form_firm D f (span c (node f ps)) ps && (if wants_all f then all_firm D c (node f ps) 0 ps else some_firm D c (node f ps) 0 ps)
 
   -- all of the parts from part i of a term on
-  pub all_firm : (ℕ → Bool) → Facts → Term → ℕ → Parts → Bool
+  pub all_firm : (ℕ → Bool) → Context → Term → ℕ → Parts → Bool
   all_firm D c t i none = true
   all_firm D c t i (part k u ps) = firm D (enter_facts c t i) u && all_firm D c t (suc i) ps
 
   -- one of the parts from part i of a term on
-  pub some_firm : (ℕ → Bool) → Facts → Term → ℕ → Parts → Bool
+  pub some_firm : (ℕ → Bool) → Context → Term → ℕ → Parts → Bool
   some_firm D c t i none = false
   some_firm D c t i (part k u ps) = firm D (enter_facts c t i) u || some_firm D c t (suc i) ps

@@ -4,6 +4,7 @@ pub mod AsVariant
 pub mod Contexts
 pub mod Entering
 pub mod Equations
+pub mod Exchange
 pub mod Facts
 pub mod Lets
 pub mod Measure

@@ -12,7 +12,6 @@ pub mod Firm
 pub mod Measure
 pub mod Rules
 pub mod Normal
-pub mod MeasureLaws
 pub mod TypedPlaces
 pub mod Valid
 pub mod Swapped

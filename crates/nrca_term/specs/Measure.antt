@@ -1,5 +1,5 @@
 -- The measure that each rewriting lowers: the weight, and then the number of pairs.
-use Rattle.std.specs.Prelude.{◌≡◌, ℕ, suc, ◌+◌, ◌<◌, ◌⊎◌, Bool, true, false}
+use Rattle.std.specs.Prelude.{◌≡◌, ℕ, suc, ◌+◌, ◌*◌, ◌<◌, ◌⊎◌, Bool, true, false}
 use Rattle.aql_value.specs.Strict.{Strict}
 use Rattle.nrca_term.specs.Term.{Term, Parts, node, none, part, Form, weight_of}
 
@@ -45,3 +45,11 @@ abbrev mutual
 -- the order in which terms fall
 abbrev pub Below : Term → Term → Type 0
 Below s t = (weight_of s < weight_of t) ⊎ ((weight_of s ≡ weight_of t) × (pairs_of s < pairs_of t))
+
+-- a rule lowers the weight, or keeps the weight and the nodes and lowers the pairs
+abbrev pub Lowers : Term → Term → Type 0
+Lowers l r = (weight_of r < weight_of l) ⊎ ((weight_of r ≡ weight_of l) × (nodes_of r ≡ nodes_of l) × (pairs_of r < pairs_of l))
+
+-- what is left to fall, where no term has more than b pairs
+abbrev pub left_of : ℕ → Term → ℕ
+left_of b t = weight_of t * (b + 1) + pairs_of t

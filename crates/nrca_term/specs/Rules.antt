@@ -18,7 +18,7 @@ use Rattle.nrca_term.specs.Nodes.{variable, number, truth_term, text_term, botto
 use Rattle.nrca_term.specs.Meaning.{Outcomes, cden}
 use Rattle.nrca_term.specs.Places.{place_of, reach, put_at}
 use Rattle.nrca_term.specs.Subst.{shift_term, subst_term, uses_of, is_strict, strict_uses}
-use Rattle.nrca_term.specs.Facts.{Facts, facts_at, LiterallyKnown, domain, test, denied}
+use Rattle.nrca_term.specs.Facts.{Context, facts_at, LiterallyKnown, domain, test, denied}
 
 -- a part of a term, by the way down to it
 abbrev pub Way : Type 0
@@ -217,7 +217,7 @@ abbrev pub Side : Outcomes → Rule → List Datum → Term → Term → List Wa
 Side V R vals l r ws = Every (DefinedAt V vals l) ws × Decides V R vals l r
 
 -- what the checks C1 to C3 ask of the facts of the place
-abbrev pub KnownAt : Rule → Facts → Term → Type 0
+abbrev pub KnownAt : Rule → Context → Term → Type 0
 KnownAt C1 c l = LiterallyKnown domain c l
 KnownAt C2 c l = LiterallyKnown test c l
 KnownAt C3 c l = LiterallyKnown denied c l

@@ -49,6 +49,11 @@ child_of none i = None
 child_of (part k t ps) zero = Some t
 child_of (part k t ps) (suc i) = child_of ps i
 
+-- the terms of parts, in the order written
+abbrev pub terms_in : Parts → List Term
+terms_in none = []
+terms_in (part k t ps) = t ∷ terms_in ps
+
 -- the number of variables that part i has beyond those around the node
 abbrev pub binders_of : Parts → ℕ → ℕ
 binders_of none i = 0

@@ -1,8 +1,7 @@
 -- When the constants of a term, and the outcomes of the positions, are values of the language.
 use Rattle.std.specs.Prelude.{◌≡◌, ℕ, Some}
 use Rattle.aql_value.specs.Datum.{Datum}
-use Rattle.aql_value.specs.Valid.{IsValue}
-use Rattle.aql_value.specs.ValidLaws.{HasValidConstant}
+use Rattle.aql_value.specs.Valid.{IsValue, HasValidConstant}
 use Rattle.nrca_term.specs.Term.{Term, Parts, node, none, part, Form}
 use Rattle.nrca_term.specs.Meaning.{Outcomes, outcome}
 

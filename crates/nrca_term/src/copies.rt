@@ -20,6 +20,10 @@ impl Core {
     }
 }
 
+/// Drops a term. A call of its own, so that a term is let go in frames of its own.
+#[inline(never)]
+pub fn discard(_term: Core) {}
+
 // In place, so that a level of the recursion keeps little on the stack.
 #[cycle(copy)]
 fn copy_in(alloc: Global, from: &Core, to: &mut Core) -> Result<(), Memory>
@@ -51,10 +55,6 @@ fn fill_parts(alloc: Global, from: &Core, to: &mut Core) -> Result<(), Memory>
     discard(part);
     Ok(())
 }
-
-// A call of its own, so that a term is let go in frames of its own.
-#[inline(never)]
-fn discard(_term: Core) {}
 
 #[inline(never)]
 fn put_shell(alloc: Global, from: &Core, to: &mut Core) -> Result<(), Memory>

@@ -18,6 +18,7 @@ mod validity;
 mod weights;
 
 pub use boxes::{open, put};
+pub use copies::discard;
 pub use form::{Form, Strict};
 pub use places::place;
 pub use term::{Core, Terms};

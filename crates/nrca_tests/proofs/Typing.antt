@@ -1,15 +1,12 @@
 -- The term of a bare expression is typed.
-use Rattle.std.proofs.Common.{◌≡◌, ℕ, zero, suc, ◌-◌, ◌<◌, List, [], ◌∷◌, ◌++◌, length, take, reverse, Some, refl, sym, ap, ◌∙◌, subst, append_assoc}
-use Rattle.std.specs.Prelude.{slice_get, get_or, option_map}
+use Rattle.std.proofs.Common.{◌≡◌, ℕ, zero, suc, ◌-◌, List, [], ◌∷◌, ◌++◌, take, reverse, Some, sym, ap, ◌∙◌, subst, append_assoc}
+use Rattle.std.specs.Prelude.{slice_get}
 use Rattle.std.proofs.lemmas.List.{reverse-append, append-nil}
-use Rattle.std.proofs.lemmas.Option.{slice_get-get_or}
 use Rattle.aql_types.specs.Types as types
 use Rattle.aql_types.specs.Types.{Ty, Sort, IsType}
 use Rattle.aql_syntax.specs.Size.{before}
 use Rattle.aql_syntax.specs.Tree.{Tree, Declaration, bare}
 use Rattle.aql_syntax.specs.Typing.{Environment, Has, DeclHas, scope_of}
-use Rattle.aql_syntax.specs.View.{decl_of, decls_of}
-use Rattle.aql_syntax.specs.declared.ast.Decl.{Decl}
 use Rattle.aql_infer_steps.specs.Typed.{ArePrincipal, IsPrincipalScheme}
 use Rattle.nrca_term.specs.Term.{Term}
 use Rattle.nrca_term.specs.Typing.{IsTyped}
@@ -47,12 +44,3 @@ bare-typed ds sorts n t e h q x =
     let s = sort-at ds sorts n (bare e) h q in
     let y = bare-has e (scope_of (before ds n)) s.0 s.1.principal.has in
     (types_before sorts n ++ [], y.0, (x e (ap query_at q)).types h [] y.0 y.1 y.2)
-
--- the declaration at a place
-pub declaration-at : (xs : List Decl) (i : ℕ) (x : Decl) → i < length xs → x ≡ get_or xs i x → slice_get (decls_of xs) i ≡ Some (decl_of x)
-declaration-at xs i x l e = go xs i ∙ ap (option_map decl_of) (slice_get-get_or xs i x l ∙ ap Some (sym e))
-  where
-    go : (xs : List Decl) (i : ℕ) → slice_get (decls_of xs) i ≡ option_map decl_of (slice_get xs i)
-    go [] i = refl
-    go (x ∷ xs) zero = refl
-    go (x ∷ xs) (suc i) = go xs i

@@ -1,8 +1,6 @@
 -- The laws of the scope that names make, and of names that are put on.
 use Rattle.std.proofs.Common.{◌≡◌, ◌≤◌, ℕ, zero, suc, ◌+◌, List, [], ◌∷◌, ◌++◌, length, take, Option, option_map, refl, ap, ◌∙◌, arith}
-use Rattle.aql_syntax.specs.Tree.{Name, count_pats}
-use Rattle.aql_syntax.specs.View.{pats_of}
-use Rattle.aql_syntax.specs.declared.ast.Pattern.{Pattern}
+use Rattle.aql_syntax.specs.Tree.{Name}
 use Rattle.aql_desugar_spec.specs.Start.{Binders, hidden}
 use Rattle.aql_desugar.specs.Names.{put_on, scope}
 
@@ -53,10 +51,6 @@ goes_on xs ys zs v e t = ap (take (length xs)) e ∙ take_before (length xs) ys 
 
 pub extends_all : {A : Type 0} (xs ys zs : List A) → take (length ys) zs ≡ ys → take (length xs) ys ≡ xs → take (length xs) zs ≡ xs
 extends_all xs ys zs e f = extends xs ys zs (length xs) e f (took xs ys f)
-
-pub count_pats-list : (ps : List Pattern) → count_pats (pats_of ps) ≡ length ps
-count_pats-list [] = refl
-count_pats-list (p ∷ ps) = ap suc (count_pats-list ps)
 
 pub take_all : {A : Type 0} (l : List A) → take (length l) l ≡ l
 take_all [] = refl

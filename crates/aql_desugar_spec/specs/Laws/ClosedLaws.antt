@@ -8,7 +8,7 @@ use Rattle.aql_syntax.specs.Tree.{Name, Constant, Pat, bind, any, equals, refers
 use Rattle.aql_syntax.specs.Names.{names_equal, find}
 use Rattle.nrca_term.specs.Term.{Term, Parts, node, none, part, plain, Form, FormClosed, Closed, PartsClosed}
 use Rattle.nrca_term.specs.Nodes.{variable, truth_term, bottom_term, let_term, if_term, proj_term, gen_term, dim_term, empty_term, loop_term}
-use Rattle.aql_desugar_spec.specs.Start.{Binders, Resolved, numbered, inlined, Resolutions, raised, index_of, name_term, position_term, macro_term, call_term, constant_term, bound, grown, growns, equal_term, match_term, parts_term, matching, united, dimension, loops_term, under, grown_axes, axes_term, index_terms, cell_term, cell_scope, array_term, under_axes, start, starts, bound_terms, quals_term, defs_term, hidden, inline, knowns_of}
+use Rattle.aql_desugar_spec.specs.Start.{Binders, Resolved, numbered, inlined, Resolutions, index_under, index_of, name_term, position_term, macro_term, call_term, constant_term, bound, grown, growns, equal_term, match_term, parts_term, matching, united, dimension, loops_term, under, grown_axes, axes_term, index_terms, cell_term, cell_scope, array_term, under_axes, start, starts, bound_terms, quals_term, defs_term, hidden, inline, knowns_of}
 use Rattle.aql_desugar_spec.specs.Laws.Scopes.{length-bound, length-bound_axes, length-under, length-under_axes}
 use Rattle.aql_desugar_spec.specs.Laws.Meaning.{length-bound_terms}
 use Rattle.aql_desugar_spec.specs.Laws.Positions.{length-hidden}
@@ -23,7 +23,7 @@ abbrev Below : ℕ → Option ℕ → Type 0
 Below n None = Unit {0}
 Below n (Some i) = i < n
 
-below-raised : (n : ℕ) (i : Option ℕ) → Below n i → Below (suc n) (raised i)
+below-raised : (n : ℕ) (i : Option ℕ) → Below n i → Below (suc n) (index_under i)
 below-raised n None h = tt
 below-raised n (Some i) h = omega arith
 
@@ -31,7 +31,7 @@ below-index_of : (x : Name) (s : Binders) → Below (length s) (index_of x s)
 below-index_of x [] = tt
 below-index_of x (None ∷ s) = below-raised (length s) (index_of x s) (below-index_of x s)
 below-index_of x (Some y ∷ s) =
-    elim (names_equal x y) as (λ b. Below (suc (length s)) (if b then Some 0 else raised (index_of x s))) [
+    elim (names_equal x y) as (λ b. Below (suc (length s)) (if b then Some 0 else index_under (index_of x s))) [
       | true ↦ omega arith
       | false ↦ below-raised (length s) (index_of x s) (below-index_of x s)
     ]

@@ -14,7 +14,7 @@ use Rattle.nrca_term.specs.Term.{Term}
 use Rattle.nrca_term.specs.Meaning.{Outcomes, cden}
 use Rattle.nrca_term.specs.Turns.{settle}
 use Rattle.nrca_term.specs.Nodes.{variable, if_term, proj_term}
-use Rattle.aql_desugar_spec.specs.Start.{Binders, Resolutions, index_of, name_term, constant_term, bound, bounds, grown, growns, equal_term, match_term, parts_term, matching}
+use Rattle.aql_desugar_spec.specs.Start.{Binders, Resolutions, index_of, name_term, constant_term, bound, bound_all, grown, growns, equal_term, match_term, parts_term, matching}
 use Rattle.aql_desugar_spec.specs.Scopes.{env_of, Stand, IsInside}
 use Rattle.aql_desugar_spec.specs.Laws.Scopes.{cden-name_term, settle-name_term, fits, inside_part, further}
 use Rattle.aql_desugar_spec.specs.Laws.Nodes.{let-turns, choose-turns}
@@ -89,7 +89,7 @@ mutual
   pub cden-parts_term : (V : Outcomes) (globals : Globals) (known : Resolutions) → Stand V globals known →
       (ps : Pats) (s : Binders) (vals : List Datum) (at j c : ℕ) (w : Datum) (inside other : Term) (k : Env → Option Datum) (a : Option Datum) →
       length s ≡ length vals → slice_get vals at ≡ Some w → ((l : List Datum) → cden V l other ≡ a) →
-      IsInside (λ l. cden V l inside) (growns ps) (bounds ps s) vals k →
+      IsInside (λ l. cden V l inside) (growns ps) (bound_all ps s) vals k →
       cden V vals (parts_term ps known s at j c inside other) ≡ on_match (match_parts ps globals j c w (env_of s vals)) k a None
   cden-parts_term V globals known all no_pat s vals at j c w inside other k a e h n i = i [] refl
   cden-parts_term V globals known all (pat p ps) s vals at j c w inside other k a e h n i =
@@ -103,7 +103,7 @@ mutual
       (λ new l.
       cden-parts_term V globals known all ps (bound p (None ∷ s)) (new ++ (u ∷ vals)) (at + (grown p + 1)) (suc j) c w inside other k a
       (fits p s vals u new e l) (further new vals at (grown p) w u l h) n
-      (inside_part (λ l'. cden V l' inside) (grown p) (growns ps) (bounds ps (bound p (None ∷ s))) vals k u new l i))
+      (inside_part (λ l'. cden V l' inside) (grown p) (growns ps) (bound_all ps (bound p (None ∷ s))) vals k u new l i))
       ∙ on-then (match p globals u (env_of s vals)) (match_parts ps globals (suc j) c w) k a None))
 
 mutual
@@ -126,7 +126,7 @@ mutual
   pub settle-parts_term : (V : Outcomes) (globals : Globals) (known : Resolutions) → Stand V globals known →
       (ps : Pats) (s : Binders) (vals : List Datum) (at j c : ℕ) (w : Datum) (inside other : Term) (k : Env → ℕ) →
       length s ≡ length vals → slice_get vals at ≡ Some w → ((l : List Datum) → settle V l other ≡ 0) →
-      IsInside (λ l. settle V l inside) (growns ps) (bounds ps s) vals k →
+      IsInside (λ l. settle V l inside) (growns ps) (bound_all ps s) vals k →
       settle V vals (parts_term ps known s at j c inside other) ≡ on_match (match_parts ps globals j c w (env_of s vals)) k 0 0
   settle-parts_term V globals known all no_pat s vals at j c w inside other k e h n i = i [] refl
   settle-parts_term V globals known all (pat p ps) s vals at j c w inside other k e h n i =
@@ -143,7 +143,7 @@ mutual
       (λ new l.
       settle-parts_term V globals known all ps (bound p (None ∷ s)) (new ++ (u ∷ vals)) (at + (grown p + 1)) (suc j) c w inside other k
       (fits p s vals u new e l) (further new vals at (grown p) w u l h) n
-      (inside_part (λ l'. settle V l' inside) (grown p) (growns ps) (bounds ps (bound p (None ∷ s))) vals k u new l i))
+      (inside_part (λ l'. settle V l' inside) (grown p) (growns ps) (bound_all ps (bound p (None ∷ s))) vals k u new l i))
       ∙ on-then (match p globals u (env_of s vals)) (match_parts ps globals (suc j) c w) k 0 0)
 
 -- a term in a scope is worth f of the names, wherever values stand for the variables

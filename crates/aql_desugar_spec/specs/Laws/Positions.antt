@@ -19,7 +19,8 @@ use Rattle.aql_desugar_spec.specs.Scopes.{env_of, Stand}
 use Rattle.aql_desugar_spec.specs.Laws.Matching.{match-worth, match-turns}
 use Rattle.aql_desugar_spec.specs.Laws.Meaning.{cden-start}
 use Rattle.aql_desugar_spec.specs.Laws.Turns.{settle-start}
-use Rattle.aql_desugar_spec.specs.Laws.{outcomes_of, StartMeans, StartTurns}
+use Rattle.aql_desugar_spec.specs.Laws.{StartMeans, StartTurns}
+use Rattle.aql_desugar_spec.specs.Positions.{outcomes_of}
 
 pub length-hidden : (n : ℕ) → length (hidden n) ≡ n
 length-hidden zero = refl

@@ -10,10 +10,10 @@ use Rattle.aql_syntax.specs.Denotation.{call, in_head, at_index}
 use Rattle.aql_syntax.specs.Work.{turns_of_call}
 use Rattle.nrca_term.specs.Meaning.{Outcomes, cden}
 use Rattle.nrca_term.specs.Turns.{settle}
-use Rattle.aql_desugar_spec.specs.Start.{Binders, Resolved, numbered, inlined, Resolutions, raised, index_of, position_term, name_term, macro_term, call_term, bound, bounds, grown, growns, under, bound_axes, grown_axes, under_axes}
+use Rattle.aql_desugar_spec.specs.Start.{Binders, Resolved, numbered, inlined, Resolutions, index_under, index_of, position_term, name_term, macro_term, call_term, bound, bound_all, grown, growns, under, bound_axes, grown_axes, under_axes}
 use Rattle.aql_desugar_spec.specs.Scopes.{env_of, Stand, ResolvesTo, IsInside}
 
-raise : {A : Type 0} (vals : List A) (v : A) (i : Option ℕ) (w : Option A) → ResolvesTo vals i w → ResolvesTo (v ∷ vals) (raised i) w
+raise : {A : Type 0} (vals : List A) (v : A) (i : Option ℕ) (w : Option A) → ResolvesTo vals i w → ResolvesTo (v ∷ vals) (index_under i) w
 raise vals v None None h = tt
 raise vals v None (Some w) h = absurd h
 raise vals v (Some i) None h = absurd h
@@ -25,7 +25,7 @@ leads x [] (v ∷ vals) e = absurd (omega arith)
 leads x (slot ∷ s) [] e = absurd (omega arith)
 leads x (None ∷ s) (v ∷ vals) e = raise vals v (index_of x s) (find x (env_of s vals)) (leads x s vals (omega arith))
 leads x (Some y ∷ s) (v ∷ vals) e =
-    elim (names_equal x y) as (λ b. ResolvesTo (v ∷ vals) (if b then Some 0 else raised (index_of x s)) (if b then Some v else find x (env_of s vals))) [
+    elim (names_equal x y) as (λ b. ResolvesTo (v ∷ vals) (if b then Some 0 else index_under (index_of x s)) (if b then Some v else find x (env_of s vals))) [
       | true ↦ refl
       | false ↦ raise vals v (index_of x s) (find x (env_of s vals)) (leads x s vals (omega arith))
     ]
@@ -86,10 +86,10 @@ mutual
   length-bound (refers x) s = omega arith
   length-bound (tuple ps) s = length-bounds ps s
 
-  pub length-bounds : (ps : Pats) (s : Binders) → length (bounds ps s) ≡ length s + growns ps
+  pub length-bounds : (ps : Pats) (s : Binders) → length (bound_all ps s) ≡ length s + growns ps
   length-bounds no_pat s = omega arith
   length-bounds (pat p ps) s =
-      let a : length (bounds ps (bound p (None ∷ s))) ≡ length (bound p (None ∷ s)) + growns ps = length-bounds ps (bound p (None ∷ s)) in
+      let a : length (bound_all ps (bound p (None ∷ s))) ≡ length (bound p (None ∷ s)) + growns ps = length-bounds ps (bound p (None ∷ s)) in
       let b : length (bound p (None ∷ s)) ≡ suc (length s) + grown p = length-bound p (None ∷ s) in
       omega arith
 

@@ -18,7 +18,7 @@ use Rattle.nrca_term.specs.Term.{Term, node, none, plain, Form}
 use Rattle.nrca_term.specs.Typing.{arg, form_rule, ctyped, parts_typed}
 use Rattle.nrca_term.specs.Nodes.{variable, bottom_term, empty_term, let_term, if_term, proj_term, big_union_term, loop_term}
 use Rattle.aql_desugar_spec.specs.Start as start_term
-use Rattle.aql_desugar_spec.specs.Start.{Resolved, Resolutions, index_of, position_term, name_term, macro_term, call_term, constant_term, bound, bounds, grown, growns, equal_term, match_term, parts_term, matching, united}
+use Rattle.aql_desugar_spec.specs.Start.{Resolved, Resolutions, index_of, position_term, name_term, macro_term, call_term, constant_term, bound, bound_all, grown, growns, equal_term, match_term, parts_term, matching, united}
 use Rattle.aql_desugar_spec.specs.Scopes.{env_of, ResolvesTo}
 use Rattle.aql_desugar_spec.specs.Laws.Scopes.{leads, fits, further, rejoined}
 use Rattle.aql_syntax.specs.Written.{IsWrittenForm}
@@ -235,7 +235,7 @@ mutual
       length s ≡ length env → env_of s env ≡ local_instances u before → slice_get env at ≡ Some (types.product (tys_of full)) → length full ≡ c →
       ((m : ℕ) → slice_get full (j + m) ≡ slice_get (listed u ts) m) →
       FitsAll ps g before ts locals → ((l : List Ty) → ctyped G l other B) →
-      Inside u (λ l. ctyped G l inside B) (growns ps) (bounds ps s) env locals →
+      Inside u (λ l. ctyped G l inside B) (growns ps) (bound_all ps s) env locals →
       ctyped G env (parts_term ps known s at (suc j) c inside other) B
   typed-parts_term G g known u all no_pat s env at j c B inside other before locals full ts q r b l v h n d f o i = i [] refl (v ∙ ap (local_instances u) (sym f.1))
   typed-parts_term G g known u all (pat p ps) s env at j c B inside other before locals full ts q r b l v h n d f o i =
@@ -253,7 +253,7 @@ mutual
       (fits p s env (apply u t) new l e) w (further new env at (grown p) (types.product (tys_of full)) (apply u t) e h) n
       (λ m. let y : suc j + m ≡ j + suc m = omega arith in ap (slice_get full) y ∙ d (suc m) ∙ ap (λ ts. slice_get (listed u ts) (suc m)) f.3)
       f.5 o
-      (typed-inside_part u (λ l'. ctyped G l' inside B) (grown p) (growns ps) (bounds ps (bound p (None ∷ s))) env locals (apply u t) new e i)))
+      (typed-inside_part u (λ l'. ctyped G l' inside B) (grown p) (growns ps) (bound_all ps (bound p (None ∷ s))) env locals (apply u t) new e i)))
 
 -- a term in a scope has the type under the instance of the local names
 abbrev pub HasIn : Given → Subst → (start_term.Binders → Term) → Locals → Ty → Type 0

@@ -13,7 +13,8 @@ use Rattle.nrca_term.specs.Nodes.{bottom_term}
 use Rattle.aql_desugar_spec.specs.Start.{Resolved, numbered, inlined, Resolutions, position_term, macro_term, hidden, inline, start, knowns_of}
 use Rattle.aql_desugar_spec.specs.Laws.Positions.{length-hidden, env_of-hidden}
 use Rattle.aql_syntax.specs.Written.{IsWritten, DeclWritten}
-use Rattle.aql_desugar_spec.specs.Laws.{EachPrincipal, value_type, types_of, StartTyped}
+use Rattle.aql_desugar_spec.specs.Laws.{EachPrincipal, sort_types, StartTyped}
+use Rattle.aql_desugar_spec.specs.Positions.{value_type}
 use Rattle.aql_desugar_spec.specs.Laws.TypedNodes.{Given, Typed, apply-type, typed-bottom, typed-matching}
 use Rattle.aql_desugar_spec.specs.Laws.Types.{typed-start}
 
@@ -130,34 +131,34 @@ last_type [] later T (suc n) e = absurd (omega arith)
 last_type (S ∷ Ts) later T zero e = absurd (omega arith)
 last_type (S ∷ Ts) later T (suc n) e = last_type Ts later T n (omega arith)
 
-length-types : (ds : List Declaration) (sorts : List Sort) → EachPrincipal ds sorts → length ds ≡ length (types_of sorts)
-length-types [] sorts h = ap (λ l. length (types_of l)) (sym h)
+length-types : (ds : List Declaration) (sorts : List Sort) → EachPrincipal ds sorts → length ds ≡ length (sort_types sorts)
+length-types [] sorts h = ap (λ l. length (sort_types l)) (sym h)
 length-types (d ∷ ds) sorts h =
-    (let i = length-types ds h.1 h.5 in let j = length-append (types_of h.1) (value_type h.0 ∷ []) in
-    let z : suc (length ds) ≡ length (types_of (h.0 ∷ h.1)) = omega arith in z) ∙ ap (λ l. length (types_of l)) (sym h.2)
+    (let i = length-types ds h.1 h.5 in let j = length-append (sort_types h.1) (value_type h.0 ∷ []) in
+    let z : suc (length ds) ≡ length (sort_types (h.0 ∷ h.1)) = omega arith in z) ∙ ap (λ l. length (sort_types l)) (sym h.2)
 
 -- the positions before one of sort s have their types under each substitution
 abbrev Before : Sort → List Sort → List Declaration → List Ty → Type 0
-Before s sorts ds later = (w : Subst) → ((x : ℕ) → IsType (w x)) → Typed (instances (types_of sorts ++ (value_type s ∷ later))) (scope_of ds) (knowns_of ds) w
+Before s sorts ds later = (w : Subst) → ((x : ℕ) → IsType (w x)) → Typed (instances (sort_types sorts ++ (value_type s ∷ later))) (scope_of ds) (knowns_of ds) w
 
 pub typed-positions : (ds : List Declaration) (sorts : List Sort) → EachPrincipal ds sorts → (later : List Ty) (u : Subst) → ((x : ℕ) → IsType (u x)) →
-    Typed (instances (types_of sorts ++ later)) (scope_of ds) (knowns_of ds) u
+    Typed (instances (sort_types sorts ++ later)) (scope_of ds) (knowns_of ds) u
 typed-positions [] sorts h later u proper = record { proper = proper; names = λ x T k env. absurd k; arguments = λ f A B k. absurd k; calls = λ f A B k env. absurd k }
 typed-positions (d ∷ ds) sorts h later u proper =
-    subst (λ l. Typed (instances (types_of l ++ later)) (scope_of (d ∷ ds)) (knowns_of (d ∷ ds)) u) (sym h.2)
-    (subst (λ l. Typed (instances l) (scope_of (d ∷ ds)) (knowns_of (d ∷ ds)) u) (sym (append_assoc (types_of h.1) (value_type h.0 ∷ []) later))
+    subst (λ l. Typed (instances (sort_types l ++ later)) (scope_of (d ∷ ds)) (knowns_of (d ∷ ds)) u) (sym h.2)
+    (subst (λ l. Typed (instances l) (scope_of (d ∷ ds)) (knowns_of (d ∷ ds)) u) (sym (append_assoc (sort_types h.1) (value_type h.0 ∷ []) later))
     (one d h.3 h.4 (λ w p. typed-positions ds h.1 h.5 (value_type h.0 ∷ later) w p)))
   where
     position : (d : Declaration) → IsPrincipal d (scope_of ds) h.0 → ((s t : Ty) → DeclHas d (scope_of ds) (macro s t) → ⊥) → Before h.0 h.1 ds later →
-        Typed (instances (types_of h.1 ++ (value_type h.0 ∷ later))) (extended d (scope_of ds)) ((declared d, numbered (suc (length ds))) ∷ knowns_of ds) u
+        Typed (instances (sort_types h.1 ++ (value_type h.0 ∷ later))) (extended d (scope_of ds)) ((declared d, numbered (suc (length ds))) ∷ knowns_of ds) u
     position d i n before =
         one_more _ (scope_of ds) (knowns_of ds) u d (numbered (suc (length ds))) (before u proper)
         (λ T t k env.
         let r = principal-instance d (scope_of ds) h.0 u T i k in
-        (apply-type u proper T t, [], (refl, (value_type h.0, r.0, last_type (types_of h.1) later (value_type h.0) (length ds) (length-types ds h.1 h.5), r.1)), refl))
+        (apply-type u proper T t, [], (refl, (value_type h.0, r.0, last_type (sort_types h.1) later (value_type h.0) (length ds) (length-types ds h.1 h.5), r.1)), refl))
         (λ A B a b k env. absurd (no-macro d (scope_of ds) n A B k))
 
-    one : (d : Declaration) → DeclWritten d → IsPrincipal d (scope_of ds) h.0 → Before h.0 h.1 ds later → Typed (instances (types_of h.1 ++ (value_type h.0 ∷ later))) (scope_of (d ∷ ds)) (knowns_of (d ∷ ds)) u
+    one : (d : Declaration) → DeclWritten d → IsPrincipal d (scope_of ds) h.0 → Before h.0 h.1 ds later → Typed (instances (sort_types h.1 ++ (value_type h.0 ∷ later))) (scope_of (d ∷ ds)) (knowns_of (d ∷ ds)) u
     one (val x e) w i before = position (val x e) i (λ s t k. k) before
     one (mac f p body) w i before =
         one_more _ (scope_of ds) (knowns_of ds) u (mac f p body) (inlined (inline p body (knowns_of ds))) (before u proper)
@@ -168,5 +169,5 @@ typed-positions (d ∷ ds) sorts h later u proper =
 
 pub start-typed : StartTyped
 start-typed ds sorts later e T h w k i =
-    subst (λ U. ctyped (instances (types_of sorts ++ later)) [] (start e (knowns_of ds) []) U) (apply_var T)
+    subst (λ U. ctyped (instances (sort_types sorts ++ later)) [] (start e (knowns_of ds) []) U) (apply_var T)
     (typed-start _ (scope_of ds) (knowns_of ds) types.var (typed-positions ds sorts h later types.var (λ x. tt)) e w [] T k i [] [] refl refl)

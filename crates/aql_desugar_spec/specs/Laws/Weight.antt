@@ -87,7 +87,8 @@ weight-tab_parts (t ∷ ts) ps = omega (arith, weight-tab_parts ts ps)
 weight-tab : (ts : List Term) (b : Term) → weight_of (tab_term ts b) ≡ 6 * length ts + 6 + total weight_of ts + weight_of b
 weight-tab ts b = omega (arith, weight-tab_parts ts (part (length ts) b none))
 
-some-nodes : (p : Pat) → 1 ≤ pat_nodes p
+-- a pattern has a node
+pub some-nodes : (p : Pat) → 1 ≤ pat_nodes p
 some-nodes (bind x) = omega arith
 some-nodes any = omega arith
 some-nodes (equals c) = omega arith

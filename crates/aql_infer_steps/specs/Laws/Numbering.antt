@@ -4,25 +4,25 @@ use Rattle.std.proofs.lemmas.Bool.{eqb-true, eq-eqb}
 use Rattle.aql_types.specs.Types as types
 use Rattle.aql_types.specs.Types.{Ty, natural, truth, var, product, set_of, array_of, Tys, no_type, type, Subst, apply, apply_all, nodes, nodes_all, levels, levels_all, IsType, AreTypes, IsWithin, Sort, value, macro, apply_sort}
 use Rattle.aql_types.specs.Laws.Types.{row_is, apply-apply, apply_var, count_apply}
-use Rattle.aql_types.specs.Variables.{is_one_of, place, variables, variables_all, sort_variables}
-use Rattle.aql_infer_steps.specs.Numbering.{at_place, renumbering, number, named, names_back, IsNumbered}
+use Rattle.aql_types.specs.Variables.{is_one_of, variable_index, variables, variables_all, sort_variables}
+use Rattle.aql_infer_steps.specs.Numbering.{at_index, renumbering, number, named, names_back, IsNumbered}
 
-at_place-place : (x : ℕ) (ys : List ℕ) → is_one_of x ys ≡ true → at_place (place x ys) ys ≡ x
-unfolding at_place
-at_place-place x [] e = cc
-at_place-place x (y ∷ ys) e = go (y == x) refl e (at_place-place x ys)
+at_index-index : (x : ℕ) (ys : List ℕ) → is_one_of x ys ≡ true → at_index (variable_index x ys) ys ≡ x
+unfolding at_index
+at_index-index x [] e = cc
+at_index-index x (y ∷ ys) e = go (y == x) refl e (at_index-index x ys)
   where
-    go : (b : Bool) → (y == x) ≡ b → (b || is_one_of x ys) ≡ true → (is_one_of x ys ≡ true → at_place (place x ys) ys ≡ x) →
-        at_place (if b then 0 else suc (place x ys)) (y ∷ ys) ≡ x
+    go : (b : Bool) → (y == x) ≡ b → (b || is_one_of x ys) ≡ true → (is_one_of x ys ≡ true → at_index (variable_index x ys) ys ≡ x) →
+        at_index (if b then 0 else suc (variable_index x ys)) (y ∷ ys) ≡ x
     go true h e r = eqb-true y x h
     go false h e r = r e
 
-place_below : (x : ℕ) (ys : List ℕ) → is_one_of x ys ≡ true → place x ys < length ys
-place_below x [] e = cc
-place_below x (y ∷ ys) e = go (y == x) e (place_below x ys)
+variable_index_below : (x : ℕ) (ys : List ℕ) → is_one_of x ys ≡ true → variable_index x ys < length ys
+variable_index_below x [] e = cc
+variable_index_below x (y ∷ ys) e = go (y == x) e (variable_index_below x ys)
   where
-    go : (b : Bool) → (b || is_one_of x ys) ≡ true → (is_one_of x ys ≡ true → place x ys < length ys) →
-        (if b then 0 else suc (place x ys)) < length (y ∷ ys)
+    go : (b : Bool) → (b || is_one_of x ys) ≡ true → (is_one_of x ys ≡ true → variable_index x ys < length ys) →
+        (if b then 0 else suc (variable_index x ys)) < length (y ∷ ys)
     go true e r = omega arith
     go false e r = omega (arith, r e)
 
@@ -61,7 +61,7 @@ mutual
 named_numbered : (vs : List ℕ) (t : Ty) → Among vs t → apply (named vs) (apply (renumbering vs) t) ≡ t
 named_numbered vs t k =
     apply-apply (named vs) (renumbering vs) t
-    ∙ agree_on vs (λ x. var (at_place (place x vs) vs)) var (λ x h. ap var (at_place-place x vs h)) t k
+    ∙ agree_on vs (λ x. var (at_index (variable_index x vs) vs)) var (λ x h. ap var (at_index-index x vs h)) t k
     ∙ apply_var t
 
 -- only numbers below the list's length occur
@@ -69,7 +69,7 @@ numbered_closed : (vs : List ℕ) (u v : Subst) → ((i : ℕ) → i < length vs
     apply u (apply (renumbering vs) t) ≡ apply v (apply (renumbering vs) t)
 numbered_closed vs u v h t k =
     apply-apply u (renumbering vs) t
-    ∙ agree_on vs (λ x. u (place x vs)) (λ x. v (place x vs)) (λ x m. h (place x vs) (place_below x vs m)) t k
+    ∙ agree_on vs (λ x. u (variable_index x vs)) (λ x. v (variable_index x vs)) (λ x m. h (variable_index x vs) (variable_index_below x vs m)) t k
     ∙ sym (apply-apply v (renumbering vs) t)
 
 -- The list of a type's variables has them all.
@@ -212,43 +212,43 @@ pub named_within : (f : ℕ → ℕ) (t : Ty) → IsWithin t → IsWithin (apply
 named_within f t h =
     (omega (arith, h.0, named_nodes f t), omega (arith, h.1, named_levels f t), named_type f t h.2)
 
--- the places of some variables
-places : List ℕ → List ℕ → List ℕ
-places vs [] = []
-places vs (y ∷ ys) = place y vs ∷ places vs ys
+-- the indices of some variables
+variable_indices : List ℕ → List ℕ → List ℕ
+variable_indices vs [] = []
+variable_indices vs (y ∷ ys) = variable_index y vs ∷ variable_indices vs ys
 
 -- each of some is among others
 EachOf : List ℕ → List ℕ → Type 0
 EachOf vs [] = Unit {0}
 EachOf vs (y ∷ ys) = (is_one_of y vs ≡ true) × EachOf vs ys
 
-places_equal : (vs : List ℕ) (x y : ℕ) → is_one_of x vs ≡ true → is_one_of y vs ≡ true → (place y vs == place x vs) ≡ (y == x)
-places_equal vs x y hx hy = go (place y vs == place x vs) refl (y == x) refl
+indices_equal : (vs : List ℕ) (x y : ℕ) → is_one_of x vs ≡ true → is_one_of y vs ≡ true → (variable_index y vs == variable_index x vs) ≡ (y == x)
+indices_equal vs x y hx hy = go (variable_index y vs == variable_index x vs) refl (y == x) refl
   where
-    go : (a : Bool) → (place y vs == place x vs) ≡ a → (b : Bool) → (y == x) ≡ b → a ≡ b
+    go : (a : Bool) → (variable_index y vs == variable_index x vs) ≡ a → (b : Bool) → (y == x) ≡ b → a ≡ b
     go true e true f = refl
     go false e false f = refl
     go true e false f =
-        let p : place y vs ≡ place x vs = eqb-true (place y vs) (place x vs) e in
-        let q : y ≡ x = sym (at_place-place y vs hy) ∙ ap (λ i. at_place i vs) p ∙ at_place-place x vs hx in
+        let p : variable_index y vs ≡ variable_index x vs = eqb-true (variable_index y vs) (variable_index x vs) e in
+        let q : y ≡ x = sym (at_index-index y vs hy) ∙ ap (λ i. at_index i vs) p ∙ at_index-index x vs hx in
         sym (eq-eqb y x q) ∙ f
     go false e true f =
-        let q : y ≡ x = eqb-true y x f in sym e ∙ eq-eqb (place y vs) (place x vs) (ap (λ z. place z vs) q)
+        let q : y ≡ x = eqb-true y x f in sym e ∙ eq-eqb (variable_index y vs) (variable_index x vs) (ap (λ z. variable_index z vs) q)
 
-one_of_places : (vs ys : List ℕ) (x : ℕ) → is_one_of x vs ≡ true → EachOf vs ys → is_one_of (place x vs) (places vs ys) ≡ is_one_of x ys
-unfolding places EachOf
-one_of_places vs [] x h k = refl
-one_of_places vs (y ∷ ys) x h k = rw (places_equal vs x y h k.0, one_of_places vs ys x h k.1) refl
+one_of_indices : (vs ys : List ℕ) (x : ℕ) → is_one_of x vs ≡ true → EachOf vs ys → is_one_of (variable_index x vs) (variable_indices vs ys) ≡ is_one_of x ys
+unfolding variable_indices EachOf
+one_of_indices vs [] x h k = refl
+one_of_indices vs (y ∷ ys) x h k = rw (indices_equal vs x y h k.0, one_of_indices vs ys x h k.1) refl
 
-place_places : (vs ys : List ℕ) (x : ℕ) → is_one_of x vs ≡ true → EachOf vs ys → place (place x vs) (places vs ys) ≡ place x ys
-unfolding places EachOf
-place_places vs [] x h k = refl
-place_places vs (y ∷ ys) x h k = rw (places_equal vs x y h k.0, place_places vs ys x h k.1) refl
+index_indices : (vs ys : List ℕ) (x : ℕ) → is_one_of x vs ≡ true → EachOf vs ys → variable_index (variable_index x vs) (variable_indices vs ys) ≡ variable_index x ys
+unfolding variable_indices EachOf
+index_indices vs [] x h k = refl
+index_indices vs (y ∷ ys) x h k = rw (indices_equal vs x y h k.0, index_indices vs ys x h k.1) refl
 
-places_last : (vs ys : List ℕ) (x : ℕ) → places vs (ys ++ (x ∷ [])) ≡ places vs ys ++ (place x vs ∷ [])
-unfolding places
-places_last vs [] x = refl
-places_last vs (y ∷ ys) x = ap (λ l. place y vs ∷ l) (places_last vs ys x)
+indices_last : (vs ys : List ℕ) (x : ℕ) → variable_indices vs (ys ++ (x ∷ [])) ≡ variable_indices vs ys ++ (variable_index x vs ∷ [])
+unfolding variable_indices
+indices_last vs [] x = refl
+indices_last vs (y ∷ ys) x = ap (λ l. variable_index y vs ∷ l) (indices_last vs ys x)
 
 each_last : (vs ys : List ℕ) (x : ℕ) → EachOf vs ys → is_one_of x vs ≡ true → EachOf vs (ys ++ (x ∷ []))
 unfolding EachOf
@@ -278,38 +278,38 @@ mutual
 mutual
   unfolding Among AllAmong
 
-  variables_places : (vs : List ℕ) (t : Ty) (seen : List ℕ) → Among vs t → EachOf vs seen →
-      variables (apply (renumbering vs) t) (places vs seen) ≡ places vs (variables t seen)
-  variables_places vs natural seen h k = refl
-  variables_places vs truth seen h k = refl
-  variables_places vs types.text seen h k = refl
-  variables_places vs (var x) seen h k = rw (one_of_places vs seen x h k) (go (is_one_of x seen))
+  variables_indices : (vs : List ℕ) (t : Ty) (seen : List ℕ) → Among vs t → EachOf vs seen →
+      variables (apply (renumbering vs) t) (variable_indices vs seen) ≡ variable_indices vs (variables t seen)
+  variables_indices vs natural seen h k = refl
+  variables_indices vs truth seen h k = refl
+  variables_indices vs types.text seen h k = refl
+  variables_indices vs (var x) seen h k = rw (one_of_indices vs seen x h k) (go (is_one_of x seen))
     where
-      go : (b : Bool) → (if b then places vs seen else places vs seen ++ (place x vs ∷ [])) ≡ places vs (if b then seen else seen ++ (x ∷ []))
+      go : (b : Bool) → (if b then variable_indices vs seen else variable_indices vs seen ++ (variable_index x vs ∷ [])) ≡ variable_indices vs (if b then seen else seen ++ (x ∷ []))
       go true = refl
-      go false = sym (places_last vs seen x)
-  variables_places vs (product ts) seen h k = all_variables_places vs ts seen h k
-  variables_places vs (set_of t) seen h k = variables_places vs t seen h k
-  variables_places vs (array_of r t) seen h k = variables_places vs t seen h k
+      go false = sym (indices_last vs seen x)
+  variables_indices vs (product ts) seen h k = all_variables_indices vs ts seen h k
+  variables_indices vs (set_of t) seen h k = variables_indices vs t seen h k
+  variables_indices vs (array_of r t) seen h k = variables_indices vs t seen h k
 
-  all_variables_places : (vs : List ℕ) (ts : Tys) (seen : List ℕ) → AllAmong vs ts → EachOf vs seen →
-      variables_all (apply_all (renumbering vs) ts) (places vs seen) ≡ places vs (variables_all ts seen)
-  all_variables_places vs no_type seen h k = refl
-  all_variables_places vs (type t ts) seen h k =
-      ap (variables_all (apply_all (renumbering vs) ts)) (variables_places vs t seen h.0 k)
-      ∙ all_variables_places vs ts (variables t seen) h.1 (each_variables vs t seen h.0 k)
+  all_variables_indices : (vs : List ℕ) (ts : Tys) (seen : List ℕ) → AllAmong vs ts → EachOf vs seen →
+      variables_all (apply_all (renumbering vs) ts) (variable_indices vs seen) ≡ variable_indices vs (variables_all ts seen)
+  all_variables_indices vs no_type seen h k = refl
+  all_variables_indices vs (type t ts) seen h k =
+      ap (variables_all (apply_all (renumbering vs) ts)) (variables_indices vs t seen h.0 k)
+      ∙ all_variables_indices vs ts (variables t seen) h.1 (each_variables vs t seen h.0 k)
 
 none_each : (vs : List ℕ) → EachOf vs []
 unfolding EachOf
 none_each vs = tt
 
-number_variables : (s : Sort) → sort_variables (number s) ≡ places (sort_variables s) (sort_variables s)
-unfolding places
-number_variables (value t) = variables_places (variables t []) t [] (variables_among t []) (none_each (variables t []))
+number_variables : (s : Sort) → sort_variables (number s) ≡ variable_indices (sort_variables s) (sort_variables s)
+unfolding variable_indices
+number_variables (value t) = variables_indices (variables t []) t [] (variables_among t []) (none_each (variables t []))
 number_variables (macro a b) =
     let vs = variables b (variables a []) in
-    ap (variables (apply (renumbering vs) b)) (variables_places vs a [] (argument_among a b) (none_each vs))
-    ∙ variables_places vs b (variables a []) (variables_among b (variables a [])) (each_variables vs a [] (argument_among a b) (none_each vs))
+    ap (variables (apply (renumbering vs) b)) (variables_indices vs a [] (argument_among a b) (none_each vs))
+    ∙ variables_indices vs b (variables a []) (variables_among b (variables a [])) (each_variables vs a [] (argument_among a b) (none_each vs))
 
 each_within : (vs ys : List ℕ) → ((x : ℕ) → is_one_of x ys ≡ true → is_one_of x vs ≡ true) → EachOf vs ys
 unfolding EachOf
@@ -326,15 +326,15 @@ each_within vs (y ∷ ys) h = (h y (here y), each_within vs ys (λ x e. h x (the
         go true = refl
         go false = e
 
--- a place that is listed is that of a variable
-of_places : (vs ys : List ℕ) (x : ℕ) → EachOf vs ys → is_one_of x (places vs ys) ≡ true → (y : ℕ) × (is_one_of y vs ≡ true) × (x ≡ place y vs)
-unfolding places EachOf
-of_places vs [] x k e = cc
-of_places vs (y ∷ ys) x k e = go (place y vs == x) refl e (of_places vs ys x k.1)
+-- an index that is listed is that of a variable
+of_indices : (vs ys : List ℕ) (x : ℕ) → EachOf vs ys → is_one_of x (variable_indices vs ys) ≡ true → (y : ℕ) × (is_one_of y vs ≡ true) × (x ≡ variable_index y vs)
+unfolding variable_indices EachOf
+of_indices vs [] x k e = cc
+of_indices vs (y ∷ ys) x k e = go (variable_index y vs == x) refl e (of_indices vs ys x k.1)
   where
-    go : (b : Bool) → (place y vs == x) ≡ b → (b || is_one_of x (places vs ys)) ≡ true →
-        (is_one_of x (places vs ys) ≡ true → (y : ℕ) × (is_one_of y vs ≡ true) × (x ≡ place y vs)) → (y : ℕ) × (is_one_of y vs ≡ true) × (x ≡ place y vs)
-    go true f e r = (y, k.0, sym (eqb-true (place y vs) x f))
+    go : (b : Bool) → (variable_index y vs == x) ≡ b → (b || is_one_of x (variable_indices vs ys)) ≡ true →
+        (is_one_of x (variable_indices vs ys) ≡ true → (y : ℕ) × (is_one_of y vs ≡ true) × (x ≡ variable_index y vs)) → (y : ℕ) × (is_one_of y vs ≡ true) × (x ≡ variable_index y vs)
+    go true f e r = (y, k.0, sym (eqb-true (variable_index y vs) x f))
     go false f e r = r e
 
 pub number_numbered : (s : Sort) → IsNumbered (number s)
@@ -342,5 +342,5 @@ number_numbered s x h =
     let vs = sort_variables s in
     let all = each_within vs vs (λ x e. e) in
     let e = number_variables s in
-    let y = of_places vs vs x all (sym (ap (is_one_of x) e) ∙ h) in
-    ap (place x) e ∙ ap (λ z. place z (places vs vs)) y.2 ∙ place_places vs vs y.0 y.1 all ∙ sym y.2
+    let y = of_indices vs vs x all (sym (ap (is_one_of x) e) ∙ h) in
+    ap (variable_index x) e ∙ ap (λ z. variable_index z (variable_indices vs vs)) y.2 ∙ index_indices vs vs y.0 y.1 all ∙ sym y.2

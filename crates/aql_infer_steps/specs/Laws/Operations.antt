@@ -9,11 +9,11 @@ use Rattle.aql_value.specs.Strict.{Strict}
 use Rattle.aql_types.specs.Types as types
 use Rattle.aql_types.specs.Types.{Ty, natural, Tys, no_type, type, Subst, apply, apply_all, IsRank, IsWithin, tys_of, index_type}
 use Rattle.aql_types.specs.OperationTypes.{strict_rule}
-use Rattle.aql_types.specs.Laws.Types.{natural_within, member_within, cell_within, PartsWithin, parts_within, first_within, rest_within}
+use Rattle.aql_types.specs.Laws.Types.{natural_within, cell_within}
 use Rattle.aql_syntax.specs.Typing.{OperandWithin, FirstWithin}
 use Rattle.aql_infer_steps.specs.Constraints.{State, Making, made, fresh, is_rank, equate_each, with_none, with_one, with_two, with_first, literal_parts, pair_type, made_arith, made_compare, made_empty, made_single, made_union, made_gen, made_get, made_sub, made_dim, made_index, make_op}
 use Rattle.aql_infer_steps.specs.Laws.Steps.{Sound, sound_after, sound_made, sound_none, weaker, sound_fresh, sound_equate, sound_within, sound_guard, Agrees, later_later, Stays, on, Found, found_after, found_made, found_equate, found_within, found_guard, found_fresh}
-use Rattle.aql_infer_steps.specs.Describes.{instances}
+use Rattle.aql_infer_steps.specs.Describes.{apply_each}
 use Rattle.aql_syntax.specs.Written.{IsWrittenForm}
 
 -- Ranks, indices and lists.
@@ -37,13 +37,13 @@ index_apply u (suc (suc k)) = ap (λ (ts : Tys). types.product (type natural (ty
 pub pair_apply : (u : Subst) (k : ℕ) (s : Ty) → apply u (pair_type k s) ≡ pair_type k (apply u s)
 pair_apply u k s = ap (λ (i : Ty). types.product (type i (type (apply u s) no_type))) (index_apply u k)
 
-pub tys_apply : (u : Subst) (ts : List Ty) → apply_all u (tys_of ts) ≡ tys_of (instances u ts)
+pub tys_apply : (u : Subst) (ts : List Ty) → apply_all u (tys_of ts) ≡ tys_of (apply_each u ts)
 tys_apply u [] = refl
 tys_apply u (t ∷ ts) = ap (type (apply u t)) (tys_apply u ts)
 
-length_instances : (u : Subst) (ts : List Ty) → length (instances u ts) ≡ length ts
-length_instances u [] = refl
-length_instances u (t ∷ ts) = ap suc (length_instances u ts)
+length-apply_each : (u : Subst) (ts : List Ty) → length (apply_each u ts) ≡ length ts
+length-apply_each u [] = refl
+length-apply_each u (t ∷ ts) = ap suc (length-apply_each u ts)
 
 conses : {a b : Ty} {p q : List Ty} → a ≡ b → p ≡ q → ◌≡◌ {A = List Ty} (a ∷ p) (b ∷ q)
 conses e f = cc
@@ -60,30 +60,30 @@ abbrev pub OpHas : Strict → List Ty → Ty → Type 0
 OpHas o ts t = strict_rule o ts t × OperandWithin o ts
 
 none_sound : (u : Subst) (n : State) (Q : List Ty → Ty → Type 0) (ts : List Ty) (f : Making Ty) →
-    Sound n u (λ t. Q [] (apply u t)) (f n) → Sound n u (λ t. Q (instances u ts) (apply u t)) (with_none ts f n)
+    Sound n u (λ t. Q [] (apply u t)) (f n) → Sound n u (λ t. Q (apply_each u ts) (apply u t)) (with_none ts f n)
 none_sound u n Q [] f h = h
 none_sound u n Q (a ∷ ts) f h = sound_none
 
 one_sound : (u : Subst) (n : State) (Q : List Ty → Ty → Type 0) (ts : List Ty) (f : Ty → Making Ty) →
-    ((a : Ty) → Sound n u (λ t. Q (apply u a ∷ []) (apply u t)) (f a n)) → Sound n u (λ t. Q (instances u ts) (apply u t)) (with_one ts f n)
+    ((a : Ty) → Sound n u (λ t. Q (apply u a ∷ []) (apply u t)) (f a n)) → Sound n u (λ t. Q (apply_each u ts) (apply u t)) (with_one ts f n)
 one_sound u n Q [] f h = sound_none
 one_sound u n Q (a ∷ []) f h = h a
 one_sound u n Q (a ∷ b ∷ ts) f h = sound_none
 
 two_sound : (u : Subst) (n : State) (Q : List Ty → Ty → Type 0) (ts : List Ty) (f : Ty → Ty → Making Ty) →
-    ((a b : Ty) → Sound n u (λ t. Q (apply u a ∷ apply u b ∷ []) (apply u t)) (f a b n)) → Sound n u (λ t. Q (instances u ts) (apply u t)) (with_two ts f n)
+    ((a b : Ty) → Sound n u (λ t. Q (apply u a ∷ apply u b ∷ []) (apply u t)) (f a b n)) → Sound n u (λ t. Q (apply_each u ts) (apply u t)) (with_two ts f n)
 two_sound u n Q [] f h = sound_none
 two_sound u n Q (a ∷ []) f h = sound_none
 two_sound u n Q (a ∷ b ∷ []) f h = h a b
 two_sound u n Q (a ∷ b ∷ c ∷ ts) f h = sound_none
 
 first_sound : (u : Subst) (n : State) (Q : List Ty → Ty → Type 0) (ts : List Ty) (f : Ty → List Ty → Making Ty) →
-    ((a : Ty) (at : List Ty) → Sound n u (λ t. Q (apply u a ∷ instances u at) (apply u t)) (f a at n)) → Sound n u (λ t. Q (instances u ts) (apply u t)) (with_first ts f n)
+    ((a : Ty) (at : List Ty) → Sound n u (λ t. Q (apply u a ∷ apply_each u at) (apply u t)) (f a at n)) → Sound n u (λ t. Q (apply_each u ts) (apply u t)) (with_first ts f n)
 first_sound u n Q [] f h = sound_none
 first_sound u n Q (a ∷ at) f h = h a at
 
 pub each_equated : (u : Subst) (ts : List Ty) (s : Ty) (n : State) →
-    Sound n u (λ _. instances u ts ≡ replicate (length ts) (apply u s)) (equate_each ts s n)
+    Sound n u (λ _. apply_each u ts ≡ replicate (length ts) (apply u s)) (equate_each ts s n)
 each_equated u [] s n = sound_made refl
 each_equated u (t ∷ ts) s n = sound_after (sound_equate u t s n) (λ _ n. weaker (each_equated u ts s n) (λ _ f e. conses e f))
 
@@ -91,20 +91,20 @@ abbrev LiteralParts : ℕ → List Ty → Ty → Type 0
 LiteralParts k ts s = (m : ℕ) × (ts ≡ replicate k natural ++ replicate m s)
 
 literal_sound : (u : Subst) (k : ℕ) (s : Ty) (ts : List Ty) (n : State) →
-    Sound n u (λ _. LiteralParts k (instances u ts) (apply u s)) (literal_parts k s ts n)
+    Sound n u (λ _. LiteralParts k (apply_each u ts) (apply u s)) (literal_parts k s ts n)
 literal_sound u zero s ts n = weaker (each_equated u ts s n) (λ _ e. (length ts, e))
 literal_sound u (suc k) s [] n = sound_none
 literal_sound u (suc k) s (t ∷ ts) n =
     sound_after (sound_equate u t natural n) (λ _ n. weaker (literal_sound u k s ts n) (λ _ f e. (f.0, conses e f.1)))
 
-pub op_sound : (o : Strict) (u : Subst) (ts : List Ty) (n : State) → Sound n u (λ t. OpHas o (instances u ts) (apply u t)) (make_op o ts n)
+pub op_sound : (o : Strict) (u : Subst) (ts : List Ty) (n : State) → Sound n u (λ t. OpHas o (apply_each u ts) (apply u t)) (make_op o ts n)
 op_sound (Strict.nat k) u ts n = none_sound u n (OpHas (Strict.nat k)) ts (made natural) (sound_made ((refl, refl), tt))
 op_sound (Strict.bool b) u ts n = none_sound u n (OpHas (Strict.bool b)) ts (made types.truth) (sound_made ((refl, refl), tt))
 op_sound (Strict.text s) u ts n = none_sound u n (OpHas (Strict.text s)) ts (made types.text) (sound_made ((refl, refl), tt))
 op_sound Strict.bottom u ts n = none_sound u n (OpHas Strict.bottom) ts fresh (weaker (sound_fresh u n) (λ t _. (refl, tt)))
 op_sound Strict.tuple u ts n =
     sound_after (sound_guard u (nat_le 2 (length ts)) n) (λ _ n. sound_made (λ g.
-    ((omega (arith, leb-true _ _ g, length_instances u ts), ap types.product (tys_apply u ts)), tt)))
+    ((omega (arith, leb-true _ _ g, length-apply_each u ts), ap types.product (tys_apply u ts)), tt)))
 op_sound (Strict.proj at of) u ts n = sound_none
 op_sound (Strict.arith o) u ts n =
     two_sound u n (OpHas (Strict.arith o)) ts made_arith (λ a b.
@@ -158,7 +158,7 @@ abbrev pub IsTy : Ty → Subst → Ty → Type 0
 IsTy t v a = apply v a ≡ t
 
 abbrev pub IsEach : List Ty → Subst → List Ty → Type 0
-IsEach ts v bs = instances v bs ≡ ts
+IsEach ts v bs = apply_each v bs ≡ ts
 
 itself : (n : State) (u : Subst) → Agrees n u u
 itself n u x lt = refl
@@ -234,7 +234,7 @@ naturally : {n : State} {u : Subst} → Stays n u (IsTy natural) natural
 naturally = record { holds = λ v g. refl }
 
 same_length : {n : State} {u : Subst} (ts bs : List Ty) → Stays n u (IsEach ts) bs → length bs ≡ length ts
-same_length {n} {u} ts bs st = sym (length_instances u bs) ∙ ap length (st.holds u (itself n u))
+same_length {n} {u} ts bs st = sym (length-apply_each u bs) ∙ ap length (st.holds u (itself n u))
 
 length_replicate : (k : ℕ) → length (replicate k natural) ≡ k
 length_replicate zero = refl
@@ -323,45 +323,3 @@ op_found (Strict.literal k) f ts t w h q bs st =
     found_after (found_fresh h.0) (λ s n u m ss.
     found_after (literal_found k h.1 h.0 bs s ws (each_at h.3 (on (later_later l m) st)) ss) (λ _ n u m' _.
     found_made (λ v g. arrays k ((on m' ss).holds v g) ∙ sym h.4))))
-
--- The types of all parts are within the limits.
-
-abbrev pub EachWithin : List Ty → Type 0
-EachWithin [] = Unit {0}
-EachWithin (t ∷ ts) = IsWithin t × EachWithin ts
-
-each_part : (ts : List Ty) → PartsWithin (tys_of ts) → EachWithin ts
-each_part [] h = tt
-each_part (t ∷ ts) h = (first_within t (tys_of ts) h, each_part ts (rest_within t (tys_of ts) h))
-
-each_replicate : (k : ℕ) (t : Ty) → IsWithin t → EachWithin (replicate k t)
-each_replicate zero t w = tt
-each_replicate (suc k) t w = (w, each_replicate k t w)
-
-each_append : (a b : List Ty) → EachWithin a → EachWithin b → EachWithin (a ++ b)
-each_append [] b h k = k
-each_append (t ∷ a) b h k = (h.0, each_append a b h.1 k)
-
-along : {ts ss : List Ty} → ts ≡ ss → EachWithin ss → EachWithin ts
-along e h = subst EachWithin (sym e) h
-
-pub op_parts : (o : Strict) → IsWrittenForm o → (ts : List Ty) (t : Ty) → IsWithin t → strict_rule o ts t → OperandWithin o ts → EachWithin ts
-op_parts (Strict.nat k) f ts t w h q = along h.0 tt
-op_parts (Strict.bool b) f ts t w h q = along h.0 tt
-op_parts (Strict.text s) f ts t w h q = along h.0 tt
-op_parts Strict.bottom f ts t w h q = along h tt
-op_parts Strict.tuple f ts t w h q = each_part ts (parts_within (tys_of ts) (subst IsWithin h.1 w))
-op_parts (Strict.proj at of) f ts t w h q = absurd f
-op_parts (Strict.arith o) f ts t w h q = along h.0 (natural_within, (natural_within, tt))
-op_parts (Strict.compare o) f ts t w h q = let ws = subst FirstWithin h.1 q in along h.1 (ws, (ws, tt))
-op_parts Strict.empty f ts t w h q = along h.1 tt
-op_parts Strict.single f ts t w h q = along h.1 (member_within h.0 (subst IsWithin h.2 w), tt)
-op_parts Strict.union f ts t w h q = let ws = subst IsWithin h.2 w in along h.1 (ws, (ws, tt))
-op_parts Strict.gen f ts t w h q = along h.0 (natural_within, tt)
-op_parts Strict.get f ts t w h q = along h (subst FirstWithin h q, tt)
-op_parts Strict.sub f ts t w h q = along h.2 (subst FirstWithin h.2 q, each_replicate h.0 natural natural_within)
-op_parts (Strict.dim k) f ts t w h q = along h.2 (subst FirstWithin h.2 q, tt)
-op_parts (Strict.index k) f ts t w h q = along h.2 (subst FirstWithin h.2 q, tt)
-op_parts (Strict.literal k) f ts t w h q =
-    along h.3 (each_append (replicate k natural) (replicate h.1 h.0) (each_replicate k natural natural_within)
-    (each_replicate h.1 h.0 (cell_within k h.0 (subst IsWithin h.4 w))))

@@ -6,13 +6,13 @@ use Rattle.aql_types.specs.Laws.Types.{apply-apply, apply_same, apply_sort-apply
 use Rattle.aql_syntax.specs.Tree.{Name, Declaration, declared}
 use Rattle.aql_syntax.specs.Names.{names_equal, find}
 use Rattle.aql_syntax.specs.Typing.{Environment, DeclHas, IsInstanceOf, if_name, extended, scope_of, IsPrincipal}
-use Rattle.aql_infer_steps.specs.Constraints.{Scheme, Schemes, start, Made, make_decl}
-use Rattle.aql_infer_steps.specs.Laws.Steps.{Alive, SoundIn, FoundIn, Kept}
+use Rattle.aql_infer_steps.specs.Constraints.{NumberedSort, NumberedSorts, initial, Made, make_decl}
+use Rattle.aql_infer_steps.specs.Laws.Steps.{Alive, SoundIn, FoundIn, Extended}
 use Rattle.aql_infer_steps.specs.Describes.{SortHas, SortTakes, SchemeHas, SchemeTakes, IsClosedSort, SchemeClosed, Describes}
 use Rattle.aql_syntax.specs.Written.{DeclWritten}
 use Rattle.aql_infer_steps.specs.Laws.Sound.{decl_sound}
 use Rattle.aql_infer_steps.specs.Laws.Complete.{IsSort, decl_found, macros, value_is, left_is, right_is}
-use Rattle.aql_types.specs.Variables.{sort_variables, place}
+use Rattle.aql_types.specs.Variables.{sort_variables, variable_index}
 use Rattle.aql_infer_steps.specs.Numbering.{names_back, IsNumbered}
 use Rattle.aql_infer_steps.specs.Laws.Numbering.{number_undone, number_closed, named_within, number_numbered}
 use Rattle.aql_infer_steps.specs.Principal.{IsInferred, HasNoSolution, IsNotInferred}
@@ -21,31 +21,31 @@ sort_same : (u v : Subst) → ((x : ℕ) → u x ≡ v x) → (s : Sort) → app
 sort_same u v h (value t) = ap value (apply_same u v h t)
 sort_same u v h (macro a b) = macros (apply_same u v h a) (apply_same u v h b)
 
-begun : {u : Subst} → Alive u start
+begun : {u : Subst} → Alive u initial
 begun = record { unify = tt; within = tt; sides = tt }
 
 -- nothing is inferred: no sort
-pub untyped : (d : Declaration) → DeclWritten d → (g : Environment) (ss : Schemes) → Describes g ss → IsNotInferred d ss → (s : Sort) → DeclHas d g s → ⊥
-untyped d z g ss k none s h = go (make_decl d ss start) none (decl_found d z g ss k s {n = start} {u = var} h).found
+pub untyped : (d : Declaration) → DeclWritten d → (g : Environment) (ss : NumberedSorts) → Describes g ss → IsNotInferred d ss → (s : Sort) → DeclHas d g s → ⊥
+untyped d z g ss k none s h = go (make_decl d ss initial) none (decl_found d z g ss k s {n = initial} {u = var} h).found
   where
-    go : (o : Option (Made Sort)) → HasNoSolution o → FoundIn start var (IsSort s) o → ⊥
+    go : (o : Option (Made Sort)) → HasNoSolution o → FoundIn initial var (IsSort s) o → ⊥
     go None none found = found
     go (Some m) none found =
         let holds = found.holds found.grow (λ x lt. refl) in
         let a = holds.0 begun in
         none found.grow (record { unifies = a.unify; sides = a.sides; uses = a.within })
 
-kept : (d : Declaration) → DeclWritten d → (g : Environment) (ss : Schemes) → Describes g ss → (m : Made Sort) → make_decl d ss start ≡ Some m →
-    (s : Sort) → DeclHas d g s → Kept start var (IsSort s) m
-kept d z g ss k m e s h = subst (FoundIn start var (IsSort s)) e (decl_found d z g ss k s {n = start} {u = var} h).found
+kept : (d : Declaration) → DeclWritten d → (g : Environment) (ss : NumberedSorts) → Describes g ss → (m : Made Sort) → make_decl d ss initial ≡ Some m →
+    (s : Sort) → DeclHas d g s → Extended initial var (IsSort s) m
+kept d z g ss k m e s h = subst (FoundIn initial var (IsSort s)) e (decl_found d z g ss k s {n = initial} {u = var} h).found
 
 -- the sort under any solution
-typed : (d : Declaration) (g : Environment) (ss : Schemes) → Describes g ss → (m : Made Sort) → make_decl d ss start ≡ Some m →
+typed : (d : Declaration) (g : Environment) (ss : NumberedSorts) → Describes g ss → (m : Made Sort) → make_decl d ss initial ≡ Some m →
     (u : Subst) → AllUnify u m.state.eqs → AllWithin u m.state.uses → DeclHas d g (apply_sort u m.result)
 typed d g ss k m e u h w =
-    (subst (SoundIn start u (λ s. DeclHas d g (apply_sort u s))) e (decl_sound d u g ss k start).holds (record { unify = h; within = w })).1
+    (subst (SoundIn initial u (λ s. DeclHas d g (apply_sort u s))) e (decl_sound d u g ss k initial).holds (record { unify = h; within = w })).1
 
-principal : (d : Declaration) → DeclWritten d → (g : Environment) (ss : Schemes) → Describes g ss → (m : Made Sort) → make_decl d ss start ≡ Some m →
+principal : (d : Declaration) → DeclWritten d → (g : Environment) (ss : NumberedSorts) → Describes g ss → (m : Made Sort) → make_decl d ss initial ≡ Some m →
     (s : Subst) → IsBest m.state.eqs m.state.uses s → IsPrincipal d g (apply_sort s m.result)
 principal d z g ss k m e s best = record {
   has = typed d g ss k m e s best.unifies best.within;
@@ -70,7 +70,7 @@ renamed_within f s no_type h = tt
 renamed_within f s (type t ts) h = (subst IsWithin (apply-apply (λ y. var (f y)) s t) (named_within f (apply s t) h.0), renamed_within f s ts h.1)
 
 -- any change of the variables' names that can be undone
-renamed : (d : Declaration) → DeclWritten d → (g : Environment) (ss : Schemes) → Describes g ss → (m : Made Sort) → make_decl d ss start ≡ Some m →
+renamed : (d : Declaration) → DeclWritten d → (g : Environment) (ss : NumberedSorts) → Describes g ss → (m : Made Sort) → make_decl d ss initial ≡ Some m →
     (s : Subst) → IsBest m.state.eqs m.state.uses s → (f : ℕ → ℕ) (back : Subst) →
     apply_sort back (apply_sort (λ x. var (f x)) (apply_sort s m.result)) ≡ apply_sort s m.result →
     IsPrincipal d g (apply_sort (λ x. var (f x)) (apply_sort s m.result))
@@ -85,17 +85,17 @@ renamed d z g ss k m e s best f back same = record {
 }
 
 -- what is inferred is principal
-pub inferred_principal : (d : Declaration) → DeclWritten d → (g : Environment) (ss : Schemes) → Describes g ss → (s : Scheme) → IsInferred d ss s → IsPrincipal d g s.sort
+pub inferred_principal : (d : Declaration) → DeclWritten d → (g : Environment) (ss : NumberedSorts) → Describes g ss → (s : NumberedSort) → IsInferred d ss s → IsPrincipal d g s.sort
 inferred_principal d z g ss k s i =
     let o = apply_sort i.solution i.made.result in
     subst (IsPrincipal d g) (sym i.sort)
-    (renamed d z g ss k i.made i.is i.solution i.best (λ x. place x (sort_variables o)) (names_back o) (number_undone o))
+    (renamed d z g ss k i.made i.is i.solution i.best (λ x. variable_index x (sort_variables o)) (names_back o) (number_undone o))
 
 -- its variables are numbered by first appearance
-pub inferred_numbered : (d : Declaration) (ss : Schemes) (s : Scheme) → IsInferred d ss s → IsNumbered s.sort
+pub inferred_numbered : (d : Declaration) (ss : NumberedSorts) (s : NumberedSort) → IsInferred d ss s → IsNumbered s.sort
 inferred_numbered d ss s i = subst IsNumbered (sym i.sort) (number_numbered (apply_sort i.solution i.made.result))
 
-inferred_closed : (d : Declaration) (ss : Schemes) (s : Scheme) → IsInferred d ss s → IsClosedSort s.variables s.sort
+inferred_closed : (d : Declaration) (ss : NumberedSorts) (s : NumberedSort) → IsInferred d ss s → IsClosedSort s.variables s.sort
 inferred_closed d ss s i u v h =
     let o = apply_sort i.solution i.made.result in
     ap (apply_sort u) i.sort ∙ number_closed o u v (λ x lt. h x (subst (λ (k : ℕ). x < k) (sym i.variables) lt)) ∙ sym (ap (apply_sort v) i.sort)
@@ -129,7 +129,7 @@ new_taken d g s p a t h =
     let q = p.general h.2.1 h.2.2 in
     taken_sort s (λ x. apply h.2.0 (q.0 x)) a t h.0 h.1 (h.2.3 ∙ ap (apply_sort h.2.0) q.1 ∙ apply_sort-apply h.2.0 q.0 s)
 
-described : (d : Declaration) (g : Environment) (ss : Schemes) → Describes g ss → (s : Scheme) → IsPrincipal d g s.sort →
+described : (d : Declaration) (g : Environment) (ss : NumberedSorts) → Describes g ss → (s : NumberedSort) → IsPrincipal d g s.sort →
     IsClosedSort s.variables s.sort → Describes (extended d g) ((declared d, s) ∷ ss)
 described d g ss k s p c = record {
   has = λ x t. has (names_equal x (declared d)) x t;
@@ -172,6 +172,6 @@ none_described = record {
 }
 
 -- one position more
-pub inferred_described : (d : Declaration) → DeclWritten d → (g : Environment) (ss : Schemes) → Describes g ss → (s : Scheme) → IsInferred d ss s →
+pub inferred_described : (d : Declaration) → DeclWritten d → (g : Environment) (ss : NumberedSorts) → Describes g ss → (s : NumberedSort) → IsInferred d ss s →
     Describes (extended d g) ((declared d, s) ∷ ss)
 inferred_described d z g ss k s i = described d g ss k s (inferred_principal d z g ss k s i) (inferred_closed d ss s i)

@@ -9,9 +9,9 @@ use Rattle.aql_syntax.specs.Names.{find}
 use Rattle.aql_syntax.specs.Typing.{Environment, Locals, NameHas, MacroTakes, constant_type, PatternFits, FitsAll, FitsAxes, with_indices, Has, HasAll, HasEach, BoundsHave, Rows, Binds, field_type, field_types, record_type, reader_type, argument_type, DeclHas}
 use Rattle.aql_syntax.specs.declared.ast.Kind.{Kind}
 use Rattle.aql_syntax.specs.declared.ast.Kind.TheVariants as kinds
-use Rattle.aql_infer_steps.specs.Constraints.{Scheme, Schemes, State, is_rank, make_value, make_global, make_name, make_macro, make_call, make_pat, make_pats, matched, matched_member, matched_index, matched_cell, make, make_all, make_each, make_bounds, make_rows, make_binds, reader_fits, make_decl}
+use Rattle.aql_infer_steps.specs.Constraints.{NumberedSort, NumberedSorts, State, is_rank, make_value, make_global, make_name, make_macro, make_call, make_pat, make_pats, matched, matched_member, matched_index, matched_cell, make, make_all, make_each, make_bounds, make_rows, make_binds, reader_fits, make_decl}
 use Rattle.aql_infer_steps.specs.Laws.Steps.{Sound, sound_after, sound_made, sound_none, weaker, sound_fresh, sound_opened, sound_equate, sound_within, sound_guard}
-use Rattle.aql_infer_steps.specs.Describes.{at, at_some, instances, SortHas, SortTakes, SchemeHas, SchemeTakes, Describes}
+use Rattle.aql_infer_steps.specs.Describes.{at, at_some, apply_each, SortHas, SortTakes, SchemeHas, SchemeTakes, Describes}
 use Rattle.aql_infer_steps.specs.Laws.Describes.{find_at}
 use Rattle.aql_infer_steps.specs.Laws.Operations.{op_sound, rank_true, index_apply}
 
@@ -21,11 +21,11 @@ value_sound u (value r) k n =
     sound_made (λ h _. (h, ((λ x. apply u (w x)), apply-apply u w r)))))
 value_sound u (macro a b) k n = sound_none
 
-global_sound : (u : Subst) (o : Option Scheme) (n : State) → Sound n u (λ t. SchemeHas o (apply u t)) (make_global o n)
+global_sound : (u : Subst) (o : Option NumberedSort) (n : State) → Sound n u (λ t. SchemeHas o (apply u t)) (make_global o n)
 global_sound u None n = sound_none
 global_sound u (Some s) n = value_sound u s.sort s.variables n
 
-name_sound : (u : Subst) (g : Environment) (ss : Schemes) → Describes g ss → (env : Locals) (x : Name) (n : State) →
+name_sound : (u : Subst) (g : Environment) (ss : NumberedSorts) → Describes g ss → (env : Locals) (x : Name) (n : State) →
     Sound n u (λ t. NameHas g (find x (at u env)) x (apply u t)) (make_name ss (find x env) x n)
 name_sound u g ss d env x n = rw (find_at u x env) (go (find x env))
   where
@@ -46,11 +46,11 @@ macro_sound u (macro p q) k a n =
       ((λ x. apply u (w x)), e ∙ apply-apply u w p, apply-apply u w q),
     ))))))
 
-call_sound : (u : Subst) (g : Environment) (ss : Schemes) → Describes g ss → (env : Locals) (f : Name) (a : Ty) (n : State) →
+call_sound : (u : Subst) (g : Environment) (ss : NumberedSorts) → Describes g ss → (env : Locals) (f : Name) (a : Ty) (n : State) →
     Sound n u (λ t. MacroTakes g (find f (at u env)) f (apply u a) (apply u t)) (make_call (find f env) (find f ss) a n)
 call_sound u g ss d env f a n = rw (find_at u f env) (go (find f env) (find f ss) (λ t. d.takes f (apply u a) t))
   where
-    go : (o : Option Ty) (r : Option Scheme) → ((t : Ty) → SchemeTakes r (apply u a) t → g.takes f (apply u a) t) →
+    go : (o : Option Ty) (r : Option NumberedSort) → ((t : Ty) → SchemeTakes r (apply u a) t → g.takes f (apply u a) t) →
         Sound n u (λ t. MacroTakes g (at_some u o) f (apply u a) (apply u t)) (make_call o r a n)
     go (Some t) r h = sound_none
     go None None h = sound_none
@@ -62,7 +62,7 @@ constant_apply u (trees.truth b) = refl
 constant_apply u (bytes s) = refl
 
 mutual
-  pub pat_sound : (p : Pat) (u : Subst) (g : Environment) (ss : Schemes) → Describes g ss → (env : Locals) (n : State) →
+  pub pat_sound : (p : Pat) (u : Subst) (g : Environment) (ss : NumberedSorts) → Describes g ss → (env : Locals) (n : State) →
       Sound n u (λ r. PatternFits p g (at u env) (apply u r.of) (at u r.names)) (make_pat p ss env n)
   pat_sound (bind x) u g ss d env n = sound_after (sound_fresh u n) (λ t n. sound_made (λ _. refl))
   pat_sound any u g ss d env n = sound_after (sound_fresh u n) (λ t n. sound_made (λ _. refl))
@@ -70,7 +70,7 @@ mutual
   pat_sound (refers x) u g ss d env n = sound_after (name_sound u g ss d env x n) (λ t n. sound_made (λ h. (h, refl)))
   pat_sound (tuple ps) u g ss d env n = sound_after (pats_sound ps u g ss d env n) (λ r n. sound_made (λ h. (apply_all u r.of, refl, h)))
 
-  pub pats_sound : (ps : Pats) (u : Subst) (g : Environment) (ss : Schemes) → Describes g ss → (env : Locals) (n : State) →
+  pub pats_sound : (ps : Pats) (u : Subst) (g : Environment) (ss : NumberedSorts) → Describes g ss → (env : Locals) (n : State) →
       Sound n u (λ r. FitsAll ps g (at u env) (apply_all u r.of) (at u r.names)) (make_pats ps ss env n)
   pats_sound no_pat u g ss d env n = sound_made (refl, refl)
   pats_sound (pat p ps) u g ss d env n =
@@ -79,7 +79,7 @@ mutual
       sound_made (λ k h. (apply u r.of, apply_all u q.of, at u r.names, refl, h, k))))
 
 -- what `matched` gives: the value's type is within the limits, and the pattern fits it
-matched_sound : (p : Pat) (u : Subst) (g : Environment) (ss : Schemes) → Describes g ss → (env : Locals) (t : Ty) (n : State) →
+matched_sound : (p : Pat) (u : Subst) (g : Environment) (ss : NumberedSorts) → Describes g ss → (env : Locals) (t : Ty) (n : State) →
     Sound n u (λ inner. IsWithin (apply u t) × PatternFits p g (at u env) (apply u t) (at u inner)) (matched p ss env t n)
 matched_sound p u g ss d env t n =
     sound_after (pat_sound p u g ss d env n) (λ r n. sound_after (sound_equate u t r.of n) (λ _ n.
@@ -90,7 +90,7 @@ matched_sound p u g ss d env t n =
 abbrev MemberFits : Pat → Environment → Locals → Ty → Locals → Type 0
 MemberFits p g env t inner = (s : Ty) × (t ≡ types.set_of s) × IsWithin (types.set_of s) × PatternFits p g env s inner
 
-member_sound : (p : Pat) (u : Subst) (g : Environment) (ss : Schemes) → Describes g ss → (env : Locals) (t : Ty) (n : State) →
+member_sound : (p : Pat) (u : Subst) (g : Environment) (ss : NumberedSorts) → Describes g ss → (env : Locals) (t : Ty) (n : State) →
     Sound n u (λ inner. MemberFits p g (at u env) (apply u t) (at u inner)) (matched_member p ss env t n)
 member_sound p u g ss d env t n =
     sound_after (pat_sound p u g ss d env n) (λ r n. sound_after (sound_equate u t (types.set_of r.of) n) (λ _ n.
@@ -99,13 +99,13 @@ member_sound p u g ss d env t n =
 abbrev CellFits : Pat → ℕ → Environment → Locals → Ty → Locals → Type 0
 CellFits q k g env t inner = (s : Ty) × (t ≡ types.array_of k s) × IsWithin (types.array_of k s) × PatternFits q g env s inner
 
-cell_sound : (q : Pat) (k : ℕ) (u : Subst) (g : Environment) (ss : Schemes) → Describes g ss → (env : Locals) (t : Ty) (n : State) →
+cell_sound : (q : Pat) (k : ℕ) (u : Subst) (g : Environment) (ss : NumberedSorts) → Describes g ss → (env : Locals) (t : Ty) (n : State) →
     Sound n u (λ inner. CellFits q k g (at u env) (apply u t) (at u inner)) (matched_cell q k ss env t n)
 cell_sound q k u g ss d env t n =
     sound_after (pat_sound q u g ss d env n) (λ r n. sound_after (sound_equate u t (types.array_of k r.of) n) (λ _ n.
     sound_after (sound_within u (types.array_of k r.of) n) (λ _ n. sound_made (λ w e f. (apply u r.of, e, w, f)))))
 
-axes_sound : (ps : Pats) (u : Subst) (g : Environment) (ss : Schemes) → Describes g ss → (env : Locals) (n : State) →
+axes_sound : (ps : Pats) (u : Subst) (g : Environment) (ss : NumberedSorts) → Describes g ss → (env : Locals) (n : State) →
     Sound n u (λ inner. FitsAxes ps g (at u env) (at u inner)) (matched_index ps ss env n)
 axes_sound no_pat u g ss d env n = sound_made refl
 axes_sound (pat p ps) u g ss d env n =
@@ -119,11 +119,11 @@ indices_at u no_axis env = refl
 indices_at u (axis x e rest) env = indices_at u rest ((x, natural) ∷ env)
 
 mutual
-  pub sound : (e : Tree) (u : Subst) (g : Environment) (ss : Schemes) → Describes g ss → (env : Locals) (n : State) →
+  pub sound : (e : Tree) (u : Subst) (g : Environment) (ss : NumberedSorts) → Describes g ss → (env : Locals) (n : State) →
       Sound n u (λ t. Has e g (at u env) (apply u t)) (make e ss env n)
   sound (name x) u g ss d env n = name_sound u g ss d env x n
   sound (op o es) u g ss d env n =
-      sound_after (all_sound es u g ss d env n) (λ ts n. weaker (op_sound o u ts n) (λ t k h. (instances u ts, k.0, k.1, h)))
+      sound_after (all_sound es u g ss d env n) (λ ts n. weaker (op_sound o u ts n) (λ t k h. (apply_each u ts, k.0, k.1, h)))
   sound (members es) u g ss d env n =
       sound_after (sound_fresh u n) (λ t n. sound_after (each_sound es u g ss d env t n) (λ _ n. sound_made (λ h _. (apply u t, refl, h))))
   sound (comp head quals) u g ss d env n =
@@ -164,28 +164,28 @@ mutual
       sound_after (sound body u g ss d inner n) (λ t n. sound_after (sound_equate u t natural n) (λ _ n.
       sound_made (λ f k m h. (m.0, at u inner, refl, m.2, subst (Has e g (at u env)) m.1 h, m.3, subst (Has body g (at u inner)) f k))))))
 
-  pub all_sound : (es : Trees) (u : Subst) (g : Environment) (ss : Schemes) → Describes g ss → (env : Locals) (n : State) →
-      Sound n u (λ ts. HasAll es g (at u env) (instances u ts)) (make_all es ss env n)
+  pub all_sound : (es : Trees) (u : Subst) (g : Environment) (ss : NumberedSorts) → Describes g ss → (env : Locals) (n : State) →
+      Sound n u (λ ts. HasAll es g (at u env) (apply_each u ts)) (make_all es ss env n)
   all_sound no_tree u g ss d env n = sound_made refl
   all_sound (tree e es) u g ss d env n =
       sound_after (sound e u g ss d env n) (λ t n. sound_after (all_sound es u g ss d env n) (λ ts n.
-      sound_made (λ k h. (apply u t, instances u ts, refl, h, k))))
+      sound_made (λ k h. (apply u t, apply_each u ts, refl, h, k))))
 
-  pub each_sound : (es : Trees) (u : Subst) (g : Environment) (ss : Schemes) → Describes g ss → (env : Locals) (t : Ty) (n : State) →
+  pub each_sound : (es : Trees) (u : Subst) (g : Environment) (ss : NumberedSorts) → Describes g ss → (env : Locals) (t : Ty) (n : State) →
       Sound n u (λ _. HasEach es g (at u env) (apply u t)) (make_each es ss env t n)
   each_sound no_tree u g ss d env t n = sound_made tt
   each_sound (tree e es) u g ss d env t n =
       sound_after (sound e u g ss d env n) (λ s n. sound_after (sound_equate u s t n) (λ _ n.
       weaker (each_sound es u g ss d env t n) (λ _ k f h. (subst (Has e g (at u env)) f h, k))))
 
-  pub bounds_sound : (xs : Axes) (u : Subst) (g : Environment) (ss : Schemes) → Describes g ss → (env : Locals) (n : State) →
+  pub bounds_sound : (xs : Axes) (u : Subst) (g : Environment) (ss : NumberedSorts) → Describes g ss → (env : Locals) (n : State) →
       Sound n u (λ _. BoundsHave xs g (at u env)) (make_bounds xs ss env n)
   bounds_sound no_axis u g ss d env n = sound_made tt
   bounds_sound (axis x e rest) u g ss d env n =
       sound_after (sound e u g ss d env n) (λ t n. sound_after (sound_equate u t natural n) (λ _ n.
       weaker (bounds_sound rest u g ss d env n) (λ _ k f h. (subst (Has e g (at u env)) f h, k))))
 
-  pub rows_sound : (qs : Quals) (u : Subst) (g : Environment) (ss : Schemes) → Describes g ss → (env : Locals) (n : State) →
+  pub rows_sound : (qs : Quals) (u : Subst) (g : Environment) (ss : NumberedSorts) → Describes g ss → (env : Locals) (n : State) →
       Sound n u (λ inner. Rows qs g (at u env) (at u inner)) (make_rows qs ss env n)
   rows_sound no_qual u g ss d env n = sound_made refl
   rows_sound (from p e rest) u g ss d env n =
@@ -203,7 +203,7 @@ mutual
       sound_after (sound e u g ss d env n) (λ t n. sound_after (sound_equate u t types.truth n) (λ _ n.
       weaker (rows_sound rest u g ss d env n) (λ inner l f h. (subst (Has e g (at u env)) f h, l))))
 
-  pub binds_sound : (ds : Defs) (u : Subst) (g : Environment) (ss : Schemes) → Describes g ss → (env : Locals) (n : State) →
+  pub binds_sound : (ds : Defs) (u : Subst) (g : Environment) (ss : NumberedSorts) → Describes g ss → (env : Locals) (n : State) →
       Sound n u (λ inner. Binds ds g (at u env) (at u inner)) (make_binds ds ss env n)
   binds_sound no_def u g ss d env n = sound_made refl
   binds_sound (def p e rest) u g ss d env n =
@@ -243,7 +243,7 @@ argument_apply u (strided k) =
     slab_apply u k (λ i. types.product (type types.text (type types.text (type i (type i (type i no_type)))))) (λ i. refl)
 argument_apply u (records header ks) = refl
 
-pub decl_sound : (dec : Declaration) (u : Subst) (g : Environment) (ss : Schemes) → Describes g ss → (n : State) →
+pub decl_sound : (dec : Declaration) (u : Subst) (g : Environment) (ss : NumberedSorts) → Describes g ss → (n : State) →
     Sound n u (λ s. DeclHas dec g (apply_sort u s)) (make_decl dec ss n)
 decl_sound (val x e) u g ss d n =
     sound_after (sound e u g ss d [] n) (λ t n. sound_after (sound_within u t n) (λ _ n. sound_made (λ w h. (w, h))))

@@ -107,14 +107,14 @@ pub record Stays {A : Type 0} (n : State) (u : Subst) (P : Subst → A → Type 
 pub on : {A : Type 0} {n k : State} {u v : Subst} {P : Subst → A → Type 0} {a : A} → Later n u k v → Stays n u P a → Stays k v P a
 on {A} {n} {k} {u} {v} l s = record { holds = λ w g. s.holds w (λ x lt. g x (omega (arith, lt, l.le)) ∙ l.agrees x lt) }
 
-pub record Kept {A : Type 0} (n : State) (u : Subst) (P : Subst → A → Type 0) (m : Made A) : Type 0 where
+pub record Extended {A : Type 0} (n : State) (u : Subst) (P : Subst → A → Type 0) (m : Made A) : Type 0 where
   pub grow : Subst
   pub later : Later n u m.state grow
   pub holds : (v : Subst) → Agrees m.state grow v → (Alive v n → Alive v m.state) × P v m.result
 
 abbrev pub FoundIn : {A : Type 0} → State → Subst → (Subst → A → Type 0) → Option (Made A) → Type 0
 FoundIn n u P None = ⊥
-FoundIn n u P (Some m) = Kept n u P m
+FoundIn n u P (Some m) = Extended n u P m
 
 pub record Found {A : Type 0} (n : State) (u : Subst) (P : Subst → A → Type 0) (o : Option (Made A)) : Type 0 where
   pub found : FoundIn n u P o
@@ -125,7 +125,7 @@ pub found_after : {A B : Type 0} {n : State} {u : Subst} {P : Subst → A → Ty
 unfolding after
 found_after {A} {B} {n} {u} {P} {Q} {o} {f} s t = record { found = go o s.found }
   where
-    both : (m : Made A) (k : Kept n u P m) (r : Option (Made B)) → FoundIn m.state k.grow Q r → FoundIn n u Q r
+    both : (m : Made A) (k : Extended n u P m) (r : Option (Made B)) → FoundIn m.state k.grow Q r → FoundIn n u Q r
     both m k None h = h
     both m k (Some b) h = record {
       grow = h.grow;

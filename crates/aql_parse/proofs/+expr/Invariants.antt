@@ -53,8 +53,8 @@ decreases-primaries::primary l = 32 * l.depth + 6
 abbrev pub decreases-primaries::parentheses : goal.decreases-primaries::parentheses
 decreases-primaries::parentheses l = 32 * l.depth + 2
 
-abbrev pub decreases-primaries::bound : goal.decreases-primaries::bound
-decreases-primaries::bound l = 32 * l.depth + 3
+abbrev pub decreases-primaries::let_rest : goal.decreases-primaries::let_rest
+decreases-primaries::let_rest l = 32 * l.depth + 3
 
 abbrev pub decreases-primaries::braces : goal.decreases-primaries::braces
 decreases-primaries::braces l = 32 * l.depth + 4

@@ -20,7 +20,7 @@ use Rattle.aql_session.specs.Reading.{reading}
 use Rattle.aql_session.specs.Step.{IsOutcome}
 use Rattle.aql_session.specs.declared.answer.Answer.{Answer}
 use Rattle.aql_run.specs.Answered.{AreAnswered}
-use Rattle.aql_run.specs.Settings.{Settings}
+use Rattle.aql_words.specs.Settings.{Settings}
 
 -- ---- lists
 

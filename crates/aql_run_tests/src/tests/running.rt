@@ -157,7 +157,7 @@ fn run_in<R: Threads + Sync, F: Files, G: Gate>(
     let (mut input, mut output) = streams;
     let ended = ended_by(run(rt, alloc, &words, &mut input, &mut output, files, gate));
     drop(words);
-    let written = bytes(alloc, output.written());
+    let written = bytes(alloc, output.written_bytes());
     let failures = Failures {
         source: input.faults(),
         sink: output.faults(),

@@ -167,5 +167,5 @@ ast::Expr::copy-returns-in-Tab t c =
 pub ast::Expr::copy-returns-in-Let : goal.ast::Expr::copy-returns-in-Let
 ast::Expr::copy-returns-in-Let t c =
     two_copied (λ (ds : Defs) (b : Tree). tree.bindings ds b) (λ (z : Vec LetBind Global). defs_in z.items) (λ (u : Box Expr Global). tree_of u.value) _ _ _ _ _ _ _ _
-    c.bound.ensures c.copy_lets.ensures (ap defs_in c.deref-in-Let.ensures.value) c.copy_parts-in-Let.ensures (ap tree_of c.deref-in-Let-2.ensures)
+    c.make_let.ensures c.copy_lets.ensures (ap defs_in c.deref-in-Let.ensures.value) c.copy_parts-in-Let.ensures (ap tree_of c.deref-in-Let-2.ensures)
     (ap (λ (ds : Defs). tree.bindings ds (tree_of c.in-Let.body.value)) (sym (defs_of-items c.in-Let.binds)) ∙ sym (ap tree_of c.in-Let.is))

@@ -6,7 +6,7 @@ use Rattle.std.specs.List.{slice_get}
 use Rattle.std.proofs.lemmas.List.{length-map}
 use Rattle.aql_value.specs.Datum as datum
 use Rattle.aql_value.specs.Datum.{Datum, natural, data_of, list_of}
-use Rattle.aql_value.specs.Indices.{indices}
+use Rattle.aql_value.specs.Indices.{indices, prefix_products}
 use Rattle.aql_value.specs.Laws.RowMajor.{indices-cons}
 use Rattle.aql_value.specs.Lists.{below}
 use Rattle.aql_value.specs.Laws.Lists.{length-below, concat-append}
@@ -60,11 +60,6 @@ over_indices-is {A} (d ∷ ds) f =
         ((q >>= λ ys. Some (map concat ys)) >>= λ found. Some (concat found)) ≡ ((q >>= λ found. Some (concat found)) >>= λ found. Some (concat found))
     go None = refl
     go (Some xsss) = ap (λ l. Some l) (concat-concat xsss)
-
--- the sum of the prefix products: d1 + d1 * d2 + ..
-abbrev pub prefix_products : List ℕ → ℕ
-prefix_products [] = 0
-prefix_products (d ∷ ds) = d + d * prefix_products ds
 
 total-constant : {A : Type 0} (c : ℕ) (f : A → ℕ) (xs : List A) → total (λ x. c + f x) xs ≡ length xs * c + total f xs
 total-constant c f [] = omega arith

@@ -8,11 +8,11 @@ use Rattle.aql_syntax.specs.Tree as tree
 use Rattle.aql_syntax.specs.Tree.{Name, Declaration, declared, Quals}
 use Rattle.aql_syntax.specs.View.{decl_of, decls_of, qual_of}
 use Rattle.aql_syntax.specs.Size.{Extents, extent, extents_of, binary_digits, digits_among, quals_sizes, quals_greatest, quals_patterns, count_quals, size, levels}
-use Rattle.aql_syntax.specs.Laws.View.{quals_from, quals_past}
+use Rattle.aql_syntax.specs.Laws.View.{quals_from, quals_past, count_trees-list, count_axes-list}
 use Rattle.aql_syntax.specs.Measured.{onto, latest, qual_part, qual_pattern}
 use Rattle.std.specs.Prelude.{Box}
 use Rattle.std.specs.Global.{Global}
-use Rattle.aql_syntax.specs.Tree.{Trees, count_trees, count_axes}
+use Rattle.aql_syntax.specs.Tree.{Trees, count_axes}
 use Rattle.aql_syntax.specs.View.{tree_of, trees_of, quals_of, axes_in, defs_in}
 use Rattle.aql_syntax.specs.Size.{sizes, greatest, axes_sizes, defs_sizes, defs_greatest, defs_patterns, count_defs}
 use Rattle.aql_syntax.specs.Laws.View.{tree_of-Row, tree_of-Members, tree_of-Comp, tree_of-Literal, tree_of-Sub, axes_of-items, defs_of-items}
@@ -22,7 +22,6 @@ use Rattle.aql_syntax.specs.declared.ast.Exprs.{Exprs}
 use Rattle.aql_syntax.specs.declared.ast.Quals as code_quals
 use Rattle.aql_syntax.specs.declared.ast.Binds as code_binds
 use Rattle.aql_syntax.specs.declared.ast.Lets as code_lets
-use Rattle.aql_syntax.specs.declared.ast.Bind.{Bind}
 use Rattle.aql_syntax.specs.declared.ast.LetBind.{LetBind}
 use Rattle.aql_syntax.specs.declared.ast.Decl.{Decl}
 use Rattle.aql_syntax.specs.declared.ast.Qual as code_qual
@@ -134,17 +133,9 @@ pub ruleset macro_steps = (find_here, find_past, find_none)
 
 -- The sizes and levels of the variants with a list in them, by the list.
 
-count_trees-list : (es : List Expr) → count_trees (trees_of es) ≡ length es
-count_trees-list [] = refl
-count_trees-list (e ∷ es) = ap suc (count_trees-list es)
-
 count_quals-list : (qs : List Qual) → count_quals (quals_of qs) ≡ length qs
 count_quals-list [] = refl
 count_quals-list (q ∷ qs) = count_quals-qual_of q (quals_of qs) ∙ ap suc (count_quals-list qs)
-
-count_axes-list : (bs : List Bind) → count_axes (axes_in bs) ≡ length bs
-count_axes-list [] = refl
-count_axes-list (b ∷ bs) = ap suc (count_axes-list bs)
 
 count_defs-list : (bs : List LetBind) → count_defs (defs_in bs) ≡ length bs
 count_defs-list [] = refl

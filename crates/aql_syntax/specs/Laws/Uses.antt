@@ -13,7 +13,8 @@ use Rattle.aql_syntax.specs.Uses.{ScopeWithin, FitsWithin, FitAllWithin, FitAxes
 
 -- The operands of an operation.
 
-abbrev EachWithin : List Ty → Type 0
+-- each type of a list is within the limits
+abbrev pub EachWithin : List Ty → Type 0
 EachWithin [] = Unit {0}
 EachWithin (t ∷ ts) = IsWithin t × EachWithin ts
 
@@ -36,7 +37,7 @@ first-along : {ts ss : List Ty} → ts ≡ ss → FirstWithin ts → FirstWithin
 first-along e h = subst FirstWithin e h
 
 -- what is asked of the first operand holds all the operands within the limits
-operands-within : (o : Strict) (ts : List Ty) (t : Ty) → IsWithin t → strict_rule o ts t → OperandWithin o ts → EachWithin ts
+pub operands-within : (o : Strict) (ts : List Ty) (t : Ty) → IsWithin t → strict_rule o ts t → OperandWithin o ts → EachWithin ts
 operands-within (Strict.nat n) ts t w r q = along r.0 tt
 operands-within (Strict.bool b) ts t w r q = along r.0 tt
 operands-within (Strict.text s) ts t w r q = along r.0 tt

@@ -1,7 +1,7 @@
 -- Lists as the code has them inside a tree, and the variants that hold one.
 use Rattle.std.specs.Prelude.{Vec, Box}
 use Rattle.std.specs.Global.{Global}
-use Rattle.std.proofs.Common.{ℕ, ◌≡◌, ◌+◌, ◌<◌, ◌≤◌, List, [], ◌∷◌, ◌++◌, refl, ap, sym, ◌∙◌, drop, get_or, length, add-one}
+use Rattle.std.proofs.Common.{ℕ, ◌≡◌, ◌+◌, ◌<◌, ◌≤◌, List, [], ◌∷◌, ◌++◌, refl, ap, sym, ◌∙◌, drop, get_or, length, add-one, suc}
 use Rattle.std.proofs.lemmas.List.{at_drop_all}
 use Rattle.std.proofs.Math.Seq.{drop-cons}
 use Rattle.aql_value.specs.Strict.{Strict}
@@ -23,7 +23,7 @@ use Rattle.aql_syntax.specs.declared.ast.Patterns.{Patterns}
 use Rattle.aql_syntax.specs.declared.ast.Binds as code_binds
 use Rattle.aql_syntax.specs.declared.ast.Lets as code_lets
 use Rattle.aql_syntax.specs.Tree as tree
-use Rattle.aql_syntax.specs.Tree.{Trees, Pats, count_trees, append_pats, append_quals, append_axes, append_defs}
+use Rattle.aql_syntax.specs.Tree.{Trees, Pats, count_trees, append_pats, append_quals, append_axes, append_defs, count_axes, count_pats}
 use Rattle.aql_syntax.specs.View.{pat_of, pat_row, pats_of, tree_of, tree_row, trees_of, qual_of, qual_row, quals_of, axis_row, axes_of, axes_in, def_row, defs_of, defs_in}
 
 -- what stands in a tree is what stands in its list
@@ -106,6 +106,20 @@ defs_of-made v = ap defs_of (code_lets.rolls-Lets' (record { items = v })) ∙ d
 
 pub defs_of-items : (bs : code_lets.Lets) → defs_of bs ≡ defs_in (code_lets.out-Lets bs).items.items
 defs_of-items bs = ap defs_of (sym (code_lets.roll-out-Lets bs)) ∙ defs_of-made (code_lets.out-Lets bs).items
+
+-- as many parts as the list has elements
+
+pub count_trees-list : (es : List Expr) → count_trees (trees_of es) ≡ length es
+count_trees-list [] = refl
+count_trees-list (e ∷ es) = ap suc (count_trees-list es)
+
+pub count_axes-list : (bs : List Bind) → count_axes (axes_in bs) ≡ length bs
+count_axes-list [] = refl
+count_axes-list (b ∷ bs) = ap suc (count_axes-list bs)
+
+pub count_pats-list : (ps : List Pattern) → count_pats (pats_of ps) ≡ length ps
+count_pats-list [] = refl
+count_pats-list (p ∷ ps) = ap suc (count_pats-list ps)
 
 -- Loops over the lists: one more at the end, and the rest from a place on.
 

@@ -284,7 +284,11 @@ fn pairs(alloc: Global) -> Result<Set, Memory> {
 fn packed_sets(rt: HostRuntime) -> Result<(), Memory> {
     let alloc = rt.alloc();
     let mut out = Vec::new(alloc);
-    put_held(alloc, Ok(Held::Set(Set::below(alloc, 3)?)), &mut out)?;
+    put_held(
+        alloc,
+        Ok(Held::Set(Set::naturals_below(alloc, 3)?)),
+        &mut out,
+    )?;
     put_held(alloc, Ok(Held::Set(pairs(alloc)?)), &mut out)?;
     put_held(alloc, Ok(Held::Set(Set::new(alloc))), &mut out)?;
     assert_eq!(rt; out.as_slice(), b"{0, 1, 2}{(1, 7), (5, 0)}{}".as_slice());

@@ -19,14 +19,6 @@ pub each : (P Q : ℕ → Type 0) (ps : List ℕ) → ((p : ℕ) → P p → Q p
 each P Q [] f h = tt
 each P Q (p ∷ ps) f h = (f p h.0, each P Q ps f h.1)
 
-pub each_two : (P Q R : ℕ → Type 0) (ps : List ℕ) → ((p : ℕ) → P p → Q p → R p) → Every P ps → Every Q ps → Every R ps
-each_two P Q R [] f h k = tt
-each_two P Q R (p ∷ ps) f h k = (f p h.0 k.0, each_two P Q R ps f h.1 k.1)
-
-pub each_all : (P : ℕ → Type 0) (ps : List ℕ) → ((p : ℕ) → P p) → Every P ps
-each_all P [] f = tt
-each_all P (p ∷ ps) f = (f p, each_all P ps f)
-
 -- Types of parts.
 
 pub types_same : (f g : Valuation) (ps : List ℕ) → Every (λ p. f p ≡ g p) ps → types_at f ps ≡ types_at g ps

@@ -162,9 +162,6 @@ within_split : (u : Subst) (a b : Tys) → unifiers.AllWithin u (append a b) →
 within_split u no_type b h = (tt, h)
 within_split u (type t a) b h = let k = within_split u a b h.1 in ((h.0, k.0), k.1)
 
-pub none_pushed : (g : Graph) → PushesAll [] g g no_type
-none_pushed g = record { extends = itself g; below = tt; are = refl; within = λ u x y. x }
-
 tail_is : {a b c d : Tys} → a ≡ b → c ≡ d → append a c ≡ append b d
 tail_is e f = cc
 
@@ -203,9 +200,6 @@ pushed_uses ps new old ts h = record {
 }
 
 -- Equations.
-
-pub no_equations : (g : Graph) → PushesEquations [] g g []
-no_equations g = record { extends = itself g; below = tt; are = refl; within = λ u x y. x }
 
 front : {x y p q : Ty} {w v : Equations} → x ≡ p → y ≡ q → w ≡ v → ◌≡◌ {A = Equations} ((x, y) ∷ w) ((p, q) ∷ v)
 front e f g = cc

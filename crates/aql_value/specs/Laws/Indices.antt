@@ -1,4 +1,4 @@
--- What follows from the definitions of `IndicesLaws`.
+-- Where the cell of an index stands in row-major order.
 use Rattle.std.specs.Prelude.{◌≡◌, ℕ, zero, suc, ◌+◌, ◌*◌, ◌<◌, ◌≤◌, Bool, true, false, cond, ◌&&◌, nat_eq, nat_lt, List, [], ◌∷◌, ◌++◌, length, map, drop, Option, Some, None, refl}
 use Rattle.std.proofs.Common.{sym, ap, ◌∙◌, arith, length-append, eq-eqb}
 use Rattle.std.specs.List.{flat_map, range_with_len, zip, slice_get}
@@ -8,8 +8,7 @@ use Rattle.std.proofs.lemmas.List.{drop-drop}
 use Rattle.std.proofs.lemmas.Bool.{ltb-true, ltb-false, ne_eqb}
 use Rattle.std.proofs.Math.Nat.{zero-mul}
 use Rattle.aql_value.specs.Datum.{Datum}
-use Rattle.aql_value.specs.Indices.{product, indices, paired}
-use Rattle.aql_value.specs.IndicesLaws.{offset}
+use Rattle.aql_value.specs.Indices.{product, indices, paired, offset}
 
 abbrev blocks : List (List ℕ) → ℕ → ℕ → List (List ℕ)
 blocks xs a n = flat_map (λ i. map (λ rest. i ∷ rest) xs) (range_with_len a n)

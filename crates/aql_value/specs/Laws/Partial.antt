@@ -1,5 +1,5 @@
--- Laws of computations that may be undefined.
-use Rattle.std.specs.Prelude.{◌≡◌, ℕ, zero, suc, ◌+◌, List, [], ◌∷◌, ◌++◌, length, map, take, drop, Option, Some, None, refl}
+-- Laws of computations that may be undefined, or end early.
+use Rattle.std.specs.Prelude.{◌≡◌, ℕ, zero, suc, ◌+◌, List, [], ◌∷◌, ◌++◌, length, map, take, drop, Option, Some, None, refl, Result, Ok, Err, OnOk}
 use Rattle.std.specs.List.{slice_get}
 use Rattle.std.proofs.Common.{ap, sym, ◌∙◌, subst, arith}
 use Rattle.aql_value.specs.Partial.{◌>>=◌, each, concat, total, if_some}
@@ -22,6 +22,11 @@ then-ext (Some x) f g h = h x refl
 pub then-is : {A B : Type 0} (o : Option A) (f : A → Option B) (y : B) → (o >>= f) ≡ Some y → (x : A) × (o ≡ Some x) × (f x ≡ Some y)
 then-is None f y e = cc
 then-is (Some x) f y e = (x, refl, e)
+
+-- what follows where a call ends well
+pub on-ok : {A B P Q : Type 0} (r : Result A B) → (P → Q) → OnOk r P → OnOk r Q
+on-ok (Ok a) f h = f h
+on-ok (Err b) f h = h
 
 pub each-ext : {A B : Type 0} (f g : A → Option B) (xs : List A) → Every (λ x. f x ≡ g x) xs → each f xs ≡ each g xs
 each-ext f g [] h = refl

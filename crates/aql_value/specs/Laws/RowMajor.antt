@@ -9,8 +9,7 @@ use Rattle.std.proofs.lemmas.Bool.{ltb-true, lt-ltb, cases_lt, cases_Bool}
 use Rattle.std.proofs.lemmas.Option.{slice_get_within, slice_get-map}
 use Rattle.std.proofs.Math.Nat.{zero-mul}
 use Rattle.aql_value.specs.Datum.{Datum, Table}
-use Rattle.aql_value.specs.Indices.{product, indices, cell, offset_of}
-use Rattle.aql_value.specs.IndicesLaws.{offset}
+use Rattle.aql_value.specs.Indices.{product, indices, cell, offset_of, offset}
 use Rattle.aql_value.specs.Laws.Indices.{length_indices, paired_is}
 use Rattle.aql_value.specs.Lists.{Every, below}
 use Rattle.aql_value.specs.Laws.Lists.{Every-append, Every-onto, Every-impl, flat_map-concat, slice_get-append_left, slice_get-append_right}

@@ -4,7 +4,6 @@ use Rattle.std.proofs.Common.{get_or, sym, ap, ◌∙◌, arith, inl, inr}
 use Rattle.std.proofs.lemmas.Bool.{cases_lt}
 use Rattle.std.proofs.Math.Nat.{add-mul, mul_assoc}
 use Rattle.aql_value.specs.Indices.{product}
-use Rattle.aql_value.specs.IndicesLaws.{offset}
 
 grows : (a m d : ℕ) → m ≤ a → m ≤ a * suc d
 grows a m d h = let e : a * suc d ≡ a * d + a = omega arith in omega (arith, e, h)

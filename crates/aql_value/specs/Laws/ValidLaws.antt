@@ -1,4 +1,4 @@
--- What follows from the definitions of `ValidLaws`.
+-- The operations make values of values: numbers below 2^128, ascending sets, full arrays.
 use Rattle.std.specs.Prelude.{◌≡◌, ℕ, zero, suc, ◌+◌, ◌-◌, ◌*◌, ◌/◌, ◌%◌, ◌^◌, ◌<◌, ◌≤◌, Bool, true, false, ◌&&◌, cond, nat_lt, nat_eq, List, [], ◌∷◌, ◌++◌, length, map, take, drop, Option, Some, None, if◌then◌else◌, sum, refl}
 use Rattle.std.proofs.Common.{sym, ◌∙◌, subst, arith}
 use Rattle.std.specs.List.{All, slice_get, filter}
@@ -16,7 +16,7 @@ use Rattle.aql_value.specs.Laws.Indices.{length_indices}
 use Rattle.aql_value.specs.Laws.RowMajor.{cell-offset_of}
 use Rattle.aql_value.specs.Arith.{if_fits}
 use Rattle.aql_value.specs.Ops.{arith_by}
-use Rattle.aql_value.specs.Valid.{IsValue, AreValues}
+use Rattle.aql_value.specs.Valid.{IsValue, AreValues, HasValidConstant}
 use Rattle.aql_value.specs.Lists.{Every, below}
 use Rattle.aql_value.specs.Laws.Lists.{Every-all, Every-append, Every-onto, Every-below, Every-get, Every-take, Every-drop, Every-lists}
 use Rattle.aql_value.specs.Partial.{◌>>=◌, each, concat}
@@ -27,7 +27,6 @@ use Rattle.aql_value.specs.Laws.Operations.{array_of-is, indexed-is}
 use Rattle.aql_value.specs.Strict.{Strict, nullary, unary, binary, sub_value, strict_value}
 use Rattle.aql_value.specs.declared.ops.ArithOp.{ArithOp}
 use Rattle.aql_value.specs.declared.ops.ArithOp.TheVariants.{Add, Monus, Mul, Quotient, Remainder}
-use Rattle.aql_value.specs.ValidLaws.{HasValidConstant}
 
 pub every-AreValues : (vs : Data) → AreValues vs → Every IsValue (list_of vs)
 every-AreValues nil h = tt

@@ -110,7 +110,7 @@ fn writes_of(
     let mut sink = sink?;
     let counts = five_writes(&mut sink);
     let faults = sink.faults();
-    let is_written = sink.written() == written;
+    let is_written = sink.written_bytes() == written;
     drop(sink);
     Ok((counts, faults, is_written))
 }

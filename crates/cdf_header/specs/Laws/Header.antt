@@ -2,14 +2,14 @@
 use Rattle.std.proofs.Common.{◌≡◌, ℕ, List, length, Bool, true, false, Some, Result, Ok, Err, refl, sym, ap, subst, ◌∙◌, inl, inr, nat_eq, eq-eqb, if◌then◌else◌}
 use Rattle.std.proofs.lemmas.Bool.{cases_Bool, le-leb, leb-true, eqb-true}
 use Rattle.std.specs.Prelude.{◌⊎◌, ◌&&◌, ◌||◌}
-use Rattle.cdf_header.specs.declared.fault.Fault.{Fault}
-use Rattle.cdf_header.specs.declared.fault.Fault.TheVariants.{Short, Malformed, TooMany}
+use Rattle.cdf_header.specs.declared.fault.FieldFault.{FieldFault}
+use Rattle.cdf_header.specs.declared.fault.FieldFault.TheVariants.{Short, Malformed, TooMany}
 use Rattle.cdf_header.specs.declared.fault.CdfFault.{CdfFault}
 use Rattle.cdf_header.specs.declared.fault.CdfFault.TheVariants as faults
-use Rattle.cdf_header.specs.Format.{header, done, run, Kind, fault_at}
+use Rattle.cdf_header.specs.Format.{header, done, parse, Kind, fault_at}
 use Rattle.cdf_header.specs.File.{IsClassic, IsVersion, FirstFails, HeaderAnswer, IsAnswered, is_classic, is_known, field_fault, fields_answer, fields_of, header_of, version, first}
 use Rattle.cdf_header.specs.Header.{Head}
-use Rattle.cdf_header.specs.Laws.Format.{run_spells, run_fails, spells_run, fails_run, short_at, malformed_at}
+use Rattle.cdf_header.specs.Laws.Format.{parse_spells, parse_fails, spells_parse, fails_parse, short_at, malformed_at}
 use Rattle.cdf_header.specs.Laws.Size.{header-bytes}
 
 -- ---- the tests of the function and of the relation
@@ -85,16 +85,16 @@ header_of-version bytes c h =
 
 -- ---- what the relation says the function answers
 
-first-fails : (bytes : List ℕ) (at : ℕ) (why : Fault) → FirstFails bytes at why → header_of bytes ≡ Err (field_fault why)
+first-fails : (bytes : List ℕ) (at : ℕ) (why : FieldFault) → FirstFails bytes at why → header_of bytes ≡ Err (field_fault why)
 first-fails bytes at why f =
-    let p = fails_run (header (length bytes) (version bytes) done) (first bytes) 4 f.fields at f.kind f.fails in
+    let p = fails_parse (header (length bytes) (version bytes) done) (first bytes) 4 f.fields at f.kind f.fails in
     let same : p.0 ≡ why = (let e : Some p.0 ≡ Some why = sym p.2 ∙ f.cause in cc) in
     header_of-fields bytes f.classic f.known ∙ ap fields_answer p.1 ∙ ap (λ g. Err (field_fault g)) same
 
 -- a header that good fields spell, and the fault of the first that fails, are answered
 pub reading-answered : (bytes : List ℕ) (r : Result Head CdfFault) → HeaderAnswer bytes r → IsAnswered (header_of bytes) r
 reading-answered bytes (Ok h) r =
-    header_of-fields bytes r.classic r.known ∙ ap fields_answer (spells_run (header (length bytes) (version bytes) done) (first bytes) 4 r.fields h r.spells)
+    header_of-fields bytes r.classic r.known ∙ ap fields_answer (spells_parse (header (length bytes) (version bytes) done) (first bytes) 4 r.fields h r.spells)
 reading-answered bytes (Err faults.Absent) r = absurd r
 reading-answered bytes (Err faults.NotClassic) r = header_of-not_classic bytes r
 reading-answered bytes (Err (faults.Version v)) r =
@@ -114,15 +114,15 @@ reading-answered bytes (Err faults.Memory) r = tt
 
 -- ---- what the function answers the relation says
 
-first-failed : (bytes : List ℕ) (why : Fault) → IsClassic bytes → IsVersion (version bytes) → run (header (length bytes) (version bytes) done) (first bytes) 4 ≡ Err why
+first-failed : (bytes : List ℕ) (why : FieldFault) → IsClassic bytes → IsVersion (version bytes) → parse (header (length bytes) (version bytes) done) (first bytes) 4 ≡ Err why
     → (at : ℕ) × FirstFails bytes at why × (kind : Kind) × (fault_at kind (first bytes) at ≡ Some why)
 first-failed bytes why classic known e =
-    let p = run_fails (header (length bytes) (version bytes) done) (first bytes) 4 why e in
+    let p = parse_fails (header (length bytes) (version bytes) done) (first bytes) 4 why e in
     (p.1, record { classic = classic; known = known; fields = p.0; kind = p.2; fails = p.3; cause = p.4 }, p.2, p.4)
 
-fields-read : (bytes : List ℕ) → IsClassic bytes → IsVersion (version bytes) → (read : Result Head Fault) → run (header (length bytes) (version bytes) done) (first bytes) 4 ≡ read
+fields-read : (bytes : List ℕ) → IsClassic bytes → IsVersion (version bytes) → (read : Result Head FieldFault) → parse (header (length bytes) (version bytes) done) (first bytes) 4 ≡ read
     → HeaderAnswer bytes (fields_answer read)
-fields-read bytes classic known (Ok h) e = let p = run_spells _ _ _ _ e in record { classic = classic; known = known; fields = p.0; spells = p.1 }
+fields-read bytes classic known (Ok h) e = let p = parse_spells _ _ _ _ e in record { classic = classic; known = known; fields = p.0; spells = p.1 }
 fields-read bytes classic known (Err (Short k)) e =
     let p = first-failed bytes (Short k) classic known e in
     inl (subst (λ n. FirstFails bytes n (Short k)) (sym (short_at p.2 (first bytes) p.0 k p.3)) p.1)
@@ -143,7 +143,7 @@ reading-header_of bytes =
           elim (cases_Bool (is_known (version bytes))) [
             | inl known ↦
                 (let k = known-is (version bytes) known in
-                subst (HeaderAnswer bytes) (sym (header_of-fields bytes c k)) (fields-read bytes c k (run (header (length bytes) (version bytes) done) (first bytes) 4) refl))
+                subst (HeaderAnswer bytes) (sym (header_of-fields bytes c k)) (fields-read bytes c k (parse (header (length bytes) (version bytes) done) (first bytes) 4) refl))
             | inr unknown ↦
                 (let other : IsVersion (version bytes) → ⊥ = λ k. (let z : true ≡ false = sym (known-true (version bytes) k) ∙ unknown in cc) in
                 subst (HeaderAnswer bytes) (sym (header_of-version bytes c other)) (c, refl, other))

@@ -14,7 +14,7 @@ use Rattle.aql_value.specs.Strict.{Strict, strict_value}
 use Rattle.nrca_term.specs.Term.{Term}
 use Rattle.nrca_term.specs.Nodes.{compare_term}
 use Rattle.nrca_term.specs.Meaning.{Outcomes, cden}
-use Rattle.nrca_term.specs.Facts.{Facts, Stands}
+use Rattle.nrca_term.specs.Facts.{Context, FactsHold}
 use Rattle.nrca_term.specs.Firm.{span}
 use Rattle.nrca_term.specs.Laws.Variants.{cden-strict}
 use Rattle.nrca_laws.specs.Spans.{IsInSpan}
@@ -45,7 +45,7 @@ numbers-decided op x y v w t g h e = at (nat_lt x.1 y.0) (nat_lt y.1 x.0) refl r
     at false false k l z = cc
 
 -- so the comparison has the truth value, wherever the facts hold and both sides have values
-pub decided-sound : (V : Outcomes) (vals : List Datum) (c : Facts) → Stands V c vals → (op : CompareOp) (a b : Term) (v w : Datum) (t : Bool) →
+pub decided-sound : (V : Outcomes) (vals : List Datum) (c : Context) → FactsHold V c vals → (op : CompareOp) (a b : Term) (v w : Datum) (t : Bool) →
     decided_of c (compare_term op a b) ≡ Some t → cden V vals a ≡ Some v → cden V vals b ≡ Some w → cden V vals (compare_term op a b) ≡ Some (truth t)
 decided-sound V vals c h op a b v w t e f g =
     let p = then-is (span c a) (λ x. span c b >>= decided_by op x) t e in
@@ -63,11 +63,11 @@ intervals-apart op x y (inr l) = at (nat_lt x.1 y.0)
     at false = (compare_by op Greater, rw (lt-ltb y.1 x.0 l) refl)
 
 -- the clauses of `decided`, from its answer
-pub decides : (c : Facts) (t : Term) (o : Option Bool) → o ≡ decided_of c t → DecidesTruth c t o
+pub decides : (c : Context) (t : Term) (o : Option Bool) → o ≡ decided_of c t → DecidesTruth c t o
 decides c t o e V vals h op a b v w k s f g i =
     ap (cden V vals) s ∙ decided-sound V vals c h op a b v w k (sym (ap (decided_of c) s) ∙ sym e ∙ f) g i
 
-pub decides-apart : (c : Facts) (t : Term) (o : Option Bool) → o ≡ decided_of c t → DecidesApart c t o
+pub decides-apart : (c : Context) (t : Term) (o : Option Bool) → o ≡ decided_of c t → DecidesApart c t o
 decides-apart c t o e op a b x y s f g h =
     let d = intervals-apart op x y h in
     (d.0, e ∙ ap (decided_of c) s ∙ ap (λ p. p >>= λ z. span c b >>= decided_by op z) f ∙ ap (λ p. p >>= decided_by op x) g ∙ d.1)

@@ -3,7 +3,7 @@ use Rattle.std.proofs.Common.{◌≡◌, ℕ, zero, suc, ◌+◌, ◌*◌, ◌-�
 use Rattle.std.specs.List.{slice_get}
 use Rattle.std.proofs.lemmas.Bool.{lt-ltb, and_parts}
 use Rattle.aql_value.specs.Datum.{Datum}
-use Rattle.aql_value.specs.Laws.Lists.{Every-impl, Every-join, Every-map}
+use Rattle.aql_value.specs.Laws.Lists.{Every-impl, Every-map}
 use Rattle.aql_value.specs.Laws.Partial.{each-total, each-length, each-values}
 use Rattle.aql_value.specs.Lists.{Every}
 use Rattle.aql_value.specs.Operations.{as_natural, as_set, sum_of}
@@ -13,20 +13,18 @@ use Rattle.aql_types.specs.Laws.Operation.{has-append, has-length, some-list}
 use Rattle.aql_types.specs.Types as types
 use Rattle.aql_types.specs.Types.{Ty, natural}
 use Rattle.aql_types.specs.ValueTypes.{HasType, HaveTypes}
-use Rattle.nrca_term.specs.Term.{Term, Parts, node, none, part, Form, child_of, count, WellFormed}
-use Rattle.nrca_term.specs.Meaning.{Outcomes, Part, worth, here, form_value, members_value, loop_values, cden, part_values}
+use Rattle.nrca_term.specs.Term.{Term, Parts, node, none, part, Form, count, WellFormed}
+use Rattle.nrca_term.specs.Meaning.{Outcomes, Part, worth, form_value, members_value, loop_values, cden, part_values}
 use Rattle.nrca_term.specs.Places.{otherwise, entered}
 use Rattle.nrca_term.specs.Typing.{Arg, arg, form_rule, ctyped, parts_typed, instances, OutcomesHave}
-use Rattle.nrca_term.specs.Facts.{Facts, enter_facts, Stands}
+use Rattle.nrca_term.specs.Facts.{Context, enter_facts, FactsHold}
 use Rattle.nrca_term.specs.Firm.{wants_all, firm}
-use Rattle.nrca_term.specs.Laws.Contexts.{stands-enter}
 use Rattle.nrca_term.specs.Laws.Entering.{length-part_values}
 use Rattle.nrca_term.specs.Laws.Facts.{natural-is}
 use Rattle.nrca_term.specs.Laws.Sound.{AllSound, sound-get, sounds, sound-length, loop-sound, parts-sound, has-here}
 use Rattle.nrca_term.specs.Laws.TypedForm.{well_formed-typed}
-use Rattle.nrca_term.specs.Laws.TypedPlaces.{entered-own}
 use Rattle.nrca_laws.specs.Operations.{Valued}
-use Rattle.nrca_laws.specs.Laws.Firms.{PositionsAre, PartsDefined, form-defined, firm-defined}
+use Rattle.nrca_laws.specs.Laws.Firms.{PositionsAre, PartsDefined, form-defined, firm-defined, here-valued, ways-in}
 use Rattle.nrca_laws.specs.Laws.Operations.{set-is}
 use Rattle.nrca_laws.specs.Laws.Ways.{outcomes-are}
 use Rattle.nrca_ranges.specs.declared.context.Ctx.{Ctx}
@@ -38,18 +36,10 @@ use Rattle.nrca_ranges.specs.Shapes.{Tells, known_shapes, firm_at, certain_at}
 use Rattle.nrca_ranges.specs.Transfer.{interval_of, count_of, entry_at, all_bounds}
 use Rattle.nrca_ranges.specs.Laws.Bounds.{interval-is}
 use Rattle.nrca_ranges.specs.Laws.Forms.{AllShaped, here-shaped, loop-shaped}
-use Rattle.nrca_ranges.specs.Laws.Intervals.{capped-is, sum-most}
+use Rattle.nrca_ranges.specs.Laws.Intervals.{saturated-is, sum-most}
 use Rattle.nrca_ranges.specs.Laws.Sound.{parts-shaped, length-all_bounds}
 use Rattle.nrca_defined.specs.Defined.{IsDefinedAt, IsDefinedIn}
 use Rattle.nrca_defined.specs.Laws.Operations.{strict-fits}
-
--- parts without variables that have values, as a list
-here-valued : (ps : List Part) → ((i : ℕ) → i < length ps → Valued (worth ps i [])) → (vs : List Datum) × (each here ps ≡ Some vs)
-here-valued [] h = ([], refl)
-here-valued (p ∷ ps) h =
-    let a = h 0 (omega arith) in
-    let r = here-valued ps (λ i l. h (suc i) (omega (arith, l))) in
-    (a.0 ∷ r.0, rw (a.1, r.1) refl)
 
 -- the sum of numbers whose greatest possible sum stays below 2^128-1
 sum-there : (a b : Bounds) (rs : List Datum) (m : ℕ) → (count_of a).high * (interval_of b).high < 2 ^ 128 - 1 → ((count_of a).high < 2 ^ 128 - 1 → m ≤ (count_of a).high) → length rs ≡ m → Every (HasType natural) rs → Every (HasShape b) rs →
@@ -81,25 +71,25 @@ form-fits G V D env vals d h Form.sum args T ps bs e w r s k l a =
     let loop : loop_values ps ≡ Some rs.0 = ap (λ o. o >>= each (λ x. worth ps 1 (x ∷ []))) q ∙ rs.1 in
     let z = loop-shaped ps bs rs.0 (a 0) (a 1) loop in
     subst (λ o. Valued (o >>= sum_of)) (sym loop)
-    (sum-there (entry_at bs 0) (entry_at bs 1) rs.0 (length z.0) (capped-is ((count_of (entry_at bs 0)).high * (interval_of (entry_at bs 1)).high) e) z.2.1 z.1 (loop-sound r.0 natural ps rs.0 s loop) z.3)
+    (sum-there (entry_at bs 0) (entry_at bs 1) rs.0 (length z.0) (saturated-is ((count_of (entry_at bs 0)).high * (interval_of (entry_at bs 1)).high) e) z.2.1 z.1 (loop-sound r.0 natural ps rs.0 s loop) z.3)
 form-fits G V D env vals d h (Form.strict c) args T ps bs e w r s k l a =
     let v = here-valued ps (λ i q. (k i q).0) in
     subst (λ o. Valued (o >>= strict_value c)) (sym v.1)
     (strict-fits c r.0 T bs v.0 e r.2 (has-here r.0 ps v.0 (sounds args (map (arg []) r.0) ps r.1 s) v.1) (here-shaped ps bs v.0 l (λ i w q. (a i).0 w q) v.1))
 
 -- whether part i of those from number j on is certain to have a value
-abbrev pub certain_part : List (Option Bounds) → Facts → Term → (j : ℕ) → Parts → (i : ℕ) → Bool
+abbrev pub certain_part : List (Option Bounds) → Context → Term → (j : ℕ) → Parts → (i : ℕ) → Bool
 certain_part gs c t j none i = false
 certain_part gs c t j (part k u ps) zero = certain gs (enter_facts c t j) u
 certain_part gs c t j (part k u ps) (suc i) = certain_part gs c t (suc j) ps i
 
 -- where all parts from j on are certain, each is; where some part is, there is one
-each-certain : (gs : List (Option Bounds)) (c : Facts) (t : Term) (j : ℕ) (ps : Parts) (i : ℕ) → all_certain gs c t j ps ≡ true → i < count ps → certain_part gs c t j ps i ≡ true
+each-certain : (gs : List (Option Bounds)) (c : Context) (t : Term) (j : ℕ) (ps : Parts) (i : ℕ) → all_certain gs c t j ps ≡ true → i < count ps → certain_part gs c t j ps i ≡ true
 each-certain gs c t j none i h l = absurd (omega (arith, l))
 each-certain gs c t j (part k u ps) zero h l = (and_parts (certain gs (enter_facts c t j) u) (all_certain gs c t (suc j) ps) h).0
 each-certain gs c t j (part k u ps) (suc i) h l = each-certain gs c t (suc j) ps i (and_parts (certain gs (enter_facts c t j) u) (all_certain gs c t (suc j) ps) h).1 (omega (arith, l))
 
-one-certain : (gs : List (Option Bounds)) (c : Facts) (t : Term) (j : ℕ) (ps : Parts) → some_certain gs c t j ps ≡ true → (i : ℕ) × (i < count ps) × (certain_part gs c t j ps i ≡ true)
+one-certain : (gs : List (Option Bounds)) (c : Context) (t : Term) (j : ℕ) (ps : Parts) → some_certain gs c t j ps ≡ true → (i : ℕ) × (i < count ps) × (certain_part gs c t j ps i ≡ true)
 one-certain gs c t j none h = cc
 one-certain gs c t j (part k u ps) h = at (λ q. one-certain gs c t (suc j) ps q) (certain gs (enter_facts c t j) u) refl h
   where
@@ -108,34 +98,8 @@ one-certain gs c t j (part k u ps) h = at (λ q. one-certain gs c t (suc j) ps q
     at later true e q = (0, omega arith, e)
     at later false e q = let r = later q in (suc r.0, omega (arith, r.1), r.2)
 
--- each part has an argument, and is a term
-arg-there : (args : List Arg) (ps : List Part) (i : ℕ) → AllSound args ps → i < length ps → (a : Arg) × (slice_get args i ≡ Some a)
-arg-there [] [] i h l = absurd (omega (arith, l))
-arg-there [] (p ∷ ps) i h l = absurd h
-arg-there (a ∷ args) [] i h l = absurd h
-arg-there (a ∷ args) (p ∷ ps) zero h l = (a, refl)
-arg-there (a ∷ args) (p ∷ ps) (suc i) h l = arg-there args ps i h.1 (omega (arith, l))
-
-child-there : (ps : Parts) (i : ℕ) → i < count ps → (u : Term) × (child_of ps i ≡ Some u)
-child-there none i l = absurd (omega (arith, l))
-child-there (part k u ps) zero l = (u, refl)
-child-there (part k u ps) (suc i) l = child-there ps i (omega (arith, l))
-
--- the types and the facts with which a part is entered
-ways-in : (G : ℕ → Ty → Type 0) (V : Outcomes) → OutcomesHave G V → (c : Facts) (f : Form) (ps : Parts) (env : List Ty) (vals : List Datum) (T : Ty) (args : List Arg) → HaveTypes env vals → Stands V c vals → WellFormed (node f ps) →
-    form_rule G env f args T → parts_typed G env ps args → (i : ℕ) → i < count ps → (a : Arg) × (slice_get args i ≡ Some a) × Every (λ new. HaveTypes a.own new × Stands V (enter_facts c (node f ps) i) (new ++ vals)) (entered f (part_values V vals ps) i)
-ways-in G V g c f ps env vals T args h st wf r t i l =
-    let s = parts-sound G V g ps env vals args h t in
-    let a = arg-there args (part_values V vals ps) i s (omega (arith, l, length-part_values V vals ps)) in
-    let u = child-there ps i l in (
-      a.0,
-      a.1,
-      Every-join (HaveTypes a.0.own) (λ new. Stands V (enter_facts c (node f ps) i) (new ++ vals)) _ (λ new p q. (p, q)) (entered f (part_values V vals ps) i)
-          (entered-own G env f args T (part_values V vals ps) i a.0 r s a.1) (stands-enter V c vals (node f ps) i u.0 wf u.1 st),
-    )
-
 -- each part that is certain to have a value has one at each list of values with which an evaluation of the node comes to it
-abbrev pub CertainParts : List (Option Bounds) → Outcomes → Facts → List Datum → Form → Parts → Type 0
+abbrev pub CertainParts : List (Option Bounds) → Outcomes → Context → List Datum → Form → Parts → Type 0
 CertainParts gs V c vals f ps = (i : ℕ) → i < count ps → certain_part gs c (node f ps) 0 ps i ≡ true → Every (λ new. Valued (worth (part_values V vals ps) i new)) (entered f (part_values V vals ps) i)
 
 -- a default is worth its first part, and else its second
@@ -149,8 +113,8 @@ default-valued V vals ps (suc zero) l h = at (worth ps 0 []) h
 default-valued V vals ps (suc (suc i)) l h = absurd (omega (arith, l))
 
 -- a node whose form and parts tell that it has a value
-node-defined : (G : ℕ → Ty → Type 0) (V : Outcomes) (gs : List (Option Bounds)) → OutcomesHave G V → Tells gs V → PositionsAre (is_shaped gs) V → (f : Form) (ps : Parts) (c : Facts) (env : List Ty) (vals : List Datum) (T : Ty) (args : List Arg) →
-    HaveTypes env vals → Stands V c vals → WellFormed (node f ps) → form_rule G env f args T → parts_typed G env ps args → CertainParts gs V c vals f ps → form_certain (is_shaped gs) f (all_bounds gs c (node f ps) 0 ps) ≡ true →
+node-defined : (G : ℕ → Ty → Type 0) (V : Outcomes) (gs : List (Option Bounds)) → OutcomesHave G V → Tells gs V → PositionsAre (is_shaped gs) V → (f : Form) (ps : Parts) (c : Context) (env : List Ty) (vals : List Datum) (T : Ty) (args : List Arg) →
+    HaveTypes env vals → FactsHold V c vals → WellFormed (node f ps) → form_rule G env f args T → parts_typed G env ps args → CertainParts gs V c vals f ps → form_certain (is_shaped gs) f (all_bounds gs c (node f ps) 0 ps) ≡ true →
     (a : Bool) → wants_all f ≡ a → (if a then all_certain gs c (node f ps) 0 ps else some_certain gs c (node f ps) 0 ps) ≡ true → Valued (cden V vals (node f ps))
 node-defined G V gs g tl d f ps c env vals T args h st wf r t k e true w p =
     form-fits G V (is_shaped gs) env vals d h f args T (part_values V vals ps) (all_bounds gs c (node f ps) 0 ps) e w r (parts-sound G V g ps env vals args h t)
@@ -165,8 +129,8 @@ node-defined G V gs g tl d f ps c env vals T args h st wf r t k e false w p = cc
 
 mutual
   -- a typed term that is certain to have a value has one
-  pub certain-defined : (G : ℕ → Ty → Type 0) (V : Outcomes) (gs : List (Option Bounds)) → OutcomesHave G V → Tells gs V → PositionsAre (is_shaped gs) V → (t : Term) (c : Facts) (env : List Ty) (vals : List Datum) (T : Ty) →
-      HaveTypes env vals → Stands V c vals → ctyped G env t T → certain gs c t ≡ true → Valued (cden V vals t)
+  pub certain-defined : (G : ℕ → Ty → Type 0) (V : Outcomes) (gs : List (Option Bounds)) → OutcomesHave G V → Tells gs V → PositionsAre (is_shaped gs) V → (t : Term) (c : Context) (env : List Ty) (vals : List Datum) (T : Ty) →
+      HaveTypes env vals → FactsHold V c vals → ctyped G env t T → certain gs c t ≡ true → Valued (cden V vals t)
   certain-defined G V gs g tl d (node f ps) c env vals T h st ty e =
       by-parts (firm (is_shaped gs) c (node f ps)) refl e
       (λ i l p. let w = ways-in G V g c f ps env vals T ty.1 h st (well_formed-typed G env (node f ps) T ty) ty.2 ty.3 i l in
@@ -179,14 +143,14 @@ mutual
           let b = and_parts (form_certain (is_shaped gs) f (all_bounds gs c (node f ps) 0 ps)) (if wants_all f then all_certain gs c (node f ps) 0 ps else some_certain gs c (node f ps) 0 ps) q in
           node-defined G V gs g tl d f ps c env vals T ty.1 h st (well_formed-typed G env (node f ps) T ty) ty.2 ty.3 k b.0 (wants_all f) refl b.1
 
-  parts-defined : (G : ℕ → Ty → Type 0) (V : Outcomes) (gs : List (Option Bounds)) → OutcomesHave G V → Tells gs V → PositionsAre (is_shaped gs) V → (t : Term) (c : Facts) (ps : Parts) (j : ℕ) (env : List Ty) (vals : List Datum) (args : List Arg) → HaveTypes env vals → parts_typed G env ps args →
-      (i n : ℕ) (a : Arg) → n ≡ j + i → certain_part gs c t j ps i ≡ true → slice_get args i ≡ Some a → (new : List Datum) → HaveTypes a.own new → Stands V (enter_facts c t n) (new ++ vals) → Valued (worth (part_values V vals ps) i new)
+  parts-defined : (G : ℕ → Ty → Type 0) (V : Outcomes) (gs : List (Option Bounds)) → OutcomesHave G V → Tells gs V → PositionsAre (is_shaped gs) V → (t : Term) (c : Context) (ps : Parts) (j : ℕ) (env : List Ty) (vals : List Datum) (args : List Arg) → HaveTypes env vals → parts_typed G env ps args →
+      (i n : ℕ) (a : Arg) → n ≡ j + i → certain_part gs c t j ps i ≡ true → slice_get args i ≡ Some a → (new : List Datum) → HaveTypes a.own new → FactsHold V (enter_facts c t n) (new ++ vals) → Valued (worth (part_values V vals ps) i new)
   parts-defined G V gs g tl d t c none j env vals args h ty i n a q p e new m k = cc
   parts-defined G V gs g tl d t c (part w u ps) j env vals args h ty zero n a q p e new m k =
       let z : ty.0 ≡ a = some-list ty.0 a (ap (λ x. slice_get x 0) (sym ty.2) ∙ e) in
       let m' : HaveTypes ty.0.own new = subst (λ x. HaveTypes x.own new) (sym z) m in
       let y : n ≡ j = omega (arith, q) in
-      let v = certain-defined G V gs g tl d u (enter_facts c t j) (ty.0.own ++ env) (new ++ vals) ty.0.has (has-append ty.0.own env new vals m' h) (subst (λ x. Stands V (enter_facts c t x) (new ++ vals)) y k) ty.4 p in
+      let v = certain-defined G V gs g tl d u (enter_facts c t j) (ty.0.own ++ env) (new ++ vals) ty.0.has (has-append ty.0.own env new vals m' h) (subst (λ x. FactsHold V (enter_facts c t x) (new ++ vals)) y k) ty.4 p in
       subst (λ b. Valued (if b then cden V (new ++ vals) u else None)) (sym (eq-eqb (length new) w (has-length ty.0.own new m' ∙ ty.3))) v
   parts-defined G V gs g tl d t c (part w u ps) j env vals args h ty (suc i) n a q p e new m k =
       parts-defined G V gs g tl d t c ps (suc j) env vals ty.1 h ty.5 i n a (omega (arith, q)) p (ap (λ x. slice_get x (suc i)) (sym ty.2) ∙ e) new m k

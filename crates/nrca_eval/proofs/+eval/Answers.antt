@@ -14,7 +14,7 @@ use Rattle.nrca_term.specs.Laws.Equations.{term_of-BigUnion, term_of-Sum, term_o
 use Rattle.nrca_term.specs.Meaning.{cden}
 use Rattle.nrca_term.specs.Laws.Measure.{weight_of-child}
 use Rattle.nrca_term.specs.Nodes.{big_union_term, sum_term}
-use Rattle.nrca_term.specs.Term.{form_of, parts_of, weight_of}
+use Rattle.nrca_term.specs.Term.{form_of, parts_of, weight_of, terms_in}
 use Rattle.nrca_term.specs.Turns.{settle}
 use Rattle.nrca_term.specs.Laws.Variants.{settle-tab}
 use Rattle.nrca_term.specs.View.{term_of, terms_of}
@@ -26,8 +26,7 @@ use Rattle.nrca_loops.specs.Scope.{values, boxed_value, held_value, set_in}
 use Rattle.nrca_loops.specs.Within.{itself}
 use Rattle.nrca_loops.specs.Laws.Within.{err_within, same_within}
 use Rattle.nrca_blocks.specs.Laws.Union.{sets_more, sets_nothing}
-use Rattle.nrca_eval.specs.Laws.Form.{count-children, child_of-children, strict_whole, strict_taken, sum_whole, sum_taken, union_whole, union_taken, tab_none, tab_whole, tab_idle, tab_taken}
-use Rattle.nrca_eval.specs.Parts.{children}
+use Rattle.nrca_eval.specs.Laws.Form.{count-terms_in, child_of-terms_in, strict_whole, strict_taken, sum_whole, sum_taken, union_whole, union_taken, tab_none, tab_whole, tab_idle, tab_taken}
 use Rattle.nrca_eval.specs.Runs.{run_values, run_turns, cell_values, cell_turns}
 use Rattle.nrca_eval.proofs.Evaluated.{at_answer, at_fault, member_weight, sub_weight, tab_weight, strict_form, spent_within, spent_whole, written}
 use Rattle.nrca_eval.proofs.Gathering.{spent_block, sets_first, lists_more}
@@ -115,8 +114,8 @@ evaluator::eval_parts-returns-in_err-done-in-Some g t c =
     let V = c.args.scope.now.globals.now in
     let vals = values c.args.env.now in
     let inv = c.loop-i.invariant in
-    let ts = children (parts_of (term_of c.args.term.now)) in
-    let at : slice_get ts c.loop-i.i ≡ Some (term_of c.in-Some.part.now) = sym (child_of-children (parts_of (term_of c.args.term.now)) c.loop-i.i) ∙ sym c.in-Some.ensures in
+    let ts = terms_in (parts_of (term_of c.args.term.now)) in
+    let at : slice_get ts c.loop-i.i ≡ Some (term_of c.in-Some.part.now) = sym (child_of-terms_in (parts_of (term_of c.args.term.now)) c.loop-i.i) ∙ sym c.in-Some.ensures in
     err_within parts_value _ _ _ _ c.in_err-done-in-Some.field-0.0 c.from_residual.ensures.0 c.from_residual.ensures.1
     (λ s. spent_whole (settle V vals) ts c.loop-i.i (term_of c.in-Some.part.now) c.args.budget c.loop-i.turns (slice_get_within ts c.loop-i.i (term_of c.in-Some.part.now) at) at inv.1 inv.2 (c.in_err-done-in-Some.ensures s))
 
@@ -126,8 +125,8 @@ evaluator::eval_parts-loop-i-preserved g t c =
     let g = settle c.args.scope.now.globals.now (values c.args.env.now) in
     let inv = c.loop-i.invariant in
     let done = c.in_ok-done-in-Some.ensures in
-    let ts = children (parts_of (term_of c.args.term.now)) in
-    let at : slice_get ts c.loop-i.i ≡ Some (term_of c.in-Some.part.now) = sym (child_of-children (parts_of (term_of c.args.term.now)) c.loop-i.i) ∙ sym c.in-Some.ensures in (
+    let ts = terms_in (parts_of (term_of c.args.term.now)) in
+    let at : slice_get ts c.loop-i.i ≡ Some (term_of c.in-Some.part.now) = sym (child_of-terms_in (parts_of (term_of c.args.term.now)) c.loop-i.i) ∙ sym c.in-Some.ensures in (
       c.in_ok-keep_part-in-Some.ensures ∙ (λ k. list_with (inv.0 k) (done.0 k)) ∙ sym (each-range_more f g ts 0 c.loop-i.i (term_of c.in-Some.part.now) (omega arith) at),
       omega (arith, total-range_more f g ts 0 c.loop-i.i (term_of c.in-Some.part.now) (omega arith) at, inv.1, done.1),
       omega (arith, inv.2, done.1, done.2),
@@ -138,8 +137,8 @@ evaluator::eval_parts-returns g t c =
     let V = c.args.scope.now.globals.now in
     let vals = values c.args.env.now in
     let inv = c.loop-i.invariant in
-    let ts = children (parts_of (term_of c.args.term.now)) in
-    let whole = range_whole ts c.loop-i.i (omega (arith, c.parts-i-end.ensures, count-children (parts_of (term_of c.args.term.now)))) in
+    let ts = terms_in (parts_of (term_of c.args.term.now)) in
+    let whole = range_whole ts c.loop-i.i (omega (arith, c.parts-i-end.ensures, count-terms_in (parts_of (term_of c.args.term.now)))) in
     (inv.0 ∙ ap (each (cden V vals)) whole, inv.1 ∙ ap (total (settle V vals)) whole, omega (arith, inv.1, inv.2, ap (total (settle V vals)) whole))
 
 pub evaluator::eval_strict-returns-in_err-parts : goal.evaluator::eval_strict-returns-in_err-parts
@@ -441,7 +440,7 @@ loops::members_each-returns-in_err-done g t c =
     let m = held_datum c.in_ok-member.field-0.member in
     let inv = c.loop-i.invariant in
     let at = c.in_ok-member.ensures.0 in
-    let turns : settle V (m ∷ vals) (term_of c.chosen-branch.result.now) ≡ settle V (m ∷ vals) b = c.chosen-branch.ensures.turns in
+    let turns : settle V (m ∷ vals) (term_of c.chosen_branch-branch.result.now) ≡ settle V (m ∷ vals) b = c.chosen_branch-branch.ensures.turns in
     err_within (option_map canon) _ _ _ _ c.in_err-done.field-0.0 c.from_residual-in_err-done.ensures.0 c.from_residual-in_err-done.ensures.1
     (λ s. spent_within g ms c.args.span.from c.loop-i.i c.args.span.to m c.args.budget c.loop-i.turns (omega arith) (omega arith) at inv.1 inv.2 (let h = c.in_err-done.ensures s in omega (arith, h, turns)))
 
@@ -457,9 +456,9 @@ loops::members_each-loop-i-preserved g t c =
     let m = held_datum c.in_ok-member.field-0.member in
     let inv = c.loop-i.invariant in
     let at = c.in_ok-member.ensures.0 in
-    let turns : settle V (m ∷ vals) (term_of c.chosen-branch.result.now) ≡ settle V (m ∷ vals) b = c.chosen-branch.ensures.turns in
+    let turns : settle V (m ∷ vals) (term_of c.chosen_branch-branch.result.now) ≡ settle V (m ∷ vals) b = c.chosen_branch-branch.ensures.turns in
     let done = c.in_ok-done.ensures in (
-      sets_more all (run_values V vals b ms c.args.span.from c.loop-i.i) _ _ _ (f m) inv.0 c.in_ok-all-2.ensures (done.0 ∙ ap set_in c.chosen-branch.ensures.value)
+      sets_more all (run_values V vals b ms c.args.span.from c.loop-i.i) _ _ _ (f m) inv.0 c.in_ok-all-2.ensures (done.0 ∙ ap set_in c.chosen_branch-branch.ensures.value)
           ∙ ap (λ o. sets_join all (union_value o)) (sym (each-range_more f g ms c.args.span.from c.loop-i.i m (omega arith) at)),
       omega (arith, total-range_more f g ms c.args.span.from c.loop-i.i m (omega arith) at, inv.1, done.1, turns),
       omega (arith, inv.2, done.1, done.2),
@@ -478,8 +477,8 @@ loops::members_each-loop-i-preserved-in-Some g t c =
     let m = held_datum c.in_ok-member.field-0.member in
     let inv = c.loop-i.invariant in
     let at = c.in_ok-member.ensures.0 in
-    let turns : settle V (m ∷ vals) (term_of c.chosen-branch.result.now) ≡ settle V (m ∷ vals) b = c.chosen-branch.ensures.turns in (
-      sets_more all (run_values V vals b ms c.args.span.from c.loop-i.i) _ _ _ (f m) inv.0 c.in_ok-all.ensures (few_in c.in-Some.set ∙ ap set_in (sym c.in-Some.ensures.value ∙ c.chosen-branch.ensures.value))
+    let turns : settle V (m ∷ vals) (term_of c.chosen_branch-branch.result.now) ≡ settle V (m ∷ vals) b = c.chosen_branch-branch.ensures.turns in (
+      sets_more all (run_values V vals b ms c.args.span.from c.loop-i.i) _ _ _ (f m) inv.0 c.in_ok-all.ensures (few_in c.in-Some.set ∙ ap set_in (sym c.in-Some.ensures.value ∙ c.chosen_branch-branch.ensures.value))
           ∙ ap (λ o. sets_join all (union_value o)) (sym (each-range_more f g ms c.args.span.from c.loop-i.i m (omega arith) at)),
       omega (arith, total-range_more f g ms c.args.span.from c.loop-i.i m (omega arith) at, inv.1, c.in-Some.ensures.turns, turns),
       omega (arith, inv.2),

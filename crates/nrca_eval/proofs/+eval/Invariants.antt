@@ -3,7 +3,7 @@ use Rattle.std.specs.Option.{option_map}
 use Rattle.aql_value.specs.Canon.{canon}
 use Rattle.aql_value.specs.Partial.{each, total}
 use Rattle.nrca_term.specs.Meaning.{cden}
-use Rattle.nrca_term.specs.Term.{weight_of, list_weight, parts_of}
+use Rattle.nrca_term.specs.Term.{weight_of, list_weight, parts_of, terms_in}
 use Rattle.nrca_term.specs.Turns.{settle}
 use Rattle.nrca_term.specs.View.{term_of, terms_of}
 use Rattle.std.specs.List.{slice_range}
@@ -11,7 +11,6 @@ use Rattle.nrca_loops.specs.Parts.{parts_value}
 use Rattle.nrca_loops.specs.Scope.{values}
 use Rattle.nrca_loops.specs.Runs.{lists_join, member_list, sets_join, sum_value, union_value}
 use Rattle.nrca_loops.specs.Walks.{IsAt}
-use Rattle.nrca_eval.specs.Parts.{children}
 use Rattle.nrca_eval.specs.Runs.{run_values, run_turns, cell_values, cell_turns}
 use Rattle.nrca_eval.proofs.+eval.Given as goal
 
@@ -116,8 +115,8 @@ decreases-loops::cells_run-by_blocks g l = l.to - l.at
 
 abbrev pub invariant-evaluator::eval_parts-loop-i : goal.invariant-evaluator::eval_parts-loop-i
 invariant-evaluator::eval_parts-loop-i g l =
-    (parts_value l.parts ≡ each (cden l.scope.globals.now (values l.env)) (slice_range (children (parts_of (term_of l.term))) 0 l.i))
-    × (l.turns ≡ total (settle l.scope.globals.now (values l.env)) (slice_range (children (parts_of (term_of l.term))) 0 l.i))
+    (parts_value l.parts ≡ each (cden l.scope.globals.now (values l.env)) (slice_range (terms_in (parts_of (term_of l.term))) 0 l.i))
+    × (l.turns ≡ total (settle l.scope.globals.now (values l.env)) (slice_range (terms_in (parts_of (term_of l.term))) 0 l.i))
     × (l.turns ≤ l.budget)
 
 abbrev pub invariant-evaluator::eval_all-loop-term : goal.invariant-evaluator::eval_all-loop-term

@@ -11,7 +11,7 @@ use Rattle.aql_value.specs.Laws.Indices.{length_indices}
 use Rattle.aql_value.specs.Operations.{as_natural, as_set, in_range, walked, union_all, sum_of, array_of}
 use Rattle.aql_value.specs.Partial.{◌>>=◌, each, concat, total, if_some}
 use Rattle.aql_value.specs.Strict.{Strict, strict_value, strict_turns}
-use Rattle.nrca_term.specs.Term.{Term, Parts, node, none, part, plain, Form, form_of, parts_of, child_of, count, WellFormed, PartsWellFormed}
+use Rattle.nrca_term.specs.Term.{Term, Parts, node, none, part, plain, Form, form_of, parts_of, child_of, count, WellFormed, PartsWellFormed, terms_in}
 use Rattle.nrca_term.specs.Nodes.{big_union_term, sum_term, tab_term}
 use Rattle.nrca_term.specs.Meaning.{Outcomes, cden}
 use Rattle.nrca_term.specs.Places.{indices_of}
@@ -20,36 +20,35 @@ use Rattle.nrca_term.specs.Laws.Variants.{cden-strict, cden-tab, settle-strict, 
 use Rattle.nrca_loops.specs.Parts.{numbers_in, table_in}
 use Rattle.nrca_loops.specs.Runs.{sum_value, union_value}
 use Rattle.nrca_loops.specs.Laws.Run.{range_whole}
-use Rattle.nrca_eval.specs.Parts.{children}
 use Rattle.nrca_eval.specs.Runs.{run_values, run_turns, cell_values, cell_turns}
 
 -- parts by their number
-pub count-children : (ps : Parts) → length (children ps) ≡ count ps
-count-children none = refl
-count-children (part k t ps) = ap suc (count-children ps)
+pub count-terms_in : (ps : Parts) → length (terms_in ps) ≡ count ps
+count-terms_in none = refl
+count-terms_in (part k t ps) = ap suc (count-terms_in ps)
 
-pub child_of-children : (ps : Parts) (i : ℕ) → child_of ps i ≡ slice_get (children ps) i
-child_of-children none i = refl
-child_of-children (part k t ps) zero = refl
-child_of-children (part k t ps) (suc i) = child_of-children ps i
+pub child_of-terms_in : (ps : Parts) (i : ℕ) → child_of ps i ≡ slice_get (terms_in ps) i
+child_of-terms_in none i = refl
+child_of-terms_in (part k t ps) zero = refl
+child_of-terms_in (part k t ps) (suc i) = child_of-terms_in ps i
 
-plain-children : (s : Strict) (i : ℕ) (ps : Parts) → PartsWellFormed (Form.strict s) i ps → plain (children ps) none ≡ ps
-plain-children s i none h = refl
-plain-children s i (part k t ps) h = (λ j. part (sym h.0 j) t (plain-children s (suc i) ps h.2 j))
+plain-terms_in : (s : Strict) (i : ℕ) (ps : Parts) → PartsWellFormed (Form.strict s) i ps → plain (terms_in ps) none ≡ ps
+plain-terms_in s i none h = refl
+plain-terms_in s i (part k t ps) h = (λ j. part (sym h.0 j) t (plain-terms_in s (suc i) ps h.2 j))
 
-plain-strict : (t : Term) (s : Strict) → WellFormed t → form_of t ≡ Form.strict s → t ≡ node (Form.strict s) (plain (children (parts_of t)) none)
+plain-strict : (t : Term) (s : Strict) → WellFormed t → form_of t ≡ Form.strict s → t ≡ node (Form.strict s) (plain (terms_in (parts_of t)) none)
 plain-strict (node f ps) s h e =
     let w : WellFormed (node (Form.strict s) ps) = subst (λ g. WellFormed (node g ps)) e h in
-    (λ j. node (e j) (sym (plain-children s 0 ps w.1) j))
+    (λ j. node (e j) (sym (plain-terms_in s 0 ps w.1) j))
 
 module _ (V : Outcomes) (vals : List Datum) where
   -- a form that evaluates all its parts and binds nothing
-  pub strict_whole : (t : Term) (s : Strict) → WellFormed t → form_of t ≡ Form.strict s → cden V vals t ≡ (each (cden V vals) (children (parts_of t)) >>= strict_value s)
-  strict_whole t s h e = ap (cden V vals) (plain-strict t s h e) ∙ cden-strict V vals s (children (parts_of t))
+  pub strict_whole : (t : Term) (s : Strict) → WellFormed t → form_of t ≡ Form.strict s → cden V vals t ≡ (each (cden V vals) (terms_in (parts_of t)) >>= strict_value s)
+  strict_whole t s h e = ap (cden V vals) (plain-strict t s h e) ∙ cden-strict V vals s (terms_in (parts_of t))
 
   pub strict_taken : (t : Term) (s : Strict) → WellFormed t → form_of t ≡ Form.strict s →
-      settle V vals t ≡ total (settle V vals) (children (parts_of t)) + strict_turns s (each (cden V vals) (children (parts_of t)))
-  strict_taken t s h e = ap (settle V vals) (plain-strict t s h e) ∙ settle-strict V vals s (children (parts_of t)) ∙ omega arith
+      settle V vals t ≡ total (settle V vals) (terms_in (parts_of t)) + strict_turns s (each (cden V vals) (terms_in (parts_of t)))
+  strict_taken t s h e = ap (settle V vals) (plain-strict t s h e) ∙ settle-strict V vals s (terms_in (parts_of t)) ∙ omega arith
 
   -- a sum
   natural_range : (o : Option (List ℕ)) → (o >>= λ ns. in_range (sum ns)) ≡ option_map natural (o >>= λ ns. if_fits (sum ns))

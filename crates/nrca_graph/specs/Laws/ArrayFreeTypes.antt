@@ -9,11 +9,11 @@ use Rattle.aql_value.specs.Strict.{Strict}
 use Rattle.aql_types.specs.Types as types
 use Rattle.aql_types.specs.Types.{Ty, IsType, IsRank, Subst, apply, tys_of, index_type}
 use Rattle.aql_types.specs.OperationTypes.{strict_rule}
-use Rattle.nrca_term.specs.Term.{Term, Parts, node, none, part, Form}
+use Rattle.nrca_term.specs.Term.{Term, Parts, node, none, part, Form, terms_in}
 use Rattle.nrca_term.specs.Meaning.{at_position}
 use Rattle.nrca_term.specs.Typing.{Arg, arg, form_rule, ctyped, parts_typed, instances}
 use Rattle.nrca_graph.specs.Encoding.{pair_type, array_type, encoding_type, encoding_types}
-use Rattle.nrca_graph.specs.ArrayFree.{terms_in, term_at, array_free_node, array_free, array_free_parts}
+use Rattle.nrca_graph.specs.ArrayFree.{term_at, array_free_node, array_free, array_free_parts}
 use Rattle.nrca_graph.specs.Laws.EncodedTypes.{encoding-is_type, encoding-apply, index-is}
 use Rattle.nrca_graph.specs.StrictForms.{IsPlain}
 use Rattle.nrca_graph.specs.NoArrays.{IsKeptForm}

@@ -7,7 +7,7 @@ use Rattle.aql_value.specs.declared.ops.ArithOp.TheVariants.{Add}
 use Rattle.aql_value.specs.declared.ops.CompareOp.TheVariants as compare_op
 use Rattle.aql_value.specs.Datum as datum
 use Rattle.aql_value.specs.Datum.{Datum, set, array, data_of}
-use Rattle.aql_value.specs.Indices.{indices}
+use Rattle.aql_value.specs.Indices.{indices, prefix_products}
 use Rattle.aql_value.specs.Laws.Datum.{list_of-data_of}
 use Rattle.aql_value.specs.Laws.Indices.{length_indices}
 use Rattle.aql_value.specs.Lists.{Every, below}
@@ -21,7 +21,7 @@ use Rattle.aql_value.specs.Strict.{Strict}
 use Rattle.aql_types.specs.Types as types
 use Rattle.aql_types.specs.Types.{Ty, IsRank, index_type}
 use Rattle.aql_types.specs.ValueTypes.{HasType}
-use Rattle.nrca_term.specs.Term.{Term, Parts, none, part, WellFormed}
+use Rattle.nrca_term.specs.Term.{Term, Parts, none, part, WellFormed, terms_in}
 use Rattle.nrca_term.specs.Nodes.{variable, number, bottom_term, proj_term, arith_term, compare_term, get_term, empty_term, single_term, if_term}
 use Rattle.nrca_term.specs.Typing.{arg}
 use Rattle.nrca_term.specs.Meaning.{Outcomes, Part, here, cden, part_values}
@@ -31,8 +31,8 @@ use Rattle.nrca_term.specs.Laws.Lets.{onto, onto-naturals, walked-append, walked
 use Rattle.nrca_term.specs.Laws.Sound.{AllSound}
 use Rattle.nrca_term.specs.Laws.Variants.{settle-strict, settle-let, settle-if}
 use Rattle.nrca_graph.specs.Encoding.{graph, encoding, encoded, pair_type}
-use Rattle.nrca_graph.specs.GraphTurns.{prefix_products, subscript_graph_turns, index_graph_turns}
-use Rattle.nrca_graph.specs.ArrayFree.{equal_term, terms_in, term_at, paired_with, subscript_graph, greater, greatest, dimension_above, index_graph, number_at}
+use Rattle.nrca_graph.specs.GraphTurns.{subscript_graph_turns, index_graph_turns}
+use Rattle.nrca_graph.specs.ArrayFree.{equal_term, term_at, paired_with, subscript_graph, greater, greatest, dimension_above, index_graph, number_at}
 use Rattle.nrca_graph.specs.Tabulation.{table_term}
 use Rattle.nrca_graph.specs.Laws.EncodingOrder.{encoding-order, encoding-set, encoding-array}
 use Rattle.nrca_graph.specs.Laws.KeptForms.{AllMirror}

@@ -5,7 +5,7 @@ use Rattle.std.proofs.Math.Nat.{mul-add, mul_comm}
 use Rattle.aql_value.specs.declared.ops.CompareOp.TheVariants as compare_op
 use Rattle.aql_value.specs.Datum as datum
 use Rattle.aql_value.specs.Datum.{Datum, set, data_of}
-use Rattle.aql_value.specs.Indices.{indices}
+use Rattle.aql_value.specs.Indices.{indices, prefix_products}
 use Rattle.aql_value.specs.Laws.Datum.{list_of-data_of}
 use Rattle.aql_value.specs.Lists.{Every}
 use Rattle.aql_value.specs.Laws.Lists.{Every-impl, Every-all}
@@ -14,7 +14,7 @@ use Rattle.aql_value.specs.Operations.{as_set, as_truth, walked}
 use Rattle.aql_value.specs.Partial.{◌>>=◌, each, total, if_some}
 use Rattle.aql_value.specs.Laws.Partial.{each-length, total-ext, total-map}
 use Rattle.aql_value.specs.Strict.{Strict}
-use Rattle.nrca_term.specs.Term.{Term, Parts, none, part, plain, Form, WellFormed, PartsWellFormed}
+use Rattle.nrca_term.specs.Term.{Term, Parts, none, part, plain, Form, WellFormed, PartsWellFormed, terms_in}
 use Rattle.nrca_term.specs.Nodes.{variable, number, truth_term, bottom_term, tuple_term, proj_term, single_term, gen_term, empty_term, if_term, big_union_term}
 use Rattle.nrca_term.specs.Meaning.{Outcomes, Part, cden, bounds_value}
 use Rattle.nrca_term.specs.Places.{entered, indices_of}
@@ -26,8 +26,7 @@ use Rattle.nrca_term.specs.Laws.Lets.{onto, onto-naturals, walked-append}
 use Rattle.nrca_term.specs.Laws.Shifting.{cden-shift_term}
 use Rattle.nrca_term.specs.Laws.TurnsShift.{settle-shift_term}
 use Rattle.nrca_term.specs.Laws.Variants.{settle-strict, settle-let, settle-if, settle-big_union, parts_settle-plain}
-use Rattle.nrca_graph.specs.GraphTurns.{prefix_products}
-use Rattle.nrca_graph.specs.ArrayFree.{equal_term, terms_in, paired_with, product_term, is_filled, index_of_cell, cell_pairs, united_neighbours, united, literal_graph}
+use Rattle.nrca_graph.specs.ArrayFree.{equal_term, paired_with, product_term, is_filled, index_of_cell, cell_pairs, united_neighbours, united, literal_graph}
 use Rattle.nrca_graph.specs.Tabulation.{nest, table_term, tabulation_graph}
 use Rattle.nrca_graph.specs.Laws.NestTurns.{nest-turns}
 use Rattle.nrca_graph.specs.Laws.Paired.{selection}

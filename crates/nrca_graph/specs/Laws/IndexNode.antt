@@ -19,14 +19,14 @@ use Rattle.aql_value.specs.Strict.{Strict, strict_value}
 use Rattle.aql_types.specs.Types as types
 use Rattle.aql_types.specs.Types.{Ty, IsRank, index_type}
 use Rattle.aql_types.specs.ValueTypes.{HasType, HaveTypes}
-use Rattle.nrca_term.specs.Term.{Term, Parts, none, part}
+use Rattle.nrca_term.specs.Term.{Term, Parts, none, part, terms_in}
 use Rattle.nrca_term.specs.Nodes.{variable, bottom_term}
 use Rattle.nrca_term.specs.Typing.{arg}
 use Rattle.nrca_term.specs.Meaning.{Outcomes, Part, here, cden, part_values}
 use Rattle.nrca_term.specs.Rules.{lets, sizes_term, index_variables}
 use Rattle.nrca_term.specs.Laws.Sound.{AllSound}
 use Rattle.nrca_graph.specs.Encoding.{pair, graph, encoding, encoded, pair_type}
-use Rattle.nrca_graph.specs.ArrayFree.{terms_in, term_at, paired_with, dimension_above, index_graph}
+use Rattle.nrca_graph.specs.ArrayFree.{term_at, paired_with, dimension_above, index_graph}
 use Rattle.nrca_graph.specs.Tabulation.{table_term}
 use Rattle.nrca_graph.specs.Laws.EncodingOrder.{encoding-order, encoding-set, encodings-list}
 use Rattle.nrca_graph.specs.Laws.EncodedSets.{set_of-encoded}

@@ -65,7 +65,7 @@ get-encoded (v ∷ vals) zero = refl
 get-encoded (v ∷ vals) (suc i) = get-encoded vals i
 
 -- the encoded outcome of a position
-outcome-encoded : (V : Outcomes) (n : ℕ) → outcome (map encoded V) n ≡ encoded (outcome V n)
+pub outcome-encoded : (V : Outcomes) (n : ℕ) → outcome (map encoded V) n ≡ encoded (outcome V n)
 outcome-encoded V zero = refl
 outcome-encoded V (suc n) = at V n
   where

@@ -19,7 +19,7 @@ use Rattle.aql_value.specs.Laws.Partial.{each-append, each-length}
 use Rattle.aql_value.specs.Strict.{Strict, strict_value}
 use Rattle.aql_types.specs.Types as types
 use Rattle.aql_types.specs.Types.{Ty, IsRank}
-use Rattle.nrca_term.specs.Term.{Term, Parts}
+use Rattle.nrca_term.specs.Term.{Term, Parts, terms_in}
 use Rattle.nrca_term.specs.Nodes.{bottom_term, if_term, tuple_term}
 use Rattle.nrca_term.specs.Typing.{Arg, arg}
 use Rattle.nrca_term.specs.Meaning.{Outcomes, Part, here, cden, part_values}
@@ -29,7 +29,7 @@ use Rattle.nrca_term.specs.Laws.Sound.{AllSound}
 use Rattle.nrca_term.specs.Subst.{shift_term}
 use Rattle.nrca_term.specs.Laws.Shifting.{cden-shift_term}
 use Rattle.nrca_graph.specs.Encoding.{pair, graph, encoding, encoded}
-use Rattle.nrca_graph.specs.ArrayFree.{terms_in, product_term, is_filled, over_rest, further_numbers, index_of_cell, cell_pairs, united, literal_graph}
+use Rattle.nrca_graph.specs.ArrayFree.{product_term, is_filled, over_rest, further_numbers, index_of_cell, cell_pairs, united, literal_graph}
 use Rattle.nrca_graph.specs.Laws.EncodingOrder.{encodings-list}
 use Rattle.nrca_graph.specs.Laws.KeptForms.{AllMirror}
 use Rattle.nrca_graph.specs.Laws.StrictForms.{numbers-kept}

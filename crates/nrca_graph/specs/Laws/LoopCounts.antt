@@ -8,14 +8,14 @@ use Rattle.aql_value.specs.Operations.{is_rank}
 use Rattle.aql_value.specs.Strict.{Strict}
 use Rattle.aql_types.specs.Types as types
 use Rattle.aql_types.specs.Types.{Ty, index_type}
-use Rattle.nrca_term.specs.Term.{Term, Parts, node, none, part, plain, Form}
+use Rattle.nrca_term.specs.Term.{Term, Parts, node, none, part, plain, Form, terms_in}
 use Rattle.nrca_term.specs.Typing.{Arg, arg, ctyped, parts_typed, form_rule}
 use Rattle.nrca_term.specs.Nodes.{variable, gen_term, single_term, number, truth_term, bottom_term, if_term, tuple_term, proj_term, get_term, arith_term}
 use Rattle.nrca_term.specs.Subst.{shift_form, shift_term, shift_parts}
 use Rattle.nrca_term.specs.Rules.{lets, sizes_term, index_variables}
 use Rattle.nrca_graph.specs.Counts.{loop_weight, loops_of, parts_loops, sums_of, big_unions_of, own_rank, ranks_of, parts_ranks}
 use Rattle.nrca_graph.specs.Tabulation.{nest, table_term}
-use Rattle.nrca_graph.specs.ArrayFree.{equal_term, terms_in, term_at, paired_with, subscript_graph, number_at, dimension_above, index_graph, times, product_term, where_zero, is_filled, over_rest, further_numbers, index_of_cell, cell_pairs, united_neighbours, united, literal_graph, array_free_node, array_free, array_free_parts}
+use Rattle.nrca_graph.specs.ArrayFree.{equal_term, term_at, paired_with, subscript_graph, number_at, dimension_above, index_graph, times, product_term, where_zero, is_filled, over_rest, further_numbers, index_of_cell, cell_pairs, united_neighbours, united, literal_graph, array_free_node, array_free, array_free_parts}
 
 -- so many times a weight
 abbrev copies : ℕ → ℕ → ℕ

@@ -9,7 +9,7 @@ use Rattle.aql_types.specs.Types.{Ty, index_type}
 use Rattle.aql_types.specs.Laws.Operation.{has-append}
 use Rattle.aql_types.specs.OperationTypes.{strict_rule}
 use Rattle.aql_types.specs.ValueTypes.{HaveTypes}
-use Rattle.nrca_term.specs.Term.{Term, Parts, node, none, part, Form, count, weight_of, parts_weight}
+use Rattle.nrca_term.specs.Term.{Term, Parts, node, none, part, Form, count, weight_of, parts_weight, terms_in}
 use Rattle.nrca_term.specs.Laws.Measure.{form-positive}
 use Rattle.nrca_term.specs.Typing.{Arg, arg, form_rule, ctyped, parts_typed, OutcomesHave}
 use Rattle.nrca_term.specs.Meaning.{Outcomes, Part, here, form_value, cden, part_values}
@@ -22,7 +22,7 @@ use Rattle.nrca_graph.specs.Laws.LiteralNode.{literal_args, literal-args, litera
 use Rattle.nrca_graph.specs.NoArrays.{IsKeptForm}
 use Rattle.nrca_graph.specs.Laws.IndexNode.{index-node}
 use Rattle.nrca_graph.specs.Laws.SubscriptNode.{subscript-node, dimension-node}
-use Rattle.nrca_graph.specs.ArrayFree.{terms_in, array_free, array_free_parts, array_free_node}
+use Rattle.nrca_graph.specs.ArrayFree.{array_free, array_free_parts, array_free_node}
 use Rattle.nrca_graph.specs.Laws.KeptForms.{AllMirror, form-mirror}
 use Rattle.nrca_graph.specs.StrictForms.{IsPlain}
 use Rattle.nrca_graph.specs.Laws.StrictForms.{strict-mirror}

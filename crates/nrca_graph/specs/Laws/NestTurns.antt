@@ -4,7 +4,7 @@ use Rattle.std.proofs.Math.Nat.{mul-add, mul_comm}
 use Rattle.std.specs.List.{slice_get}
 use Rattle.aql_value.specs.Datum.{Datum, natural}
 use Rattle.aql_value.specs.Laws.Datum.{list_of-data_of}
-use Rattle.aql_value.specs.Indices.{indices}
+use Rattle.aql_value.specs.Indices.{indices, prefix_products}
 use Rattle.aql_value.specs.Lists.{below}
 use Rattle.aql_value.specs.Laws.Lists.{Every-all, length-below}
 use Rattle.aql_value.specs.Operations.{as_set, walked}
@@ -20,7 +20,6 @@ use Rattle.nrca_term.specs.Rules.{sizes_term, index_variables}
 use Rattle.nrca_graph.specs.Tabulation.{nest}
 use Rattle.nrca_graph.specs.Laws.Nests.{no_indices}
 use Rattle.nrca_term.specs.Laws.Lets.{walked-snoc, walked-past}
-use Rattle.nrca_graph.specs.GraphTurns.{prefix_products}
 use Rattle.std.proofs.lemmas.List.{map-append}
 
 -- a loop over the set of the numbers below n: its members, those of the generated set, and the body at each

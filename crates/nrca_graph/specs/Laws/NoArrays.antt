@@ -4,12 +4,12 @@ use Rattle.aql_value.specs.Lists.{Every, below}
 use Rattle.aql_value.specs.Laws.Lists.{Every-all, Every-onto, Every-take, Every-drop}
 use Rattle.aql_value.specs.Operations.{is_rank}
 use Rattle.aql_value.specs.Strict.{Strict}
-use Rattle.nrca_term.specs.Term.{Term, Parts, node, none, part, plain, Form}
+use Rattle.nrca_term.specs.Term.{Term, Parts, node, none, part, plain, Form, terms_in}
 use Rattle.nrca_term.specs.Nodes.{variable, bottom_term, proj_term, get_term}
 use Rattle.nrca_term.specs.Subst.{shift_form, shift_term, shift_parts}
 use Rattle.nrca_term.specs.Rules.{lets, sizes_term, index_variables}
 use Rattle.nrca_graph.specs.Tabulation.{nest, table_term}
-use Rattle.nrca_graph.specs.ArrayFree.{terms_in, term_at, paired_with, subscript_graph, number_at, greater, greatest, dimension_above, index_graph, times, product_term, where_zero, over_rest, further_numbers, index_of_cell, cell_pairs, united_neighbours, united, literal_graph, array_free_node, array_free, array_free_parts}
+use Rattle.nrca_graph.specs.ArrayFree.{term_at, paired_with, subscript_graph, number_at, greater, greatest, dimension_above, index_graph, times, product_term, where_zero, over_rest, further_numbers, index_of_cell, cell_pairs, united_neighbours, united, literal_graph, array_free_node, array_free, array_free_parts}
 use Rattle.nrca_graph.specs.NoArrays.{IsKeptForm, HasNoArrays, PartsHaveNoArrays}
 
 -- a shifted form

@@ -15,14 +15,14 @@ use Rattle.aql_value.specs.Strict.{Strict, strict_value}
 use Rattle.aql_types.specs.Types as types
 use Rattle.aql_types.specs.Types.{Ty, IsRank}
 use Rattle.aql_types.specs.ValueTypes.{HasType}
-use Rattle.nrca_term.specs.Term.{Term, Parts, none, part}
+use Rattle.nrca_term.specs.Term.{Term, Parts, none, part, terms_in}
 use Rattle.nrca_term.specs.Nodes.{variable, proj_term, get_term}
 use Rattle.nrca_term.specs.Typing.{arg}
 use Rattle.nrca_term.specs.Meaning.{Outcomes, Part, here, cden, part_values}
 use Rattle.nrca_term.specs.Rules.{sizes_term}
 use Rattle.nrca_term.specs.Laws.Sound.{AllSound}
 use Rattle.nrca_graph.specs.Encoding.{encoding, encoded}
-use Rattle.nrca_graph.specs.ArrayFree.{terms_in, term_at, paired_with, subscript_graph}
+use Rattle.nrca_graph.specs.ArrayFree.{term_at, paired_with, subscript_graph}
 use Rattle.nrca_graph.specs.Laws.EncodingOrder.{encoding-array, encodings-list}
 use Rattle.nrca_graph.specs.Laws.IndexOrder.{indices-ascend}
 use Rattle.nrca_graph.specs.Laws.KeptForms.{AllMirror}

@@ -12,14 +12,14 @@ use Rattle.aql_value.specs.Laws.Partial.{each-length}
 use Rattle.aql_value.specs.Laws.RowMajor.{indices_lengths}
 use Rattle.aql_types.specs.Types as types
 use Rattle.aql_types.specs.Types.{Ty, IsRank}
-use Rattle.nrca_term.specs.Term.{Term, Parts}
+use Rattle.nrca_term.specs.Term.{Term, Parts, terms_in}
 use Rattle.nrca_term.specs.Typing.{Arg, arg}
 use Rattle.nrca_term.specs.Meaning.{Outcomes, Part, here, worth, tab_value, cden, part_values}
 use Rattle.nrca_term.specs.Laws.Entering.{length-walked}
 use Rattle.nrca_term.specs.Laws.Sound.{AllSound, index-have, body-arg}
 use Rattle.nrca_term.specs.Subst.{shift_term}
 use Rattle.nrca_graph.specs.Encoding.{encoding, encoded}
-use Rattle.nrca_graph.specs.ArrayFree.{terms_in, term_at}
+use Rattle.nrca_graph.specs.ArrayFree.{term_at}
 use Rattle.nrca_graph.specs.Tabulation.{tabulation_graph, table_term}
 use Rattle.nrca_graph.specs.Laws.Tabulated.{tabulation-encoded}
 use Rattle.nrca_term.specs.Laws.Lets.{onto, lets-value, walked-append}

@@ -5,14 +5,14 @@ use Rattle.aql_value.specs.Lists.{Every, below}
 use Rattle.aql_value.specs.Laws.Lists.{Every-all, Every-onto, Every-take, Every-drop, length-below}
 use Rattle.aql_value.specs.Operations.{is_rank}
 use Rattle.aql_value.specs.Strict.{Strict}
-use Rattle.nrca_term.specs.Term.{Term, Parts, node, none, part, plain, Form, count, form_weight, weight_of, parts_weight}
+use Rattle.nrca_term.specs.Term.{Term, Parts, node, none, part, plain, Form, count, form_weight, weight_of, parts_weight, terms_in}
 use Rattle.nrca_term.specs.Laws.Measure.{form-positive}
 use Rattle.nrca_term.specs.Nodes.{variable, gen_term, single_term, number, truth_term, bottom_term, if_term, tuple_term, proj_term, get_term}
 use Rattle.nrca_term.specs.Subst.{shift_term, form_top, top_var, parts_top}
 use Rattle.nrca_term.specs.Laws.Shift.{top_var-shift_le}
 use Rattle.nrca_term.specs.Rules.{lets, sizes_term, index_variables}
 use Rattle.nrca_graph.specs.Tabulation.{nest, table_term}
-use Rattle.nrca_graph.specs.ArrayFree.{equal_term, terms_in, term_at, paired_with, subscript_graph, number_at, dimension_above, index_graph, times, product_term, where_zero, is_filled, over_rest, further_numbers, index_of_cell, cell_pairs, united_neighbours, united, literal_graph, array_free_node, array_free, array_free_parts}
+use Rattle.nrca_graph.specs.ArrayFree.{equal_term, term_at, paired_with, subscript_graph, number_at, dimension_above, index_graph, times, product_term, where_zero, is_filled, over_rest, further_numbers, index_of_cell, cell_pairs, united_neighbours, united, literal_graph, array_free_node, array_free, array_free_parts}
 use Rattle.nrca_graph.specs.Laws.TranslatedParts.{length-terms}
 
 -- no variable of the term is above n

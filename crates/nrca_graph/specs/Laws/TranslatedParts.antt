@@ -9,12 +9,12 @@ use Rattle.aql_types.specs.Types as types
 use Rattle.aql_types.specs.Types.{Ty}
 use Rattle.aql_types.specs.Laws.Operation.{some-list}
 use Rattle.aql_types.specs.ValueTypes.{HaveTypes}
-use Rattle.nrca_term.specs.Term.{Term, Parts, none, part, count}
+use Rattle.nrca_term.specs.Term.{Term, Parts, none, part, count, terms_in}
 use Rattle.nrca_term.specs.Typing.{Arg, arg, parts_typed}
 use Rattle.nrca_term.specs.Meaning.{Outcomes, Part, here, worth, cden, part_values}
 use Rattle.nrca_term.specs.Laws.Sound.{AllSound, has-here}
 use Rattle.nrca_graph.specs.Encoding.{encoding, encoded}
-use Rattle.nrca_graph.specs.ArrayFree.{terms_in, term_at, array_free_parts}
+use Rattle.nrca_graph.specs.ArrayFree.{term_at, array_free_parts}
 use Rattle.nrca_graph.specs.Laws.KeptForms.{AllMirror}
 
 -- each part has as many variables of its own as its argument

@@ -15,7 +15,7 @@ use Rattle.aql_types.specs.Types as types
 use Rattle.aql_types.specs.Types.{Ty, index_type}
 use Rattle.aql_types.specs.ValueTypes.{HaveTypes}
 use Rattle.aql_types.specs.Laws.Operation.{has-append}
-use Rattle.nrca_term.specs.Term.{Term, Parts, node, none, part, plain, Form, WellFormed, weight_of, parts_weight}
+use Rattle.nrca_term.specs.Term.{Term, Parts, node, none, part, plain, Form, WellFormed, weight_of, parts_weight, terms_in}
 use Rattle.nrca_term.specs.Nodes.{variable}
 use Rattle.nrca_term.specs.Typing.{Arg, arg, form_rule, ctyped, parts_typed, OutcomesHave}
 use Rattle.nrca_term.specs.Meaning.{Outcomes, Part, here, cden, part_values, bounds_value}
@@ -25,7 +25,7 @@ use Rattle.nrca_term.specs.Laws.Sound.{AllSound, parts-sound, sounds}
 use Rattle.nrca_term.specs.Laws.TypedPlaces.{entered-own}
 use Rattle.nrca_term.specs.Laws.Variants.{settle-strict}
 use Rattle.nrca_graph.specs.Encoding.{encoding, encoded, pair_type}
-use Rattle.nrca_graph.specs.ArrayFree.{terms_in, term_at, number_at, greater, greatest, dimension_above, array_free, array_free_parts, array_free_node}
+use Rattle.nrca_graph.specs.ArrayFree.{term_at, number_at, greater, greatest, dimension_above, array_free, array_free_parts, array_free_node}
 use Rattle.nrca_graph.specs.NoArrays.{IsKeptForm}
 use Rattle.nrca_graph.specs.GraphTurns.{own_graph_turns, graph_turns, parts_graph_turns}
 use Rattle.nrca_graph.specs.Laws.KeptForms.{AllMirror}

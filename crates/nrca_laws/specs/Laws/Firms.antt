@@ -29,7 +29,7 @@ use Rattle.nrca_term.specs.Laws.Entering.{bounds-length, length-part_values}
 use Rattle.nrca_term.specs.Laws.Sound.{AllSound, sound-get, sounds, sound-length, length-tab, loop-sound, parts-sound, sound, has-here}
 use Rattle.nrca_term.specs.Laws.TypedForm.{well_formed-typed}
 use Rattle.nrca_term.specs.Laws.TypedPlaces.{entered-own}
-use Rattle.nrca_term.specs.Facts.{Facts, enter_facts, Stands}
+use Rattle.nrca_term.specs.Facts.{Context, enter_facts, FactsHold}
 use Rattle.nrca_term.specs.Laws.Contexts.{stands-enter}
 use Rattle.nrca_term.specs.Firm.{Span, number_of, arith_span, span, strict_sure, form_sure, wants_all, arith_firm, strict_firm, second_number, firm, all_firm, some_firm}
 use Rattle.nrca_laws.specs.Operations.{Valued}
@@ -51,7 +51,7 @@ then-valued : {A : Type 0} (f : A → Option Datum) (o : Option A) (x : A) → o
 then-valued f o x e h = subst (λ q. Valued (q >>= f)) (sym e) h
 
 -- parts without variables that have values, as a list
-here-valued : (ps : List Part) → ((i : ℕ) → i < length ps → Valued (worth ps i [])) → (vs : List Datum) × (each here ps ≡ Some vs)
+pub here-valued : (ps : List Part) → ((i : ℕ) → i < length ps → Valued (worth ps i [])) → (vs : List Datum) × (each here ps ≡ Some vs)
 here-valued [] h = ([], refl)
 here-valued (p ∷ ps) h =
     let a = h 0 (omega arith) in
@@ -174,7 +174,7 @@ arith-defined Remainder a b (Some zero) m n f ha hb hc = cc
 arith-defined Remainder a b (Some (suc j)) m n f ha hb hc = let z : suc j ≡ n = hc (suc j) refl in subst (λ d. (k : ℕ) × (arith_by Remainder m d ≡ Some k)) z (m % suc j, rw (not-zero j) refl)
 
 -- an arithmetic node whose sides are worth numbers
-sides-defined : (V : Outcomes) (vals : List Datum) (c : Facts) → Stands V c vals → (op : ArithOp) (a b : Term) (m n : ℕ) → cden V vals a ≡ Some (datum.natural m) → cden V vals b ≡ Some (datum.natural n) →
+sides-defined : (V : Outcomes) (vals : List Datum) (c : Context) → FactsHold V c vals → (op : ArithOp) (a b : Term) (m n : ℕ) → cden V vals a ≡ Some (datum.natural m) → cden V vals b ≡ Some (datum.natural n) →
     arith_firm op (span c (node (Form.strict (Strict.arith op)) (part 0 a (part 0 b none)))) (number_of b) ≡ true → Valued (cden V vals (node (Form.strict (Strict.arith op)) (part 0 a (part 0 b none))))
 sides-defined V vals c h op a b m n x y f =
     let k = arith-defined op (span c a) (span c b) (number_of b) m n f
@@ -215,18 +215,18 @@ two-parts G env ps args e t = first ps (subst (parts_typed G env ps) e t)
         (u, q.0, ap (λ n. part n u ps) r.0 ∙ ap (part 0 u) q.1, r.1, q.2)
 
 -- whether part i of those from number j on is firm
-abbrev pub firm_part : (ℕ → Bool) → Facts → Term → (j : ℕ) → Parts → (i : ℕ) → Bool
+abbrev pub firm_part : (ℕ → Bool) → Context → Term → (j : ℕ) → Parts → (i : ℕ) → Bool
 firm_part D c t j none i = false
 firm_part D c t j (part k u ps) zero = firm D (enter_facts c t j) u
 firm_part D c t j (part k u ps) (suc i) = firm_part D c t (suc j) ps i
 
 -- where all parts from j on are firm, each is; where some part is, there is one
-each-firm : (D : ℕ → Bool) (c : Facts) (t : Term) (j : ℕ) (ps : Parts) (i : ℕ) → all_firm D c t j ps ≡ true → i < count ps → firm_part D c t j ps i ≡ true
+each-firm : (D : ℕ → Bool) (c : Context) (t : Term) (j : ℕ) (ps : Parts) (i : ℕ) → all_firm D c t j ps ≡ true → i < count ps → firm_part D c t j ps i ≡ true
 each-firm D c t j none i h l = absurd (omega (arith, l))
 each-firm D c t j (part k u ps) zero h l = (and_parts (firm D (enter_facts c t j) u) (all_firm D c t (suc j) ps) h).0
 each-firm D c t j (part k u ps) (suc i) h l = each-firm D c t (suc j) ps i (and_parts (firm D (enter_facts c t j) u) (all_firm D c t (suc j) ps) h).1 (omega (arith, l))
 
-one-firm : (D : ℕ → Bool) (c : Facts) (t : Term) (j : ℕ) (ps : Parts) → some_firm D c t j ps ≡ true → (i : ℕ) × (i < count ps) × (firm_part D c t j ps i ≡ true)
+one-firm : (D : ℕ → Bool) (c : Context) (t : Term) (j : ℕ) (ps : Parts) → some_firm D c t j ps ≡ true → (i : ℕ) × (i < count ps) × (firm_part D c t j ps i ≡ true)
 one-firm D c t j none h = cc
 one-firm D c t j (part k u ps) h = at (λ q. one-firm D c t (suc j) ps q) (firm D (enter_facts c t j) u) refl h
   where
@@ -234,7 +234,7 @@ one-firm D c t j (part k u ps) h = at (λ q. one-firm D c t (suc j) ps q) (firm 
     at later true e q = (0, omega arith, e)
     at later false e q = let r = later q in (suc r.0, omega (arith, r.1), r.2)
 
--- each part has an argument, and is a term
+-- each part has an argument
 arg-there : (args : List Arg) (ps : List Part) (i : ℕ) → AllSound args ps → i < length ps → (a : Arg) × (slice_get args i ≡ Some a)
 arg-there [] [] i h l = absurd (omega (arith, l))
 arg-there [] (p ∷ ps) i h l = absurd h
@@ -242,10 +242,11 @@ arg-there (a ∷ args) [] i h l = absurd h
 arg-there (a ∷ args) (p ∷ ps) zero h l = (a, refl)
 arg-there (a ∷ args) (p ∷ ps) (suc i) h l = arg-there args ps i h.1 (omega (arith, l))
 
-child-there : (ps : Parts) (i : ℕ) → i < count ps → (u : Term) × (child_of ps i ≡ Some u)
-child-there none i l = absurd (omega (arith, l))
-child-there (part k u ps) zero l = (u, refl)
-child-there (part k u ps) (suc i) l = child-there ps i (omega (arith, l))
+-- below the number of parts there is one
+pub part-there : (ps : Parts) (i : ℕ) → i < count ps → (u : Term) × (child_of ps i ≡ Some u)
+part-there none i l = absurd (omega (arith, l))
+part-there (part k u ps) zero l = (u, refl)
+part-there (part k u ps) (suc i) l = part-there ps i (omega (arith, l))
 
 -- arithmetic, and the operations that are firm where they are sure
 firm-cases : (X : Strict → Type 0) → ((op : ArithOp) → X (Strict.arith op)) → ((s : Strict) → ((o : Span) (ps : Parts) → strict_firm s o ps ≡ strict_sure s) → X s) → (s : Strict) → X s
@@ -263,31 +264,31 @@ default-valued ps (suc zero) l h = at (worth ps 0 []) h
 default-valued ps (suc (suc i)) l h = absurd (omega (arith, l))
 
 -- the types and the facts with which a part is entered
-ways-in : (G : ℕ → Ty → Type 0) (V : Outcomes) → OutcomesHave G V → (c : Facts) (f : Form) (ps : Parts) (env : List Ty) (vals : List Datum) (T : Ty) (args : List Arg) → HaveTypes env vals → Stands V c vals → WellFormed (node f ps) →
-    form_rule G env f args T → parts_typed G env ps args → (i : ℕ) → i < count ps → (a : Arg) × (slice_get args i ≡ Some a) × Every (λ new. HaveTypes a.own new × Stands V (enter_facts c (node f ps) i) (new ++ vals)) (entered f (part_values V vals ps) i)
+pub ways-in : (G : ℕ → Ty → Type 0) (V : Outcomes) → OutcomesHave G V → (c : Context) (f : Form) (ps : Parts) (env : List Ty) (vals : List Datum) (T : Ty) (args : List Arg) → HaveTypes env vals → FactsHold V c vals → WellFormed (node f ps) →
+    form_rule G env f args T → parts_typed G env ps args → (i : ℕ) → i < count ps → (a : Arg) × (slice_get args i ≡ Some a) × Every (λ new. HaveTypes a.own new × FactsHold V (enter_facts c (node f ps) i) (new ++ vals)) (entered f (part_values V vals ps) i)
 ways-in G V g c f ps env vals T args h st wf r t i l =
     let s = parts-sound G V g ps env vals args h t in
     let a = arg-there args (part_values V vals ps) i s (omega (arith, l, length-part_values V vals ps)) in
-    let u = child-there ps i l in (
+    let u = part-there ps i l in (
       a.0,
       a.1,
-      Every-join (HaveTypes a.0.own) (λ new. Stands V (enter_facts c (node f ps) i) (new ++ vals)) _ (λ new p q. (p, q)) (entered f (part_values V vals ps) i)
+      Every-join (HaveTypes a.0.own) (λ new. FactsHold V (enter_facts c (node f ps) i) (new ++ vals)) _ (λ new p q. (p, q)) (entered f (part_values V vals ps) i)
           (entered-own G env f args T (part_values V vals ps) i a.0 r s a.1) (stands-enter V c vals (node f ps) i u.0 wf u.1 st),
     )
 
 -- each firm part has a value at each list of values with which an evaluation of the node comes to it
-abbrev pub FirmParts : (ℕ → Bool) → Outcomes → Facts → List Datum → Form → Parts → Type 0
+abbrev pub FirmParts : (ℕ → Bool) → Outcomes → Context → List Datum → Form → Parts → Type 0
 FirmParts D V c vals f ps = (i : ℕ) → i < count ps → firm_part D c (node f ps) 0 ps i ≡ true → Every (λ new. Valued (worth (part_values V vals ps) i new)) (entered f (part_values V vals ps) i)
 
 -- a firm node that wants all its parts
-all-defined : (G : ℕ → Ty → Type 0) (V : Outcomes) (D : ℕ → Bool) → OutcomesHave G V → PositionsAre D V → (f : Form) (ps : Parts) (c : Facts) (env : List Ty) (vals : List Datum) (T : Ty) (args : List Arg) → HaveTypes env vals →
+all-defined : (G : ℕ → Ty → Type 0) (V : Outcomes) (D : ℕ → Bool) → OutcomesHave G V → PositionsAre D V → (f : Form) (ps : Parts) (c : Context) (env : List Ty) (vals : List Datum) (T : Ty) (args : List Arg) → HaveTypes env vals →
     form_rule G env f args T → parts_typed G env ps args → FirmParts D V c vals f ps → wants_all f ≡ true → form_sure D f ≡ true → all_firm D c (node f ps) 0 ps ≡ true → Valued (cden V vals (node f ps))
 all-defined G V D g d f ps c env vals T args h r t k w e a =
     form-defined G V D env vals d h f args T (part_values V vals ps) e w r (parts-sound G V g ps env vals args h t)
     (λ i l. let m : i < count ps = omega (arith, l, length-part_values V vals ps) in k i m (each-firm D c (node f ps) 0 ps i a m))
 
 -- a firm arithmetic node
-arith-node : (G : ℕ → Ty → Type 0) (V : Outcomes) (D : ℕ → Bool) → OutcomesHave G V → (op : ArithOp) (ps : Parts) (c : Facts) (env : List Ty) (vals : List Datum) (T : Ty) (args : List Arg) → HaveTypes env vals → Stands V c vals →
+arith-node : (G : ℕ → Ty → Type 0) (V : Outcomes) (D : ℕ → Bool) → OutcomesHave G V → (op : ArithOp) (ps : Parts) (c : Context) (env : List Ty) (vals : List Datum) (T : Ty) (args : List Arg) → HaveTypes env vals → FactsHold V c vals →
     form_rule G env (Form.strict (Strict.arith op)) args T → parts_typed G env ps args → FirmParts D V c vals (Form.strict (Strict.arith op)) ps →
     arith_firm op (span c (node (Form.strict (Strict.arith op)) ps)) (second_number ps) ≡ true → all_firm D c (node (Form.strict (Strict.arith op)) ps) 0 ps ≡ true → Valued (cden V vals (node (Form.strict (Strict.arith op)) ps))
 arith-node G V D g op ps c env vals T args h st r t k e a =
@@ -317,7 +318,7 @@ arith-node G V D g op ps c env vals T args h st r t k e a =
             sides-defined V vals c st op u v m.0 l.0 (p.1 ∙ ap Some m.1) (q.1 ∙ ap Some l.1) e
 
 -- a firm node whose firm parts have values
-node-defined : (G : ℕ → Ty → Type 0) (V : Outcomes) (D : ℕ → Bool) → OutcomesHave G V → PositionsAre D V → (f : Form) (ps : Parts) (c : Facts) (env : List Ty) (vals : List Datum) (T : Ty) (args : List Arg) → HaveTypes env vals → Stands V c vals →
+node-defined : (G : ℕ → Ty → Type 0) (V : Outcomes) (D : ℕ → Bool) → OutcomesHave G V → PositionsAre D V → (f : Form) (ps : Parts) (c : Context) (env : List Ty) (vals : List Datum) (T : Ty) (args : List Arg) → HaveTypes env vals → FactsHold V c vals →
     form_rule G env f args T → parts_typed G env ps args → FirmParts D V c vals f ps → firm D c (node f ps) ≡ true → Valued (cden V vals (node f ps))
 node-defined G V D g d (Form.var i) ps c env vals T args h st r t k e = all-defined G V D g d (Form.var i) ps c env vals T args h r t k refl refl e
 node-defined G V D g d (Form.global n) ps c env vals T args h st r t k e =
@@ -340,22 +341,22 @@ node-defined G V D g d (Form.strict s) ps c env vals T args h st r t k e =
 
 mutual
   -- a firm typed term has a value
-  pub firm-defined : (G : ℕ → Ty → Type 0) (V : Outcomes) (D : ℕ → Bool) → OutcomesHave G V → PositionsAre D V → (t : Term) (c : Facts) (env : List Ty) (vals : List Datum) (T : Ty) →
-      HaveTypes env vals → Stands V c vals → ctyped G env t T → firm D c t ≡ true → Valued (cden V vals t)
+  pub firm-defined : (G : ℕ → Ty → Type 0) (V : Outcomes) (D : ℕ → Bool) → OutcomesHave G V → PositionsAre D V → (t : Term) (c : Context) (env : List Ty) (vals : List Datum) (T : Ty) →
+      HaveTypes env vals → FactsHold V c vals → ctyped G env t T → firm D c t ≡ true → Valued (cden V vals t)
   firm-defined G V D g d (node f ps) c env vals T h st ty e =
       node-defined G V D g d f ps c env vals T ty.1 h st ty.2 ty.3
       (λ i l p. let w = ways-in G V g c f ps env vals T ty.1 h st (well_formed-typed G env (node f ps) T ty) ty.2 ty.3 i l in
       Every-impl _ _ (λ new q. parts-defined G V D g d (node f ps) c ps 0 env vals ty.1 h ty.3 i i w.0 (omega arith) p w.1 new q.0 q.1) (entered f (part_values V vals ps) i) w.2)
       e
 
-  parts-defined : (G : ℕ → Ty → Type 0) (V : Outcomes) (D : ℕ → Bool) → OutcomesHave G V → PositionsAre D V → (t : Term) (c : Facts) (ps : Parts) (j : ℕ) (env : List Ty) (vals : List Datum) (args : List Arg) → HaveTypes env vals → parts_typed G env ps args →
-      (i n : ℕ) (a : Arg) → n ≡ j + i → firm_part D c t j ps i ≡ true → slice_get args i ≡ Some a → (new : List Datum) → HaveTypes a.own new → Stands V (enter_facts c t n) (new ++ vals) → Valued (worth (part_values V vals ps) i new)
+  parts-defined : (G : ℕ → Ty → Type 0) (V : Outcomes) (D : ℕ → Bool) → OutcomesHave G V → PositionsAre D V → (t : Term) (c : Context) (ps : Parts) (j : ℕ) (env : List Ty) (vals : List Datum) (args : List Arg) → HaveTypes env vals → parts_typed G env ps args →
+      (i n : ℕ) (a : Arg) → n ≡ j + i → firm_part D c t j ps i ≡ true → slice_get args i ≡ Some a → (new : List Datum) → HaveTypes a.own new → FactsHold V (enter_facts c t n) (new ++ vals) → Valued (worth (part_values V vals ps) i new)
   parts-defined G V D g d t c none j env vals args h ty i n a q p e new m k = cc
   parts-defined G V D g d t c (part w u ps) j env vals args h ty zero n a q p e new m k =
       let z : ty.0 ≡ a = some-list ty.0 a (ap (λ x. slice_get x 0) (sym ty.2) ∙ e) in
       let m' : HaveTypes ty.0.own new = subst (λ x. HaveTypes x.own new) (sym z) m in
       let y : n ≡ j = omega (arith, q) in
-      let v = firm-defined G V D g d u (enter_facts c t j) (ty.0.own ++ env) (new ++ vals) ty.0.has (has-append ty.0.own env new vals m' h) (subst (λ x. Stands V (enter_facts c t x) (new ++ vals)) y k) ty.4 p in
+      let v = firm-defined G V D g d u (enter_facts c t j) (ty.0.own ++ env) (new ++ vals) ty.0.has (has-append ty.0.own env new vals m' h) (subst (λ x. FactsHold V (enter_facts c t x) (new ++ vals)) y k) ty.4 p in
       subst (λ b. Valued (if b then cden V (new ++ vals) u else None)) (sym (eq-eqb (length new) w (has-length ty.0.own new m' ∙ ty.3))) v
   parts-defined G V D g d t c (part w u ps) j env vals args h ty (suc i) n a q p e new m k =
       parts-defined G V D g d t c ps (suc j) env vals ty.1 h ty.5 i n a (omega (arith, q)) p (ap (λ x. slice_get x (suc i)) (sym ty.2) ∙ e) new m k

@@ -20,7 +20,7 @@ use Rattle.nrca_term.specs.Laws.Shifting.{cden-shifted}
 use Rattle.nrca_term.specs.Subst.{shift_term}
 use Rattle.nrca_term.specs.Laws.Sound.{sound}
 use Rattle.nrca_term.specs.Typing.{ctyped, OutcomesHave}
-use Rattle.nrca_term.specs.Facts.{Facts}
+use Rattle.nrca_term.specs.Facts.{Context}
 use Rattle.nrca_term.specs.Laws.Variants.{child_of-plain_past, child_of-plain_below}
 use Rattle.nrca_term.specs.Rules.{Way, Redex, Side, KnownAt, IsDefined, DefinedAt, Atom, Folds, arithmetic, numbers, truths, texts, generated, member, misshapen, Subscript, inside, outside, in_first, others, constant_literal, dimension_terms, index_variables}
 use Rattle.nrca_laws.specs.Laws.Operations.{element-there}
@@ -36,7 +36,7 @@ use Rattle.std.proofs.lemmas.Option.{slice_get_within}
 use Rattle.nrca_laws.specs.Keeping.{Given}
 
 -- the same of an equal term
-pub given-as : (G : ℕ → Ty → Type 0) (V : Outcomes) (c : Facts) (env : List Ty) (vals : List Datum) (l m : Term) (T : Ty) → l ≡ m → Given G V c env vals l T → Given G V c env vals m T
+pub given-as : (G : ℕ → Ty → Type 0) (V : Outcomes) (c : Context) (env : List Ty) (vals : List Datum) (l m : Term) (T : Ty) → l ≡ m → Given G V c env vals l T → Given G V c env vals m T
 given-as G V c env vals l m T e h = subst (λ x. Given G V c env vals x T) e h
 
 -- both sides by equal terms, and ways from an equal term
@@ -123,7 +123,7 @@ pub dimension_terms-length : (k : ℕ) (r : Term) → length (dimension_terms k 
 dimension_terms-length k r = length-map (below k) _ ∙ length-below k
 
 -- each rule
-pub rule-keeps : (G : ℕ → Ty → Type 0) (V : Outcomes) (c : Facts) (env : List Ty) (vals : List Datum) (T : Ty) (R : Rule) (l r : Term) (ws : List Way) → Given G V c env vals l T → Redex R l r ws → Side V R vals l r ws → KnownAt R c l → cden V vals l ≡ cden V vals r
+pub rule-keeps : (G : ℕ → Ty → Type 0) (V : Outcomes) (c : Context) (env : List Ty) (vals : List Datum) (T : Ty) (R : Rule) (l r : Term) (ws : List Way) → Given G V c env vals l T → Redex R l r ws → Side V R vals l r ws → KnownAt R c l → cden V vals l ≡ cden V vals r
 unfolding Cell
 rule-keeps G V c env vals T B1 l r ws g x s k = keeps-b1 V vals l x.0 x.1 x.2 ∙ sym (ap (cden V vals) x.3)
 rule-keeps G V c env vals T K1 l r ws g x s k = keeps-folds G V vals l r x.0

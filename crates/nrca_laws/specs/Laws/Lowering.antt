@@ -13,8 +13,7 @@ use Rattle.nrca_term.specs.Term.{Term, Parts, node, none, part, plain, Form, wei
 use Rattle.nrca_term.specs.Nodes.{number, truth_term, bottom_term, let_term, if_term, proj_term, loop_term, big_union_term, tab_term, sub_term, dim_term, empty_term}
 use Rattle.nrca_term.specs.Subst.{shift_form, shift_term, shift_parts, subst_term, uses_of}
 use Rattle.nrca_term.specs.Laws.Variants.{parts_weight-plain}
-use Rattle.nrca_term.specs.Measure.{nodes_of, parts_nodes, pairs_of, parts_pairs, has_operand, own_pairs, first_nodes}
-use Rattle.nrca_term.specs.MeasureLaws.{Lowers}
+use Rattle.nrca_term.specs.Measure.{nodes_of, parts_nodes, pairs_of, parts_pairs, has_operand, own_pairs, first_nodes, Lowers}
 use Rattle.nrca_term.specs.Laws.Measure.{weight_of-child}
 use Rattle.nrca_term.specs.Rules.{Way, Redex, Folds, arithmetic, numbers, truths, texts, generated, member, misshapen, Subscript, inside, outside, LoopOf, Atom, sizes_term, replace_dims, dims_of_var, number_or_bottom, constant_literal, IsComparison, IsVariableOrNumber, dimension_terms, index_variables}
 use Rattle.nrca_laws.specs.Laws.Typed.{let-typed, literal-rank}

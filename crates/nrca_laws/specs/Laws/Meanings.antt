@@ -17,7 +17,7 @@ use Rattle.nrca_term.specs.Laws.Substituting.{cden-subst_term}
 use Rattle.nrca_term.specs.Laws.Undefined.{Worthless, form_value-worthless, cden-subst_term-undefined}
 use Rattle.nrca_term.specs.Laws.Entering.{child-counted, length-part_values}
 use Rattle.nrca_term.specs.Laws.Variants.{cden-strict}
-use Rattle.nrca_term.specs.Facts.{Facts, Stands, domain, test, denied, LiterallyKnown}
+use Rattle.nrca_term.specs.Facts.{Context, FactsHold, domain, test, denied, LiterallyKnown}
 use Rattle.nrca_term.specs.Laws.Contexts.{literally-true, known-literally}
 use Rattle.nrca_term.specs.Rules.{LoopOf, IsDefined, number_or_bottom}
 use Rattle.aql_value.specs.declared.ops.ArithOp.{ArithOp}
@@ -142,7 +142,7 @@ pub keeps-n2 : (V : Outcomes) (vals : List Datum) (r b : Term) → IsDefined V v
 keeps-n2 V vals r b d = ap (λ o. or_else o (cden V vals b)) d.1 ∙ sym d.1
 
 -- a comparison that the facts tell of
-pub keeps-known : (V : Outcomes) (c : Facts) (vals : List Datum) (l : Term) → Stands V c vals → (b : Bool) → ((LiterallyKnown domain c l ⊎ LiterallyKnown test c l) × (b ≡ true)) ⊎ (LiterallyKnown denied c l × (b ≡ false)) →
+pub keeps-known : (V : Outcomes) (c : Context) (vals : List Datum) (l : Term) → FactsHold V c vals → (b : Bool) → ((LiterallyKnown domain c l ⊎ LiterallyKnown test c l) × (b ≡ true)) ⊎ (LiterallyKnown denied c l × (b ≡ false)) →
     cden V vals l ≡ cden V vals (truth_term b)
 keeps-known V c vals l h b (inl (inl k, e)) = literally-true V c vals true l h (known-literally domain c l k) ∙ ap (λ t. Some (truth t)) (sym e)
 keeps-known V c vals l h b (inl (inr k, e)) = literally-true V c vals true l h (known-literally test c l k) ∙ ap (λ t. Some (truth t)) (sym e)

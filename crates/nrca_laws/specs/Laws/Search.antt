@@ -6,23 +6,23 @@ use Rattle.nrca_term.specs.Nodes.{variable, less_term}
 use Rattle.nrca_term.specs.Subst.{shift_term}
 use Rattle.nrca_term.specs.Places.{place_of, put_at, on_child}
 use Rattle.nrca_term.specs.Laws.Measure.{through}
-use Rattle.nrca_term.specs.Facts.{Facts, Known, domain, test, denied, fact, test_fact, loop_fact, bound_facts, tab_facts, added, enter_facts, context_below, context_at}
+use Rattle.nrca_term.specs.Facts.{Context, Known, domain, test, denied, fact, test_fact, loop_fact, bound_facts, tab_facts, added, enter_facts, context_below, context_at}
 use Rattle.aql_types.specs.Laws.Operation.{some-list}
 use Rattle.nrca_laws.specs.Search.{ComesBefore, AllPlaces, AllBefore, FirstParts}
 
 -- the context at a place of a part
-context-child : (c : Facts) (t : Term) (i : ℕ) (u : Term) (path : List ℕ) → child_of (parts_of t) i ≡ Some u → context_at enter_facts c t (i ∷ path) ≡ context_at enter_facts (enter_facts c t i) u path
+context-child : (c : Context) (t : Term) (i : ℕ) (u : Term) (path : List ℕ) → child_of (parts_of t) i ≡ Some u → context_at enter_facts c t (i ∷ path) ≡ context_at enter_facts (enter_facts c t i) u path
 context-child c t i u path e = ap (λ o. context_below c o (λ u. context_at enter_facts (enter_facts c t i) u path)) e
 
 -- N at the node and at each place of its first n parts, where it has no more, is N at all places
-pub all-node : (N : Facts → Term → Type 0) (c : Facts) (t : Term) (n : ℕ) → N c t → FirstParts N c t n → ((i : ℕ) (u : Term) → child_of (parts_of t) i ≡ Some u → i < n) → AllPlaces N c t
+pub all-node : (N : Context → Term → Type 0) (c : Context) (t : Term) (n : ℕ) → N c t → FirstParts N c t n → ((i : ℕ) (u : Term) → child_of (parts_of t) i ≡ Some u → i < n) → AllPlaces N c t
 all-node N c t n h k l [] s e = subst (N c) (some-list t s e) h
 all-node N c t n h k l (i ∷ path) s e =
     let r = through (parts_of t) i path s e in
     subst (λ x. N x s) (sym (context-child c t i r.0 path r.1)) (k i r.0 (l i r.0 r.1) r.1 path s r.2)
 
 -- one more part
-pub all-more : (N : Facts → Term → Type 0) (c : Facts) (t : Term) (n : ℕ) (u : Term) → FirstParts N c t n → child_of (parts_of t) n ≡ Some u → AllPlaces N (enter_facts c t n) u → FirstParts N c t (suc n)
+pub all-more : (N : Context → Term → Type 0) (c : Context) (t : Term) (n : ℕ) (u : Term) → FirstParts N c t n → child_of (parts_of t) n ≡ Some u → AllPlaces N (enter_facts c t n) u → FirstParts N c t (suc n)
 all-more N c t n u h e k i v l f = at (order i n l)
   where
     order : (i n : ℕ) → i < suc n → (i < n) ⊎ (i ≡ n)
@@ -36,17 +36,17 @@ all-more N c t n u h e k i v l f = at (order i n l)
     at (inr x) = let z : u ≡ v = some-list u v (sym e ∙ ap (child_of (parts_of t)) (sym x) ∙ f) in subst (λ j. AllPlaces N (enter_facts c t j) v) (sym x) (subst (AllPlaces N (enter_facts c t n)) z k)
 
 -- what holds before a place in part j holds in each part before j
-pub before-parts : (N : Facts → Term → Type 0) (c : Facts) (t : Term) (j : ℕ) (p : List ℕ) → AllBefore N c t (j ∷ p) → FirstParts N c t j
+pub before-parts : (N : Context → Term → Type 0) (c : Context) (t : Term) (j : ℕ) (p : List ℕ) → AllBefore N c t (j ∷ p) → FirstParts N c t j
 before-parts N c t j p h i u l e path s f =
     subst (λ x. N x s) (context-child c t i u path e) (h (i ∷ path) s (inl l) (ap (λ o. o >>= λ r. place_of r path) e ∙ f))
 
 -- and of the places of part j before it
-pub before-child : (N : Facts → Term → Type 0) (c : Facts) (t : Term) (j : ℕ) (p : List ℕ) (u : Term) → child_of (parts_of t) j ≡ Some u → AllBefore N c t (j ∷ p) → AllBefore N (enter_facts c t j) u p
+pub before-child : (N : Context → Term → Type 0) (c : Context) (t : Term) (j : ℕ) (p : List ℕ) (u : Term) → child_of (parts_of t) j ≡ Some u → AllBefore N c t (j ∷ p) → AllBefore N (enter_facts c t j) u p
 before-child N c t j p u e h q s b f =
     subst (λ x. N x s) (context-child c t j u q e) (h (j ∷ q) s (inr (refl, b)) (ap (λ o. o >>= λ r. place_of r q) e ∙ f))
 
 -- both together are what holds before the place
-pub before-node : (N : Facts → Term → Type 0) (c : Facts) (t : Term) (j : ℕ) (p : List ℕ) (u : Term) → child_of (parts_of t) j ≡ Some u → FirstParts N c t j → AllBefore N (enter_facts c t j) u p → AllBefore N c t (j ∷ p)
+pub before-node : (N : Context → Term → Type 0) (c : Context) (t : Term) (j : ℕ) (p : List ℕ) (u : Term) → child_of (parts_of t) j ≡ Some u → FirstParts N c t j → AllBefore N (enter_facts c t j) u p → AllBefore N c t (j ∷ p)
 before-node N c t j p u e h k [] s b f = absurd b
 before-node N c t j p u e h k (i ∷ q) s (inl l) f =
     let r = through (parts_of t) i q s f in subst (λ x. N x s) (sym (context-child c t i r.0 q r.1)) (h i r.0 l r.1 q s r.2)
@@ -57,7 +57,7 @@ before-node N c t j p u e h k (i ∷ q) s (inr b) f =
     (subst (λ n. N (context_at enter_facts (enter_facts c t n) r.0 q) s) (sym b.0) (subst (λ x. N (context_at enter_facts (enter_facts c t j) x q) s) (sym z) (k q s b.1 (ap (λ x. place_of x q) (sym z) ∙ r.2))))
 
 -- nothing comes before the root
-pub before-root : (N : Facts → Term → Type 0) (c : Facts) (t : Term) → AllBefore N c t []
+pub before-root : (N : Context → Term → Type 0) (c : Context) (t : Term) → AllBefore N c t []
 before-root N c t [] s b f = absurd b
 before-root N c t (i ∷ q) s b f = absurd b
 
@@ -124,7 +124,7 @@ added-on d Form.default ps i j g l = refl
 added-on d (Form.strict s) ps i j g l = refl
 
 -- so does the context of part i
-enter-on : (c : Facts) (f : Form) (ps : Parts) (i j : ℕ) (g : Term → Term) → i ≤ j → enter_facts c (node f (on_child ps j g)) i ≡ enter_facts c (node f ps) i
+pub enter-on : (c : Context) (f : Form) (ps : Parts) (i j : ℕ) (g : Term → Term) → i ≤ j → enter_facts c (node f (on_child ps j g)) i ≡ enter_facts c (node f ps) i
 enter-on c f ps i j g l =
     ap (λ F. record { facts = c.facts ++ F; depth = c.depth + binders_of (on_child ps j g) i }) (added-on c.depth f ps i j g l)
     ∙ ap (λ n. record { facts = c.facts ++ added c.depth f ps i; depth = c.depth + n }) (binders-on ps i j g)
@@ -145,7 +145,7 @@ place-before (i ∷ q) (j ∷ p) (node f ps) u (inr b) =
     below h (Some r) = h r
 
 -- the same context there
-pub context-before : (q p : List ℕ) (c : Facts) (t u : Term) → ComesBefore q p → context_at enter_facts c (put_at t p u) q ≡ context_at enter_facts c t q
+pub context-before : (q p : List ℕ) (c : Context) (t u : Term) → ComesBefore q p → context_at enter_facts c (put_at t p u) q ≡ context_at enter_facts c t q
 context-before [] p c t u b = absurd b
 context-before (i ∷ q) [] c t u b = absurd b
 context-before (i ∷ q) (j ∷ p) c (node f ps) u (inl l) =
@@ -158,11 +158,11 @@ context-before (i ∷ q) (j ∷ p) c (node f ps) u (inr b) =
     ∙ below (λ x r. context-before q p x r u b.1) (child_of ps j)
     ∙ ap (λ n. context_below c (child_of ps n) (λ r. context_at enter_facts (enter_facts c (node f ps) n) r q)) (sym b.0)
   where
-    below : ((x : Facts) (r : Term) → context_at enter_facts x (put_at r p u) q ≡ context_at enter_facts x r q) → (o : Option Term) →
+    below : ((x : Context) (r : Term) → context_at enter_facts x (put_at r p u) q ≡ context_at enter_facts x r q) → (o : Option Term) →
         context_below c (o >>= λ r. Some (put_at r p u)) (λ r. context_at enter_facts (enter_facts c (node f ps) j) r q) ≡ context_below c o (λ r. context_at enter_facts (enter_facts c (node f ps) j) r q)
     below h None = refl
     below h (Some r) = h (enter_facts c (node f ps) j) r
 
 -- what the search has left behind stays so when the place is rewritten
-pub before-kept : (N : Facts → Term → Type 0) (c : Facts) (t u : Term) (p : List ℕ) → AllBefore N c t p → AllBefore N c (put_at t p u) p
+pub before-kept : (N : Context → Term → Type 0) (c : Context) (t u : Term) (p : List ℕ) → AllBefore N c t p → AllBefore N c (put_at t p u) p
 before-kept N c t u p h q s b e = subst (λ x. N x s) (sym (context-before q p c t u b)) (h q s b (sym (place-before q p t u b) ∙ e))

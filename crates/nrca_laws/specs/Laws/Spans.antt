@@ -22,7 +22,7 @@ use Rattle.aql_value.specs.Lists.{Every}
 use Rattle.nrca_term.specs.Term.{Term, node, none, part, Form}
 use Rattle.nrca_term.specs.Nodes.{number, variable, less_term}
 use Rattle.nrca_term.specs.Meaning.{Outcomes, cden}
-use Rattle.nrca_term.specs.Facts.{Known, domain, test, denied, truth_of, Fact, Facts, Holds, Stands}
+use Rattle.nrca_term.specs.Facts.{Known, domain, test, denied, truth_of, Fact, Context, Holds, FactsHold}
 use Rattle.nrca_term.specs.Laws.Facts.{natural-is}
 use Rattle.nrca_term.specs.Firm.{Span, number_of, as_variable, as_less, within_range, arith_span, is_domain, bounded_variable, fact_span, or_span, variable_span, span}
 use Rattle.nrca_term.specs.Laws.Variants.{cden-strict}
@@ -53,7 +53,7 @@ pub number-is : (m : ℕ) (x : ℕ × ℕ) → IsInSpan x (natural m) → (x.0 �
 number-is m x h = let y : m ≡ h.0 = some-list m h.0 (ap as_natural h.1) in (omega (arith, h.2, y), omega (arith, h.3, y))
 
 -- an interval that stays below 2^128
-range-is : (low high : ℕ) (x : ℕ × ℕ) → within_range low high ≡ Some x → (low, high) ≡ x
+pub range-is : (low high : ℕ) (x : ℕ × ℕ) → within_range low high ≡ Some x → (low, high) ≡ x
 range-is low high x e = at (nat_lt high (2 ^ 128)) e
   where
     at : (b : Bool) → (if b then Some (low, high) else None) ≡ Some x → (low, high) ≡ x
@@ -66,7 +66,7 @@ numeral-value V vals (node (Form.strict (Strict.nat m)) none) n v e h = let z : 
 numeral-value V vals _ n v e h = cc
 
 -- a sum or product in range, a quotient or remainder by a number other than 0
-fits-is : (n k : ℕ) → if_fits n ≡ Some k → k ≡ n
+pub fits-is : (n k : ℕ) → if_fits n ≡ Some k → k ≡ n
 fits-is n k e = sym ((cond_some (nat_lt n (2 ^ 128)) n k e).1)
 
 divides-is : (n q k : ℕ) → cond (nat_eq n 0) None (Some q) ≡ Some k → k ≡ q
@@ -183,7 +183,7 @@ variable-within V vals d i (f ∷ F) x v h e g = at (λ k. variable-within V val
     at later None k l = later l
 
 -- the value of a term lies within its span
-pub span-sound : (V : Outcomes) (vals : List Datum) (c : Facts) → Stands V c vals → (t : Term) (x : ℕ × ℕ) (v : Datum) → span c t ≡ Some x → cden V vals t ≡ Some v → IsInSpan x v
+pub span-sound : (V : Outcomes) (vals : List Datum) (c : Context) → FactsHold V c vals → (t : Term) (x : ℕ × ℕ) (v : Datum) → span c t ≡ Some x → cden V vals t ≡ Some v → IsInSpan x v
 span-sound V vals c h (node (Form.var i) none) x v e k = variable-within V vals c.depth i c.facts x v h.1 e k
 span-sound V vals c h (node (Form.strict (Strict.nat n)) none) x v e k =
     let r = some-list (n, n) x e in

@@ -11,19 +11,18 @@ use Rattle.nrca_term.specs.Term.{Term, weight_of}
 use Rattle.nrca_term.specs.Meaning.{Outcomes, cden}
 use Rattle.nrca_term.specs.Places.{reach}
 use Rattle.nrca_term.specs.Laws.Placing.{cden-put_at}
-use Rattle.nrca_term.specs.MeasureLaws.{left_of}
 use Rattle.nrca_term.specs.Laws.Measure.{left-falls, left-bound, below-put_at, below-weight, pairs-weight}
 use Rattle.nrca_term.specs.Typing.{ctyped, OutcomesHave}
 use Rattle.nrca_term.specs.Laws.TypedForm.{well_formed-typed}
 use Rattle.nrca_term.specs.Laws.TypedPlaces.{typed-place, keeps-put_at}
-use Rattle.nrca_term.specs.Facts.{facts_at, Stands}
+use Rattle.nrca_term.specs.Facts.{facts_at, FactsHold}
 use Rattle.nrca_term.specs.Laws.Contexts.{stands}
 use Rattle.nrca_term.specs.Rules.{Side, Step, Replay}
 use Rattle.nrca_term.specs.Valid.{HasConstants, AreValidOutcomes}
 use Rattle.nrca_term.specs.Laws.Valid.{reach-valid}
 use Rattle.std.proofs.lemmas.Nat.{mul-le}
 use Rattle.nrca_term.specs.declared.trace.Step as code
-use Rattle.nrca_term.specs.Measure.{Below}
+use Rattle.nrca_term.specs.Measure.{Below, left_of}
 use Rattle.nrca_laws.specs.Laws.Lowering.{lowers}
 use Rattle.nrca_laws.specs.Laws.Keeping.{rule-keeps}
 use Rattle.nrca_laws.specs.Laws.Types.{rule-types}
@@ -34,11 +33,11 @@ pub step-keeps : (G : ℕ → Ty → Type 0) (V : Outcomes) → OutcomesHave G V
 step-keeps G V g a R path t u T ty h s =
     let p = typed-place G path [] t s.from T ty s.found in
     cden-put_at V path [] t s.from s.to s.found
-    (Every-join (λ vals. HaveTypes p.around vals × Stands V (facts_at t path) vals) (λ vals. Every IsValue vals × Side V R vals s.from s.to s.ways) (λ vals. cden V vals s.from ≡ cden V vals s.to)
+    (Every-join (λ vals. HaveTypes p.around vals × FactsHold V (facts_at t path) vals) (λ vals. Every IsValue vals × Side V R vals s.from s.to s.ways) (λ vals. cden V vals s.from ≡ cden V vals s.to)
     (λ vals m n. rule-keeps G V (facts_at t path) p.around vals p.type R s.from s.to s.ways
     (record { outcomes = g; are = a; have = m.0; values = n.0; facts = m.1; typed = p.typed; constants = constants-place path t s.from h s.found }) s.redex n.1 s.known)
     (reach V [] t path)
-    (Every-join (HaveTypes p.around) (Stands V (facts_at t path)) _ (λ vals x y. (x, y)) (reach V [] t path) (p.values V [] g tt) (stands V t (well_formed-typed G [] t T ty) path))
+    (Every-join (HaveTypes p.around) (FactsHold V (facts_at t path)) _ (λ vals x y. (x, y)) (reach V [] t path) (p.values V [] g tt) (stands V t (well_formed-typed G [] t T ty) path))
     (Every-join (Every IsValue) (λ vals. Side V R vals s.from s.to s.ways) _ (λ vals x y. (x, y)) (reach V [] t path) (reach-valid V a t [] path h tt) s.side))
     ∙ sym (ap (cden V []) s.put)
 

@@ -16,7 +16,7 @@ use Rattle.nrca_term.specs.Rules.{lets, guarded, beta, sizes_term, replace_dims,
 use Rattle.nrca_laws.specs.Laws.Typed.{dim-is, dim-rank, get-past}
 
 -- a shift changes no weight
-form_weight-shift : (from by : ℕ) (f : Form) → form_weight (shift_form from by f) ≡ form_weight f
+pub form_weight-shift : (from by : ℕ) (f : Form) → form_weight (shift_form from by f) ≡ form_weight f
 form_weight-shift from by (Form.var i) = refl
 form_weight-shift from by (Form.global n) = refl
 form_weight-shift from by Form.bind = refl
@@ -32,7 +32,7 @@ mutual
   pub weight-shift : (from by : ℕ) (t : Term) → weight_of (shift_term from by t) ≡ weight_of t
   weight-shift from by (node f ps) = omega (arith, form_weight-shift from by f, weights-shift from by ps)
 
-  weights-shift : (from by : ℕ) (ps : Parts) → parts_weight (shift_parts from by ps) ≡ parts_weight ps
+  pub weights-shift : (from by : ℕ) (ps : Parts) → parts_weight (shift_parts from by ps) ≡ parts_weight ps
   weights-shift from by none = refl
   weights-shift from by (part k t ps) = omega (arith, weight-shift (from + k) by t, weights-shift from by ps)
 

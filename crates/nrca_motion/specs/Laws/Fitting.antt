@@ -6,7 +6,7 @@ use Rattle.aql_types.specs.Laws.Operation.{some-list}
 use Rattle.nrca_term.specs.Term.{Term, Parts, Form, node, none, part, plain, form_of, parts_of, child_of, count, binders_of, WellFormed, FormClosed, Closed, PartsClosed}
 use Rattle.nrca_term.specs.Nodes.{let_term, if_term, loop_term, tab_term}
 use Rattle.nrca_term.specs.Subst.{shift_form, shift_term, shift_parts}
-use Rattle.nrca_term.specs.Facts.{Facts}
+use Rattle.nrca_term.specs.Facts.{Context}
 use Rattle.nrca_term.specs.Firm.{firm}
 use Rattle.nrca_term.specs.Rules.{LoopOf}
 use Rattle.nrca_term.specs.Laws.Entering.{child-counted}
@@ -67,7 +67,7 @@ pub room-small : (n : ℕ) (t : Term) → WellFormed t → IsSmallTerm n t → H
 room-small n t w h = omega (arith, h.1, top_var-closed n t w h.0)
 
 -- what is told of a term outside of variables
-pub tells-outside : (gs : List (Option Bounds)) (c : Facts) (k : ℕ) (t u : Term) (b : Bool) → WellFormed t → t ≡ shift_term 0 k u →
+pub tells-outside : (gs : List (Option Bounds)) (c : Context) (k : ℕ) (t u : Term) (b : Bool) → WellFormed t → t ≡ shift_term 0 k u →
     (b ≡ true → IsDefinedAt gs c u) → (firm (is_shaped gs) c u ≡ true → b ≡ true) → TellsOutside gs c k t b
 tells-outside gs c k t u b w e s f = at b refl
   where
@@ -227,14 +227,14 @@ goes-out M3 i t body first r needs h e g m = (m.1, let-first t body first m.1 m.
 goes-out M4 i t body first r needs h e g m = absurd h
 
 -- what goes out is firm where all that has to be defined is
-firm-out : (gs : List (Option Bounds)) (c : Facts) (R : MoveRule) (t u : Term) (needs : List Term) → Needs R t u needs → Every (λ x. firm (is_shaped gs) c x ≡ true) needs → firm (is_shaped gs) c u ≡ true
+firm-out : (gs : List (Option Bounds)) (c : Context) (R : MoveRule) (t u : Term) (needs : List Term) → Needs R t u needs → Every (λ x. firm (is_shaped gs) c x ≡ true) needs → firm (is_shaped gs) c u ≡ true
 firm-out gs c M1 t u needs n h = (subst (Every (λ x. firm (is_shaped gs) c x ≡ true)) n.2 h).1.0
 firm-out gs c M2 t u needs n h = (subst (Every (λ x. firm (is_shaped gs) c x ≡ true)) n h).0
 firm-out gs c M3 t u needs n h = (subst (Every (λ x. firm (is_shaped gs) c x ≡ true)) n h).0
 firm-out gs c M4 t u needs n h = absurd n
 
 -- so a rule is refused whose term does not go out
-pub refused-first : (gs : List (Option Bounds)) (c : Facts) (R : MoveRule) (i k : ℕ) (t body first : Term) → HasForm R i t → child_of (parts_of t) i ≡ Some body → child_of (parts_of body) 0 ≡ Some first →
+pub refused-first : (gs : List (Option Bounds)) (c : Context) (R : MoveRule) (i k : ℕ) (t body first : Term) → HasForm R i t → child_of (parts_of t) i ≡ Some body → child_of (parts_of body) 0 ≡ Some first →
     k ≡ binders_of (parts_of t) i → TellsOutside gs c k first false → IsRefused gs c R t
 unfolding IsRefused
 refused-first gs c R i k t body first h e g l o = λ r needs m f.
@@ -242,7 +242,7 @@ refused-first gs c R i k t body first h e g l o = λ r needs m f.
     o u.0 (u.1 ∙ ap (λ n. shift_term 0 n u.0) (sym l)) (firm-out gs c R t u.0 needs u.2 f)
 
 -- and M1 over an operand that is not firm
-pub refused-operand : (gs : List (Option Bounds)) (c : Facts) (t : Term) → ((e : Term) → child_of (parts_of t) 0 ≡ Some e → firm (is_shaped gs) c e ≡ true → ⊥) → IsRefused gs c M1 t
+pub refused-operand : (gs : List (Option Bounds)) (c : Context) (t : Term) → ((e : Term) → child_of (parts_of t) 0 ≡ Some e → firm (is_shaped gs) c e ≡ true → ⊥) → IsRefused gs c M1 t
 unfolding IsRefused
 refused-operand gs c t o = λ r needs m f.
     o m.2 (ap (λ x. child_of (parts_of x) 0) m.6) (subst (Every (λ x. firm (is_shaped gs) c x ≡ true)) m.8 f).0
@@ -263,7 +263,7 @@ fits-first M3 i t body first u h e g o =
 fits-first M4 i t body first u h e g o = absurd h
 
 -- what has to be defined is, where what goes out is, and under M1 the operand
-defined-out : (gs : List (Option Bounds)) (c : Facts) (R : MoveRule) (t u : Term) (needs : List Term) → (R ≡ M1 → (e : Term) → child_of (parts_of t) 0 ≡ Some e → IsDefinedAt gs c e) → Needs R t u needs →
+defined-out : (gs : List (Option Bounds)) (c : Context) (R : MoveRule) (t u : Term) (needs : List Term) → (R ≡ M1 → (e : Term) → child_of (parts_of t) 0 ≡ Some e → IsDefinedAt gs c e) → Needs R t u needs →
     IsDefinedAt gs c u → Every (IsDefinedAt gs c) needs
 defined-out gs c M1 t u needs o n d = subst (Every (IsDefinedAt gs c)) (sym n.2) (o refl n.0 n.1, (d, tt))
 defined-out gs c M2 t u needs o n d = subst (Every (IsDefinedAt gs c)) (sym n) (d, tt)
@@ -271,20 +271,13 @@ defined-out gs c M3 t u needs o n d = subst (Every (IsDefinedAt gs c)) (sym n) (
 defined-out gs c M4 t u needs o n d = absurd n
 
 -- the move may be made
-pub moves-first : (gs : List (Option Bounds)) (c : Facts) (f : Fit) (k : ℕ) (t body first : Term) → HasForm f.rule f.part t → child_of (parts_of t) f.part ≡ Some body → child_of (parts_of body) 0 ≡ Some first →
+pub moves-first : (gs : List (Option Bounds)) (c : Context) (f : Fit) (k : ℕ) (t body first : Term) → HasForm f.rule f.part t → child_of (parts_of t) f.part ≡ Some body → child_of (parts_of body) 0 ≡ Some first →
     k ≡ binders_of (parts_of t) f.part → (f.rule ≡ M1 → (e : Term) → child_of (parts_of t) 0 ≡ Some e → IsDefinedAt gs c e) → TellsOutside gs c k first true → MayMove gs c t f
 moves-first gs c f k t body first h e g l o d = record {
   fits = fits-first f.rule f.part t body first d.0.0 h e g (d.0.1 ∙ ap (λ n. shift_term 0 n d.0.0) l);
   defined = λ r needs m.
       let u = goes-out f.rule f.part t body first r needs h e g m in
       defined-out gs c f.rule t u.0 needs o u.2 (d.1 u.0 (u.1 ∙ ap (λ n. shift_term 0 n u.0) (sym l)));
-}
-
--- a let in a strict part may go out
-pub moves-strict : (gs : List (Option Bounds)) (c : Facts) (t : Term) (f : Fit) → f.rule ≡ M4 → IsStrictLet t f.part → MayMove gs c t f
-moves-strict gs c t f e s = record {
-  fits = subst (λ R. FitsAt R f.part t) (sym e) s;
-  defined = λ r needs m. let k = subst (λ R. MoveRedex R t r needs) e m in subst (Every (IsDefinedAt gs c)) (sym k.7) tt;
 }
 
 -- a left side of one of the first three rules
@@ -295,17 +288,17 @@ redex-form M3 t r needs n m = (m.0, (m.3, (shift_term 0 (binders_of (parts_of t)
 redex-form M4 t r needs n m = absurd (n refl)
 
 -- where M4 does not fit, and of the other rules one that is refused or none, no move is left
-still-but : (gs : List (Option Bounds)) (c : Facts) (t : Term) → TellsStrict t None → ((R : MoveRule) (i : ℕ) → HasForm R i t → IsRefused gs c R t) → IsQuietAt gs c t
+still-but : (gs : List (Option Bounds)) (c : Context) (t : Term) → TellsStrict t None → ((R : MoveRule) (i : ℕ) → HasForm R i t → IsRefused gs c R t) → IsQuietAt gs c t
 unfolding IsRefused
 still-but gs c t s k M1 r needs m f = let i = redex-form M1 t r needs (λ e. cc) m in k M1 i.0 i.1 r needs m f
 still-but gs c t s k M2 r needs m f = let i = redex-form M2 t r needs (λ e. cc) m in k M2 i.0 i.1 r needs m f
 still-but gs c t s k M3 r needs m f = let i = redex-form M3 t r needs (λ e. cc) m in k M3 i.0 i.1 r needs m f
 still-but gs c t s k M4 r needs m f = s m.0 (m.3, m.4, (m.1, m.2, m.5))
 
-pub still-none : (gs : List (Option Bounds)) (c : Facts) (t : Term) → TellsStrict t None → TellsForm t None → IsQuietAt gs c t
+pub still-none : (gs : List (Option Bounds)) (c : Context) (t : Term) → TellsStrict t None → TellsForm t None → IsQuietAt gs c t
 still-none gs c t s k = still-but gs c t s (λ R i h. absurd (k R i h))
 
-pub still-refused : (gs : List (Option Bounds)) (c : Facts) (t : Term) (f : Fit) → TellsStrict t None → TellsForm t (Some f) → IsRefused gs c f.rule t → IsQuietAt gs c t
+pub still-refused : (gs : List (Option Bounds)) (c : Context) (t : Term) (f : Fit) → TellsStrict t None → TellsForm t (Some f) → IsRefused gs c f.rule t → IsQuietAt gs c t
 still-refused gs c t f s h k = still-but gs c t s (λ R i g. subst (λ Q. IsRefused gs c Q t) (sym (form-alone f.rule R f.part i t h g)) k)
 
 -- the operand of a loop whose body is an if

@@ -5,7 +5,7 @@ use Rattle.aql_value.specs.Partial.{◌>>=◌}
 use Rattle.nrca_term.specs.Term.{Term, child_of, parts_of, count}
 use Rattle.nrca_term.specs.Places.{place_of}
 use Rattle.nrca_term.specs.Laws.Entering.{child-counted}
-use Rattle.nrca_term.specs.Facts.{Facts, enter_facts, context_at, context_below}
+use Rattle.nrca_term.specs.Facts.{Context, enter_facts, context_at, context_below}
 use Rattle.nrca_laws.specs.Search.{AllBefore, FirstParts}
 use Rattle.nrca_laws.specs.Laws.Search.{all-node, all-more, before-parts, before-child, before-node, before-root, before-kept}
 use Rattle.nrca_term.specs.Places.{put_at}
@@ -18,39 +18,39 @@ use Rattle.nrca_motion.specs.Found.{QuietBefore, QuietEverywhere, QuietParts, Mo
 
 module _ (gs : List (Option Bounds)) where
   -- nothing comes before the root
-  pub behind-root : (c : Facts) (t : Term) → QuietBefore gs c t []
+  pub behind-root : (c : Context) (t : Term) → QuietBefore gs c t []
   unfolding QuietBefore
   behind-root c t = before-root (IsQuietAt gs) c t
 
   -- the search of the parts begins with the one that the path leads to
-  pub parts-first : (c : Facts) (t : Term) (p : List ℕ) → QuietBefore gs c t p → QuietParts gs c t (next p)
+  pub parts-first : (c : Context) (t : Term) (p : List ℕ) → QuietBefore gs c t p → QuietParts gs c t (next p)
   unfolding QuietBefore QuietParts
   parts-first c t [] h = λ i u l e. absurd (omega (arith, l))
   parts-first c t (j ∷ p) h = before-parts (IsQuietAt gs) c t j p h
 
   -- what is behind the path in the part that it leads to
-  behind-child : (c : Facts) (t : Term) (j : ℕ) (p : List ℕ) (u : Term) → child_of (parts_of t) j ≡ Some u → QuietBefore gs c t (j ∷ p) → QuietBefore gs (enter_facts c t j) u p
+  behind-child : (c : Context) (t : Term) (j : ℕ) (p : List ℕ) (u : Term) → child_of (parts_of t) j ≡ Some u → QuietBefore gs c t (j ∷ p) → QuietBefore gs (enter_facts c t j) u p
   unfolding QuietBefore
   behind-child c t j p u e h = before-child (IsQuietAt gs) c t j p u e h
 
   -- one part more in which no move is left
-  pub parts-more : (c : Facts) (t : Term) (n : ℕ) (u : Term) → QuietParts gs c t n → child_of (parts_of t) n ≡ Some u → QuietEverywhere gs (enter_facts c t n) u → QuietParts gs c t (n + 1)
+  pub parts-more : (c : Context) (t : Term) (n : ℕ) (u : Term) → QuietParts gs c t n → child_of (parts_of t) n ≡ Some u → QuietEverywhere gs (enter_facts c t n) u → QuietParts gs c t (n + 1)
   unfolding QuietParts QuietEverywhere
   parts-more c t n u h e k = subst (FirstParts (IsQuietAt gs) c t) (let z : suc n ≡ n + 1 = omega arith in z) (all-more (IsQuietAt gs) c t n u h e k)
 
   -- the node and all its parts
-  pub everywhere : (c : Facts) (t : Term) (n : ℕ) → IsQuietAt gs c t → QuietParts gs c t n → count (parts_of t) ≤ n → QuietEverywhere gs c t
+  pub everywhere : (c : Context) (t : Term) (n : ℕ) → IsQuietAt gs c t → QuietParts gs c t n → count (parts_of t) ≤ n → QuietEverywhere gs c t
   unfolding QuietParts QuietEverywhere
   everywhere c t n q h l = all-node (IsQuietAt gs) c t n q h (λ i u e. omega (arith, l, child-counted (parts_of t) i u e))
 
   -- a move at the node itself
-  pub site-here : (c : Facts) (t : Term) (s : Site) → s.way.items ≡ [] → MayMove gs c t s.fit → TellsPlace gs c t (Some s)
+  pub site-here : (c : Context) (t : Term) (s : Site) → s.way.items ≡ [] → MayMove gs c t s.fit → TellsPlace gs c t (Some s)
   unfolding TellsPlace MovesAt QuietBefore
   site-here c t s e f =
       subst (λ w. ((r : Term) × (place_of t (reverse w) ≡ Some r) × MayMove gs (context_at enter_facts c t (reverse w)) r s.fit) × AllBefore (IsQuietAt gs) c t (reverse w)) (sym e)
       ((t, refl, f), before-root (IsQuietAt gs) c t)
 
-  found-below : (c : Facts) (t : Term) (n : ℕ) (u : Term) (p : List ℕ) (f : Fit) → QuietParts gs c t n → child_of (parts_of t) n ≡ Some u →
+  found-below : (c : Context) (t : Term) (n : ℕ) (u : Term) (p : List ℕ) (f : Fit) → QuietParts gs c t n → child_of (parts_of t) n ≡ Some u →
       MovesAt gs (enter_facts c t n) u p f × QuietBefore gs (enter_facts c t n) u p → MovesAt gs c t (n ∷ p) f × QuietBefore gs c t (n ∷ p)
   unfolding MovesAt QuietBefore QuietParts
   found-below c t n u p f h e k = (
@@ -59,7 +59,7 @@ module _ (gs : List (Option Bounds)) where
   )
 
   -- a site in a part is a site of the node, the part's number put behind its way
-  pub site-above : (c : Facts) (t : Term) (n : ℕ) (u : Term) (s r : Site) → QuietParts gs c t n → child_of (parts_of t) n ≡ Some u → TellsPlace gs (enter_facts c t n) u (Some s) →
+  pub site-above : (c : Context) (t : Term) (n : ℕ) (u : Term) (s r : Site) → QuietParts gs c t n → child_of (parts_of t) n ≡ Some u → TellsPlace gs (enter_facts c t n) u (Some s) →
       (r.way.items ≡ s.way.items ++ n ∷ []) × (r.fit ≡ s.fit) → TellsPlace gs c t (Some r)
   unfolding TellsPlace
   site-above c t n u s r h e f w =
@@ -72,7 +72,7 @@ module _ (gs : List (Option Bounds)) where
       reverse-last (y ∷ xs) acc x = reverse-last xs (y ∷ acc) x
 
   -- where the search goes on in part i
-  pub behind-onward : (c : Facts) (t u : Term) (from : List ℕ) (at i first onward : ℕ) → QuietBefore gs c t (drop at from) → first ≡ next (drop at from) → child_of (parts_of t) i ≡ Some u →
+  pub behind-onward : (c : Context) (t u : Term) (from : List ℕ) (at i first onward : ℕ) → QuietBefore gs c t (drop at from) → first ≡ next (drop at from) → child_of (parts_of t) i ≡ Some u →
       GoesOn from at i first onward → QuietBefore gs (enter_facts c t i) u (drop onward from)
   behind-onward c t u from at i first onward h f e (inl w) =
       let d = path-next from at w.1 in
@@ -84,22 +84,22 @@ module _ (gs : List (Option Bounds)) where
       subst (QuietBefore gs (enter_facts c t i) u) (sym (ap (λ n. drop n from) w ∙ path-end from (length from) (omega arith) (omega arith))) (behind-root (enter_facts c t i) u)
 
   -- what is behind a place stays so when a move is made at the place
-  pub behind-kept : (c : Facts) (t u : Term) (p : List ℕ) → QuietBefore gs c t p → QuietBefore gs c (put_at t p u) p
+  pub behind-kept : (c : Context) (t u : Term) (p : List ℕ) → QuietBefore gs c t p → QuietBefore gs c (put_at t p u) p
   unfolding QuietBefore
   behind-kept c t u p h = before-kept (IsQuietAt gs) c t u p h
 
   -- nothing found
-  pub found-none : (c : Facts) (t : Term) → QuietEverywhere gs c t → TellsPlace gs c t None
+  pub found-none : (c : Context) (t : Term) → QuietEverywhere gs c t → TellsPlace gs c t None
   unfolding TellsPlace
   found-none c t h = h
 
-  pub quiet-none : (c : Facts) (t : Term) → TellsPlace gs c t None → QuietEverywhere gs c t
+  pub quiet-none : (c : Context) (t : Term) → TellsPlace gs c t None → QuietEverywhere gs c t
   unfolding TellsPlace
   quiet-none c t h = h
 
 -- what is told in an equal context
-pub told-as : (gs hs : List (Option Bounds)) (c d : Facts) (t : Term) (o : Option Site) → hs ≡ gs → d ≡ c → TellsPlace hs d t o → TellsPlace gs c t o
+pub told-as : (gs hs : List (Option Bounds)) (c d : Context) (t : Term) (o : Option Site) → hs ≡ gs → d ≡ c → TellsPlace hs d t o → TellsPlace gs c t o
 told-as gs hs c d t o e f h = subst (λ x. TellsPlace x c t o) e (subst (λ x. TellsPlace hs x t o) f h)
 
-pub behind-as : (gs hs : List (Option Bounds)) (c d : Facts) (t : Term) (p : List ℕ) → hs ≡ gs → d ≡ c → QuietBefore gs c t p → QuietBefore hs d t p
+pub behind-as : (gs hs : List (Option Bounds)) (c d : Context) (t : Term) (p : List ℕ) → hs ≡ gs → d ≡ c → QuietBefore gs c t p → QuietBefore hs d t p
 behind-as gs hs c d t p e f h = subst (λ x. QuietBefore x d t p) (sym e) (subst (λ x. QuietBefore gs x t p) (sym f) h)

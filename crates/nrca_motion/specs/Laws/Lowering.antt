@@ -8,9 +8,10 @@ use Rattle.nrca_term.specs.Subst.{shift_form, shift_term}
 use Rattle.nrca_term.specs.Rules.{LoopOf}
 use Rattle.nrca_motion.specs.Moves.{let_out, rotated}
 use Rattle.nrca_term.specs.Laws.WellFormed.{well_formed-shift}
+use Rattle.nrca_laws.specs.Laws.Lefts.{is_bind}
 use Rattle.nrca_motion.specs.Counting.{Count, one, where_above, number_of, pairs_of, parts_number, IsNameless}
 use Rattle.nrca_motion.specs.Laws.Counting.{number-shift, pairs-shift, number-put, pairs-put, numbers-set_child, pairs-set_child}
-use Rattle.nrca_motion.specs.Lowering.{is_bind, is_other, is_body, in_loops, lets_below, measure_of}
+use Rattle.nrca_motion.specs.Lowering.{is_other, is_body, in_loops, lets_below, measure_of}
 
 -- what counts in a let
 pub bind-number : (c : Count) (a b : Term) → number_of c (let_term a b) ≡ one (c.counted Form.bind) + (number_of c a + number_of c b)

@@ -1,15 +1,15 @@
 -- The right side of each move, from what it is made of, and the room for its variables.
 use Rattle.std.proofs.Common.{◌≡◌, ℕ, zero, suc, ◌+◌, ◌<◌, ◌≤◌, [], ◌∷◌, Some, refl, sym, ap, subst, ◌∙◌, arith}
-use Rattle.aql_types.specs.Laws.Operation.{some-list}
 use Rattle.nrca_term.specs.Term.{Term, Parts, node, none, part, parts_of, child_of, set_child, with_part, binders_of, count, parts_weight}
 use Rattle.nrca_term.specs.Nodes.{let_term, bottom_term}
 use Rattle.nrca_term.specs.Subst.{shift_form, shift_term, shift_parts, top_var, parts_top}
 use Rattle.nrca_term.specs.Laws.Measure.{weight_of-child}
 use Rattle.nrca_term.specs.Laws.Entering.{child-counted}
 use Rattle.nrca_term.specs.Laws.Shift.{shift_term-none}
+use Rattle.nrca_term.specs.Laws.Exchange.{count-with_part}
 use Rattle.nrca_laws.specs.Laws.Weights.{term-positive}
-use Rattle.nrca_subst.proofs.Walking.{top_var-child, count-with_part}
-use Rattle.nrca_motion.specs.declared.moves.MoveRule.TheVariants.{M1, M2, M3, M4}
+use Rattle.nrca_subst.proofs.Walking.{top_var-child}
+use Rattle.nrca_motion.specs.declared.moves.MoveRule.TheVariants.{M1, M2, M3}
 use Rattle.nrca_motion.specs.declared.fitting.Fit.{Fit}
 use Rattle.nrca_motion.specs.Moves.{rotated, MoveRedex}
 use Rattle.nrca_motion.specs.Outside.{HasRoom}
@@ -88,15 +88,6 @@ let-made t rest p r a b s o w i n k e g m q v h = (
   h ∙ ap (λ x. let_term o (with_part (shift_term 0 1 x) i w)) g ∙ ap (let_term o) (with-shifted t i s w) ∙ ap (λ x. let_term o (with_part (shift_term 0 1 t) i x)) (v ∙ ap (λ j. rotated j b) m),
 )
 
--- a let that goes out uses none of the part's variables
-pub below-outside : (t p a b : Term) (i n : ℕ) → HasLetBelow t i → p ≡ let_term a b → Some p ≡ child_of (parts_of t) i → n ≡ binders_of (parts_of t) i → ((u : Term) → a ≡ shift_term 0 n u → ⊥) → ⊥
-below-outside t p a b i n h k e m f =
-    let z = some-list p (let_term (shift_term 0 (binders_of (parts_of t) i) h.0) h.1) (e ∙ h.2) in
-    f h.0 (first (sym k ∙ z) ∙ ap (λ j. shift_term 0 j h.0) (sym m))
-  where
-    first : {a b c d : Term} → let_term a b ≡ let_term c d → a ≡ c
-    first q = cc
-
 -- which are the right sides of the rules
 pub made-test : (f : Fit) (t r : Term) → f.rule ≡ M1 → IsTestOut t r → IsMade f t r
 made-test f t r e h = (h.2 ∷ h.3 ∷ [], subst (λ R. MoveRedex R t r (h.2 ∷ h.3 ∷ [])) (sym e) (h.0, h.1, h.2, h.3, h.4, h.5, h.6, h.7, refl))
@@ -110,15 +101,3 @@ pub made-tab : (f : Fit) (t r : Term) → f.rule ≡ M3 → FitsAt f.rule f.part
 made-tab f t r e k h =
     let l = subst (λ R. FitsAt R f.part t) e k in
     (h.0 ∷ [], subst (λ R. MoveRedex R t r (h.0 ∷ [])) (sym e) (f.part, h.0, h.1, l.0, h.2, h.3, refl))
-
-pub made-strict : (f : Fit) (t r : Term) → f.rule ≡ M4 → FitsAt f.rule f.part t → IsStrictOut t f.part r → IsMade f t r
-made-strict f t r e k h =
-    let l = subst (λ R. FitsAt R f.part t) e k in
-    ([], subst (λ R. MoveRedex R t r []) (sym e) (f.part, h.0, h.1, l.0, l.1, h.2, h.3, refl))
-
--- what is required of each
-pub below-fits : (f : Fit) (t : Term) → f.rule ≡ M2 → FitsAt f.rule f.part t → HasLetBelow t f.part
-below-fits f t e k = (subst (λ R. FitsAt R f.part t) e k).1
-
-pub below-fits_tab : (f : Fit) (t : Term) → f.rule ≡ M3 → FitsAt f.rule f.part t → HasLetBelow t f.part
-below-fits_tab f t e k = (subst (λ R. FitsAt R f.part t) e k).1

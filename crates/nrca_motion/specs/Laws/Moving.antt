@@ -1,5 +1,5 @@
 -- A move in a part is one of the node.
-use Rattle.std.proofs.Common.{◌≡◌, ℕ, zero, suc, ◌+◌, ◌<◌, ◌≤◌, List, [], ◌∷◌, length, drop, get_or, Option, Some, None, Result, Ok, Err, OnOk, refl, sym, ap, subst, ◌∙◌, arith, add-one, drop-cons}
+use Rattle.std.proofs.Common.{◌≡◌, ℕ, zero, suc, ◌+◌, ◌<◌, ◌≤◌, List, [], ◌∷◌, length, drop, get_or, Option, Some, None, refl, sym, ap, subst, ◌∙◌, arith, add-one, drop-cons}
 use Rattle.aql_value.specs.Partial.{◌>>=◌}
 use Rattle.aql_types.specs.Laws.Operation.{some-list}
 use Rattle.nrca_term.specs.Term.{Term, Parts, node, none, part, parts_of, child_of, set_child, with_part}
@@ -19,11 +19,6 @@ path-end path n l m = let z : n ≡ length path = omega (arith, l, m) in ap (λ 
     all : (path : List ℕ) → drop (length path) path ≡ []
     all [] = refl
     all (x ∷ path) = all path
-
--- what follows where a call ends well
-pub on-ok : {A B P Q : Type 0} (r : Result A B) → (P → Q) → OnOk r P → OnOk r Q
-on-ok (Ok a) f h = f h
-on-ok (Err b) f h = h
 
 -- a part taken out and another one put in
 put-child : (ps : Parts) (i : ℕ) (s b u : Term) (g : Term → Term) → child_of ps i ≡ Some s → u ≡ g s → set_child (set_child ps i b) i u ≡ on_child ps i g

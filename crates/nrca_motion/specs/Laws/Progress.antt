@@ -18,9 +18,9 @@ use Rattle.nrca_term.specs.Laws.TypedForm.{well_formed-typed, closed-typed}
 use Rattle.nrca_term.specs.Laws.TypedPlaces.{typed-place, keeps-put_at}
 use Rattle.nrca_term.specs.Laws.Contexts.{stands}
 use Rattle.nrca_term.specs.Laws.Measure.{weight-put_at, path-below}
-use Rattle.nrca_term.specs.TypedPlaces.{Keeps}
+use Rattle.nrca_term.specs.TypedPlaces.{Keeps, KeepsTypes}
 use Rattle.nrca_term.specs.Places.{place_of, put_at, reach}
-use Rattle.nrca_term.specs.Facts.{Facts, no_facts, facts_at, Stands}
+use Rattle.nrca_term.specs.Facts.{Context, no_facts, facts_at, FactsHold}
 use Rattle.nrca_term.specs.Rules.{IsDefined}
 use Rattle.nrca_ranges.specs.Bounds.{Bounds}
 use Rattle.nrca_ranges.specs.Context.{context_of, IsSmallTerm}
@@ -47,7 +47,7 @@ use Rattle.nrca_motion.specs.Moves.{MoveRedex, MoveStep, MoveChain, IsStill, Sti
 use Rattle.nrca_motion.specs.Fitting.{MayMove, IsMade}
 use Rattle.nrca_motion.specs.Found.{QuietBefore, QuietEverywhere, MovesAt, TellsPlace}
 use Rattle.nrca_motion.specs.Moving.{MayMoveAt, IsMovedAt}
-use Rattle.nrca_motion.specs.Moved.{IsChained, IsStillIn, KeepsMeaning, KeepsTypes, IsMovedFrom}
+use Rattle.nrca_motion.specs.Moved.{IsChained, IsStillIn, KeepsMeaning, IsMovedFrom}
 use Rattle.nrca_motion.specs.Progress.{IsReady, IsBegun, IsSiteOf, Lowers, HasGone, IsAtEnd, IsUnderWay}
 use Rattle.nrca_motion.specs.Laws.Found.{behind-root, behind-kept}
 
@@ -108,7 +108,7 @@ needs-typed G M3 env l r needs T c m =
 needs-typed G M4 env l r needs T c m = subst (Every (λ x. (S : Ty) × ctyped G env x S)) (sym m.7) tt
 
 -- so it has values, where it is sure to have them
-needs-defined : (given : List Ty) (V : Outcomes) (gs : List (Option Bounds)) (c : Facts) (env : List Ty) (vals : List Datum) (needs : List Term) → OutcomesHave (instances given) V → HaveTypes env vals → Tells gs V → Stands V c vals →
+needs-defined : (given : List Ty) (V : Outcomes) (gs : List (Option Bounds)) (c : Context) (env : List Ty) (vals : List Datum) (needs : List Term) → OutcomesHave (instances given) V → HaveTypes env vals → Tells gs V → FactsHold V c vals →
     Every (IsDefinedAt gs c) needs → Every (λ x. (S : Ty) × ctyped (instances given) env x S) needs → Every (IsDefined V vals) needs
 unfolding IsDefinedAt
 needs-defined given V gs c env vals needs oh h tl s d k =
@@ -126,7 +126,7 @@ step-of gs f t u l r path given T V ty oh tl e m k p =
       found = e;
       put = p;
       moved = k.1;
-      defined = Every-join (HaveTypes q.around) (Stands V (facts_at t path)) (λ vals. Every (IsDefined V vals) k.0)
+      defined = Every-join (HaveTypes q.around) (FactsHold V (facts_at t path)) (λ vals. Every (IsDefined V vals) k.0)
           (λ vals h s. needs-defined given V gs (facts_at t path) q.around vals k.0 oh h tl s (m.defined r k.0 k.1) (needs-typed (instances given) f.rule q.around l r k.0 q.type q.typed k.1))
           (reach V [] t path) (q.values V [] oh tt) (stands V t (well_formed-typed (instances given) [] t T ty) path);
     }
@@ -254,7 +254,3 @@ end-moved gs t p q h e = record {
   weight = ap weight_of e.term ∙ h.weighs;
   few = end-few gs t p q h e;
 }
-
--- nothing has been moved of the term that is there
-pub begun-there : (gs : List (Option Bounds)) (t : Term) (p : Progress) → IsBegun gs t p → IsBegun (known_shapes p.ctx) (term_of p.term) p
-begun-there gs t p h = record { globals = refl; root = h.root; term = refl; moves = h.moves; from = h.from }

@@ -2,49 +2,32 @@
 use Rattle.std.proofs.Common.{◌≡◌, ℕ, zero, suc, ◌+◌, Some, refl, sym, ap, ◌∙◌, arith}
 use Rattle.std.proofs.Common.{List, [], ◌∷◌}
 use Rattle.aql_types.specs.Types.{Ty}
-use Rattle.nrca_term.specs.Term.{Term, Parts, node, none, part, Form, parts_of, child_of, binders_of, set_child, form_weight, weight_of, parts_weight, WellFormed}
+use Rattle.nrca_term.specs.Term.{Term, Parts, node, none, part, Form, parts_of, child_of, binders_of, set_child, weight_of, parts_weight, WellFormed}
 use Rattle.nrca_term.specs.Nodes.{variable, let_term, if_term, loop_term}
 use Rattle.nrca_term.specs.Meaning.{Outcomes}
 use Rattle.nrca_term.specs.Laws.Measure.{weight-put_at}
-use Rattle.nrca_term.specs.Subst.{shift_form, shift_term, shift_parts}
+use Rattle.nrca_term.specs.Subst.{shift_term, shift_parts}
 use Rattle.nrca_term.specs.Laws.TypedForm.{well_formed-typed}
 use Rattle.nrca_term.specs.Laws.TypedPlaces.{typed-place}
 use Rattle.nrca_term.specs.Typing.{ctyped}
 use Rattle.nrca_term.specs.Laws.WellFormed.{well_formed-shift, well_formed-child}
-use Rattle.nrca_laws.specs.Laws.Weights.{weight-shift, weight-subst}
+use Rattle.nrca_laws.specs.Laws.Weights.{weight-shift, weight-subst, form_weight-shift, weights-shift}
 use Rattle.nrca_motion.specs.declared.moves.MoveRule.{MoveRule}
 use Rattle.nrca_motion.specs.declared.moves.MoveRule.TheVariants.{M1, M2, M3, M4}
 use Rattle.nrca_motion.specs.declared.moves.Move as code
 use Rattle.nrca_motion.specs.Moves.{rotated, let_out, MoveRedex, MoveStep, MoveChain}
 use Rattle.nrca_motion.specs.Laws.Steps.{step-typed}
 
--- a form weighs the same, whatever the number of its variable
-form_weight-under : (f : Form) → form_weight (shift_form 0 1 f) ≡ form_weight f
-form_weight-under (Form.var n) = refl
-form_weight-under (Form.global n) = refl
-form_weight-under Form.bind = refl
-form_weight-under Form.choose = refl
-form_weight-under Form.default = refl
-form_weight-under Form.big_union = refl
-form_weight-under Form.sum = refl
-form_weight-under (Form.tab rank) = refl
-form_weight-under (Form.strict s) = refl
-
 -- the parts under one more variable, one of them another term
-parts_weight-under : (ps : Parts) → parts_weight (shift_parts 0 1 ps) ≡ parts_weight ps
-parts_weight-under none = refl
-parts_weight-under (part k t ps) = omega (arith, weight-shift (0 + k) 1 t, parts_weight-under ps)
-
--- the same with another term as part i
 parts_weight-set_child : (ps : Parts) (i : ℕ) (u w : Term) → child_of ps i ≡ Some u → parts_weight (set_child (shift_parts 0 1 ps) i w) + weight_of u ≡ parts_weight ps + weight_of w
 parts_weight-set_child none i u w e = cc
-parts_weight-set_child (part k t ps) zero u w e = let same : t ≡ u = cc in omega (arith, ap weight_of same, parts_weight-under ps)
+parts_weight-set_child (part k t ps) zero u w e = let same : t ≡ u = cc in omega (arith, ap weight_of same, weights-shift 0 1 ps)
 parts_weight-set_child (part k t ps) (suc i) u w e = omega (arith, weight-shift (0 + k) 1 t, parts_weight-set_child ps i u w e)
 
 -- a let that goes out of a part of a node
 let_out-weight : (l : Term) (i : ℕ) (a x b w : Term) → child_of (parts_of l) i ≡ Some (let_term x b) → weight_of x ≡ weight_of a → weight_of w ≡ weight_of b →
     weight_of (let_out a l i w) ≡ weight_of l
-let_out-weight (node f ps) i a x b w e p q = omega (arith, parts_weight-set_child ps i (let_term x b) w e, form_weight-under f, p, q)
+let_out-weight (node f ps) i a x b w e p q = omega (arith, parts_weight-set_child ps i (let_term x b) w e, form_weight-shift 0 1 f, p, q)
 
 -- a variable put in for another
 rotated-weight : (k : ℕ) (b : Term) → WellFormed b → weight_of (rotated k b) ≡ weight_of b

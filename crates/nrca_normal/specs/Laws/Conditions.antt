@@ -1,5 +1,5 @@
 -- What is told of the ways of a rule makes that it may be applied, or that it is refused.
-use Rattle.std.proofs.Common.{◌≡◌, ◌≢◌, ℕ, Bool, true, false, List, [], ◌∷◌, Option, Some, None, refl, sym, ap, subst, ◌∙◌, arith, inl, inr}
+use Rattle.std.proofs.Common.{◌≡◌, ◌≢◌, ℕ, Bool, true, false, List, [], ◌∷◌, Option, Some, None, refl, sym, ap, subst, ◌∙◌, inl, inr}
 use Rattle.aql_value.specs.declared.ops.CompareOp.{CompareOp}
 use Rattle.aql_value.specs.Datum.{Datum}
 use Rattle.aql_value.specs.Lists.{Every}
@@ -10,7 +10,7 @@ use Rattle.aql_types.specs.ValueTypes.{HaveTypes}
 use Rattle.aql_types.specs.Laws.Operation.{some-list}
 use Rattle.nrca_term.specs.declared.trace.Rule.{Rule}
 use Rattle.nrca_term.specs.declared.trace.Rule.TheVariants.{B1, K1, I1, I2, L1, L2, L3, P1, P2, S1, S2, S3, S4, S5, S6, S7, S8, S9, A1, A2, A3, A4, A5, A6, A7, C1, C2, C3, C4, N1, N2}
-use Rattle.nrca_term.specs.Term.{Term, WellFormed, child_of, parts_of}
+use Rattle.nrca_term.specs.Term.{Term, child_of, parts_of}
 use Rattle.nrca_term.specs.Nodes.{truth_term, compare_term}
 use Rattle.nrca_term.specs.Meaning.{Outcomes}
 use Rattle.nrca_term.specs.Typing.{ctyped, instances, OutcomesHave}
@@ -19,7 +19,7 @@ use Rattle.nrca_term.specs.Laws.TypedPlaces.{typed-place}
 use Rattle.nrca_term.specs.Laws.Contexts.{stands-from}
 use Rattle.nrca_term.specs.Places.{place_of, reach}
 use Rattle.nrca_term.specs.Facts as facts
-use Rattle.nrca_term.specs.Facts.{Facts, Fact, SomeFact, IsFact, LiterallyKnown, Literally, truth_of, enter_facts, context_at, context_below, Stands}
+use Rattle.nrca_term.specs.Facts.{Context, Fact, SomeFact, IsFact, LiterallyKnown, Literally, truth_of, enter_facts, context_at, context_below, FactsHold}
 use Rattle.nrca_term.specs.Firm.{firm}
 use Rattle.nrca_term.specs.Rules.{Way, DefinedAt, Decides, KnownAt, IsDefined, IsComparison}
 use Rattle.nrca_term.specs.Normal.{is_check, FirmAt}
@@ -35,25 +35,24 @@ use Rattle.nrca_normal.specs.declared.firing.Firing.TheVariants.{Plain, Decided}
 use Rattle.nrca_normal.specs.declared.ways.Ways.{Ways}
 use Rattle.nrca_normal.specs.Ways.{ways_in, AreWays}
 use Rattle.nrca_ranges.specs.declared.context.Ctx.{Ctx}
-use Rattle.nrca_ranges.specs.Context.{context_of, IsSmallTerm}
-use Rattle.nrca_ranges.specs.Laws.Entered.{inside-part}
+use Rattle.nrca_ranges.specs.Context.{context_of}
 use Rattle.nrca_normal.specs.Conditions.{IsDefinedAlong, TellsAt, TellsAll, TellsWays, TellsRule, TellsChecks, TellsNode, HasCondition, MayFire, IsRefused, IsUnknown, IsUndecided, IsQuietAt}
 use Rattle.nrca_normal.specs.Order.{EachPlain}
 
 -- the context and the term at the end of a way that begins with part i
-context-part : (c : Facts) (t : Term) (i : ℕ) (u : Term) (w : Way) → child_of (parts_of t) i ≡ Some u → context_at enter_facts c t (i ∷ w) ≡ context_at enter_facts (enter_facts c t i) u w
+context-part : (c : Context) (t : Term) (i : ℕ) (u : Term) (w : Way) → child_of (parts_of t) i ≡ Some u → context_at enter_facts c t (i ∷ w) ≡ context_at enter_facts (enter_facts c t i) u w
 context-part c t i u w e = ap (λ o. context_below c o (λ r. context_at enter_facts (enter_facts c t i) r w)) e
 
 place-part : (t : Term) (i : ℕ) (u : Term) (w : Way) → child_of (parts_of t) i ≡ Some u → place_of t (i ∷ w) ≡ place_of u w
 place-part t i u w e = ap (λ o. o >>= λ r. place_of r w) e
 
 -- at the node itself
-pub tells-here : (gs : List (Option Bounds)) (c : Facts) (t : Term) (b : Bool) → (b ≡ true → IsDefinedAt gs c t) → (firm (is_shaped gs) c t ≡ true → b ≡ true) → TellsAt gs c t [] b
+pub tells-here : (gs : List (Option Bounds)) (c : Context) (t : Term) (b : Bool) → (b ≡ true → IsDefinedAt gs c t) → (firm (is_shaped gs) c t ≡ true → b ≡ true) → TellsAt gs c t [] b
 unfolding TellsAt
 tells-here gs c t b s f = ((λ k r e. subst (IsDefinedAt gs c) (some-list t r e) (s k)), (λ h. f (h t refl)))
 
 -- in a part
-tells-inner : (gs : List (Option Bounds)) (c : Facts) (t : Term) (i : ℕ) (u : Term) (w : Way) (b : Bool) → child_of (parts_of t) i ≡ Some u → TellsAt gs (enter_facts c t i) u w b → TellsAt gs c t (i ∷ w) b
+tells-inner : (gs : List (Option Bounds)) (c : Context) (t : Term) (i : ℕ) (u : Term) (w : Way) (b : Bool) → child_of (parts_of t) i ≡ Some u → TellsAt gs (enter_facts c t i) u w b → TellsAt gs c t (i ∷ w) b
 unfolding TellsAt
 tells-inner gs c t i u w b e k = (
   (λ q s p. subst (λ x. IsDefinedAt gs x s) (sym (context-part c t i u w e)) (k.0 q s (sym (place-part t i u w e) ∙ p))),
@@ -61,12 +60,12 @@ tells-inner gs c t i u w b e k = (
 )
 
 -- in a part, whose context is that of the place entered
-pub tells-part : (gs hs : List (Option Bounds)) (c d : Facts) (t : Term) (i : ℕ) (u : Term) (w : Way) (b : Bool) → child_of (parts_of t) i ≡ Some u → d ≡ enter_facts c t i → hs ≡ gs →
+pub tells-part : (gs hs : List (Option Bounds)) (c d : Context) (t : Term) (i : ℕ) (u : Term) (w : Way) (b : Bool) → child_of (parts_of t) i ≡ Some u → d ≡ enter_facts c t i → hs ≡ gs →
     TellsAt hs d u w b → TellsAt gs c t (i ∷ w) b
 tells-part gs hs c d t i u w b e f g h = tells-inner gs c t i u w b e (subst (λ x. TellsAt x (enter_facts c t i) u w b) g (subst (λ x. TellsAt hs x u w b) f h))
 
 -- where there is no part
-pub tells-nothing : (gs : List (Option Bounds)) (c : Facts) (t : Term) (i : ℕ) (w : Way) → child_of (parts_of t) i ≡ None → TellsAt gs c t (i ∷ w) true
+pub tells-nothing : (gs : List (Option Bounds)) (c : Context) (t : Term) (i : ℕ) (w : Way) → child_of (parts_of t) i ≡ None → TellsAt gs c t (i ∷ w) true
 unfolding TellsAt
 tells-nothing gs c t i w e = ((λ q s p. absurd (never s (sym (ap (λ o. o >>= λ r. place_of r w) e) ∙ p))), (λ f. refl))
   where
@@ -74,23 +73,23 @@ tells-nothing gs c t i w e = ((λ q s p. absurd (never s (sym (ap (λ o. o >>= �
     never s q = cc
 
 -- the same in a context that is equal
-pub tells-as : (gs hs : List (Option Bounds)) (c d : Facts) (t : Term) (w : Way) (b : Bool) → hs ≡ gs → d ≡ c → TellsAt hs d t w b → TellsAt gs c t w b
+pub tells-as : (gs hs : List (Option Bounds)) (c d : Context) (t : Term) (w : Way) (b : Bool) → hs ≡ gs → d ≡ c → TellsAt hs d t w b → TellsAt gs c t w b
 tells-as gs hs c d t w b e f h = subst (λ x. TellsAt x c t w b) e (subst (λ x. TellsAt hs x t w b) f h)
 
 -- of no way, of one, of several
-pub tells-free : (gs : List (Option Bounds)) (c : Facts) (t : Term) → TellsAll gs c t [] true
+pub tells-free : (gs : List (Option Bounds)) (c : Context) (t : Term) → TellsAll gs c t [] true
 unfolding TellsAll
 tells-free gs c t = ((λ k. tt), (λ f. refl))
 
-pub tells-one : (gs : List (Option Bounds)) (c : Facts) (t : Term) (w : Way) (b : Bool) → TellsAt gs c t w b → TellsAll gs c t (w ∷ []) b
+pub tells-one : (gs : List (Option Bounds)) (c : Context) (t : Term) (w : Way) (b : Bool) → TellsAt gs c t w b → TellsAll gs c t (w ∷ []) b
 unfolding TellsAt TellsAll
 tells-one gs c t w b h = ((λ k. (h.0 k, tt)), (λ f. h.1 f.0))
 
-pub tells-every : (gs : List (Option Bounds)) (c : Facts) (t : Term) (ws : List Way) → Every (IsDefinedAlong gs c t) ws → TellsAll gs c t ws true
+pub tells-every : (gs : List (Option Bounds)) (c : Context) (t : Term) (ws : List Way) → Every (IsDefinedAlong gs c t) ws → TellsAll gs c t ws true
 unfolding TellsAll
 tells-every gs c t ws h = ((λ k. h), (λ f. refl))
 
-pub tells-refused : (gs : List (Option Bounds)) (c : Facts) (t : Term) (w : Way) (ws : List Way) → (Every (FirmAt (is_shaped gs) c t) ws → FirmAt (is_shaped gs) c t w) →
+pub tells-refused : (gs : List (Option Bounds)) (c : Context) (t : Term) (w : Way) (ws : List Way) → (Every (FirmAt (is_shaped gs) c t) ws → FirmAt (is_shaped gs) c t w) →
     TellsAt gs c t w false → TellsAll gs c t ws false
 unfolding TellsAt TellsAll
 tells-refused gs c t w ws k h = ((λ e. absurd (never e)), (λ f. h.1 (k f)))
@@ -99,22 +98,22 @@ tells-refused gs c t w ws k h = ((λ e. absurd (never e)), (λ f. h.1 (k f)))
     never e = cc
 
 -- the term at the end of a way is sure to have a value
-pub tells-true : (gs : List (Option Bounds)) (c : Facts) (t : Term) (w : Way) (b : Bool) → b ≡ true → TellsAt gs c t w b → IsDefinedAlong gs c t w
+pub tells-true : (gs : List (Option Bounds)) (c : Context) (t : Term) (w : Way) (b : Bool) → b ≡ true → TellsAt gs c t w b → IsDefinedAlong gs c t w
 unfolding TellsAt
 tells-true gs c t w b e h = h.0 e
 
 -- so it has one at each list of values with which an evaluation comes there
-along-way : (given : List Ty) (V : Outcomes) (gs : List (Option Bounds)) (c : Facts) (t : Term) (env : List Ty) (vals : List Datum) (T : Ty) →
-    OutcomesHave (instances given) V → HaveTypes env vals → Tells gs V → Stands V c vals → ctyped (instances given) env t T → (w : Way) → IsDefinedAlong gs c t w → DefinedAt V vals t w
+along-way : (given : List Ty) (V : Outcomes) (gs : List (Option Bounds)) (c : Context) (t : Term) (env : List Ty) (vals : List Datum) (T : Ty) →
+    OutcomesHave (instances given) V → HaveTypes env vals → Tells gs V → FactsHold V c vals → ctyped (instances given) env t T → (w : Way) → IsDefinedAlong gs c t w → DefinedAt V vals t w
 unfolding IsDefinedAt
 along-way given V gs c t env vals T g h tl st ty w d s e =
     let p = typed-place (instances given) w env t s T ty e in
-    Every-join (HaveTypes p.around) (Stands V (context_at enter_facts c t w)) (λ there. IsDefined V there s)
+    Every-join (HaveTypes p.around) (FactsHold V (context_at enter_facts c t w)) (λ there. IsDefined V there s)
     (λ there m k. d s e given V p.around there p.type g m tl k p.typed)
     (reach V vals t w) (p.values V vals g h) (stands-from V c vals t (well_formed-typed (instances given) env t T ty) st w)
 
 -- what a rule that is no check asks beside
-known-plain : (R : Rule) (c : Facts) (t : Term) → is_check R ≡ false → KnownAt R c t
+known-plain : (R : Rule) (c : Context) (t : Term) → is_check R ≡ false → KnownAt R c t
 known-plain C1 c t e = cc
 known-plain C2 c t e = cc
 known-plain C3 c t e = cc
@@ -187,7 +186,7 @@ not-check R e k = never (sym (ap is_check k) ∙ e)
     never q = cc
 
 -- a rule that fits may be applied where what it wants defined is
-pub fires-plain : (gs : List (Option Bounds)) (c : Facts) (t : Term) (R : Rule) (w : Ways) → is_check R ≡ false → RuleFits R true t → AreWays R t w → TellsAll gs c t (ways_in w) true → MayFire gs c t (Plain R)
+pub fires-plain : (gs : List (Option Bounds)) (c : Context) (t : Term) (R : Rule) (w : Ways) → is_check R ≡ false → RuleFits R true t → AreWays R t w → TellsAll gs c t (ways_in w) true → MayFire gs c t (Plain R)
 unfolding TellsAll AreWays HasCondition
 fires-plain gs c t R w e f a h = record {
   applicable = (not-check R e, f);
@@ -199,12 +198,12 @@ fires-plain gs c t R w e f a h = record {
 }
 
 -- a rule that does not fit is refused
-pub refused-unfit : (gs : List (Option Bounds)) (c : Facts) (t : Term) (R : Rule) → RuleFits R false t → IsRefused gs c R t
+pub refused-unfit : (gs : List (Option Bounds)) (c : Context) (t : Term) (R : Rule) → RuleFits R false t → IsRefused gs c R t
 unfolding IsRefused
 refused-unfit gs c t R h = λ r ws x f. h r ws x
 
 -- and one that wants more defined than is
-pub refused-ways : (gs : List (Option Bounds)) (c : Facts) (t : Term) (R : Rule) (w : Ways) → AreWays R t w → TellsAll gs c t (ways_in w) false → IsRefused gs c R t
+pub refused-ways : (gs : List (Option Bounds)) (c : Context) (t : Term) (R : Rule) (w : Ways) → AreWays R t w → TellsAll gs c t (ways_in w) false → IsRefused gs c R t
 unfolding IsRefused TellsAll AreWays
 refused-ways gs c t R w a h = λ r ws x f. never (h.1 (subst (Every (FirmAt (is_shaped gs) c t)) (a r ws x) f))
   where
@@ -212,7 +211,7 @@ refused-ways gs c t R w a h = λ r ws x f. never (h.1 (subst (Every (FirmAt (is_
     never q = cc
 
 -- a comparison that is a fact of the place may be replaced by what it tells
-pub fires-domain : (gs : List (Option Bounds)) (c : Facts) (t : Term) → IsComparison t → LiterallyKnown facts.domain c t → MayFire gs c t (Plain C1)
+pub fires-domain : (gs : List (Option Bounds)) (c : Context) (t : Term) → IsComparison t → LiterallyKnown facts.domain c t → MayFire gs c t (Plain C1)
 unfolding HasCondition
 fires-domain gs c t k h = record {
   applicable = ((λ e. cc), (truth_term true, [], (k, refl, refl)));
@@ -220,7 +219,7 @@ fires-domain gs c t k h = record {
   condition = λ r ws x m given V env vals T g v tl st ty. (subst (Every (DefinedAt V vals t)) (sym x.2) tt, tt);
 }
 
-pub fires-test : (gs : List (Option Bounds)) (c : Facts) (t : Term) → IsComparison t → LiterallyKnown facts.test c t → MayFire gs c t (Plain C2)
+pub fires-test : (gs : List (Option Bounds)) (c : Context) (t : Term) → IsComparison t → LiterallyKnown facts.test c t → MayFire gs c t (Plain C2)
 unfolding HasCondition
 fires-test gs c t k h = record {
   applicable = ((λ e. cc), (truth_term true, [], (k, refl, refl)));
@@ -228,7 +227,7 @@ fires-test gs c t k h = record {
   condition = λ r ws x m given V env vals T g v tl st ty. (subst (Every (DefinedAt V vals t)) (sym x.2) tt, tt);
 }
 
-pub fires-denied : (gs : List (Option Bounds)) (c : Facts) (t : Term) → IsComparison t → LiterallyKnown facts.denied c t → MayFire gs c t (Plain C3)
+pub fires-denied : (gs : List (Option Bounds)) (c : Context) (t : Term) → IsComparison t → LiterallyKnown facts.denied c t → MayFire gs c t (Plain C3)
 unfolding HasCondition
 fires-denied gs c t k h = record {
   applicable = ((λ e. cc), (truth_term false, [], (k, refl, refl)));
@@ -237,7 +236,7 @@ fires-denied gs c t k h = record {
 }
 
 -- a fact of one kind or another
-some-kind : (c : Facts) (t : Term) (b : Bool) (F : List Fact) → SomeFact F (λ f. (truth_of f.known ≡ b) × IsFact c t f) →
+some-kind : (c : Context) (t : Term) (b : Bool) (F : List Fact) → SomeFact F (λ f. (truth_of f.known ≡ b) × IsFact c t f) →
     (SomeFact F (λ f. (f.known ≡ facts.domain) × IsFact c t f) → ⊥) → (SomeFact F (λ f. (f.known ≡ facts.test) × IsFact c t f) → ⊥) → (SomeFact F (λ f. (f.known ≡ facts.denied) × IsFact c t f) → ⊥) → ⊥
 some-kind c t b [] h p q r = h
 some-kind c t b (f ∷ F) (inl h) p q r = at f.known refl
@@ -249,21 +248,21 @@ some-kind c t b (f ∷ F) (inl h) p q r = at f.known refl
 some-kind c t b (f ∷ F) (inr h) p q r = some-kind c t b F h (λ k. p (inr k)) (λ k. q (inr k)) (λ k. r (inr k))
 
 -- a comparison that is known in none of the three ways is no fact of any truth value
-pub unknown-none : (c : Facts) (t : Term) → IsKnown c t None → IsUnknown c t
+pub unknown-none : (c : Context) (t : Term) → IsKnown c t None → IsUnknown c t
 unfolding IsUnknown
 unknown-none c t h = λ b k l. some-kind c t b c.facts l h.0 h.1 h.2
 
 -- what is no comparison
-pub unknown-other : (c : Facts) (t : Term) → (IsComparison t → ⊥) → IsUnknown c t
+pub unknown-other : (c : Context) (t : Term) → (IsComparison t → ⊥) → IsUnknown c t
 unfolding IsUnknown
 unknown-other c t h = λ b k l. h k
 
-pub undecided-other : (gs : List (Option Bounds)) (c : Facts) (t : Term) → (IsComparison t → ⊥) → IsUndecided gs c t
+pub undecided-other : (gs : List (Option Bounds)) (c : Context) (t : Term) → (IsComparison t → ⊥) → IsUndecided gs c t
 unfolding IsUndecided
 undecided-other gs c t h = λ op a b x y e f p q l. h (op, a, b, e)
 
 -- a comparison that spans do not decide
-pub undecided-none : (gs : List (Option Bounds)) (c : Facts) (t : Term) → DecidesApart c t None → IsUndecided gs c t
+pub undecided-none : (gs : List (Option Bounds)) (c : Context) (t : Term) → DecidesApart c t None → IsUndecided gs c t
 unfolding IsUndecided
 undecided-none gs c t h = λ op a b x y e f p q l. never (h op a b x y e p q l)
   where
@@ -271,14 +270,14 @@ undecided-none gs c t h = λ op a b x y e f p q l. never (h op a b x y e p q l)
     never d = let z = d.1 in cc
 
 -- a comparison of which a side is not firm
-pub undecided-first : (gs : List (Option Bounds)) (c : Facts) (t : Term) → TellsAt gs c t (0 ∷ []) false → IsUndecided gs c t
+pub undecided-first : (gs : List (Option Bounds)) (c : Context) (t : Term) → TellsAt gs c t (0 ∷ []) false → IsUndecided gs c t
 unfolding IsUndecided TellsAt
 undecided-first gs c t h = λ op a b x y e f p q l. never (h.1 f.0)
   where
     never : false ≡ true → ⊥
     never d = cc
 
-pub undecided-second : (gs : List (Option Bounds)) (c : Facts) (t : Term) → TellsAt gs c t (1 ∷ []) false → IsUndecided gs c t
+pub undecided-second : (gs : List (Option Bounds)) (c : Context) (t : Term) → TellsAt gs c t (1 ∷ []) false → IsUndecided gs c t
 unfolding IsUndecided TellsAt
 undecided-second gs c t h = λ op a b x y e f p q l. never (h.1 f.1.0)
   where
@@ -290,7 +289,7 @@ sides-valued : (V : Outcomes) (vals : List Datum) (op : CompareOp) (a b : Term) 
 sides-valued V vals op a b h k = ((h a refl).0, (k b refl).0)
 
 -- a comparison whose spans decide it and whose sides are defined may be replaced by its truth value
-pub fires-decided : (gs : List (Option Bounds)) (c : Facts) (t : Term) (truth_value : Bool) → IsComparison t → DecidesTruth c t (Some truth_value) → IsDefinedAlong gs c t (0 ∷ []) → IsDefinedAlong gs c t (1 ∷ []) →
+pub fires-decided : (gs : List (Option Bounds)) (c : Context) (t : Term) (truth_value : Bool) → IsComparison t → DecidesTruth c t (Some truth_value) → IsDefinedAlong gs c t (0 ∷ []) → IsDefinedAlong gs c t (1 ∷ []) →
     MayFire gs c t (Decided truth_value)
 unfolding HasCondition
 fires-decided gs c t b k d p q = record {
@@ -311,7 +310,7 @@ fires-decided gs c t b k d p q = record {
     same b n e = cc
 
 -- where every rule is refused and no check applies, the term is normal at its place
-pub quiet-here : (gs : List (Option Bounds)) (c : Facts) (t : Term) → EachPlain (λ R. IsRefused gs c R t) → IsUnknown c t → IsUndecided gs c t → IsQuietAt gs c t
+pub quiet-here : (gs : List (Option Bounds)) (c : Context) (t : Term) → EachPlain (λ R. IsRefused gs c R t) → IsUnknown c t → IsUndecided gs c t → IsQuietAt gs c t
 unfolding IsRefused IsUnknown IsUndecided EachPlain
 quiet-here gs c t h k l = record {
   unfit = λ R r ws e x f. h R e r ws x f;
@@ -335,8 +334,3 @@ node-told k l t (Some f) g c h x = subst (λ y. MayFire y (context_of k) t f) g 
 node-told k l t None g c h x =
     quiet-here (known_shapes k) (context_of k) t h (subst (λ y. IsUnknown y t) c x.0)
     (subst (λ y. IsUndecided y (context_of k) t) g (subst (λ y. IsUndecided (known_shapes l) y t) c x.1))
-
--- a part of a small term is small in its own context
-pub entered-inside : (m n : ℕ) (c d p : Facts) (t : Term) (i : ℕ) (u : Term) → WellFormed t → child_of (parts_of t) i ≡ Some u → IsSmallTerm n t → p ≡ enter_facts d t i → d ≡ c → c.depth ≡ n → p.depth ≡ m → IsSmallTerm m u
-entered-inside m n c d p t i u w e h f g k l =
-    subst (λ z. IsSmallTerm z u) (omega (arith, ap (λ x. x.depth) f, ap (λ x. x.depth) g, k, l)) (inside-part n t i u w e h)

@@ -1,5 +1,5 @@
 -- What the descent does, put together: a rewriting, the parts one after another, the whole.
-use Rattle.std.proofs.Common.{◌≡◌, ℕ, ◌+◌, ◌-◌, ◌*◌, ◌<◌, ◌≤◌, Bool, true, false, ◌||◌, List, [], ◌∷◌, ◌++◌, map, length, take, Option, Some, None, Result, Ok, Err, OnOk, IfOk, refl, sym, ap, subst, ◌∙◌, arith, inl, inr}
+use Rattle.std.proofs.Common.{◌≡◌, ℕ, ◌+◌, ◌-◌, ◌*◌, ◌<◌, ◌≤◌, Bool, true, false, ◌||◌, List, [], ◌∷◌, ◌++◌, map, length, take, Option, Some, None, Result, Ok, Err, IfOk, refl, sym, ap, subst, ◌∙◌, arith, inl, inr}
 use Rattle.std.proofs.lemmas.List.{map-append, append_assoc, append-nil, length-append, length-map}
 use Rattle.nrca_term.specs.declared.trace.Rule.{Rule}
 use Rattle.nrca_term.specs.declared.trace.Step.{Step}
@@ -44,11 +44,6 @@ some-both false false xs ys h k = ap (λ l. l ++ ys) h ∙ k
 some-map : (x : Bool) (xs : List Step) (f : Step → Step) → AreSome x xs → AreSome x (map f xs)
 some-map true xs f h = omega (arith, h, length-map xs f)
 some-map false xs f h = ap (map f) h
-
--- what follows where a call ends well
-pub on-ok : {A B P Q : Type 0} (r : Result A B) → (P → Q) → OnOk r P → OnOk r Q
-on-ok (Ok a) f h = f h
-on-ok (Err b) f h = h
 
 pub if-ok : {A B : Type 0} (r : Result A B) (P Q : A → Type 0) → ((x : A) → P x → Q x) → IfOk r P → IfOk r Q
 if-ok (Ok a) P Q f h = f a h

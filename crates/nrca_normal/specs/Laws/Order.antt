@@ -8,7 +8,7 @@ use Rattle.nrca_term.specs.Term.{Term, Form, form_of}
 use Rattle.nrca_term.specs.Normal.{is_check}
 use Rattle.nrca_laws.specs.Laws.Lefts.{left_form, redex-left}
 use Rattle.nrca_ranges.specs.Bounds.{Bounds}
-use Rattle.nrca_term.specs.Facts.{Facts}
+use Rattle.nrca_term.specs.Facts.{Context}
 use Rattle.nrca_normal.specs.Conditions.{IsRefused}
 use Rattle.nrca_normal.specs.Order.{number_of, rules_of, EachPlain, FirstRules}
 
@@ -180,9 +180,6 @@ plain-at (Q ∷ l) (suc i) e h = plain-at l i (rest (is_check Q) e) (omega (arit
     rest true q = cc
     rest false q = q
 
-pub rule-plain : (f : Form) (i : ℕ) → i < length (rules_of f) → is_check (get_or (rules_of f) i B1) ≡ false
-rule-plain f i h = plain-at (rules_of f) i (plain-rules f) h
-
 -- a rule whose left side may have the form is tried
 covered-at : (f : Form) (l : List Rule) (i : ℕ) → are_covered f l ≡ true → i < length l → left_form (get_or l i B1) f ≡ true → is_listed (get_or l i B1) (rules_of f) ≡ true
 covered-at f [] i e h k = absurd (omega (arith, h))
@@ -246,7 +243,7 @@ plain-each P f n l h other = λ R e. at R e (cases_Bool (left_form R f))
     at R e (inr k) = other R k
 
 -- a rule whose left side has another form is refused
-other-form : (gs : List (Option Bounds)) (c : Facts) (t : Term) (R : Rule) → left_form R (form_of t) ≡ false → IsRefused gs c R t
+other-form : (gs : List (Option Bounds)) (c : Context) (t : Term) (R : Rule) → left_form R (form_of t) ≡ false → IsRefused gs c R t
 unfolding IsRefused
 other-form gs c t R e = λ r ws x h. never (sym (redex-left R t r ws x) ∙ e)
   where
@@ -254,5 +251,5 @@ other-form gs c t R e = λ r ws x h. never (sym (redex-left R t r ws x) ∙ e)
     never q = cc
 
 -- where each rule is refused that is tried, every one is
-pub all-refused : (gs : List (Option Bounds)) (c : Facts) (t : Term) (n : ℕ) → length (rules_of (form_of t)) ≤ n → FirstRules (λ R. IsRefused gs c R t) (rules_of (form_of t)) n → EachPlain (λ R. IsRefused gs c R t)
+pub all-refused : (gs : List (Option Bounds)) (c : Context) (t : Term) (n : ℕ) → length (rules_of (form_of t)) ≤ n → FirstRules (λ R. IsRefused gs c R t) (rules_of (form_of t)) n → EachPlain (λ R. IsRefused gs c R t)
 all-refused gs c t n l h = plain-each (λ R. IsRefused gs c R t) (form_of t) n l h (other-form gs c t)

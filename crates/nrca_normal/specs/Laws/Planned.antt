@@ -10,13 +10,14 @@ use Rattle.nrca_term.specs.View.{term_of}
 use Rattle.nrca_term.specs.Meaning.{Outcomes}
 use Rattle.nrca_term.specs.Typing.{IsTyped, ctyped, instances, OutcomesHave}
 use Rattle.nrca_term.specs.Places.{reach}
-use Rattle.nrca_term.specs.Facts.{no_facts, facts_at, Stands}
+use Rattle.nrca_term.specs.Facts.{no_facts, facts_at, FactsHold}
 use Rattle.nrca_term.specs.Rules as rules
 use Rattle.nrca_term.specs.Rules.{Side, Replay}
 use Rattle.nrca_term.specs.Laws.TypedForm.{well_formed-typed}
 use Rattle.nrca_term.specs.Laws.TypedPlaces.{typed-place}
 use Rattle.nrca_term.specs.Laws.Contexts.{stands}
 use Rattle.nrca_term.specs.Laws.Measure.{left-bound}
+use Rattle.nrca_term.specs.TypedPlaces.{KeepsTypes}
 use Rattle.nrca_laws.specs.Laws.Ways.{normal-in}
 use Rattle.nrca_ranges.specs.Bounds.{Bounds}
 use Rattle.nrca_ranges.specs.Entered.{is_shaped}
@@ -24,7 +25,7 @@ use Rattle.nrca_ranges.specs.Shapes.{Tells}
 use Rattle.nrca_normal.specs.Conditions.{name_of, HasCondition}
 use Rattle.nrca_normal.specs.Rewriting.{IsRewriting, Leads}
 use Rattle.nrca_normal.specs.Quiet.{QuietEverywhere}
-use Rattle.nrca_normal.specs.Planned.{IsReplayed, IsNormalIn, KeepsTypes, IsPlanOf}
+use Rattle.nrca_normal.specs.Planned.{IsReplayed, IsNormalIn, IsPlanOf}
 use Rattle.nrca_normal.specs.declared.normal.Plan.{Plan}
 use Rattle.nrca_normal.specs.Laws.Typed.{rewriting-types, leads-types, leads-left}
 
@@ -41,7 +42,7 @@ module _ (gs : List (Option Bounds)) where
         found = h.found;
         put = h.put;
         redex = h.made.0.redex;
-        side = Every-join (HaveTypes q.around) (Stands V (facts_at t s.path)) (λ vals. Side V (name_of h.firing) vals h.from h.to h.made.0.ways)
+        side = Every-join (HaveTypes q.around) (FactsHold V (facts_at t s.path)) (λ vals. Side V (name_of h.firing) vals h.from h.to h.made.0.ways)
             (λ vals k st. h.fires.condition h.to h.made.0.ways h.made.0.redex h.made.1 given V q.around vals q.type oh k tl st q.typed)
             (reach V [] t s.path) (q.values V [] oh tt) (stands V t (well_formed-typed (instances given) [] t T ty) s.path);
         known = h.fires.known;

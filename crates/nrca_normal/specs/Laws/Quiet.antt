@@ -2,7 +2,7 @@
 use Rattle.std.proofs.Common.{◌≡◌, ℕ, suc, ◌+◌, ◌≤◌, List, [], ◌∷◌, Option, Some, sym, subst, arith}
 use Rattle.nrca_term.specs.Term.{Term, child_of, parts_of, count}
 use Rattle.nrca_term.specs.Places.{put_at}
-use Rattle.nrca_term.specs.Facts.{Facts, enter_facts}
+use Rattle.nrca_term.specs.Facts.{Context, enter_facts}
 use Rattle.nrca_term.specs.Laws.Entering.{child-counted}
 use Rattle.nrca_laws.specs.Search.{AllPlaces, FirstParts}
 use Rattle.nrca_laws.specs.Laws.Search.{all-node, all-more, before-parts, before-node, before-root, before-kept}
@@ -11,7 +11,7 @@ use Rattle.nrca_normal.specs.Conditions.{IsQuietAt}
 use Rattle.nrca_normal.specs.Quiet.{QuietEverywhere, QuietParts}
 use Rattle.nrca_normal.specs.Laws.Rewriting.{put-child, enter-put}
 
-module _ (gs : List (Option Bounds)) (c : Facts) where
+module _ (gs : List (Option Bounds)) (c : Context) where
   -- of no part
   pub parts-none : (t : Term) → QuietParts gs c t 0
   unfolding QuietParts

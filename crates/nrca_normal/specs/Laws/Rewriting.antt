@@ -1,14 +1,14 @@
 -- Rewritings after one another; those of a part are rewritings of its node.
-use Rattle.std.proofs.Common.{◌≡◌, ℕ, zero, suc, List, [], ◌∷◌, ◌++◌, map, Option, Some, refl, sym, ap, subst, ◌∙◌}
+use Rattle.std.proofs.Common.{◌≡◌, ℕ, zero, suc, List, [], ◌∷◌, ◌++◌, map, Option, Some, refl, sym, ap, subst, ◌∙◌, arith}
 use Rattle.aql_value.specs.Partial.{◌>>=◌}
 use Rattle.nrca_term.specs.declared.trace.Step.{Step}
 use Rattle.nrca_term.specs.Term.{Term, Parts, node, none, part, parts_of, child_of, set_child, with_part}
 use Rattle.nrca_term.specs.Places.{place_of, put_at, on_child}
-use Rattle.nrca_term.specs.Facts.{Facts, enter_facts, context_at, context_below}
+use Rattle.nrca_term.specs.Facts.{Context, enter_facts, context_at, context_below}
+use Rattle.nrca_laws.specs.Laws.Search.{enter-on}
 use Rattle.nrca_ranges.specs.Bounds.{Bounds}
 use Rattle.nrca_normal.specs.Conditions.{MayFire}
 use Rattle.nrca_normal.specs.Rewriting.{IsRewriting, Leads, behind}
-use Rattle.nrca_normal.specs.Laws.Entering.{enter-same}
 
 -- what is done to a part that is there
 on-as : (ps : Parts) (i : ℕ) (p : Term) (g h : Term → Term) → child_of ps i ≡ Some p → g p ≡ h p → on_child ps i g ≡ on_child ps i h
@@ -49,8 +49,9 @@ put-twice (node f ps) i p q = ap (node f) (on-twice ps i p q)
 put-below : (t : Term) (i : ℕ) (p q r : Term) (path : List ℕ) → child_of (parts_of t) i ≡ Some p → q ≡ put_at p path r → put_at t (i ∷ []) q ≡ put_at t (i ∷ path) r
 put-below (node f ps) i p q r path e k = ap (node f) (on-as ps i p (λ s. q) (λ s. put_at s path r) e k)
 
-pub enter-put : (c : Facts) (t : Term) (i : ℕ) (q : Term) → enter_facts c (put_at t (i ∷ []) q) i ≡ enter_facts c t i
-enter-put c (node f ps) i q = enter-same c f ps i (λ s. q)
+-- the context of part i does not depend on the part
+pub enter-put : (c : Context) (t : Term) (i : ℕ) (q : Term) → enter_facts c (put_at t (i ∷ []) q) i ≡ enter_facts c t i
+enter-put c (node f ps) i q = enter-on c f ps i i (λ s. q) (omega arith)
 
 -- a part that was taken out for the while, another one standing in its place, and is put back
 pub put-back : (t x y : Term) (i : ℕ) (b q : Term) → x ≡ with_part t i b → y ≡ with_part x i q → y ≡ put_at t (i ∷ []) q
@@ -61,25 +62,25 @@ put-back t x y i b q e k = k ∙ ap (λ z. with_part z i q) e ∙ twice t
 
 module _ (gs : List (Option Bounds)) where
   -- one after the other
-  pub leads-append : (c : Facts) (xs ys : List Step) (t m u : Term) → Leads gs c t xs m → Leads gs c m ys u → Leads gs c t (xs ++ ys) u
+  pub leads-append : (c : Context) (xs ys : List Step) (t m u : Term) → Leads gs c t xs m → Leads gs c m ys u → Leads gs c t (xs ++ ys) u
   unfolding Leads
   leads-append c [] ys t m u h k = subst (λ x. Leads gs c x ys u) (sym h) k
   leads-append c (s ∷ xs) ys t m u h k = (h.0, h.1, leads-append c xs ys h.0 m u h.2 k)
 
-  pub leads-none : (c : Facts) (t : Term) → Leads gs c t [] t
+  pub leads-none : (c : Context) (t : Term) → Leads gs c t [] t
   unfolding Leads
   leads-none c t = refl
 
-  pub leads-one : (c : Facts) (t u : Term) (s : Step) → IsRewriting gs c t s u → Leads gs c t (s ∷ []) u
+  pub leads-one : (c : Context) (t u : Term) (s : Step) → IsRewriting gs c t s u → Leads gs c t (s ∷ []) u
   unfolding Leads
   leads-one c t u s h = (u, h, refl)
 
-  pub leads-same : (c : Facts) (t u : Term) → Leads gs c t [] u → t ≡ u
+  pub leads-same : (c : Context) (t u : Term) → Leads gs c t [] u → t ≡ u
   unfolding Leads
   leads-same c t u h = h
 
   -- a rewriting in a part is one of the node
-  rewriting-above : (c : Facts) (t p q : Term) (i : ℕ) (s : Step) → child_of (parts_of t) i ≡ Some p → IsRewriting gs (enter_facts c t i) p s q → IsRewriting gs c t (behind (i ∷ []) s) (put_at t (i ∷ []) q)
+  rewriting-above : (c : Context) (t p q : Term) (i : ℕ) (s : Step) → child_of (parts_of t) i ≡ Some p → IsRewriting gs (enter_facts c t i) p s q → IsRewriting gs c t (behind (i ∷ []) s) (put_at t (i ∷ []) q)
   rewriting-above c t p q i s e h = record {
     firing = h.firing;
     from = h.from;
@@ -92,7 +93,7 @@ module _ (gs : List (Option Bounds)) where
   }
 
   -- and so are several
-  pub leads-above : (c : Facts) (t p q : Term) (i : ℕ) (steps : List Step) → child_of (parts_of t) i ≡ Some p → Leads gs (enter_facts c t i) p steps q → Leads gs c t (map (behind (i ∷ [])) steps) (put_at t (i ∷ []) q)
+  pub leads-above : (c : Context) (t p q : Term) (i : ℕ) (steps : List Step) → child_of (parts_of t) i ≡ Some p → Leads gs (enter_facts c t i) p steps q → Leads gs c t (map (behind (i ∷ [])) steps) (put_at t (i ∷ []) q)
   unfolding Leads
   leads-above c t p q i [] e h = put-self t i p e ∙ ap (λ x. put_at t (i ∷ []) x) h
   leads-above c t p q i (s ∷ steps) e h = (

@@ -7,9 +7,8 @@ use Rattle.nrca_term.specs.declared.trace.Step.{Step}
 use Rattle.nrca_term.specs.Term.{Term, Parts, node, none, part, parts_of, child_of, binders_of, count, weight_of, parts_weight}
 use Rattle.nrca_term.specs.Typing.{Arg, ctyped, parts_typed, instances}
 use Rattle.nrca_term.specs.TypedPlaces.{Keeps}
-use Rattle.nrca_term.specs.Facts.{Facts}
-use Rattle.nrca_term.specs.Measure.{Below}
-use Rattle.nrca_term.specs.MeasureLaws.{left_of}
+use Rattle.nrca_term.specs.Facts.{Context}
+use Rattle.nrca_term.specs.Measure.{Below, left_of}
 use Rattle.nrca_term.specs.Laws.TypedForm.{well_formed-typed, closed-typed}
 use Rattle.nrca_term.specs.Laws.TypedPlaces.{typed-place, keeps-put_at}
 use Rattle.nrca_term.specs.Laws.Measure.{below-put_at, below-weight, left-falls, pairs-weight, weight_of-child, form-positive}
@@ -56,7 +55,7 @@ parts-weigh (part k (node f qs) ps) = omega (arith, form-positive f, parts-weigh
 pub part-number : (n : ℕ) (t : Term) (i : ℕ) → n + weight_of t ≤ 1280000 → i < count (parts_of t) → i < 1280000
 part-number n (node f ps) i h l = omega (arith, l, h, parts-weigh ps, form-positive f)
 
-module _ (gs : List (Option Bounds)) (c : Facts) where
+module _ (gs : List (Option Bounds)) (c : Context) where
   -- a rewriting keeps types
   pub rewriting-types : (t u : Term) (s : Step) → IsRewriting gs c t s u → (given : List Ty) → Keeps (instances given) t u
   rewriting-types t u s h given = subst (Keeps (instances given) t) (sym h.put) (keeps-put_at (instances given) s.path t h.from h.to h.found (h.made.0.types given))

@@ -176,7 +176,3 @@ joined-second (grid is a) (grid js b) v h =
 -- an ascending list has as many different members as it has members
 pub count-is : (i : Interval) (ms : List Datum) (n : ℕ) → IsAscending ms → length ms ≡ n → IsIn i n → IsCount i ms
 count-is i ms n a e h = (omega (arith, h.0, e, ap length (canon_ascending ms a)), λ l. omega (arith, e, h.1 l))
-
--- so of a set of the language the number of its members is in the interval
-pub count-members : (i : Interval) (ms : List Datum) → IsAscending ms → IsCount i ms → IsIn i (length ms)
-count-members i ms a h = (omega (arith, h.0, ap length (canon_ascending ms a)), h.1)

@@ -4,6 +4,7 @@ use Rattle.std.proofs.lemmas.List.{length-map}
 use Rattle.std.specs.List.{slice_get}
 use Rattle.nrca_term.specs.Term.{Term, Parts, node, none, part, Form, parts_of, child_of, binders_of, form_of, variable_of, weight_of, form_weight, form_binders, WellFormed, Closed, PartsClosed}
 use Rattle.nrca_term.specs.Meaning.{at_position}
+use Rattle.nrca_term.specs.Facts.{Context, enter_facts}
 use Rattle.nrca_ranges.specs.declared.shape.Shape.{Shape}
 use Rattle.nrca_ranges.specs.Bounds.{unknown}
 use Rattle.nrca_ranges.specs.Context.{IsSmallTerm}
@@ -59,6 +60,11 @@ closed-node n (node f ps) e h = (tt, h)
 pub inside-part : (n : ℕ) (t : Term) (i : ℕ) (u : Term) → WellFormed t → child_of (parts_of t) i ≡ Some u → IsSmallTerm n t → IsSmallTerm (n + binders_of (parts_of t) i) u
 inside-part n (node f ps) i u w e h =
     (child-closed n ps i u e h.0.1, omega (arith, h.1, parts_weight-child ps i u e, binders-well_formed (node f ps) i u w e, light f i))
+
+-- so it is small in its own context
+pub entered-inside : (m n : ℕ) (c d p : Context) (t : Term) (i : ℕ) (u : Term) → WellFormed t → child_of (parts_of t) i ≡ Some u → IsSmallTerm n t → p ≡ enter_facts d t i → d ≡ c → c.depth ≡ n → p.depth ≡ m → IsSmallTerm m u
+entered-inside m n c d p t i u w e h f g k l =
+    subst (λ z. IsSmallTerm z u) (omega (arith, ap (λ x. x.depth) f, ap (λ x. x.depth) g, k, l)) (inside-part n t i u w e h)
 
 -- the same by the number of variables that the part has
 pub part-small : (n b : ℕ) (t : Term) (i : ℕ) (u : Term) → WellFormed t → child_of (parts_of t) i ≡ Some u → IsSmallTerm n t → b ≡ binders_of (parts_of t) i → IsSmallTerm (n + b) u

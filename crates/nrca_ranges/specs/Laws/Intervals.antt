@@ -1,20 +1,20 @@
 -- What follows from the definitions of `Intervals`: what operations make of numbers, of lists of lists and of sums.
 use Rattle.std.proofs.Common.{◌≡◌, ℕ, zero, suc, ◌+◌, ◌*◌, ◌-◌, ◌/◌, ◌%◌, ◌<◌, ◌≤◌, ◌^◌, Bool, true, false, cond, nat_lt, nat_eq, sum, List, [], ◌∷◌, length, Some, None, refl, sym, ap, arith, length-append, if◌then◌else◌, inl, inr}
 use Rattle.std.proofs.lemmas.Bool.{lt-ltb, ltb-true, ltb-false, eqb-true, cases_Bool, and_parts}
-use Rattle.std.proofs.lemmas.Option.{cond_some}
 use Rattle.std.proofs.lemmas.List.Sums.{sum_by-cons}
 use Rattle.std.proofs.lemmas.Nat.{mul-le}
 use Rattle.std.proofs.Math.Nat.{div-le_self}
 use Rattle.aql_value.specs.declared.ops.ArithOp.{ArithOp}
 use Rattle.aql_value.specs.declared.ops.ArithOp.TheVariants.{Add, Monus, Mul, Quotient, Remainder}
-use Rattle.aql_value.specs.Arith.{if_fits}
 use Rattle.aql_value.specs.Ops.{arith_by}
 use Rattle.aql_value.specs.Lists.{Every}
 use Rattle.aql_value.specs.Laws.Lists.{Every-impl}
 use Rattle.aql_value.specs.Partial.{concat}
+use Rattle.aql_value.specs.Limits.{saturated}
+use Rattle.nrca_laws.specs.Laws.Spans.{fits-is}
 use Rattle.nrca_ranges.specs.declared.interval.Interval.{Interval}
 use Rattle.nrca_ranges.specs.Bounds.{IsIn}
-use Rattle.nrca_ranges.specs.Intervals.{is_end, before, least_rest, capped, arith_interval, always_fits, is_below}
+use Rattle.nrca_ranges.specs.Intervals.{is_end, before, least_rest, arith_interval, always_fits, is_below}
 
 -- an upper end that is one is below 2^128-1
 pub end-is : (h : ℕ) → is_end h ≡ true → h < 2 ^ 128 - 1
@@ -27,10 +27,6 @@ before-is h n j u l = go (is_end h) refl
     go : (t : Bool) → is_end h ≡ t → (if t then h - 1 else h) < 2 ^ 128 - 1 → j ≤ (if t then h - 1 else h)
     go true e m = omega (arith, l, u (end-is h e))
     go false e m = absurd (omega (arith, m, ltb-false h (2 ^ 128 - 1) e))
-
--- a number that fits is itself
-fits-is : (n k : ℕ) → if_fits n ≡ Some k → k ≡ n
-fits-is n k e = sym ((cond_some (nat_lt n (2 ^ 128)) n k e).1)
 
 some-is : (m k : ℕ) → Some m ≡ Some k → m ≡ k
 some-is m k e = cc
@@ -102,17 +98,17 @@ not-zero : (n : ℕ) → 1 ≤ n → nat_eq n 0 ≡ false
 not-zero n l = elim (cases_Bool (nat_eq n 0)) [ inl e ↦ absurd (omega (arith, eqb-true n 0 e, l)) | inr e ↦ e ]
 
 -- an upper end that stays below 2^128-1 where it stops there
-pub capped-is : (n : ℕ) → is_end (capped n) ≡ true → n < 2 ^ 128 - 1
-capped-is n e = omega (arith, end-is (capped n) e)
+pub saturated-is : (n : ℕ) → is_end (saturated n) ≡ true → n < 2 ^ 128 - 1
+saturated-is n e = omega (arith, end-is (saturated n) e)
 
 -- an operation that always fits has a value at each number of the two intervals
 pub fits-there : (op : ArithOp) (a b : Interval) (m n : ℕ) → always_fits op a b ≡ true → IsIn a m → IsIn b n → (k : ℕ) × (arith_by op m n ≡ Some k)
 fits-there Add a b m n e x y =
-    let l = capped-is (a.high + b.high) e in
+    let l = saturated-is (a.high + b.high) e in
     (m + n, rw (lt-ltb (m + n) (2 ^ 128) (omega (arith, l, x.1, y.1))) refl)
 fits-there Monus a b m n e x y = (m - n, refl)
 fits-there Mul a b m n e x y =
-    let l = capped-is (a.high * b.high) e in
+    let l = saturated-is (a.high * b.high) e in
     (m * n, rw (lt-ltb (m * n) (2 ^ 128) (omega (arith, l, high-product a.high b.high m n l x.1 y.1))) refl)
 fits-there Quotient a b m n e x y = (m / n, rw (not-zero n (omega (arith, ltb-true 0 b.low e, y.0))) refl)
 fits-there Remainder a b m n e x y = (m % n, rw (not-zero n (omega (arith, ltb-true 0 b.low e, y.0))) refl)

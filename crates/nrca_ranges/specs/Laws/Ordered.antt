@@ -1,5 +1,5 @@
 -- Spans have their least number not above the greatest.
-use Rattle.std.proofs.Common.{◌≡◌, ℕ, zero, suc, ◌+◌, ◌*◌, ◌-◌, ◌≤◌, ◌^◌, Bool, true, false, nat_lt, nat_eq, List, [], ◌∷◌, Option, Some, None, sym, ap, arith, if◌then◌else◌}
+use Rattle.std.proofs.Common.{◌≡◌, ℕ, zero, suc, ◌+◌, ◌*◌, ◌-◌, ◌≤◌, Bool, true, false, nat_eq, List, [], ◌∷◌, Option, Some, None, sym, ap, arith, if◌then◌else◌}
 use Rattle.std.proofs.lemmas.Nat.{mul-le}
 use Rattle.aql_value.specs.declared.ops.ArithOp.{ArithOp}
 use Rattle.aql_value.specs.declared.ops.ArithOp.TheVariants.{Add, Monus, Mul, Quotient, Remainder}
@@ -8,18 +8,11 @@ use Rattle.aql_value.specs.Laws.Partial.{then-is}
 use Rattle.aql_value.specs.Strict.{Strict}
 use Rattle.aql_types.specs.Laws.Operation.{some-list}
 use Rattle.nrca_term.specs.Term.{Term, node, none, part, Form}
-use Rattle.nrca_term.specs.Facts.{Known, domain, test, denied, Fact, Facts}
+use Rattle.nrca_term.specs.Facts.{Known, domain, test, denied, Fact, Context}
 use Rattle.nrca_term.specs.Firm.{Span, number_of, as_variable, as_less, within_range, arith_span, is_domain, bounded_variable, fact_span, or_span, variable_span, span}
+use Rattle.nrca_laws.specs.Laws.Spans.{range-is}
 use Rattle.nrca_ranges.specs.declared.interval.Interval.{Interval}
 use Rattle.nrca_ranges.specs.Spans.{span_of, IsOrdered, InOrder}
-
--- an interval that stays below 2^128
-range-is : (low high : ℕ) (x : ℕ × ℕ) → within_range low high ≡ Some x → (low, high) ≡ x
-range-is low high x e = at (nat_lt high (2 ^ 128)) e
-  where
-    at : (b : Bool) → (if b then Some (low, high) else None) ≡ Some x → (low, high) ≡ x
-    at true k = some-list (low, high) x k
-    at false k = cc
 
 -- what arithmetic makes of spans
 arith-order : (op : ArithOp) (a b : Span) (n : Option ℕ) → InOrder a → InOrder b → InOrder (arith_span op a b n)
@@ -77,7 +70,7 @@ variable-order d i (f ∷ F) x e = at (λ l. variable-order d i F x l) (fact_spa
     at later None h l = later l
 
 -- the span of a term
-pub span-order : (c : Facts) (t : Term) → InOrder (span c t)
+pub span-order : (c : Context) (t : Term) → InOrder (span c t)
 span-order c (node (Form.var i) none) x e = variable-order c.depth i c.facts x e
 span-order c (node (Form.strict (Strict.nat n)) none) x e = let r = some-list (n, n) x e in omega (arith, ap (λ q. q.0) r, ap (λ q. q.1) r)
 span-order c (node (Form.strict (Strict.arith op)) (part zero a (part zero b none))) x e = arith-order op (span c a) (span c b) (number_of b) (span-order c a) (span-order c b) x e

@@ -6,7 +6,7 @@ use Rattle.nrca_term.specs.declared.term.Core.{Core}
 use Rattle.nrca_term.specs.View.{term_of}
 use Rattle.nrca_term.specs.Term.{Term, Parts, none, part, form_of, parts_of, child_of, count}
 use Rattle.nrca_term.specs.Nodes.{arith_term}
-use Rattle.nrca_term.specs.Facts.{Facts, enter_facts}
+use Rattle.nrca_term.specs.Facts.{Context, enter_facts}
 use Rattle.nrca_term.specs.Firm.{number_of, span, firm, wants_all}
 use Rattle.nrca_ranges.specs.declared.context.Ctx.{Ctx}
 use Rattle.nrca_ranges.specs.declared.shape.Shape.{Shape}
@@ -25,7 +25,7 @@ use Rattle.nrca_ranges.specs.Laws.Ordered.{span-order, ordered-is}
 use Rattle.nrca_ranges.specs.Laws.Walk.{arith-told, side-first, side-second, below-same, below-none}
 
 -- what is told is true where it is what is to be told, and only there
-pub told-is : (gs : List (Option Bounds)) (c : Facts) (t : Term) (x : Told) → summary_of x ≡ summary gs c t → IsTold gs c t x
+pub told-is : (gs : List (Option Bounds)) (c : Context) (t : Term) (x : Told) → summary_of x ≡ summary gs c t → IsTold gs c t x
 unfolding summary_of summary
 told-is gs c t x e = record {
   firm = ap (λ s. s.firm) e;
@@ -35,7 +35,7 @@ told-is gs c t x e = record {
   shape = ap (λ s. s.shape) e;
 }
 
-pub summary-is : (gs : List (Option Bounds)) (c : Facts) (t : Term) (x : Told) → IsTold gs c t x → summary_of x ≡ summary gs c t
+pub summary-is : (gs : List (Option Bounds)) (c : Context) (t : Term) (x : Told) → IsTold gs c t x → summary_of x ≡ summary gs c t
 unfolding summary_of summary
 summary-is gs c t x h =
     ap (λ v. summary_with v x.certain (span_of x.span) (bounds_of x.shape)) h.firm
@@ -44,7 +44,7 @@ summary-is gs c t x h =
     ∙ ap (λ v. summary_with (firm (is_shaped gs) c t) (certain gs c t) (span c t) v) h.shape
 
 -- the first of the later parts is the part of that number
-later-first : (gs : List (Option Bounds)) (c : Facts) (t : Term) (j i : ℕ) (ps : Parts) → summaries gs c t j (later_parts i ps) ≡ part_summary gs c t j (child_of ps i) ++ summaries gs c t (suc j) (later_parts (suc i) ps)
+later-first : (gs : List (Option Bounds)) (c : Context) (t : Term) (j i : ℕ) (ps : Parts) → summaries gs c t j (later_parts i ps) ≡ part_summary gs c t j (child_of ps i) ++ summaries gs c t (suc j) (later_parts (suc i) ps)
 later-first gs c t j zero none = refl
 later-first gs c t j (suc i) none = refl
 later-first gs c t j zero (part k u ps) = refl
@@ -56,14 +56,14 @@ later-none none = refl
 later-none (part k t ps) = later-none ps
 
 -- one part more is told of
-pub told-more : (gs : List (Option Bounds)) (c : Facts) (t : Term) (i : ℕ) (ps : Parts) (xs ys zs : List Summary) → ys ≡ xs ++ part_summary gs c t i (child_of ps i) → zs ≡ xs ++ summaries gs c t i (later_parts i ps) →
+pub told-more : (gs : List (Option Bounds)) (c : Context) (t : Term) (i : ℕ) (ps : Parts) (xs ys zs : List Summary) → ys ≡ xs ++ part_summary gs c t i (child_of ps i) → zs ≡ xs ++ summaries gs c t i (later_parts i ps) →
     zs ≡ ys ++ summaries gs c t (i + 1) (later_parts (i + 1) ps)
 told-more gs c t i ps xs ys zs h z =
     z ∙ ap (λ l. xs ++ l) (later-first gs c t i i ps) ∙ sym (append_assoc xs (part_summary gs c t i (child_of ps i)) (summaries gs c t (suc i) (later_parts (suc i) ps)))
     ∙ ap (λ l. l ++ summaries gs c t (suc i) (later_parts (suc i) ps)) (sym h) ∙ ap (λ j. ys ++ summaries gs c t j (later_parts j ps)) (sym (add-one i))
 
 -- and the last was
-pub told-last : (gs : List (Option Bounds)) (c : Facts) (t : Term) (i : ℕ) (ps : Parts) (xs zs : List Summary) → i ≡ count ps → zs ≡ xs ++ summaries gs c t i (later_parts i ps) → xs ≡ zs
+pub told-last : (gs : List (Option Bounds)) (c : Context) (t : Term) (i : ℕ) (ps : Parts) (xs zs : List Summary) → i ≡ count ps → zs ≡ xs ++ summaries gs c t i (later_parts i ps) → xs ≡ zs
 told-last gs c t i ps xs zs e z =
     sym (z ∙ ap (λ j. xs ++ summaries gs c t j (later_parts j ps)) e ∙ ap (λ l. xs ++ summaries gs c t (count ps) l) (later-none ps) ∙ append-nil xs)
 
@@ -90,7 +90,7 @@ closes-node c d n t p q r e f h k =
     ∙ ap (λ y. told_each p.told.items ++ summary (known_shapes c) y (term_of t) ∷ []) (below-same c q.facts.items p.facts.items d f)
 
 -- a test of what is told, gathered over the parts
-gathered-parts : (gs : List (Option Bounds)) (c : Facts) (t : Term) (T : Summary → Bool) (S : Test) → ((f : Facts) (u : Term) → T (summary gs f u) ≡ S f u) → (all : Bool) (i : ℕ) (ps : Parts) →
+gathered-parts : (gs : List (Option Bounds)) (c : Context) (t : Term) (T : Summary → Bool) (S : Test) → ((f : Context) (u : Term) → T (summary gs f u) ≡ S f u) → (all : Bool) (i : ℕ) (ps : Parts) →
     rest_of all T (summaries gs c t i ps) ≡ rest_true S c t all i ps
 gathered-parts gs c t T S h true i none = refl
 gathered-parts gs c t T S h false i none = refl
@@ -100,25 +100,25 @@ gathered-parts gs c t T S h false i (part k u ps) =
     ap (λ b. b || rest_of false T (summaries gs c t (suc i) ps)) (h (enter_facts c t i) u) ∙ ap (λ b. S (enter_facts c t i) u || b) (gathered-parts gs c t T S h false (suc i) ps)
 
 -- the tests and the shape that are told
-firm-told : (gs : List (Option Bounds)) (f : Facts) (u : Term) → (summary gs f u).firm ≡ firm (is_shaped gs) f u
+firm-told : (gs : List (Option Bounds)) (f : Context) (u : Term) → (summary gs f u).firm ≡ firm (is_shaped gs) f u
 unfolding summary
 firm-told gs f u = refl
 
-certain-told : (gs : List (Option Bounds)) (f : Facts) (u : Term) → (summary gs f u).certain ≡ certain gs f u
+certain-told : (gs : List (Option Bounds)) (f : Context) (u : Term) → (summary gs f u).certain ≡ certain gs f u
 unfolding summary
 certain-told gs f u = refl
 
-shape-told : (gs : List (Option Bounds)) (f : Facts) (u : Term) → (summary gs f u).shape ≡ bounds gs f u
+shape-told : (gs : List (Option Bounds)) (f : Context) (u : Term) → (summary gs f u).shape ≡ bounds gs f u
 unfolding summary
 shape-told gs f u = refl
 
-shapes-told : (gs : List (Option Bounds)) (c : Facts) (t : Term) (i : ℕ) (ps : Parts) → map (λ s. s.shape) (summaries gs c t i ps) ≡ all_bounds gs c t i ps
+shapes-told : (gs : List (Option Bounds)) (c : Context) (t : Term) (i : ℕ) (ps : Parts) → map (λ s. s.shape) (summaries gs c t i ps) ≡ all_bounds gs c t i ps
 shapes-told gs c t i none = refl
 shapes-told gs c t i (part k u ps) =
     ap (λ b. b ∷ map (λ s. s.shape) (summaries gs c t (suc i) ps)) (shape-told gs (enter_facts c t i) u) ∙ ap (λ l. bounds gs (enter_facts c t i) u ∷ l) (shapes-told gs c t (suc i) ps)
 
 -- what is gathered of the parts is true of them
-pub are-told : (gs : List (Option Bounds)) (c : Facts) (t : Term) (all : Bool) (x : Gathered) (ps : List Summary) (ss : List Shape) → ps ≡ summaries gs c t 0 (parts_of t) → all ≡ wants_all (form_of t) → IsGathered all ps x →
+pub are-told : (gs : List (Option Bounds)) (c : Context) (t : Term) (all : Bool) (x : Gathered) (ps : List Summary) (ss : List Shape) → ps ≡ summaries gs c t 0 (parts_of t) → all ≡ wants_all (form_of t) → IsGathered all ps x →
     bounds_each ss ≡ map (λ s. s.shape) ps → AreTold gs c t x ss
 are-told gs c t all x ps ss e w g s = record {
   firm =
@@ -131,7 +131,7 @@ are-told gs c t all x ps ss e w g s = record {
 }
 
 -- the two sides of an arithmetic node
-pub sides-told : (gs : List (Option Bounds)) (c : Facts) (op : ArithOp) (a b : Term) (xs : List Told) (l r : Told) → told_each xs ≡ summaries gs c (arith_term op a b) 0 (parts_of (arith_term op a b)) → l ≡ get_or xs 0 l → r ≡ get_or xs 1 r →
+pub sides-told : (gs : List (Option Bounds)) (c : Context) (op : ArithOp) (a b : Term) (xs : List Told) (l r : Told) → told_each xs ≡ summaries gs c (arith_term op a b) 0 (parts_of (arith_term op a b)) → l ≡ get_or xs 0 l → r ≡ get_or xs 1 r →
     IsTold gs c a l × IsTold gs c b r
 sides-told gs c op a b [] l r e h k = cc
 sides-told gs c op a b (x ∷ []) l r e h k = cc
@@ -148,7 +148,7 @@ sides-told gs c op a b (x ∷ y ∷ []) l r e h k = (
     second e = cc
 
 -- so what is told of the node
-pub arith-summary : (gs : List (Option Bounds)) (c : Facts) (op : ArithOp) (a b : Term) (xs : List Told) (l r : Told) (n : Option ℕ) (x : Told) → told_each xs ≡ summaries gs c (arith_term op a b) 0 (parts_of (arith_term op a b)) →
+pub arith-summary : (gs : List (Option Bounds)) (c : Context) (op : ArithOp) (a b : Term) (xs : List Told) (l r : Told) (n : Option ℕ) (x : Told) → told_each xs ≡ summaries gs c (arith_term op a b) 0 (parts_of (arith_term op a b)) →
     l ≡ get_or xs 0 l → r ≡ get_or xs 1 r → n ≡ number_of b → IsArithTold op l r n x → summary_of x ≡ summary gs c (arith_term op a b)
 arith-summary gs c op a b xs l r n x e h k m y =
     let s = sides-told gs c op a b xs l r e h k in

@@ -1,12 +1,12 @@
 -- What follows from the definitions of `Walk`: a node from its parts, and the walk over them.
-use Rattle.std.proofs.Common.{◌≡◌, ℕ, suc, ◌+◌, Bool, true, false, ◌&&◌, ◌||◌, List, [], ◌∷◌, ◌++◌, length, take, is_some, Option, Some, None, refl, sym, ap, ◌∙◌, arith, append-nil, append_assoc, if◌then◌else◌}
+use Rattle.std.proofs.Common.{◌≡◌, ℕ, suc, ◌+◌, Bool, true, false, ◌&&◌, ◌||◌, List, [], ◌∷◌, ◌++◌, length, take, is_some, Option, Some, None, refl, sym, ap, ◌∙◌, arith, append-nil, if◌then◌else◌}
 use Rattle.std.proofs.lemmas.List.{take-map, take_at}
 use Rattle.aql_value.specs.declared.ops.ArithOp.{ArithOp}
 use Rattle.aql_value.specs.Strict.{Strict}
-use Rattle.nrca_term.specs.Term.{Term, Parts, node, none, part, Form, form_of, parts_of, binders_of}
+use Rattle.nrca_term.specs.Term.{Term, Parts, node, none, part, Form, form_of, parts_of}
 use Rattle.nrca_term.specs.Nodes.{arith_term}
 use Rattle.nrca_term.specs.Facts as facts
-use Rattle.nrca_term.specs.Facts.{Facts, enter_facts}
+use Rattle.nrca_term.specs.Facts.{Context, enter_facts}
 use Rattle.nrca_term.specs.Firm.{Span, number_of, arith_span, arith_firm, span, form_sure, form_firm, wants_all, firm, all_firm, some_firm, or_span, fact_span, variable_span}
 use Rattle.nrca_ranges.specs.declared.context.Ctx.{Ctx}
 use Rattle.nrca_ranges.specs.declared.context.Fact.{Fact}
@@ -25,19 +25,19 @@ use Rattle.nrca_ranges.specs.Transfer.{interval_of, by_span, form_bounds, bounds
 use Rattle.nrca_ranges.specs.Walk.{facts_below, IsOther, all_true, some_true, parts_true, number_told, IsTold, IsArithTold, AreTold}
 
 -- the parts of a node that are firm, and those that are certain to have a value, as the tests that they are
-all-firm : (D : ℕ → Bool) (c : Facts) (t : Term) (i : ℕ) (ps : Parts) → all_firm D c t i ps ≡ all_true (firm D) c t i ps
+all-firm : (D : ℕ → Bool) (c : Context) (t : Term) (i : ℕ) (ps : Parts) → all_firm D c t i ps ≡ all_true (firm D) c t i ps
 all-firm D c t i none = refl
 all-firm D c t i (part k u ps) = ap (λ b. firm D (enter_facts c t i) u && b) (all-firm D c t (suc i) ps)
 
-some-firm : (D : ℕ → Bool) (c : Facts) (t : Term) (i : ℕ) (ps : Parts) → some_firm D c t i ps ≡ some_true (firm D) c t i ps
+some-firm : (D : ℕ → Bool) (c : Context) (t : Term) (i : ℕ) (ps : Parts) → some_firm D c t i ps ≡ some_true (firm D) c t i ps
 some-firm D c t i none = refl
 some-firm D c t i (part k u ps) = ap (λ b. firm D (enter_facts c t i) u || b) (some-firm D c t (suc i) ps)
 
-all-certain : (gs : List (Option Bounds)) (c : Facts) (t : Term) (i : ℕ) (ps : Parts) → all_certain gs c t i ps ≡ all_true (certain gs) c t i ps
+all-certain : (gs : List (Option Bounds)) (c : Context) (t : Term) (i : ℕ) (ps : Parts) → all_certain gs c t i ps ≡ all_true (certain gs) c t i ps
 all-certain gs c t i none = refl
 all-certain gs c t i (part k u ps) = ap (λ b. certain gs (enter_facts c t i) u && b) (all-certain gs c t (suc i) ps)
 
-some-certain : (gs : List (Option Bounds)) (c : Facts) (t : Term) (i : ℕ) (ps : Parts) → some_certain gs c t i ps ≡ some_true (certain gs) c t i ps
+some-certain : (gs : List (Option Bounds)) (c : Context) (t : Term) (i : ℕ) (ps : Parts) → some_certain gs c t i ps ≡ some_true (certain gs) c t i ps
 some-certain gs c t i none = refl
 some-certain gs c t i (part k u ps) = ap (λ b. certain gs (enter_facts c t i) u || b) (some-certain gs c t (suc i) ps)
 
@@ -46,7 +46,7 @@ other-sure : (D : ℕ → Bool) (f : Form) (s : Span) (ps : Parts) → IsOther f
 other-sure D (Form.strict (Strict.arith op)) s ps o = absurd o
 other-sure D f s ps o = refl
 
-firm-node : (D : ℕ → Bool) (c : Facts) (t : Term) → IsOther (form_of t) → firm D c t ≡ (form_sure D (form_of t) && parts_true (firm D) c t)
+firm-node : (D : ℕ → Bool) (c : Context) (t : Term) → IsOther (form_of t) → firm D c t ≡ (form_sure D (form_of t) && parts_true (firm D) c t)
 firm-node D c (node f ps) o =
     ap (λ b. b && (if wants_all f then all_firm D c (node f ps) 0 ps else some_firm D c (node f ps) 0 ps)) (other-sure D f (span c (node f ps)) ps o)
     ∙ ap (λ b. form_sure D f && b) (go (wants_all f))
@@ -55,7 +55,7 @@ firm-node D c (node f ps) o =
     go true = all-firm D c (node f ps) 0 ps
     go false = some-firm D c (node f ps) 0 ps
 
-certain-node : (gs : List (Option Bounds)) (c : Facts) (t : Term) →
+certain-node : (gs : List (Option Bounds)) (c : Context) (t : Term) →
     certain gs c t ≡ (firm (is_shaped gs) c t || (form_certain (is_shaped gs) (form_of t) (all_bounds gs c t 0 (parts_of t)) && parts_true (certain gs) c t))
 certain-node gs c (node f ps) =
     ap (λ b. firm (is_shaped gs) c (node f ps) || (form_certain (is_shaped gs) f (all_bounds gs c (node f ps) 0 ps) && b)) (go (wants_all f))
@@ -64,11 +64,11 @@ certain-node gs c (node f ps) =
     go true = all-certain gs c (node f ps) 0 ps
     go false = some-certain gs c (node f ps) 0 ps
 
-bounds-node : (gs : List (Option Bounds)) (c : Facts) (t : Term) → bounds gs c t ≡ by_span (span c t) (form_bounds gs (form_of t) (all_bounds gs c t 0 (parts_of t)))
+bounds-node : (gs : List (Option Bounds)) (c : Context) (t : Term) → bounds gs c t ≡ by_span (span c t) (form_bounds gs (form_of t) (all_bounds gs c t 0 (parts_of t)))
 bounds-node gs c (node f ps) = refl
 
 -- what is told of a node that is not arithmetic, from what is told of its parts
-pub node-told : (gs : List (Option Bounds)) (c : Facts) (t : Term) (x : Told) (g : Gathered) (ss : List Shape) (sure fits : Bool) → IsOther (form_of t) → AreTold gs c t g ss →
+pub node-told : (gs : List (Option Bounds)) (c : Context) (t : Term) (x : Told) (g : Gathered) (ss : List Shape) (sure fits : Bool) → IsOther (form_of t) → AreTold gs c t g ss →
     sure ≡ form_sure (is_shaped gs) (form_of t) → fits ≡ form_certain (is_shaped gs) (form_of t) (bounds_each ss) → x.firm ≡ (sure && g.firm) → x.certain ≡ (x.firm || (fits && g.certain)) →
     span_of x.span ≡ span c t → IsOrdered x.span → bounds_of x.shape ≡ by_span (span_of x.span) (form_bounds gs (form_of t) (bounds_each ss)) → IsTold gs c t x
 node-told gs c t x g ss sure fits o h s f a b e k m =
@@ -85,37 +85,37 @@ node-told gs c t x g ss sure fits o h s f a b e k m =
     }
 
 -- contexts with the same facts and as many variables
-facts-same : (F G : List facts.Fact) (d e : ℕ) → F ≡ G → d ≡ e → (let x : Facts = record { facts = F; depth = d } in x) ≡ (let y : Facts = record { facts = G; depth = e } in y)
-facts-same F G d e p q = ap (λ l. let x : Facts = record { facts = l; depth = d } in x) p ∙ ap (λ n. let x : Facts = record { facts = G; depth = n } in x) q
+facts-same : (F G : List facts.Fact) (d e : ℕ) → F ≡ G → d ≡ e → (let x : Context = record { facts = F; depth = d } in x) ≡ (let y : Context = record { facts = G; depth = e } in y)
+facts-same F G d e p q = ap (λ l. let x : Context = record { facts = l; depth = d } in x) p ∙ ap (λ n. let x : Context = record { facts = G; depth = n } in x) q
 
 -- the sides of an arithmetic node stand at its own place
-pub side-first : (c : Facts) (op : ArithOp) (a b : Term) → enter_facts c (arith_term op a b) 0 ≡ c
+pub side-first : (c : Context) (op : ArithOp) (a b : Term) → enter_facts c (arith_term op a b) 0 ≡ c
 side-first c op a b = facts-same (c.facts ++ []) c.facts (c.depth + 0) c.depth (append-nil c.facts) (omega arith)
 
-pub side-second : (c : Facts) (op : ArithOp) (a b : Term) → enter_facts c (arith_term op a b) 1 ≡ c
+pub side-second : (c : Context) (op : ArithOp) (a b : Term) → enter_facts c (arith_term op a b) 1 ≡ c
 side-second c op a b = facts-same (c.facts ++ []) c.facts (c.depth + 0) c.depth (append-nil c.facts) (omega arith)
 
 -- so arithmetic is told of by its span or divisor, and by what is told of its sides
-arith-firm : (D : ℕ → Bool) (c : Facts) (op : ArithOp) (a b : Term) →
+arith-firm : (D : ℕ → Bool) (c : Context) (op : ArithOp) (a b : Term) →
     firm D c (arith_term op a b) ≡ (arith_firm op (span c (arith_term op a b)) (number_of b) && (firm D c a && (firm D c b && true)))
 arith-firm D c op a b =
     ap (λ x. arith_firm op (span c (arith_term op a b)) (number_of b) && (firm D x a && (firm D (enter_facts c (arith_term op a b) 1) b && true))) (side-first c op a b)
     ∙ ap (λ x. arith_firm op (span c (arith_term op a b)) (number_of b) && (firm D c a && (firm D x b && true))) (side-second c op a b)
 
-arith-certain : (gs : List (Option Bounds)) (c : Facts) (op : ArithOp) (a b : Term) →
+arith-certain : (gs : List (Option Bounds)) (c : Context) (op : ArithOp) (a b : Term) →
     certain gs c (arith_term op a b)
     ≡ (firm (is_shaped gs) c (arith_term op a b) || (always_fits op (interval_of (bounds gs c a)) (interval_of (bounds gs c b)) && (certain gs c a && (certain gs c b && true))))
 arith-certain gs c op a b =
     ap (λ x. firm (is_shaped gs) c (arith_term op a b) || (always_fits op (interval_of (bounds gs x a)) (interval_of (bounds gs (enter_facts c (arith_term op a b) 1) b)) && (certain gs x a && (certain gs (enter_facts c (arith_term op a b) 1) b && true)))) (side-first c op a b)
     ∙ ap (λ x. firm (is_shaped gs) c (arith_term op a b) || (always_fits op (interval_of (bounds gs c a)) (interval_of (bounds gs x b)) && (certain gs c a && (certain gs x b && true)))) (side-second c op a b)
 
-arith-bounds : (gs : List (Option Bounds)) (c : Facts) (op : ArithOp) (a b : Term) →
+arith-bounds : (gs : List (Option Bounds)) (c : Context) (op : ArithOp) (a b : Term) →
     bounds gs c (arith_term op a b) ≡ by_span (span c (arith_term op a b)) (number (arith_interval op (interval_of (bounds gs c a)) (interval_of (bounds gs c b))))
 arith-bounds gs c op a b =
     ap (λ x. by_span (span c (arith_term op a b)) (number (arith_interval op (interval_of (bounds gs x a)) (interval_of (bounds gs (enter_facts c (arith_term op a b) 1) b))))) (side-first c op a b)
     ∙ ap (λ x. by_span (span c (arith_term op a b)) (number (arith_interval op (interval_of (bounds gs c a)) (interval_of (bounds gs x b))))) (side-second c op a b)
 
-pub arith-told : (gs : List (Option Bounds)) (c : Facts) (op : ArithOp) (a b : Term) (l r : Told) (n : Option ℕ) (x : Told) → IsTold gs c a l → IsTold gs c b r → n ≡ number_of b → IsArithTold op l r n x → IsTold gs c (arith_term op a b) x
+pub arith-told : (gs : List (Option Bounds)) (c : Context) (op : ArithOp) (a b : Term) (l r : Told) (n : Option ℕ) (x : Told) → IsTold gs c a l → IsTold gs c b r → n ≡ number_of b → IsArithTold op l r n x → IsTold gs c (arith_term op a b) x
 arith-told gs c op a b l r n x h k m y =
     let s : span_of x.span ≡ span c (arith_term op a b) =
     y.span ∙ ap (λ w. arith_span op w (span_of r.span) n) h.span ∙ ap (λ w. arith_span op (span c a) w n) k.span ∙ ap (arith_span op (span c a) (span c b)) m in
@@ -142,11 +142,6 @@ arith-told gs c op a b l r n x h k m y =
           ∙ ap (λ w. by_span (span c (arith_term op a b)) (number (arith_interval op (interval_of (bounds gs c a)) (interval_of w)))) k.shape
           ∙ sym (arith-bounds gs c op a b);
     }
-
--- the facts of a part, behind those of the context
-pub below-entered : (F G H A : List facts.Fact) (d e b : ℕ) → H ≡ G ++ A → e ≡ d + b →
-    (let x : Facts = record { facts = F ++ H; depth = e } in x) ≡ (let y : Facts = record { facts = (F ++ G) ++ A; depth = d + b } in y)
-below-entered F G H A d e b p q = facts-same (F ++ H) ((F ++ G) ++ A) e (d + b) (ap (λ l. F ++ l) p ∙ sym (append_assoc F G A)) q
 
 -- what is left where the facts of a part are taken back
 pub taken-back : (xs ys zs : List Fact) (A : List facts.Fact) (n : ℕ) → n ≡ length xs → facts_in ys ≡ facts_in xs ++ A → zs ≡ take n ys → facts_in zs ≡ facts_in xs
@@ -182,7 +177,3 @@ below-same c xs ys d e = facts-same (facts_in c.facts.items ++ facts_in xs) (fac
 -- and none
 pub below-none : (c : Ctx) (xs : List Fact) → xs ≡ [] → facts_below c xs c.depth ≡ context_of c
 below-none c xs e = facts-same (facts_in c.facts.items ++ facts_in xs) (facts_in c.facts.items) c.depth c.depth (ap (λ l. facts_in c.facts.items ++ facts_in l) e ∙ append-nil (facts_in c.facts.items)) refl
-
--- the place of a part below a context
-pub part-below : (c : Ctx) (xs ys : List Fact) (t : Term) (i d e : ℕ) → facts_in ys ≡ facts_in xs ++ facts.added d (form_of t) (parts_of t) i → e ≡ d + binders_of (parts_of t) i → facts_below c ys e ≡ enter_facts (facts_below c xs d) t i
-part-below c xs ys t i d e p q = below-entered (facts_in c.facts.items) (facts_in xs) (facts_in ys) (facts.added d (form_of t) (parts_of t) i) d e (binders_of (parts_of t) i) p q

@@ -11,7 +11,7 @@ use Rattle.nrca_term.specs.Subst.{shift_term}
 use Rattle.nrca_term.specs.Laws.Shifting.{cden-shift_term}
 use Rattle.nrca_term.specs.Laws.Entering.{entered-lengths, length-part_values, child-counted}
 use Rattle.nrca_term.specs.Laws.WellFormed.{well_formed-child, binders-well_formed}
-use Rattle.nrca_term.specs.Facts.{Known, truth_of, Fact, Facts, no_facts, added, enter_facts, context_below, context_at, facts_at, Holds, Stands, SomeFact, IsFact, LiterallyKnown, Literally}
+use Rattle.nrca_term.specs.Facts.{Known, truth_of, Fact, Context, no_facts, added, enter_facts, context_below, context_at, facts_at, Holds, FactsHold, SomeFact, IsFact, LiterallyKnown, Literally}
 use Rattle.nrca_term.specs.Laws.Facts.{new-holds}
 
 -- The one induction over the way down: I is kept of a context and the values around, and G of a context and the term.
@@ -39,8 +39,8 @@ old-holds V around new d k f e h =
     let n : d + k - f.depth ≡ length new + (d - f.depth) = omega (arith, h.0, e) in
     (omega (arith, h.0), ap (λ l. cden V l f.comparison) (ap (λ m. drop m (new ++ around)) n ∙ drop-past new around (d - f.depth)) ∙ h.1)
 
-pub stands-enter : (V : Outcomes) (c : Facts) (around : List Datum) (t : Term) (i : ℕ) (u : Term) → WellFormed t → child_of (parts_of t) i ≡ Some u → Stands V c around →
-    Every (λ new. Stands V (enter_facts c t i) (new ++ around)) (entered_in V around t i)
+pub stands-enter : (V : Outcomes) (c : Context) (around : List Datum) (t : Term) (i : ℕ) (u : Term) → WellFormed t → child_of (parts_of t) i ≡ Some u → FactsHold V c around →
+    Every (λ new. FactsHold V (enter_facts c t i) (new ++ around)) (entered_in V around t i)
 stands-enter V c around t i u s e h =
     let b = binders-well_formed t i u s e in
     let l = child-counted (parts_of t) i u e in
@@ -54,12 +54,12 @@ stands-enter V c around t i u s e h =
     (entered_in V around t i) (entered-lengths (form_of t) (part_values V around (parts_of t)) i (omega (arith, l, length-part_values V around (parts_of t)))) (new-holds V around c.depth (form_of t) (parts_of t) i l)
 
 -- from values at which the facts around a term stand
-pub stands-from : (V : Outcomes) (c : Facts) (around : List Datum) (t : Term) → WellFormed t → Stands V c around → (path : List ℕ) → Every (Stands V (context_at enter_facts c t path)) (reach V around t path)
+pub stands-from : (V : Outcomes) (c : Context) (around : List Datum) (t : Term) → WellFormed t → FactsHold V c around → (path : List ℕ) → Every (FactsHold V (context_at enter_facts c t path)) (reach V around t path)
 stands-from V c around t s h path =
-    reach-induction V enter_facts (Stands V) (λ c t. WellFormed t) (λ c t i u w e. well_formed-child t i u w e) (λ c around t i u w e k. stands-enter V c around t i u w e k) path c around t s h
+    reach-induction V enter_facts (FactsHold V) (λ c t. WellFormed t) (λ c t i u w e. well_formed-child t i u w e) (λ c around t i u w e k. stands-enter V c around t i u w e k) path c around t s h
 
 -- the facts of a place of a closed term stand at each list of values that comes there
-pub stands : (V : Outcomes) (t : Term) → WellFormed t → (path : List ℕ) → Every (Stands V (facts_at t path)) (reach V [] t path)
+pub stands : (V : Outcomes) (t : Term) → WellFormed t → (path : List ℕ) → Every (FactsHold V (facts_at t path)) (reach V [] t path)
 stands V t s path = stands-from V no_facts [] t s (refl, tt) path
 
 pub fact-found : (Q : Type 0) (P R : Fact → Type 0) (F : List Fact) → Every R F → SomeFact F P → ((f : Fact) → R f → P f → Q) → Q
@@ -84,13 +84,13 @@ cden-shift_drop V vals n t l =
     ap (λ w. cden V w (shift_term 0 n t)) (sym r.1) ∙ ap (λ m. cden V (take n vals ++ drop n vals) (shift_term 0 m t)) (sym r.0) ∙ cden-shift_term V [] (take n vals) (drop n vals) t
 
 -- a comparison that is literally a fact has its truth value
-pub literally-true : (V : Outcomes) (c : Facts) (vals : List Datum) (b : Bool) (t : Term) → Stands V c vals → Literally c b t → cden V vals t ≡ Some (truth b)
+pub literally-true : (V : Outcomes) (c : Context) (vals : List Datum) (b : Bool) (t : Term) → FactsHold V c vals → Literally c b t → cden V vals t ≡ Some (truth b)
 literally-true V c vals b t h l =
     fact-found (cden V vals t ≡ Some (truth b)) (λ f. (truth_of f.known ≡ b) × IsFact c t f) (Holds V vals c.depth) c.facts h.1 l
     (λ f r p. ap (cden V vals) p.1 ∙ cden-shift_drop V vals (c.depth - f.depth) f.comparison (omega (arith, h.0)) ∙ r.1 ∙ ap (λ x. Some (truth x)) p.0)
 
 -- one that is literally known has the truth value of that kind
-pub known-literally : (k : Known) (c : Facts) (t : Term) → LiterallyKnown k c t → Literally c (truth_of k) t
+pub known-literally : (k : Known) (c : Context) (t : Term) → LiterallyKnown k c t → Literally c (truth_of k) t
 known-literally k c t h = some-fact (λ f. (f.known ≡ k) × IsFact c t f) (λ f. (truth_of f.known ≡ truth_of k) × IsFact c t f) (λ f p. (ap truth_of p.0, p.1)) c.facts h
 
 -- What holds of each list of values at a place of a part, wherever I is kept of the part's context, holds at the longer path of

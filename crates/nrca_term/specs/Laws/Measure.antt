@@ -1,4 +1,4 @@
--- What follows from the definitions of `MeasureLaws`.
+-- How the measure changes where a part is replaced, and its bounds.
 use Rattle.std.proofs.Common.{◌≡◌, ℕ, zero, suc, ◌+◌, ◌*◌, ◌<◌, ◌≤◌, Bool, true, false, List, [], ◌∷◌, Option, Some, None, refl, ap, arith, inl, inr}
 use Rattle.std.proofs.Math.Nat.{mul-add, mul_comm}
 use Rattle.std.proofs.lemmas.Nat.{mul-le}
@@ -7,8 +7,7 @@ use Rattle.aql_value.specs.Partial.{◌>>=◌}
 use Rattle.aql_value.specs.Strict.{Strict}
 use Rattle.nrca_term.specs.Term.{Term, Parts, node, none, part, Form, parts_of, child_of, weight_of, parts_weight, form_weight}
 use Rattle.nrca_term.specs.Places.{place_of, on_child, put_at}
-use Rattle.nrca_term.specs.Measure.{has_operand, nodes_of, parts_nodes, first_nodes, own_pairs, pairs_of, parts_pairs, Below}
-use Rattle.nrca_term.specs.MeasureLaws.{Lowers, left_of}
+use Rattle.nrca_term.specs.Measure.{has_operand, nodes_of, parts_nodes, first_nodes, own_pairs, pairs_of, parts_pairs, Below, Lowers, left_of}
 
 -- what the change of one child does
 weight-on_child : (ps : Parts) (i : ℕ) (r : Term) (g : Term → Term) → child_of ps i ≡ Some r → parts_weight (on_child ps i g) + weight_of r ≡ parts_weight ps + weight_of (g r)

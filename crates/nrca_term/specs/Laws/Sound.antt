@@ -6,18 +6,18 @@ use Rattle.aql_value.specs.Datum.{Datum}
 use Rattle.aql_value.specs.Indices.{indices}
 use Rattle.aql_value.specs.Laws.RowMajor.{indices_lengths}
 use Rattle.aql_value.specs.Lists.{Every}
-use Rattle.aql_value.specs.Laws.Lists.{Every-impl, Every-lists}
+use Rattle.aql_value.specs.Laws.Lists.{Every-lists}
 use Rattle.aql_value.specs.Operations.{as_natural, as_set, in_range, set_of, union_all, sum_of, array_of, walked}
 use Rattle.aql_value.specs.Partial.{◌>>=◌, each, concat, or_else}
 use Rattle.aql_value.specs.Laws.Partial.{then-is, each-values}
 use Rattle.aql_value.specs.Strict.{strict_value}
 use Rattle.aql_types.specs.Types as types
-use Rattle.aql_types.specs.Types.{Ty, Tys, no_type, type, natural, truth, text, apply, apply_all, Subst}
-use Rattle.aql_types.specs.ValueTypes.{HasType, AllHaveTypes, HaveTypes}
+use Rattle.aql_types.specs.Types.{Ty, natural, truth}
+use Rattle.aql_types.specs.ValueTypes.{HasType, HaveTypes}
 use Rattle.aql_types.specs.Laws.Operation.{has-get, has-append, some-has, some-list, as-type, has-set, set-members, has-array, strict-sound}
 use Rattle.nrca_term.specs.Term.{Term, Parts, node, none, part, Form}
-use Rattle.nrca_term.specs.Typing.{Arg, arg, form_rule, ctyped, parts_typed, instances, OutcomesHave}
-use Rattle.nrca_term.specs.Meaning.{Outcomes, at_position, outcome, Part, worth, here, form_value, test_value, members_value, loop_values, bounds_value, at_length, cden, part_values}
+use Rattle.nrca_term.specs.Typing.{Arg, arg, form_rule, ctyped, parts_typed, OutcomesHave}
+use Rattle.nrca_term.specs.Meaning.{Outcomes, Part, worth, here, form_value, test_value, members_value, loop_values, bounds_value, at_length, cden, part_values}
 use Rattle.nrca_term.specs.Laws.Entering.{bounds-length}
 
 -- a part that gives values of its type at values of its own variables' types
@@ -150,24 +150,3 @@ mutual
   parts-sound G V g (part k u ps) env vals args h t =
       sounds (t.0 ∷ t.1) args (part_values V vals (part k u ps)) (sym t.2)
       ((λ new v n e. sound G V g u (t.0.own ++ env) (new ++ vals) t.0.has v (has-append t.0.own env new vals n h) t.4 (at_length-value k (λ w. cden V (w ++ vals) u) new v e)), parts-sound G V g ps env vals t.1 h t.5)
-
--- a value of a type has each instance of it
-mutual
-  pub has-apply : (u : Subst) (T : Ty) (v : Datum) → HasType T v → HasType (apply u T) v
-  has-apply u natural v h = h
-  has-apply u truth v h = h
-  has-apply u text v h = h
-  has-apply u (types.var x) v h = absurd h
-  has-apply u (types.product Ts) v h = (h.0, h.1, has-apply_all u Ts h.0 h.2)
-  has-apply u (types.set_of T) v h = (h.0, h.1, h.2, Every-impl (HasType T) (HasType (apply u T)) (λ w k. has-apply u T w k) h.0 h.3)
-  has-apply u (types.array_of rank T) v h = (h.0, h.1, h.2, h.3, h.4, Every-impl (HasType T) (HasType (apply u T)) (λ w k. has-apply u T w k) h.1 h.5)
-
-  pub has-apply_all : (u : Subst) (Ts : Tys) (vs : List Datum) → AllHaveTypes Ts vs → AllHaveTypes (apply_all u Ts) vs
-  has-apply_all u no_type [] h = tt
-  has-apply_all u no_type (v ∷ vs) h = absurd h
-  has-apply_all u (type T Ts) [] h = absurd h
-  has-apply_all u (type T Ts) (v ∷ vs) h = (has-apply u T v h.0, has-apply_all u Ts vs h.1)
-
--- outcomes whose values have the types given for their positions
-pub instances-have : (Ts : List Ty) (V : Outcomes) → ((n : ℕ) (S : Ty) (v : Datum) → at_position Ts n ≡ Some S → outcome V n ≡ Some v → HasType S v) → OutcomesHave (instances Ts) V
-instances-have Ts V h n T v g e = subst (λ X. HasType X v) (sym g.3) (has-apply g.1 g.0 v (h n g.0 v g.2 e))

@@ -21,7 +21,17 @@ use Rattle.nrca_term.specs.Laws.Entering.{bounds-length}
 use Rattle.nrca_term.specs.Laws.Measure.{through}
 use Rattle.aql_types.specs.Laws.Operation.{set-members, has-append}
 use Rattle.nrca_term.specs.Laws.Sound.{AllSound, sound-get, sounds, sound-length, length-tab, index-have, parts-sound}
-use Rattle.nrca_term.specs.TypedPlaces.{typed-child, TypedPlace, Keeps}
+use Rattle.nrca_term.specs.TypedPlaces.{TypedPlace, Keeps}
+
+-- the type of a part
+abbrev TypedChild : (ℕ → Ty → Type 0) → List Ty → List Arg → ℕ → Term → Type 0
+TypedChild G env args i u = (a : Arg) × (slice_get args i ≡ Some a) × ctyped G (a.own ++ env) u a.has
+
+-- a child of typed parts has a type under its own variables
+typed-child : (G : ℕ → Ty → Type 0) (env : List Ty) (ps : Parts) (args : List Arg) (i : ℕ) (u : Term) → parts_typed G env ps args → child_of ps i ≡ Some u → TypedChild G env args i u
+typed-child G env none args i u t e = cc
+typed-child G env (part k s ps) args zero u t e = let z : s ≡ u = cc in (t.0, ap (λ x. slice_get x 0) t.2, subst (λ x. ctyped G (t.0.own ++ env) x t.0.has) z t.4)
+typed-child G env (part k s ps) args (suc i) u t e = let r = typed-child G env ps t.1 i u t.5 e in (r.0, ap (λ x. slice_get x (suc i)) t.2 ∙ r.1, r.2)
 
 -- the values with which a part is entered have its types
 own-none : (A : Type 0) (a b : Arg) → Some a ≡ Some b → a.own ≡ b.own

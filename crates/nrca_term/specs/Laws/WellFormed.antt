@@ -1,5 +1,5 @@
--- Each `Core` is a well-formed term, and well-formedness goes down to the parts and through shifting and substitution.
-use Rattle.std.proofs.Common.{◌≡◌, ℕ, zero, suc, ◌+◌, ◌-◌, ◌<◌, Bool, true, false, nat_lt, nat_eq, List, [], ◌∷◌, length, map, Some, refl, sym, ap, ◌∙◌, subst, arith, if◌then◌else◌}
+-- Each `Core` is a well-formed term, and well-formedness goes down to the parts and through shifting.
+use Rattle.std.proofs.Common.{◌≡◌, ℕ, zero, suc, ◌+◌, ◌<◌, Bool, List, [], ◌∷◌, length, map, Some, refl, sym, ap, ◌∙◌, subst, arith}
 use Rattle.std.proofs.lemmas.Bool.{lt-ltb, le-ltb}
 use Rattle.aql_value.specs.Lists.{Every}
 use Rattle.aql_value.specs.Strict.{Strict}
@@ -9,7 +9,7 @@ use Rattle.nrca_term.specs.declared.term.Core.TheOpen.{Core-F, Terms-F}
 use Rattle.nrca_term.specs.declared.term.Core.TheFolds.{ind-Core, fold-roll-Core, fold-Terms, fold-roll-Terms, map-Core, map-Terms}
 use Rattle.nrca_term.specs.declared.term.Core.TheViews.{roll-Core, roll-Terms}
 use Rattle.nrca_term.specs.Term.{Term, Parts, node, none, part, plain, Form, form_of, parts_of, child_of, count, binders_of, form_binders, LeafIsBare, WellFormed, PartsWellFormed}
-use Rattle.nrca_term.specs.Subst.{shift_form, shift_term, shift_parts, subst_var, subst_node, subst_term, subst_parts}
+use Rattle.nrca_term.specs.Subst.{shift_form, shift_term, shift_parts}
 use Rattle.nrca_term.specs.View.{term_of, node_term, list_of}
 
 pub well_formed-child : (t : Term) (i : ℕ) (u : Term) → WellFormed t → child_of (parts_of t) i ≡ Some u → WellFormed u
@@ -68,34 +68,6 @@ mutual
   parts_well_formed-shift from by f i none h = tt
   parts_well_formed-shift from by f i (part k t ps) h =
       (h.0 ∙ sym (form_binders-shift from by f i), well_formed-shift (from + k) by t h.1, parts_well_formed-shift from by f (suc i) ps h.2)
-
-subst_var-well_formed : (at : ℕ) (s : Term) (i : ℕ) → WellFormed s → WellFormed (subst_var at s i)
-subst_var-well_formed at s i h = go (nat_lt i at) (nat_eq i at)
-  where
-    go : (a b : Bool) → WellFormed (if a then node (Form.var i) none else (if b then s else node (Form.var (i - 1)) none))
-    go true b = (refl, tt)
-    go false true = h
-    go false false = (refl, tt)
-
-subst_node-well_formed : (at : ℕ) (s : Term) (f : Form) (ps qs : Parts) → WellFormed s → LeafIsBare f ps → (ps ≡ none → qs ≡ none) → PartsWellFormed f 0 qs → WellFormed (subst_node at s f qs)
-subst_node-well_formed at s (Form.var i) ps qs h l n k = subst_var-well_formed at s i h
-subst_node-well_formed at s (Form.global m) ps qs h l n k = (n l, k)
-subst_node-well_formed at s Form.bind ps qs h l n k = (tt, k)
-subst_node-well_formed at s Form.choose ps qs h l n k = (tt, k)
-subst_node-well_formed at s Form.default ps qs h l n k = (tt, k)
-subst_node-well_formed at s Form.big_union ps qs h l n k = (tt, k)
-subst_node-well_formed at s Form.sum ps qs h l n k = (tt, k)
-subst_node-well_formed at s (Form.tab rank) ps qs h l n k = (tt, k)
-subst_node-well_formed at s (Form.strict c) ps qs h l n k = (tt, k)
-
-mutual
-  pub well_formed-subst : (at : ℕ) (s t : Term) → WellFormed s → WellFormed t → WellFormed (subst_term at s t)
-  well_formed-subst at s (node f ps) h k =
-      subst_node-well_formed at s f ps (subst_parts at s ps) h k.0 (λ e. ap (subst_parts at s) e) (parts_well_formed-subst at s f 0 ps h k.1)
-
-  parts_well_formed-subst : (at : ℕ) (s : Term) (f : Form) (i : ℕ) (ps : Parts) → WellFormed s → PartsWellFormed f i ps → PartsWellFormed f i (subst_parts at s ps)
-  parts_well_formed-subst at s f i none h k = tt
-  parts_well_formed-subst at s f i (part n t ps) h k = (k.0, well_formed-subst (at + n) (shift_term 0 n s) t (well_formed-shift 0 n s h) k.1, parts_well_formed-subst at s f (suc i) ps h k.2)
 
 -- parts in a row that bind nothing
 plain-well_formed : (f : Form) (i : ℕ) (ts : List Term) (ps : Parts) → ((j : ℕ) → j < length ts → form_binders f (i + j) ≡ 0) → Every WellFormed ts → PartsWellFormed f (i + length ts) ps →

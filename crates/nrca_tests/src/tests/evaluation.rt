@@ -1,6 +1,7 @@
 //! Terms with their values and turns, worked out by hand, for each number of workers.
 
 ghost use Rattle.std.specs.Prelude.{◌≤◌};
+ghost use Rattle.aql_value.specs.Limits.{most_budget, most_workers};
 
 use crate::tests::outcomes::{Outcome, Row, outcome, wanted};
 use crate::tests::same::assert_same;
@@ -9,7 +10,7 @@ use crate::tests::values::value;
 use crate::tests::words::term;
 use aql_outside::{FreeGate, Gate};
 use aql_value::made::both;
-use aql_value::{Memory, Value};
+use aql_value::{MOST_BUDGET, MOST_WORKERS, Memory, Value};
 use nrca_array::Held;
 use nrca_eval::{Globals, evaluate};
 use nrca_par::EvalFault;
@@ -35,14 +36,14 @@ fn position(alloc: Global, words: &str) -> Result<Option<Held>, Memory> {
 }
 
 fn workers(number: u64) -> u64
-    ensures { (1 ≤ result) × (result ≤ 64) }
+    ensures { (1 ≤ result) × (result ≤ most_workers) }
 {
     match number {
         0 => 1,
         1 => 2,
         2 => 3,
         3 => 8,
-        _ => 64,
+        _ => MOST_WORKERS,
     }
 }
 
@@ -72,8 +73,8 @@ fn evaluated<R: Threads + Sync, G: Gate>(
     workers: u64,
     gate: &G,
 ) -> Outcome
-    requires budget { budget ≤ 50000000 }
-    requires workers { (1 ≤ workers) × (workers ≤ 64) }
+    requires budget { budget ≤ most_budget }
+    requires workers { (1 ≤ workers) × (workers ≤ most_workers) }
 {
     let done = evaluate(rt, alloc, &case.term, &case.globals, budget, workers, gate)?;
     let found = outcome(alloc, &done.value, &case.value, done.turns);
@@ -89,8 +90,8 @@ pub(crate) fn found<R: Threads + Sync, G: Gate>(
     workers: u64,
     gate: &G,
 ) -> Outcome
-    requires budget { budget ≤ 50000000 }
-    requires workers { (1 ≤ workers) × (workers ≤ 64) }
+    requires budget { budget ≤ most_budget }
+    requires workers { (1 ≤ workers) × (workers ≤ most_workers) }
 {
     let case = case_of(alloc, row.0, row.1)?;
     let found = evaluated(rt, alloc, &case, budget, workers, gate);
@@ -298,7 +299,7 @@ fn indices(rt: HostRuntime) {
 }
 
 fn is_spent<R: Threads + Sync>(rt: &R, alloc: Global, words: &'static str, budget: u64) -> bool
-    requires { budget ≤ 50000000 }
+    requires { budget ≤ most_budget }
 {
     let row = (words, "undefined", 0);
     found(rt, alloc, &row, budget, 2, &FreeGate) == Err(EvalFault::Spent)
@@ -309,7 +310,7 @@ fn are_spent<R: Threads + Sync>(rt: &R, alloc: Global, words: &'static str) -> [
     [
         is_spent(rt, alloc, words, 0),
         is_spent(rt, alloc, words, 1),
-        is_spent(rt, alloc, words, 50_000_000),
+        is_spent(rt, alloc, words, MOST_BUDGET),
     ]
 }
 

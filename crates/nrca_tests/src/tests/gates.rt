@@ -1,6 +1,7 @@
 //! That two pieces of each kind of loop run beside each other, and how often pieces pass the gate.
 
 ghost use Rattle.std.specs.Prelude.{◌≤◌};
+ghost use Rattle.aql_value.specs.Limits.{most_workers};
 
 use crate::tests::evaluation::found;
 use crate::tests::outcomes::{Outcome, Row, wanted};
@@ -99,7 +100,7 @@ impl Gate for Counting {
 
 // The outcome of a loop by so many workers, and how often the pieces 0, 1, 2 and any other passed the gate.
 fn passes<R: Threads + Sync>(rt: &R, alloc: Global, row: &Row, workers: u64) -> (Outcome, [u64; 4])
-    requires { (1 ≤ workers) × (workers ≤ 64) }
+    requires { (1 ≤ workers) × (workers ≤ most_workers) }
 {
     let gate = Counting {
         first: AtomicU64::new(0),
@@ -140,7 +141,7 @@ fn assert_passes<R: Threads + Sync + Abort>(
     workers: u64,
     counts: [u64; 4],
 )
-    requires { (1 ≤ workers) × (workers ≤ 64) }
+    requires { (1 ≤ workers) × (workers ≤ most_workers) }
 {
     for row in rows {
         let found = passes(rt, alloc, row, workers);

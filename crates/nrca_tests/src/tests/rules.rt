@@ -8,15 +8,12 @@ use crate::tests::tables::named;
 use crate::tests::{assert_right, words};
 use aql_value::Memory;
 use aql_value::made::both;
-use nrca_arrayrules::{
-    a1, a2, a3, a4, a5, a6, a7, fits_a1, fits_a2, fits_a3, fits_a4, fits_a5, fits_a6, fits_a7,
-};
-use nrca_checks::{c1, c2, c3, c4, fits_c1, fits_c2, fits_c3, fits_c4};
+use nrca_arrayrules::{a1, a2, a3, a4, a5, a6, a7};
+use nrca_checks::{c1, c2, c3, c4};
+use nrca_normal::fits;
 use nrca_ranges::is_small;
 use nrca_setrules::{
-    b1, fits_b1, fits_i1, fits_i2, fits_k1, fits_l1, fits_l2, fits_l3, fits_n1, fits_n2, fits_p1,
-    fits_p2, fits_s1, fits_s2, fits_s3, fits_s4, fits_s5, fits_s6, fits_s7, fits_s8, fits_s9, i1,
-    i2, k1, l1, l2, l3, n1, n2, p1, p2, s1, s2, s3, s4, s5, s6, s7, s8, s9,
+    b1, i1, i2, k1, l1, l2, l3, n1, n2, p1, p2, s1, s2, s3, s4, s5, s6, s7, s8, s9,
 };
 use nrca_subst::same;
 use nrca_term::{Core, Rule};
@@ -127,45 +124,6 @@ const ROWS: &[&str] = &[
 
 fn rule_of(name: &str) -> Option<Rule> {
     named(NAMES, name)
-}
-
-// Whether the term is a left side of the rule.
-fn fits(rule: Rule, term: &Core) -> bool
-    ensures { RuleFits rule result (term_of term.now) }
-{
-    match rule {
-        Rule::B1 => fits_b1(term),
-        Rule::K1 => fits_k1(term),
-        Rule::I1 => fits_i1(term),
-        Rule::I2 => fits_i2(term),
-        Rule::L1 => fits_l1(term),
-        Rule::L2 => fits_l2(term),
-        Rule::L3 => fits_l3(term),
-        Rule::P1 => fits_p1(term),
-        Rule::P2 => fits_p2(term),
-        Rule::S1 => fits_s1(term),
-        Rule::S2 => fits_s2(term),
-        Rule::S3 => fits_s3(term),
-        Rule::S4 => fits_s4(term),
-        Rule::S5 => fits_s5(term),
-        Rule::S6 => fits_s6(term),
-        Rule::S7 => fits_s7(term),
-        Rule::S8 => fits_s8(term),
-        Rule::S9 => fits_s9(term),
-        Rule::A1 => fits_a1(term),
-        Rule::A2 => fits_a2(term),
-        Rule::A3 => fits_a3(term),
-        Rule::A4 => fits_a4(term),
-        Rule::A5 => fits_a5(term),
-        Rule::A6 => fits_a6(term),
-        Rule::A7 => fits_a7(term),
-        Rule::C1 => fits_c1(term),
-        Rule::C2 => fits_c2(term),
-        Rule::C3 => fits_c3(term),
-        Rule::C4 => fits_c4(term),
-        Rule::N1 => fits_n1(term),
-        Rule::N2 => fits_n2(term),
-    }
 }
 
 // The right side; of a comparison that ranges decide, true.

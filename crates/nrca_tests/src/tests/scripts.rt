@@ -1,9 +1,6 @@
 //! The core terms of scripts.
 
-ghost use Rattle.std.specs.Prelude.{◌≡◌, ◌≤◌, ◌-◌, length, IfOk, Some};
-ghost use Rattle.std.specs.List.{slice_get};
-ghost use Rattle.aql_syntax.specs.Tree.{bare};
-ghost use Rattle.aql_syntax.specs.View.{decl_of, decls_of, tree_of};
+ghost use Rattle.std.specs.Prelude.{◌≤◌, length, IfOk};
 ghost use Rattle.nrca_term.specs.Typing.{IsTyped};
 ghost use Rattle.nrca_term.specs.View.{term_of};
 ghost use Rattle.nrca_tests.specs.Checked.{IsChecked, IsBareAt};
@@ -11,6 +8,7 @@ ghost use Rattle.nrca_tests.specs.Checked.{IsChecked, IsBareAt};
 use aql_desugar::translate::translate;
 use aql_script::{Prepared, prepare};
 use aql_syntax::ast::Decl;
+use aql_syntax::positions::declaration_at;
 use aql_value::Memory;
 use nrca_term::Core;
 use std::alloc::Global;
@@ -42,15 +40,6 @@ fn last_term(alloc: Global, prepared: &Prepared) -> Result<Core, Memory>
         Decl::Bare { expr: _ } => term_at(alloc, prepared, n),
         _ => Err(Memory),
     }
-}
-
-// Declaration n, counted from 1.
-fn declaration_at(decls: &[Decl], n: u64) -> &Decl
-    requires first { 1 ≤ n }
-    requires last { n ≤ length decls.now }
-    ensures { slice_get (decls_of decls.now) (n - 1) ≡ Some (decl_of result.now) }
-{
-    &decls[(n - 1) as usize]
 }
 
 // The term of a bare expression.

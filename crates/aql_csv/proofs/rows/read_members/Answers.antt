@@ -66,7 +66,7 @@ records-preserved c =
           ∙ swap_front (map datum c.add_row.new.values.items) (map datum c.in_ok-values.values.items) (rows_behind c.args.header c.args.kinds.now (c.records.place + 1) (behind c.read_byte_record.new.self.state (unread c.read_byte_record.new.self))) (sym c.in_ok-values.ensures.same);
     }
 
-pub wanting-requires : goal.wanting-requires
-wanting-requires c =
+pub memory_fault-requires : goal.memory_fault-requires
+memory_fault-requires c =
     let inv = c.records.invariant in
     explained c.records.reader c.read_byte_record.new.self _ inv.any_length (c.in-Err.ensures.why inv.ready)

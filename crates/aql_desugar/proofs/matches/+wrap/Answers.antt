@@ -35,7 +35,7 @@ wrap_parts-returns-in_ok-inside-in-Some-clause-made t c =
     c.len-mark.result c.args.at c.in_ok-deeper-in-Some.deeper c.args.j c.args.n c.in_ok-deeper-in-Some.next (term_of c.args.inside) (term_of c.in_ok-deeper-in-Some.inside) (term_of c.in_ok-inside-in-Some.inside)
     (term_of matched) (term_of part) (missing_term c.args.other) (term_of whole) _
     c.in-Some.ensures.cases.0 (holds_of _ _ _ numbers.0 c.open_past.ensures.inside) (holds_of _ _ _ numbers.0 c.open_past.ensures.around) (c.len-mark.ensures ∙ c.args.names.now.ok.0)
-    (part_of _ _ _ _ numbers.0 c.open_past.ensures.number) (part_of _ _ _ _ numbers.1 c.plus.ensures) (ap term_of c.in_ok-deeper-in-Some.ensures.1) c.in_ok-inside-in-Some.ensures.made
+    (part_of _ _ _ _ numbers.0 c.open_past.ensures.number) (part_of _ _ _ _ numbers.1 c.add_numbers.ensures) (ap term_of c.in_ok-deeper-in-Some.ensures.1) c.in_ok-inside-in-Some.ensures.made
     c.in_ok-inside-in-Some.ensures.kept m q (term_of-Var c.args.at) l)
 
 pub wrap_parts-returns-in_ok-inside-in-Some-clause-kept : goal.wrap_parts-returns-in_ok-inside-in-Some-clause-kept

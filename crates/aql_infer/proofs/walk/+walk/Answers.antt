@@ -3,7 +3,8 @@ use Rattle.aql_infer_steps.specs.declared.names.Local.{Local}
 use Rattle.aql_syntax.specs.declared.ast.Expr as code
 use Rattle.aql_infer_steps.specs.Constraints.{made_arith, made_compare, made_dim, made_either, made_gen, made_get, made_index, made_truth, made_truths, made_union}
 use Rattle.aql_infer_steps.specs.View.{Extends, locals_of, schemes_of, sketch_type, state_of}
-use Rattle.aql_infer.proofs.Walking.{all_more, along, binds_more, bounds_more, comp_arm, count_more, each_more, extends_extends, follows_kept, if_arm, let_arm, literal_arm, make-And, make-Arith, make-Compare, make-Default, make-Dim, make-Gen, make-Get, make-Index, make-Len, make-Not, make-Or, make-Union, members_arm, one_made, rows_fail, rows_more, sub_arm, tab_arm, two_made}
+use Rattle.aql_infer_steps.specs.Laws.Growing.{extends_extends}
+use Rattle.aql_infer.proofs.Walking.{all_more, along, binds_more, bounds_more, comp_arm, count_more, each_more, follows_kept, if_arm, let_arm, literal_arm, make-And, make-Arith, make-Compare, make-Default, make-Dim, make-Gen, make-Get, make-Index, make-Len, make-Not, make-Or, make-Union, members_arm, one_made, rows_fail, rows_more, sub_arm, tab_arm, two_made}
 use Rattle.aql_infer.proofs.walk.+walk.Goals as goal
 
 pub infer_form-returns-in-Comp-clause-made : goal.infer_form-returns-in-Comp-clause-made

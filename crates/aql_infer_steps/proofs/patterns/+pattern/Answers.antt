@@ -1,6 +1,7 @@
 use Rattle.aql_infer_steps.specs.View.{schemes_of}
-use Rattle.aql_infer_steps.proofs.Growing.{extends_extends, pats_more}
+use Rattle.aql_infer_steps.proofs.Growing.{pats_more}
 use Rattle.aql_infer_steps.proofs.patterns.+pattern.Goals as goal
+use Rattle.aql_infer_steps.specs.Laws.Growing.{extends_extends}
 
 pub patterns-loop-p-preserved : goal.patterns-loop-p-preserved
 patterns-loop-p-preserved t c = record {

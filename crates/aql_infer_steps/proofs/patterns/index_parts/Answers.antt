@@ -1,6 +1,7 @@
 use Rattle.aql_infer_steps.specs.View.{schemes_of}
-use Rattle.aql_infer_steps.proofs.Growing.{extends_extends, index_more}
+use Rattle.aql_infer_steps.proofs.Growing.{index_more}
 use Rattle.aql_infer_steps.proofs.patterns.index_parts.Goals as goal
+use Rattle.aql_infer_steps.specs.Laws.Growing.{extends_extends}
 
 pub loop-p-preserved : goal.loop-p-preserved
 loop-p-preserved c = record {

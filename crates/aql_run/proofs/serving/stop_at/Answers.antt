@@ -12,24 +12,24 @@ use Rattle.aql_run.proofs.Endings.{stopped_as, stopped_memory}
 use Rattle.aql_run.proofs.serving.stop_at.Goals as goal
 
 pub returns-in-Query-clause-written : goal.returns-in-Query-clause-written
-returns-in-Query-clause-written g c = stopped_as c.args.n c.args.fault (sink_of g.O.Sink c.args.output.now c.end_with_made-status.new.output) (in_declaration (codes "budget") c.args.n) status.Spent c.end_with_made-status.result c.kept.result
-    (ap stop_status c.in-Query.is) (ap (λ f. stop_line c.args.n f) c.in-Query.is) (λ e. absurd cc) (λ e. absurd cc) (c.end_with_made-status.ensures.written (in_declaration (codes "budget") c.args.n) c.declaration_line-line.ensures) c.kept.ensures.status
-    (λ x. c.kept.ensures.kept x ∙ sym (ap stop_of c.in-Query.is)) c.kept.ensures.other
+returns-in-Query-clause-written g c = stopped_as c.args.n c.args.fault (sink_of g.O.Sink c.args.output.now c.end_with_made-status.new.output) (in_declaration (codes "budget") c.args.n) status.Spent c.end_with_made-status.result c.keep_stop.result
+    (ap stop_status c.in-Query.is) (ap (λ f. stop_line c.args.n f) c.in-Query.is) (λ e. absurd cc) (λ e. absurd cc) (c.end_with_made-status.ensures.written (in_declaration (codes "budget") c.args.n) c.declaration_line-line.ensures) c.keep_stop.ensures.status
+    (λ x. c.keep_stop.ensures.kept x ∙ sym (ap stop_of c.in-Query.is)) c.keep_stop.ensures.other
 
 pub returns-in-Cells-clause-written : goal.returns-in-Cells-clause-written
-returns-in-Cells-clause-written g c = stopped_as c.args.n c.args.fault (sink_of g.O.Sink c.args.output.now c.end_with_made-status-in-Cells.new.output) (in_declaration (codes "budget") c.args.n) status.Spent c.end_with_made-status-in-Cells.result c.kept-in-Cells.result
-    (ap stop_status c.in-Cells.is) (ap (λ f. stop_line c.args.n f) c.in-Cells.is) (λ e. absurd cc) (λ e. absurd cc) (c.end_with_made-status-in-Cells.ensures.written (in_declaration (codes "budget") c.args.n) c.declaration_line-line-in-Cells.ensures) c.kept-in-Cells.ensures.status
-    (λ x. c.kept-in-Cells.ensures.kept x ∙ sym (ap stop_of c.in-Cells.is)) c.kept-in-Cells.ensures.other
+returns-in-Cells-clause-written g c = stopped_as c.args.n c.args.fault (sink_of g.O.Sink c.args.output.now c.end_with_made-status-in-Cells.new.output) (in_declaration (codes "budget") c.args.n) status.Spent c.end_with_made-status-in-Cells.result c.keep_stop-in-Cells.result
+    (ap stop_status c.in-Cells.is) (ap (λ f. stop_line c.args.n f) c.in-Cells.is) (λ e. absurd cc) (λ e. absurd cc) (c.end_with_made-status-in-Cells.ensures.written (in_declaration (codes "budget") c.args.n) c.declaration_line-line-in-Cells.ensures) c.keep_stop-in-Cells.ensures.status
+    (λ x. c.keep_stop-in-Cells.ensures.kept x ∙ sym (ap stop_of c.in-Cells.is)) c.keep_stop-in-Cells.ensures.other
 
 pub returns-in-File-clause-written : goal.returns-in-File-clause-written
-returns-in-File-clause-written g c = stopped_as c.args.n c.args.fault (sink_of g.O.Sink c.args.output.now c.end_with_made-status-in-File.new.output) (of_file c.args.n c.in-File.fault) status.File c.end_with_made-status-in-File.result c.kept-in-File.result
-    (ap stop_status c.in-File.is) (ap (λ f. stop_line c.args.n f) c.in-File.is) (λ e. absurd cc) (λ e. absurd cc) (c.end_with_made-status-in-File.ensures.written (of_file c.args.n c.in-File.fault) c.file_line-line.ensures) c.kept-in-File.ensures.status
-    (λ x. c.kept-in-File.ensures.kept x ∙ sym (ap stop_of c.in-File.is)) c.kept-in-File.ensures.other
+returns-in-File-clause-written g c = stopped_as c.args.n c.args.fault (sink_of g.O.Sink c.args.output.now c.end_with_made-status-in-File.new.output) (of_file c.args.n c.in-File.fault) status.File c.end_with_made-status-in-File.result c.keep_stop-in-File.result
+    (ap stop_status c.in-File.is) (ap (λ f. stop_line c.args.n f) c.in-File.is) (λ e. absurd cc) (λ e. absurd cc) (c.end_with_made-status-in-File.ensures.written (of_file c.args.n c.in-File.fault) c.file_line-line.ensures) c.keep_stop-in-File.ensures.status
+    (λ x. c.keep_stop-in-File.ensures.kept x ∙ sym (ap stop_of c.in-File.is)) c.keep_stop-in-File.ensures.other
 
 pub returns-in-Csv-clause-written : goal.returns-in-Csv-clause-written
-returns-in-Csv-clause-written g c = stopped_as c.args.n c.args.fault (sink_of g.O.Sink c.args.output.now c.end_with_made-status-in-Csv.new.output) (of_table c.args.n c.in-Csv.fault) status.File c.end_with_made-status-in-Csv.result c.kept-in-Csv.result
-    (ap stop_status c.in-Csv.is) (ap (λ f. stop_line c.args.n f) c.in-Csv.is) (λ e. absurd cc) (λ e. absurd cc) (c.end_with_made-status-in-Csv.ensures.written (of_table c.args.n c.in-Csv.fault) c.table_line-line.ensures) c.kept-in-Csv.ensures.status
-    (λ x. c.kept-in-Csv.ensures.kept x ∙ sym (ap stop_of c.in-Csv.is)) c.kept-in-Csv.ensures.other
+returns-in-Csv-clause-written g c = stopped_as c.args.n c.args.fault (sink_of g.O.Sink c.args.output.now c.end_with_made-status-in-Csv.new.output) (of_table c.args.n c.in-Csv.fault) status.File c.end_with_made-status-in-Csv.result c.keep_stop-in-Csv.result
+    (ap stop_status c.in-Csv.is) (ap (λ f. stop_line c.args.n f) c.in-Csv.is) (λ e. absurd cc) (λ e. absurd cc) (c.end_with_made-status-in-Csv.ensures.written (of_table c.args.n c.in-Csv.fault) c.table_line-line.ensures) c.keep_stop-in-Csv.ensures.status
+    (λ x. c.keep_stop-in-Csv.ensures.kept x ∙ sym (ap stop_of c.in-Csv.is)) c.keep_stop-in-Csv.ensures.other
 
 pub returns-in-Device-clause-written : goal.returns-in-Device-clause-written
 returns-in-Device-clause-written g c = stopped_as c.args.n c.args.fault (sink_of g.O.Sink c.args.output.now c.end_with.new.output) (codes "fault files\n") status.Files c.end_with.result

@@ -21,7 +21,7 @@ on_done (Err e) (Err d) P Q h p f = tt
 
 pub returns-clause-made : goal.returns-clause-made
 returns-clause-made g c =
-    on_done c.step-stepped.result c.done.result _ _ c.done.ensures c.step-stepped.ensures.binds
+    on_done c.step-stepped.result c.discard_made.result _ _ c.discard_made.ensures c.step-stepped.ensures.binds
     (λ a. next_declared c.args.script.now.prepared.now c.args.script.now.options.now.budget (g.F.Files.holds c.args.files.now) c.args.session.now c.step-stepped.new.self a
     c.args.n c.requires.prepared c.requires.first c.requires.last c.requires.so_far)
 

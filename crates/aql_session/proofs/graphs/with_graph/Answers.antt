@@ -1,7 +1,7 @@
 use Rattle.std.proofs.Common.{refl, sym, subst}
-use Rattle.aql_session.specs.Runs.{IsRunWithGraph}
+use Rattle.aql_session.specs.Runs.{IsExecutionWithGraph}
 use Rattle.aql_session.proofs.graphs.with_graph.Goals as goal
 
 pub returns-in-Ok-clause-ran : goal.returns-in-Ok-clause-ran
 returns-in-Ok-clause-ran g c =
-    subst (IsRunWithGraph c.args.at.now c.args.globals.now c.args.evaluated) (sym c.beside.ensures) (refl, c.in-Ok.ensures.graph)
+    subst (IsExecutionWithGraph c.args.at.now c.args.globals.now c.args.evaluated) (sym c.add_graph.ensures) (refl, c.in-Ok.ensures.graph)

@@ -1,10 +1,10 @@
 use Rattle.std.proofs.Common.{◌≡◌, [], sym, subst}
 use Rattle.std.proofs.lemmas.Result.{IfOk-weaker, IfErr-weaker}
-use Rattle.aql_desugar_spec.specs.Laws.{outcomes_of}
+use Rattle.aql_desugar_spec.specs.Positions.{outcomes_of}
 use Rattle.nrca_term.specs.Meaning.{cden}
 use Rattle.nrca_term.specs.View.{term_of}
 use Rattle.aql_session.specs.Numbered.{so_far}
-use Rattle.aql_session.specs.Runs.{IsPositionCause, IsRun, IsRunWithGraph, RunsPosition, budget_of, declarations_at, graphs_of, motion_of}
+use Rattle.aql_session.specs.Runs.{IsPositionCause, IsExecution, IsExecutionWithGraph, RunsPosition, budget_of, declarations_at, graphs_of, motion_of}
 use Rattle.aql_session.specs.Step.{IsGraphBy}
 use Rattle.aql_session.specs.declared.answer.StepFault.TheVariants as faults
 use Rattle.aql_session.proofs.Evaluating.{outcomes-at}
@@ -16,13 +16,13 @@ returns-in-Ok-clause-ran g c = λ holds.
     let p = c.args.at.now in
     let V = c.args.globals.now in
     let q = c.in-Ok.evaluated in
-    IfOk-weaker c.with_graph.result (IsRunWithGraph p V q) (RunsPosition p V holds)
+    IfOk-weaker c.with_graph.result (IsExecutionWithGraph p V q) (RunsPosition p V holds)
     (λ r h d e.
     let earlier = so_far p.decls.now V in
     let is = c.in-Ok.ensures.evaluated d e in
     let same = outcomes-at (declarations_at p) V p.n c.requires.stands.many c.requires.stands.last in
     let graph = subst (λ W. IsGraphBy (graphs_of p) W (budget_of p) (term_of q.plan) (cden W [] (term_of q.plan)) r.graph) same h.1 in
-    subst (IsRun d earlier (motion_of p) (graphs_of p) (budget_of p) holds) (sym h.0)
+    subst (IsExecution d earlier (motion_of p) (graphs_of p) (budget_of p) holds) (sym h.0)
     (plain-run d earlier (motion_of p) (graphs_of p) (budget_of p) holds q r.graph (c.requires.plain d e) is
     (subst (λ o. IsGraphBy (graphs_of p) (outcomes_of earlier) (budget_of p) (term_of q.plan) o r.graph) is.same graph)))
     c.with_graph.ensures.ran

@@ -3,7 +3,7 @@ use Rattle.aql_syntax.specs.Tree.{read}
 use Rattle.aql_syntax.specs.View.{reader_of}
 use Rattle.nrca_loops.specs.Scope.{held_value}
 use Rattle.aql_session.specs.Numbered.{so_far}
-use Rattle.aql_session.specs.Runs.{IsRun, budget_of, graphs_of, motion_of, declaration_of, declarations_at, sorts_at}
+use Rattle.aql_session.specs.Runs.{IsExecution, budget_of, graphs_of, motion_of, declaration_of, declarations_at, sorts_at}
 use Rattle.aql_session.specs.Step.{IsCause, ReadsNoFile}
 use Rattle.aql_session.specs.declared.answer.Ran.TheVariants as ran
 use Rattle.aql_session.proofs.Running.{same-position, reader-within, argument-typed, readval-run, readval-fits, readval-cause, readval-unread}
@@ -42,7 +42,7 @@ returns-in-Ok-read_argument-clause-ran g c = λ d e.
     let h = c.in-Ok.ensures.evaluated (read k.0 r k.1) k.2 in
     let z = same-position (declaration_of p) (read k.0 r k.1) d k.2 e in
     let run = readval-run k.0 r k.1 earlier (motion_of p) (budget_of p) c.in-Ok.field-0 h (graphs_of p) (g.F.Files.holds c.args.files.now) c.in-Ok-read_argument.field-0 c.in-Ok-read_argument.ensures.read in
-    subst (λ x. IsRun x earlier (motion_of p) (graphs_of p) (budget_of p) (g.F.Files.holds c.args.files.now)
+    subst (λ x. IsExecution x earlier (motion_of p) (graphs_of p) (budget_of p) (g.F.Files.holds c.args.files.now)
     (record { start = c.in-Ok.field-0.start; plan = c.in-Ok.field-0.plan; trace = c.in-Ok.field-0.trace; moved = c.in-Ok.field-0.moved; graph = None; by = ran.Read; turns = c.in-Ok.field-0.turns + c.in-Ok-read_argument.field-0.turns; value = c.in-Ok-read_argument.field-0.value })) z run
 
 pub returns-in-Ok-read_argument-clause-untouched : goal.returns-in-Ok-read_argument-clause-untouched

@@ -77,7 +77,7 @@ extent_together-returns-in_err-total-clause-found t c =
     c.from_residual-in_err-total.ensures
     ∙ sym (parts_none c.args.most f row (j - 1)
     (parts_next c.args.most f row (j - 1) j (omega (arith, lt)) (omega (arith, lt, c.loop-i.invariant.below))
-    ∙ same_beside c.args.most (sym c.in_ok-here.ensures.found) c.loop-i.invariant.total ∙ sym c.beside.ensures ∙ c.in_err-total.was))
+    ∙ same_beside c.args.most (sym c.in_ok-here.ensures.found) c.loop-i.invariant.total ∙ sym c.add_extents.ensures ∙ c.in_err-total.was))
 
 pub extent_together-returns-clause-few : goal.extent_together-returns-clause-few
 extent_together-returns-clause-few t c =

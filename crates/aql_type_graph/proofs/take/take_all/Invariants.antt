@@ -1,6 +1,6 @@
 use Rattle.std.proofs.Common.{◌+◌, length}
 use Rattle.aql_type_graph.specs.Forms.{forms}
-use Rattle.aql_type_graph.specs.Steps.{Leads, SameFirst, weight}
+use Rattle.aql_type_graph.specs.Steps.{Leads, SameFirst, potential}
 use Rattle.aql_type_graph.proofs.take.take_all.Given as goal
 
 abbrev pub invariant-loop-e : goal.invariant-loop-e
@@ -10,4 +10,4 @@ invariant-loop-e l = record {
 }
 
 abbrev pub decreases-loop-e : goal.decreases-loop-e
-decreases-loop-e l = weight (forms l.ps l.ns) + length l.work.items
+decreases-loop-e l = potential (forms l.ps l.ns) + length l.work.items

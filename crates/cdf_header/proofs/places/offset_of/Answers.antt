@@ -1,5 +1,5 @@
 use Rattle.std.proofs.Common.{◌∙◌, arith, min, ◌^◌, ◌-◌}
-use Rattle.aql_value.specs.IndicesLaws.{offset}
+use Rattle.aql_value.specs.Indices.{offset}
 use Rattle.cdf_header.specs.Places.{lens}
 use Rattle.cdf_header.proofs.Saturate.{offset_goes, offset_done, offset_starts}
 use Rattle.cdf_header.proofs.places.offset_of.Goals as goal

@@ -1,5 +1,5 @@
 use Rattle.std.proofs.Common.{◌≡◌, ◌≤◌, ◌^◌, ◌-◌, min, drop}
-use Rattle.aql_value.specs.IndicesLaws.{offset}
+use Rattle.aql_value.specs.Indices.{offset}
 use Rattle.cdf_header.specs.Places.{lens}
 use Rattle.cdf_header.proofs.Saturate.{horner}
 use Rattle.cdf_header.proofs.places.offset_of.Given as goal

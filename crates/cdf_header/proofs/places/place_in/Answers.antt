@@ -1,7 +1,7 @@
 use Rattle.std.proofs.Common.{◌≡◌, ◌∙◌, ap, sym, map, min, ◌^◌, ◌-◌, ◌+◌, ◌*◌, drop, get_or}
 use Rattle.cdf_header.specs.Header.{var}
 use Rattle.cdf_header.specs.Format.{type_size}
-use Rattle.aql_value.specs.IndicesLaws.{offset}
+use Rattle.aql_value.specs.Indices.{offset}
 use Rattle.cdf_header.specs.Places.{lens, recsize}
 use Rattle.cdf_header.proofs.Saturate.{place_record, place_sat, rest_is}
 use Rattle.cdf_header.proofs.places.place_in.Goals as goal

@@ -1,19 +1,19 @@
 use Rattle.std.proofs.Common.{refl, ◌∙◌}
-use Rattle.cdf_header.specs.Places.{variable_at, weights}
+use Rattle.cdf_header.specs.Places.{variable_at, pitches}
 use Rattle.cdf_slab.specs.Walk.{capped}
-use Rattle.cdf_slab.proofs.Stepping.{axis_more, steps_all, length-weights, length-capped}
+use Rattle.cdf_slab.proofs.Stepping.{axis_more, steps_all, length-pitches, length-capped}
 use Rattle.cdf_slab.proofs.axes.axes_of.Goals as goal
 
 pub axes-preserved : goal.axes-preserved
 axes-preserved c =
     let v = variable_at c.args.header.now c.args.v in
-    axis_more _ _ _ c.args.start.now c.args.count.now c.args.stride.now (weights c.args.header.now.dims c.args.header.now.vars v) c.axes.j 0 0 0 c.in_ok-push.ensures.items c.axes.invariant refl refl refl c.weight.ensures c.axes-test.true c.requires.counts c.requires.strides
-    (length-weights c.args.header.now.dims c.args.header.now.vars v ∙ c.requires.rank)
+    axis_more _ _ _ c.args.start.now c.args.count.now c.args.stride.now (pitches c.args.header.now.dims c.args.header.now.vars v) c.axes.j 0 0 0 c.in_ok-push.ensures.items c.axes.invariant refl refl refl c.pitch.ensures c.axes-test.true c.requires.counts c.requires.strides
+    (length-pitches c.args.header.now.dims c.args.header.now.vars v ∙ c.requires.rank)
 
 pub returns : goal.returns
 returns c =
     let v = variable_at c.args.header.now c.args.v in
-    let ws = weights c.args.header.now.dims c.args.header.now.vars v in
+    let ws = pitches c.args.header.now.dims c.args.header.now.vars v in
     c.axes.invariant
     ∙ steps_all c.args.start.now c.args.count.now c.args.stride.now (capped ws) c.axes.j c.axes-test.false c.requires.counts c.requires.strides
-    (length-capped ws ∙ length-weights c.args.header.now.dims c.args.header.now.vars v ∙ c.requires.rank)
+    (length-capped ws ∙ length-pitches c.args.header.now.dims c.args.header.now.vars v ∙ c.requires.rank)

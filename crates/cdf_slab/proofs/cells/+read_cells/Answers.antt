@@ -38,7 +38,7 @@ returns-in-Err-clause-late t g c =
 pub returns-in-len1-clause-late : goal.returns-in-len1-clause-late
 returns-in-len1-clause-late t g c =
     subst (λ l. IfErr c.read_row.result (IsLate c.args.reading.signed (length c.args.cells + length (walk (steps_of l) c.args.base))))
-    (sym (one_is c.args.axes.now (record { start = 0; count = 0; stride = 0; weight = 0 }) c.in-len1.len_at_least c.in-len1.len_below)) c.read_row.ensures.late
+    (sym (one_is c.args.axes.now (record { start = 0; count = 0; stride = 0; pitch = 0 }) c.in-len1.len_at_least c.in-len1.len_below)) c.read_row.ensures.late
 
 pub returns-after-cells-clause-told : goal.returns-after-cells-clause-told
 returns-after-cells-clause-told t g c = λ bytes there le p.
@@ -51,4 +51,4 @@ returns-after-cells-clause-many t g c = count_done _ _ _ _ _ _ _ c.cells.invaria
 pub returns-in-len1-clause-many : goal.returns-in-len1-clause-many
 returns-in-len1-clause-many t g c =
     subst (λ l. IfOk c.read_row.result (λ all. length all ≡ length c.args.cells + length (walk (steps_of l) c.args.base)))
-    (sym (one_is c.args.axes.now (record { start = 0; count = 0; stride = 0; weight = 0 }) c.in-len1.len_at_least c.in-len1.len_below)) c.read_row.ensures.many
+    (sym (one_is c.args.axes.now (record { start = 0; count = 0; stride = 0; pitch = 0 }) c.in-len1.len_at_least c.in-len1.len_below)) c.read_row.ensures.many

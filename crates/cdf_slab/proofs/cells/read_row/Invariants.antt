@@ -14,7 +14,7 @@ decreases-row g l = l.a.count - l.i
 
 abbrev pub invariant-row : goal.invariant-row
 invariant-row g l = record {
-  step : l.step ≡ min (l.a.stride * l.a.weight) (2 ^ 64 - 1);
+  step : l.step ≡ min (l.a.stride * l.a.pitch) (2 ^ 64 - 1);
   size : IsWidth l.reading.size;
   below : l.i ≤ l.a.count;
   room : RoomSoFar [] (step_of l.a) l.base l.i l.reading.size l.reading.end;

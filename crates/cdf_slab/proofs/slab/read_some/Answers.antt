@@ -3,13 +3,13 @@ use Rattle.std.proofs.lemmas.Option.{none-some}
 use Rattle.aql_value.specs.Indices.{product}
 use Rattle.cdf_header.specs.declared.fault.CdfFault.TheVariants as faults
 use Rattle.cdf_header.specs.Format.{type_size}
-use Rattle.cdf_header.specs.Places.{variable_at, weights}
+use Rattle.cdf_header.specs.Places.{variable_at, pitches}
 use Rattle.cdf_slab.specs.Slab.{most_cells, cell_places, slab_numbers, slab, first_cut, negative_fault, IsSlabAnswer}
 use Rattle.aql_value.specs.Partial.{or_else}
 use Rattle.cdf_slab.specs.Walk.{steps_of, walk, HaveRoom, capped}
 use Rattle.cdf_slab.proofs.Answering.{leads, cut_found, walk_found, room_found, places_many, cut_early, goes_as, read_all, read_some, early-none, counts_small}
 use Rattle.cdf_slab.proofs.Goings.{late_more}
-use Rattle.cdf_slab.proofs.Stepping.{some_axes, length-weights, length-capped}
+use Rattle.cdf_slab.proofs.Stepping.{some_axes, length-pitches, length-capped}
 use Rattle.cdf_slab.proofs.slab.read_some.Goals as goal
 
 pub axes_of-requires-clause-fit : goal.axes_of-requires-clause-fit
@@ -54,10 +54,10 @@ pub read_cells-requires-clause-some : goal.read_cells-requires-clause-some
 read_cells-requires-clause-some g c =
     let h = c.args.header.now in
     let v = variable_at c.args.header.now c.args.v in
-    let ws = weights h.dims h.vars v in
+    let ws = pitches h.dims h.vars v in
     subst (λ l. 1 ≤ length l) (sym c.deref-3.ensures.value)
     (some_axes c.in_ok-axes.axes.items c.args.asked.now.start.now c.args.asked.now.count.now c.args.asked.now.stride.now (capped ws) c.in_ok-axes.ensures c.args.asked.now.some c.args.asked.now.counts c.args.asked.now.strides
-    (length-capped ws ∙ length-weights h.dims h.vars v ∙ c.requires.rank))
+    (length-capped ws ∙ length-pitches h.dims h.vars v ∙ c.requires.rank))
 
 pub read_cells-requires-clause-within : goal.read_cells-requires-clause-within
 read_cells-requires-clause-within g c =

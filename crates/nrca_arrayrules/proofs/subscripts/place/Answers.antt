@@ -13,12 +13,12 @@ pub loop-j-preserved : goal.loop-j-preserved
 loop-j-preserved c =
     let l : c.loop-j.j < length (terms_of c.args.dims.now) = omega (arith, length-terms_of c.args.dims.now, c.len-j-end.ensures) in
     subst (λ a. IsPlace (take (c.loop-j.j + 1) (terms_of c.args.dims.now)) (take (c.loop-j.j + 1) (terms_of c.args.at.now)) (Some a)) (sym (c.saturating_add-place.ensures ∙ ap (λ a. min (a + c.in-Some.i) 340282366920938463463374607431768211455) c.saturating_mul.ensures))
-    (place-step (terms_of c.args.dims.now) (terms_of c.args.at.now) c.loop-j.j c.loop-j.place c.in-Some.d c.in-Some.i (term_of c.index.result.now) (term_of c.index-in-loop-j.result.now) l (omega (arith, l, c.requires)) (item-is c.args.dims.now.0.items c.loop-j.j c.index.result.now c.index.ensures) (item-is c.args.at.now.0.items c.loop-j.j c.index-in-loop-j.result.now c.index-in-loop-j.ensures) (subst (AreBelow (term_of c.index.result.now) (term_of c.index-in-loop-j.result.now)) c.in-Some.is c.below.ensures) c.loop-j.invariant)
+    (place-step (terms_of c.args.dims.now) (terms_of c.args.at.now) c.loop-j.j c.loop-j.place c.in-Some.d c.in-Some.i (term_of c.index.result.now) (term_of c.index-in-loop-j.result.now) l (omega (arith, l, c.requires)) (item-is c.args.dims.now.0.items c.loop-j.j c.index.result.now c.index.ensures) (item-is c.args.at.now.0.items c.loop-j.j c.index-in-loop-j.result.now c.index-in-loop-j.ensures) (subst (AreBelow (term_of c.index.result.now) (term_of c.index-in-loop-j.result.now)) c.in-Some.is c.index_below.ensures) c.loop-j.invariant)
 
 pub returns-in-None : goal.returns-in-None
 returns-in-None c =
     let l : c.loop-j.j < length (terms_of c.args.dims.now) = omega (arith, length-terms_of c.args.dims.now, c.len-j-end.ensures) in
-    place-out (terms_of c.args.dims.now) (terms_of c.args.at.now) c.loop-j.j (term_of c.index.result.now) (term_of c.index-in-loop-j.result.now) l (omega (arith, l, c.requires)) (item-is c.args.dims.now.0.items c.loop-j.j c.index.result.now c.index.ensures) (item-is c.args.at.now.0.items c.loop-j.j c.index-in-loop-j.result.now c.index-in-loop-j.ensures) (subst (AreBelow (term_of c.index.result.now) (term_of c.index-in-loop-j.result.now)) c.in-None.is c.below.ensures)
+    place-out (terms_of c.args.dims.now) (terms_of c.args.at.now) c.loop-j.j (term_of c.index.result.now) (term_of c.index-in-loop-j.result.now) l (omega (arith, l, c.requires)) (item-is c.args.dims.now.0.items c.loop-j.j c.index.result.now c.index.ensures) (item-is c.args.at.now.0.items c.loop-j.j c.index-in-loop-j.result.now c.index-in-loop-j.ensures) (subst (AreBelow (term_of c.index.result.now) (term_of c.index-in-loop-j.result.now)) c.in-None.is c.index_below.ensures)
 
 pub returns : goal.returns
 returns c = place-whole (terms_of c.args.dims.now) (terms_of c.args.at.now) c.loop-j.j c.loop-j.place (omega (arith, length-terms_of c.args.dims.now, c.len-j-end.ensures)) c.requires c.loop-j.invariant

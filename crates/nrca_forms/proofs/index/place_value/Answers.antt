@@ -1,7 +1,7 @@
 use Rattle.std.proofs.Common.{sym, ◌∙◌, arith}
 use Rattle.std.specs.Prelude.{nat_lt}
 use Rattle.std.specs.Cmp.Lexicographic.{pointwise}
-use Rattle.aql_value.specs.IndicesLaws.{offset}
+use Rattle.aql_value.specs.Indices.{offset}
 use Rattle.nrca_forms.proofs.Grouping.{offset_within}
 use Rattle.nrca_forms.proofs.index.place_value.Goals as goal
 

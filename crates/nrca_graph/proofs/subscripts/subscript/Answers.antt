@@ -18,4 +18,4 @@ returns c =
     (λ a. Makes c.bind-2.result (let_term a (let_term (shift_term 0 1 (sizes_term (terms_of c.args.at))) (get_term (paired_with (proj_term 2 2 (variable 1)) (variable 0))))))
     (sym (shift_term-none 0 (term_of c.args.array)))
     (c.bind-2.ensures (term_of c.args.array) _ refl
-    (c.bind.ensures _ _ (c.shift-index.ensures.shifted ∙ ap (shift_term 0 1) c.sizes.ensures) (c.member-cell.ensures _ (c.paired.ensures _ _ (c.project-graph.ensures _ (term_of-Var 1)) (term_of-Var 1)))))
+    (c.bind.ensures _ _ (c.shift-index.ensures.shifted ∙ ap (shift_term 0 1) c.sizes.ensures) (c.member-cell.ensures _ (c.values_at.ensures _ _ (c.project-graph.ensures _ (term_of-Var 1)) (term_of-Var 1)))))

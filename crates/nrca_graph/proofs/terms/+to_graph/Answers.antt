@@ -2,7 +2,8 @@ use Rattle.std.proofs.Common.{arith, ap, ◌∙◌}
 use Rattle.nrca_term.specs.Laws.Measure.{weight_of-child}
 use Rattle.nrca_term.specs.Term.{with_part, count, parts_of}
 use Rattle.nrca_term.specs.View.{term_of}
-use Rattle.nrca_graph.proofs.Translating.{count-with_part, free-start, free-count, free-part, free-step, free-all, room-child, room-free}
+use Rattle.nrca_term.specs.Laws.Exchange.{count-with_part}
+use Rattle.nrca_graph.proofs.Translating.{free-start, free-count, free-part, free-step, free-all, room-child, room-free}
 use Rattle.nrca_graph.proofs.terms.+to_graph.Goals as goal
 
 pub translate_parts-loop-i-init : goal.translate_parts-loop-i-init

@@ -11,8 +11,8 @@ use Rattle.nrca_motion.proofs.fitting.is_sure_outside.Goals as goal
 pub returns-then-uses-ne0 : goal.returns-then-uses-ne0
 returns-then-uses-ne0 c u e f = c.if-uses-ne0.true (omega (arith, c.uses.ensures, outside-unused c.args.count (term_of c.args.term.now) u (omega (arith, c.if-count-gt0.true)) e))
 
-pub outside-requires : goal.outside-requires
-outside-requires c = subst HasRoom (sym c.in_ok-copied.ensures) (room-small (c.args.ctx.now.depth + c.args.count) (term_of c.args.term.now) (well_formed-Core c.args.term.now) c.requires.inside)
+pub strengthen-requires : goal.strengthen-requires
+strengthen-requires c = subst HasRoom (sym c.in_ok-copied.ensures) (room-small (c.args.ctx.now.depth + c.args.count) (term_of c.args.term.now) (well_formed-Core c.args.term.now) c.requires.inside)
 
 pub defined-requires : goal.defined-requires
 defined-requires c = record {

@@ -16,8 +16,8 @@ binders-count-requires c = below-there (term_of c.args.term) c.args.i c.requires
 pub swap_part-rest-requires : goal.swap_part-rest-requires
 swap_part-rest-requires c = below-there (term_of c.args.term) c.args.i c.requires.fits
 
-pub outside-requires : goal.outside-requires
-outside-requires c =
+pub strengthen-requires : goal.strengthen-requires
+strengthen-requires c =
     let e = as-Let c.swap_part-rest.result.1 c.in-Let.bound c.in-Let.body c.in-Let.is ∙ ap (λ x. let_term (term_of x) (term_of c.in-Let.body.value)) (sym c.open-first.ensures)
     ∙ ap (λ x. let_term (term_of c.open-first.result.1) (term_of x)) (sym c.open-second.ensures) in
     bound-room (term_of c.args.term) (term_of c.swap_part-rest.result.1) (term_of c.open-first.result.1) (term_of c.open-second.result.1) c.args.i c.swap_part-rest.ensures.before e c.requires.room
@@ -28,17 +28,17 @@ rotate-requires-clause-room c =
     ∙ ap (λ x. let_term (term_of c.open-first.result.1) (term_of x)) (sym c.open-second.ensures) in
     body-room (term_of c.args.term) (term_of c.swap_part-rest.result.1) (term_of c.open-first.result.1) (term_of c.open-second.result.1) c.args.i c.swap_part-rest.ensures.before e c.requires.room
 
-pub around-requires-clause-has : goal.around-requires-clause-has
-around-requires-clause-has c = rest-there (term_of c.args.term) (term_of c.swap_part-rest.result.0) (term_of Bottom) c.args.i c.swap_part-rest.ensures.now (below-there (term_of c.args.term) c.args.i c.requires.fits)
+pub wrap_in_let-requires-clause-has : goal.wrap_in_let-requires-clause-has
+wrap_in_let-requires-clause-has c = rest-there (term_of c.args.term) (term_of c.swap_part-rest.result.0) (term_of Bottom) c.args.i c.swap_part-rest.ensures.now (below-there (term_of c.args.term) c.args.i c.requires.fits)
 
-pub around-requires-clause-room : goal.around-requires-clause-room
-around-requires-clause-room c = room-rest (term_of c.args.term) (term_of c.swap_part-rest.result.0) (term_of Bottom) c.args.i c.swap_part-rest.ensures.now term_of-Bottom c.requires.room
+pub wrap_in_let-requires-clause-room : goal.wrap_in_let-requires-clause-room
+wrap_in_let-requires-clause-room c = room-rest (term_of c.args.term) (term_of c.swap_part-rest.result.0) (term_of Bottom) c.args.i c.swap_part-rest.ensures.now term_of-Bottom c.requires.room
 
 pub returns : goal.returns
 returns c =
     let e = as-Let c.swap_part-rest.result.1 c.in-Let.bound c.in-Let.body c.in-Let.is ∙ ap (λ x. let_term (term_of x) (term_of c.in-Let.body.value)) (sym c.open-first.ensures)
     ∙ ap (λ x. let_term (term_of c.open-first.result.1) (term_of x)) (sym c.open-second.ensures) in
-    let-made (term_of c.args.term) (term_of c.swap_part-rest.result.0) (term_of c.swap_part-rest.result.1) (term_of c.around.result) (term_of c.open-first.result.1) (term_of c.open-second.result.1) (term_of Bottom) (term_of c.in-Some.outer)
+    let-made (term_of c.args.term) (term_of c.swap_part-rest.result.0) (term_of c.swap_part-rest.result.1) (term_of c.wrap_in_let.result) (term_of c.open-first.result.1) (term_of c.open-second.result.1) (term_of Bottom) (term_of c.in-Some.outer)
     (term_of c.in_ok-turned-in-Some.turned) c.args.i c.binders-count.result e c.swap_part-rest.ensures.before c.swap_part-rest.ensures.now c.binders-count.ensures.number
     (subst (IsOutside c.binders-count.result (term_of c.open-first.result.1)) c.in-Some.is c.in_ok-outer-in-Let.ensures) c.in_ok-turned-in-Some.ensures
-    (c.around.ensures ∙ ap (λ x. let_term (term_of x) (with_part (shift_term 0 1 (term_of c.swap_part-rest.result.0)) c.args.i (term_of c.in_ok-turned-in-Some.turned))) c.put.ensures)
+    (c.wrap_in_let.ensures ∙ ap (λ x. let_term (term_of x) (with_part (shift_term 0 1 (term_of c.swap_part-rest.result.0)) c.args.i (term_of c.in_ok-turned-in-Some.turned))) c.put.ensures)

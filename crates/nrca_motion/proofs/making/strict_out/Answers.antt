@@ -10,13 +10,13 @@ use Rattle.nrca_motion.proofs.making.strict_out.Goals as goal
 pub swap_part-rest-requires : goal.swap_part-rest-requires
 swap_part-rest-requires c = strict-there (term_of c.args.term) c.args.i c.requires.fits
 
-pub around-requires-clause-has : goal.around-requires-clause-has
-around-requires-clause-has c = rest-there (term_of c.args.term) (term_of c.swap_part-rest.result.0) (term_of Bottom) c.args.i c.swap_part-rest.ensures.now (strict-there (term_of c.args.term) c.args.i c.requires.fits)
+pub wrap_in_let-requires-clause-has : goal.wrap_in_let-requires-clause-has
+wrap_in_let-requires-clause-has c = rest-there (term_of c.args.term) (term_of c.swap_part-rest.result.0) (term_of Bottom) c.args.i c.swap_part-rest.ensures.now (strict-there (term_of c.args.term) c.args.i c.requires.fits)
 
-pub around-requires-clause-room : goal.around-requires-clause-room
-around-requires-clause-room c = room-rest (term_of c.args.term) (term_of c.swap_part-rest.result.0) (term_of Bottom) c.args.i c.swap_part-rest.ensures.now term_of-Bottom c.requires.room
+pub wrap_in_let-requires-clause-room : goal.wrap_in_let-requires-clause-room
+wrap_in_let-requires-clause-room c = room-rest (term_of c.args.term) (term_of c.swap_part-rest.result.0) (term_of Bottom) c.args.i c.swap_part-rest.ensures.now term_of-Bottom c.requires.room
 
 pub returns : goal.returns
 returns c =
-    strict-made (term_of c.args.term) (term_of c.swap_part-rest.result.0) (term_of c.swap_part-rest.result.1) (term_of c.around.result) (term_of c.in-Let.bound.value) (term_of c.open-second.result.1) (term_of Bottom) c.args.i
-    (as-Let c.swap_part-rest.result.1 c.in-Let.bound c.in-Let.body c.in-Let.is ∙ ap (λ x. let_term (term_of c.in-Let.bound.value) (term_of x)) (sym c.open-second.ensures)) c.swap_part-rest.ensures.before c.swap_part-rest.ensures.now c.around.ensures
+    strict-made (term_of c.args.term) (term_of c.swap_part-rest.result.0) (term_of c.swap_part-rest.result.1) (term_of c.wrap_in_let.result) (term_of c.in-Let.bound.value) (term_of c.open-second.result.1) (term_of Bottom) c.args.i
+    (as-Let c.swap_part-rest.result.1 c.in-Let.bound c.in-Let.body c.in-Let.is ∙ ap (λ x. let_term (term_of c.in-Let.bound.value) (term_of x)) (sym c.open-second.ensures)) c.swap_part-rest.ensures.before c.swap_part-rest.ensures.now c.wrap_in_let.ensures

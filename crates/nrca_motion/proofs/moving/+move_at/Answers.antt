@@ -1,13 +1,14 @@
 use Rattle.std.proofs.Common.{◌+◌, drop, get_or, sym, ap, subst, arith}
+use Rattle.aql_value.specs.Laws.Partial.{on-ok}
 use Rattle.nrca_term.specs.Term.{count, parts_of}
 use Rattle.nrca_term.specs.View.{term_of}
 use Rattle.nrca_term.specs.Laws.Entering.{child-counted}
 use Rattle.nrca_term.specs.declared.term.Core.TheVariants.{Bottom}
-use Rattle.nrca_subst.proofs.Walking.{count-with_part}
+use Rattle.nrca_term.specs.Laws.Exchange.{count-with_part}
 use Rattle.nrca_motion.specs.Outside.{HasRoom}
 use Rattle.nrca_motion.specs.Fitting.{FitsAt, IsMade}
 use Rattle.nrca_motion.specs.Moving.{MayMoveAt, IsMovedAt}
-use Rattle.nrca_motion.specs.Laws.Moving.{path-next, path-end, on-ok, may-below, part-there, moved-in_part, may-here, made-here}
+use Rattle.nrca_motion.specs.Laws.Moving.{path-next, path-end, may-below, part-there, moved-in_part, may-here, made-here}
 use Rattle.nrca_motion.proofs.moving.+move_at.Goals as goal
 
 pub exchange-requires : goal.exchange-requires

@@ -6,13 +6,13 @@ use Rattle.nrca_term.specs.Laws.Entering.{child-there}
 use Rattle.nrca_term.specs.Laws.Measure.{weight_of-child}
 use Rattle.nrca_term.specs.Laws.WellFormed.{well_formed-Core}
 use Rattle.nrca_ranges.specs.Context.{context_of, at_mark, IsSmallTerm}
-use Rattle.nrca_motion.specs.Laws.Places.{entered-inside}
 use Rattle.nrca_motion.specs.Fitting.{TellsNode}
 use Rattle.nrca_motion.specs.Found.{QuietParts, TellsSite}
 use Rattle.nrca_motion.specs.Laws.Found.{parts-first, parts-more, everywhere, site-here, site-above, behind-onward, found-none, quiet-none, told-as, behind-as}
 use Rattle.nrca_motion.proofs.search.+find.Goals.{find_in_parts-in-Some+in_ok-mark+in_ok-found+in_default-found, find_in_parts-in_default}
 use Rattle.nrca_ranges.specs.Shapes.{shapes_in}
 use Rattle.nrca_ranges.specs.Shapes.{known_shapes}
+use Rattle.nrca_ranges.specs.Laws.Entered.{entered-inside}
 use Rattle.nrca_motion.proofs.search.+find.Goals as goal
 
 pub find-returns-in-Some-clause-found : goal.find-returns-in-Some-clause-found

@@ -4,10 +4,10 @@ use Rattle.nrca_term.specs.View.{term_of}
 use Rattle.nrca_term.specs.Laws.Entering.{child-counted}
 use Rattle.nrca_term.specs.Laws.WellFormed.{well_formed-Core}
 use Rattle.nrca_ranges.specs.Context.{context_of}
-use Rattle.nrca_normal.specs.Laws.Conditions.{entered-inside}
 use Rattle.nrca_normal.specs.Laws.Conditions.{tells-part, tells-nothing}
 use Rattle.nrca_ranges.specs.Shapes.{shapes_in}
 use Rattle.nrca_ranges.specs.Shapes.{known_shapes}
+use Rattle.nrca_ranges.specs.Laws.Entered.{entered-inside}
 use Rattle.nrca_normal.proofs.conditions.inner_defined.Goals as goal
 
 pub push-requires-clause-has : goal.push-requires-clause-has

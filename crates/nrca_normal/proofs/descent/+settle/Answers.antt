@@ -2,7 +2,7 @@ use Rattle.std.proofs.Common.{true, refl, sym, ap, subst, ◌∙◌, arith, inl,
 use Rattle.nrca_term.specs.declared.term.Core.TheVariants.{Bottom}
 use Rattle.nrca_term.specs.Term.{count, parts_of}
 use Rattle.nrca_term.specs.View.{term_of}
-use Rattle.nrca_subst.proofs.Walking.{count-with_part}
+use Rattle.nrca_term.specs.Laws.Exchange.{count-with_part}
 use Rattle.nrca_ranges.specs.Context.{context_of}
 use Rattle.nrca_ranges.specs.Shapes.{shapes_in, known_shapes}
 use Rattle.nrca_normal.specs.Conditions.{TellsNode}

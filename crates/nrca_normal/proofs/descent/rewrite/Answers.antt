@@ -1,6 +1,7 @@
 use Rattle.nrca_term.specs.View.{term_of}
+use Rattle.aql_value.specs.Laws.Partial.{on-ok}
 use Rattle.nrca_normal.specs.Laws.Typed.{typed-room}
-use Rattle.nrca_normal.specs.Laws.Descent.{on-ok, rewritten-one}
+use Rattle.nrca_normal.specs.Laws.Descent.{rewritten-one}
 use Rattle.nrca_normal.proofs.descent.rewrite.Goals as goal
 
 pub put_right_side-requires-clause-inside : goal.put_right_side-requires-clause-inside

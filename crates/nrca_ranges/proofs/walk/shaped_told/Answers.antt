@@ -17,4 +17,4 @@ returns c =
     (c.form_sure-sure.ensures ∙ ap (pure.form_sure (is_shaped gs)) c.form-form.ensures)
     (c.form_certain-fits.ensures ∙ ap (λ l. form_certain (is_shaped gs) (pure_form c.form-form.result) (bounds_each l)) c.as_slice.ensures.value ∙ ap (λ f. form_certain (is_shaped gs) f (bounds_each c.args.shapes.items)) c.form-form.ensures)
     c.both-firm.ensures (c.either-certain.ensures ∙ ap (λ y. c.both-firm.result || y) c.both.ensures) c.node_span-span.ensures.exact c.node_span-span.ensures.ordered
-    (c.spanned-shape.ensures ∙ ap (by_span (span_of c.node_span-span.result)) (c.in_ok-told.ensures ∙ ap (λ f. form_bounds gs f (bounds_each c.args.shapes.items)) c.form-form.ensures))
+    (c.narrow_shape-shape.ensures ∙ ap (by_span (span_of c.node_span-span.result)) (c.in_ok-told.ensures ∙ ap (λ f. form_bounds gs f (bounds_each c.args.shapes.items)) c.form-form.ensures))

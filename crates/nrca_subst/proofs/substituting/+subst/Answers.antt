@@ -5,10 +5,11 @@ use Rattle.nrca_term.specs.Subst.{shift_term}
 use Rattle.nrca_term.specs.View.{term_of}
 use Rattle.nrca_subst.specs.Depth.{DepthFits, Substitutes}
 use Rattle.nrca_term.specs.Laws.Equations.{term_of-Let, term_of-Default, term_of-Arith, term_of-Compare, term_of-Union, term_of-BigUnion, term_of-Sum}
+use Rattle.nrca_term.specs.Laws.Exchange.{count-with_part}
 use Rattle.aql_value.specs.Strict.{Strict}
 use Rattle.nrca_subst.proofs.Deeper.{substitutes-part, fits-part}
 use Rattle.nrca_subst.proofs.Pairs.{pair, boxes-lighter, boxes-fit, boxes-substituted}
-use Rattle.nrca_subst.proofs.Walking.{with_first_parts-start, with_first_parts-step, count-with_first_parts, binders_of-with_first_parts, with_first_parts-part, count-with_part}
+use Rattle.nrca_subst.proofs.Walking.{with_first_parts-start, with_first_parts-step, count-with_first_parts, binders_of-with_first_parts, with_first_parts-part}
 use Rattle.nrca_subst.proofs.SubstWalk.{subst_part, with_first_parts-subst}
 use Rattle.nrca_subst.proofs.substituting.+subst.Goals as goal
 

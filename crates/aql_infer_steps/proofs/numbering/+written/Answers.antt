@@ -1,8 +1,0 @@
-use Rattle.aql_type_solve.specs.Solution.{subst_in}
-use Rattle.aql_infer_steps.proofs.Lists.{written_more}
-use Rattle.aql_infer_steps.proofs.numbering.+written.Goals as goal
-
-pub written_all-loop-t-preserved : goal.written_all-loop-t-preserved
-written_all-loop-t-preserved t c =
-    written_more (subst_in c.args.solution.now) c.args.positions.now _ _ _ c.t-item.result c.args.ts.now c.loop-t.t-index _ c.loop-t-test.true c.t-item.is c.in_ok-one.ensures c.in_ok-push.ensures.items
-    c.loop-t.invariant

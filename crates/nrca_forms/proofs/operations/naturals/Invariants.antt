@@ -1,7 +1,0 @@
-use Rattle.std.proofs.Common.{◌≡◌, map, take}
-use Rattle.aql_value.specs.Datum.{natural}
-use Rattle.aql_value.specs.Meaning.{datum}
-use Rattle.nrca_forms.proofs.operations.naturals.Given as goal
-
-abbrev pub invariant-loop-n : goal.invariant-loop-n
-invariant-loop-n l = map datum l.items.items ≡ map natural (take l.n-index l.numbers)
