@@ -33,9 +33,9 @@ HANDED_ON = {
     "crates/aql_infer/src/walk.rt::infer_function",
     "crates/aql_infer/src/walk.rt::infer_sum",
     "crates/aql_run/src/steps.rt::answer_all",
-    "crates/aql_session/src/runs.rt::run_declaration",
-    "crates/aql_session/src/runs.rt::run_plain",
-    "crates/aql_session/src/runs.rt::run_readval",
+    "crates/aql_session/src/executions.rt::run_declaration",
+    "crates/aql_session/src/executions.rt::run_plain",
+    "crates/aql_session/src/executions.rt::run_readval",
     "crates/nrca_encoded/src/running.rt::graph_of",
     "crates/nrca_encoded/src/running.rt::run_encoded",
 }
@@ -186,7 +186,7 @@ def main():
             for path, source in files(crate, folder, ".edit"):
                 found += stale(path, source)
         for path, source in files(crate, "specs", ".antt"):
-            if "/specs/Laws" not in path and not path.endswith("/Lib.antt"):
+            if "/specs/Laws/" not in path and not path.endswith("/Lib.antt"):
                 found += laws(path, source)
                 found += uncommented(path, source)
     for text in found:

@@ -1,5 +1,6 @@
 -- What one read of the reader over bytes in memory does.
 use Rattle.std.proofs.Common.{Bor, ◌≡◌, ◌≤◌, ◌<◌, ℕ, List, [], ◌∷◌, length, Option, Some, None, Bool, true, false, refl, sym, ap, ◌∙◌, arith, if◌then◌else◌}
+use Rattle.aql_outside.specs.Contents.{or_none}
 use Rattle.csv.specs.Machine.{Read, next_record}
 use Rattle.csv.specs.Reading.{ExplainsRead, NextIs, ReadRecord, ReadsNext, default_config, pending_of, source_of, strip_bom}
 use Rattle.csv.specs.declared.reader.Reader.{Reader}
@@ -14,14 +15,9 @@ use Rattle.aql_csv.proofs.Behind.{behind, behind_none, behind_some, left, next_f
 abbrev pub rest_of : Bor (List ℕ) → Option (List ℕ)
 rest_of s = Some s.now
 
--- the bytes, none where they are not known
-abbrev pub or_nothing : Option (List ℕ) → List ℕ
-or_nothing None = []
-or_nothing (Some xs) = xs
-
 -- the bytes that a reader has still to read
 abbrev pub unread : Reader (Bor (List ℕ)) → List ℕ
-unread r = or_nothing (source_of rest_of r)
+unread r = or_none (source_of rest_of r)
 
 -- a read that found a record took it off the front of those that were left
 pub record FoundRecord (a b : Reader (Bor (List ℕ))) (f : List (List ℕ)) : Type 0 where
@@ -45,7 +41,7 @@ pub found : (a b : Reader (Bor (List ℕ))) (f : List (List ℕ)) → a.config �
 found a b f config source r =
     let g = found_go a.state b.state (unread a) f (pending_of (rest_of b.rdr) b) (rw (config, source) at r.0) in
     let here : source_of rest_of b ≡ Some g.0 = rw r.1 g.1 in
-    let same : unread b ≡ g.0 = ap or_nothing here in
+    let same : unread b ≡ g.0 = ap or_none here in
     let next : next_record default_config a.state [] [] (unread a) ≡ Some (f, b.state, unread b) = rw same g.2 in
     record {
       source = rw same here;

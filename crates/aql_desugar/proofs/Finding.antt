@@ -3,7 +3,7 @@ use Rattle.std.proofs.Common.{◌≡◌, ◌<◌, ◌≤◌, ℕ, zero, suc, ◌
 use Rattle.aql_value.specs.Partial.{or_else}
 use Rattle.aql_names.specs.Named.{last_named}
 use Rattle.aql_names.specs.Laws.Named.{last_named_inside}
-use Rattle.aql_syntax.specs.Tree.{Name, Declaration, declared}
+use Rattle.aql_syntax.specs.Tree.{Name, Declaration, declared_name}
 use Rattle.aql_syntax.specs.Names.{names_equal, find}
 use Rattle.aql_syntax.specs.View.{decl_of, decls_of}
 use Rattle.aql_syntax.specs.Measured.{onto, latest, names_of}
@@ -37,7 +37,7 @@ placed ds acc d other (Some i) = Some (decl_of (get_or ds i d), onto (take i ds)
 located : (x : Name) (ds : List Decl) (acc : List Declaration) (d : Decl) →
     declaration_of x (onto ds acc) ≡ placed ds acc d (declaration_of x acc) (last_named x (names_of ds))
 located x [] acc d = refl
-located x (e ∷ ds) acc d = located x ds (decl_of e ∷ acc) d ∙ go (last_named x (names_of ds)) (names_equal x (declared (decl_of e)))
+located x (e ∷ ds) acc d = located x ds (decl_of e ∷ acc) d ∙ go (last_named x (names_of ds)) (names_equal x (declared_name (decl_of e)))
   where
     go : (o : Option ℕ) (b : Bool) → placed ds (decl_of e ∷ acc) d (if b then Some (decl_of e, acc) else declaration_of x acc) o
         ≡ placed (e ∷ ds) acc d (declaration_of x acc) (or_else (option_map suc o) (if b then Some 0 else None))
@@ -72,15 +72,15 @@ front_named zero ds names h = refl
 front_named (suc n) [] names h = h
 front_named (suc n) (d ∷ ds) [] h = absurd (let bad : ⊥ = cc in bad)
 front_named (suc n) (d ∷ ds) (m ∷ names) h =
-    let a : m ≡ declared (decl_of d) = cc in
+    let a : m ≡ declared_name (decl_of d) = cc in
     let t : take (length ds) names ≡ names_of ds = cc in
-    ap (λ y. y ∷ take (length (take n ds)) names) a ∙ ap (λ ms. declared (decl_of d) ∷ ms) (front_named n ds names t)
+    ap (λ y. y ∷ take (length (take n ds)) names) a ∙ ap (λ ms. declared_name (decl_of d) ∷ ms) (front_named n ds names t)
 
 -- the names of the first declarations
-names_take : (n : ℕ) (ds : List Decl) → names_of (take n ds) ≡ map declared (take n (decls_of ds))
+names_take : (n : ℕ) (ds : List Decl) → names_of (take n ds) ≡ map declared_name (take n (decls_of ds))
 names_take zero ds = refl
 names_take (suc n) [] = refl
-names_take (suc n) (d ∷ ds) = ap (λ ms. declared (decl_of d) ∷ ms) (names_take n ds)
+names_take (suc n) (d ∷ ds) = ap (λ ms. declared_name (decl_of d) ∷ ms) (names_take n ds)
 
 -- names that begin with those of the declarations before one
 pub before_named : (ds : List Decl) (n : ℕ) (names : List Name) → n - 1 ≤ length ds → NameThoseBefore (decls_of ds) n names → BeginWith (take (n - 1) ds) names

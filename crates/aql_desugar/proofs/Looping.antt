@@ -8,10 +8,10 @@ use Rattle.nrca_term.specs.Term.{Term}
 use Rattle.nrca_term.specs.Nodes.{variable, let_term, proj_term, dim_term, gen_term, big_union_term}
 use Rattle.nrca_term.specs.View.{term_of}
 use Rattle.nrca_term.specs.declared.term.Core.{Core}
-use Rattle.aql_desugar_spec.specs.Start.{Resolutions, bound, grown, under, match_term, axes_term, index_terms, dimension, loops_term, cell_term}
+use Rattle.aql_desugar_spec.specs.Start.{Resolutions, bind_pattern, count_binders, under, match_term, axes_term, index_terms, dimension, loops_term, cell_term}
 use Rattle.aql_desugar_spec.specs.Laws.Scopes.{length-bound}
-use Rattle.aql_desugar.specs.Names.{scope}
-use Rattle.aql_desugar.specs.Laws.Scopes.{length-scope, scope_last}
+use Rattle.aql_desugar.specs.Names.{binders_of}
+use Rattle.aql_desugar.specs.Laws.Scopes.{length-binders_of, binders_of-last}
 
 pub dimension_one : (r j at : ℕ) → r ≡ 1 → dim_term r (variable at) ≡ dimension r j at
 dimension_one zero j at e = absurd (omega arith)
@@ -52,37 +52,37 @@ index_next xs ys x left less added rank e l t h =
 
 -- one hidden variable more
 pub hidden_next : {A : Type 0} (f : A → Name) (n i : ℕ) (start xs ys : List (Option A)) → i < n → ys ≡ xs ++ None ∷ [] →
-    ((base : ℕ) → under (n - i) (scope f xs base) ≡ under n (scope f start base)) → (base : ℕ) → under (n - (i + 1)) (scope f ys base) ≡ under n (scope f start base)
+    ((base : ℕ) → under (n - i) (binders_of f xs base) ≡ under n (binders_of f start base)) → (base : ℕ) → under (n - (i + 1)) (binders_of f ys base) ≡ under n (binders_of f start base)
 hidden_next f n i start xs ys l e h base =
-    ap (λ zs. under (n - (i + 1)) (scope f zs base)) e ∙ ap (under (n - (i + 1))) (scope_last f xs None base)
-    ∙ (let z : suc (n - (i + 1)) ≡ n - i = omega arith in ap (λ k. under k (scope f xs base)) z) ∙ h base
+    ap (λ zs. under (n - (i + 1)) (binders_of f zs base)) e ∙ ap (under (n - (i + 1))) (binders_of-last f xs None base)
+    ∙ (let z : suc (n - (i + 1)) ≡ n - i = omega arith in ap (λ k. under k (binders_of f xs base)) z) ∙ h base
 
 -- inside a match stand as many variables more as it adds
-pub grown_inside : {A : Type 0} (f : A → Name) (p : Pat) (xs zs : List (Option A)) → ((base : ℕ) → scope f zs base ≡ bound p (scope f xs base)) → length zs ≡ length xs + grown p
-grown_inside f p xs zs h = omega (arith, length-scope f zs 0, length-scope f xs 0, ap length (h 0), length-bound p (scope f xs 0))
+pub grown_inside : {A : Type 0} (f : A → Name) (p : Pat) (xs zs : List (Option A)) → ((base : ℕ) → binders_of f zs base ≡ bind_pattern p (binders_of f xs base)) → length zs ≡ length xs + count_binders p
+grown_inside f p xs zs h = omega (arith, length-binders_of f zs 0, length-binders_of f xs 0, ap length (h 0), length-bound p (binders_of f xs 0))
 
 -- the match of one number of an index around those of the others
 pub axes_made : {A : Type 0} (f : A → Name) (ps rest : List Pattern) (p : Pattern) (known : Resolutions) (xs zs ws vs : List (Option A)) (mark added deeper at : ℕ) (inside taken inner under other t : Term) →
-    ps ≡ p ∷ rest → ((base : ℕ) → scope f zs base ≡ bound (pat_of p) (scope f xs base)) → take (length xs) zs ≡ xs → mark ≡ length xs →
-    deeper ≡ added + (length zs - length xs) → inside ≡ taken → ((base : ℕ) → inner ≡ axes_term (pats_of rest) known (scope f zs base) deeper taken other) → ws ≡ zs → vs ≡ take mark ws → at ≡ added + length rest → inner ≡ under →
-    ((base : ℕ) → t ≡ match_term (pat_of p) known (scope f vs base) at under other) → (base : ℕ) → t ≡ axes_term (pats_of ps) known (scope f xs base) added inside other
+    ps ≡ p ∷ rest → ((base : ℕ) → binders_of f zs base ≡ bind_pattern (pat_of p) (binders_of f xs base)) → take (length xs) zs ≡ xs → mark ≡ length xs →
+    deeper ≡ added + (length zs - length xs) → inside ≡ taken → ((base : ℕ) → inner ≡ axes_term (pats_of rest) known (binders_of f zs base) deeper taken other) → ws ≡ zs → vs ≡ take mark ws → at ≡ added + length rest → inner ≡ under →
+    ((base : ℕ) → t ≡ match_term (pat_of p) known (binders_of f vs base) at under other) → (base : ℕ) → t ≡ axes_term (pats_of ps) known (binders_of f xs base) added inside other
 axes_made f ps rest p known xs zs ws vs mark added deeper at inside taken inner under other t e k around m d s i w v a u c base =
-    let far : deeper ≡ added + grown (pat_of p) = omega (arith, d, grown_inside f (pat_of p) xs zs k) in
+    let far : deeper ≡ added + count_binders (pat_of p) = omega (arith, d, grown_inside f (pat_of p) xs zs k) in
     let kept : vs ≡ xs = v ∙ ap (λ n. take n ws) m ∙ ap (take (length xs)) w ∙ around in
     let here : at ≡ added + count_pats (pats_of rest) = a ∙ ap (λ n. added + n) (sym (count_pats-list rest)) in
-    let below : inner ≡ axes_term (pats_of rest) known (bound (pat_of p) (scope f xs base)) (added + grown (pat_of p)) inside other =
-    i base ∙ ap (λ s. axes_term (pats_of rest) known s deeper taken other) (k base) ∙ ap (λ n. axes_term (pats_of rest) known (bound (pat_of p) (scope f xs base)) n taken other) far
-    ∙ ap (λ v. axes_term (pats_of rest) known (bound (pat_of p) (scope f xs base)) (added + grown (pat_of p)) v other) (sym s) in
-    c base ∙ ap (λ l. match_term (pat_of p) known (scope f l base) at under other) kept ∙ ap (λ n. match_term (pat_of p) known (scope f xs base) n under other) here
-    ∙ ap (λ v. match_term (pat_of p) known (scope f xs base) (added + count_pats (pats_of rest)) v other) (sym u ∙ below)
-    ∙ sym (ap (λ l. axes_term (pats_of l) known (scope f xs base) added inside other) e)
+    let below : inner ≡ axes_term (pats_of rest) known (bind_pattern (pat_of p) (binders_of f xs base)) (added + count_binders (pat_of p)) inside other =
+    i base ∙ ap (λ s. axes_term (pats_of rest) known s deeper taken other) (k base) ∙ ap (λ n. axes_term (pats_of rest) known (bind_pattern (pat_of p) (binders_of f xs base)) n taken other) far
+    ∙ ap (λ v. axes_term (pats_of rest) known (bind_pattern (pat_of p) (binders_of f xs base)) (added + count_binders (pat_of p)) v other) (sym s) in
+    c base ∙ ap (λ l. match_term (pat_of p) known (binders_of f l base) at under other) kept ∙ ap (λ n. match_term (pat_of p) known (binders_of f xs base) n under other) here
+    ∙ ap (λ v. match_term (pat_of p) known (binders_of f xs base) (added + count_pats (pats_of rest)) v other) (sym u ∙ below)
+    ∙ sym (ap (λ l. axes_term (pats_of l) known (binders_of f xs base) added inside other) e)
 
 -- the loops around the matches of an index and the term of a cell
-pub walk_made : {A : Type 0} (f : A → Name) (ps : List Pattern) (known : Resolutions) (xs vs : List (Option A)) (low rank added : ℕ) (body taken found bound ax walked other : Term) →
-    vs ≡ take low xs → body ≡ taken → found ≡ cell_term rank added → bound ≡ let_term found taken → ((b : ℕ) → ax ≡ axes_term (pats_of ps) known (scope f vs b) 0 bound other) →
-    walked ≡ loops_term (rank - 0) 0 rank ax → (base : ℕ) → walked ≡ loops_term rank 0 rank (axes_term (pats_of ps) known (scope f (take low xs) base) 0 (let_term (cell_term rank added) body) other)
-walk_made f ps known xs vs low rank added body taken found bound ax walked other v s c l a o base =
+pub walk_made : {A : Type 0} (f : A → Name) (ps : List Pattern) (known : Resolutions) (xs vs : List (Option A)) (low rank added : ℕ) (body taken found bind_pattern ax walked other : Term) →
+    vs ≡ take low xs → body ≡ taken → found ≡ cell_term rank added → bind_pattern ≡ let_term found taken → ((b : ℕ) → ax ≡ axes_term (pats_of ps) known (binders_of f vs b) 0 bind_pattern other) →
+    walked ≡ loops_term (rank - 0) 0 rank ax → (base : ℕ) → walked ≡ loops_term rank 0 rank (axes_term (pats_of ps) known (binders_of f (take low xs) base) 0 (let_term (cell_term rank added) body) other)
+walk_made f ps known xs vs low rank added body taken found bind_pattern ax walked other v s c l a o base =
     let zero : rank - 0 ≡ rank = omega arith in
     o ∙ ap (λ n. loops_term n 0 rank ax) zero
-    ∙ ap (loops_term rank 0 rank) (a base ∙ ap (λ us. axes_term (pats_of ps) known (scope f us base) 0 bound other) v
-    ∙ ap (λ u. axes_term (pats_of ps) known (scope f (take low xs) base) 0 u other) (l ∙ ap (λ u. let_term u taken) c ∙ ap (let_term (cell_term rank added)) (sym s)))
+    ∙ ap (loops_term rank 0 rank) (a base ∙ ap (λ us. axes_term (pats_of ps) known (binders_of f us base) 0 bind_pattern other) v
+    ∙ ap (λ u. axes_term (pats_of ps) known (binders_of f (take low xs) base) 0 u other) (l ∙ ap (λ u. let_term u taken) c ∙ ap (let_term (cell_term rank added)) (sym s)))

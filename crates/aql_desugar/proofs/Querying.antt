@@ -1,9 +1,10 @@
 -- The terms of the code's expressions, by those of their parts.
 use Rattle.std.proofs.Common.{◌≡◌, ◌<◌, ◌≤◌, ℕ, suc, ◌+◌, ◌-◌, List, [], ◌∷◌, ◌++◌, length, map, take, drop, get_or, max, Option, Some, None, option_map, Result, Ok, Err, IfOk, IsOkAnd, OnOk, refl, sym, ap, ◌∙◌, arith, append_assoc, if◌then◌else◌, true, false}
 use Rattle.std.specs.Global.{Vec}
+use Rattle.std.proofs.lemmas.List.{take_all}
 use Rattle.aql_value.specs.Strict.{Strict}
 use Rattle.aql_syntax.specs.Tree as tree
-use Rattle.aql_syntax.specs.Tree.{Name, Pat, Pats, Trees, Axes, Quals, Declaration, declared, append, count_trees, count_pats}
+use Rattle.aql_syntax.specs.Tree.{Name, Pat, Pats, Trees, Axes, Quals, Declaration, declared_name, append, count_trees, count_pats}
 use Rattle.aql_syntax.specs.Names.{names_equal, find}
 use Rattle.aql_syntax.specs.Size.{Extents, extent, extents_of, greatest, axes_greatest, levels}
 use Rattle.aql_syntax.specs.View.{tree_of, trees_of, quals_of, axes_in, defs_in, pats_of}
@@ -19,11 +20,11 @@ use Rattle.nrca_term.specs.Nodes.{text_term, let_term, literal_term}
 use Rattle.nrca_term.specs.Laws.Variants.{literal-parts}
 use Rattle.nrca_term.specs.View.{term_of}
 use Rattle.nrca_term.specs.declared.term.Core.{Core}
-use Rattle.aql_desugar_spec.specs.Start.{Binders, Resolutions, bound, match_term, matching, under, under_axes, bound_axes, grown_axes, axes_term, loops_term, cell_term, array_term, start, starts, bound_terms}
+use Rattle.aql_desugar_spec.specs.Start.{Binders, Resolutions, bind_pattern, match_term, matching, under, under_axes, bound_axes, grown_axes, axes_term, loops_term, cell_term, array_term, start, starts, bound_terms}
 use Rattle.aql_desugar_spec.specs.Laws.Scopes.{length-bound_axes}
-use Rattle.aql_desugar.specs.Names.{scope, declaration_of}
+use Rattle.aql_desugar.specs.Names.{binders_of, declaration_of}
 use Rattle.aql_desugar.specs.Laws.Parts.{one_made, both_made}
-use Rattle.aql_desugar.specs.Laws.Scopes.{scope_last, length-scope, goes_on, extends_all, take_all}
+use Rattle.aql_desugar.specs.Laws.Scopes.{binders_of-last, length-binders_of, goes_on, extends_all}
 use Rattle.aql_desugar.proofs.QueryNodes.{list_made}
 
 -- an expression of one part
@@ -84,11 +85,11 @@ text_arm known s (Err f) p e x h k i = tt
 
 -- the match of the variable that a node binds, around what is made in the scope inside
 pub matched_made : {A : Type 0} (f : A → Name) (p : Pat) (known : Resolutions) (xs zs ws : List (Option A)) (mark base : ℕ) (T : Binders → Term) (inner other t : Term) →
-    ((b : ℕ) → scope f zs b ≡ bound p (None ∷ scope f xs b)) → take (length xs) zs ≡ xs → mark ≡ length xs → inner ≡ T (scope f zs base) → ws ≡ zs →
-    ((b : ℕ) → t ≡ match_term p known (None ∷ scope f (take mark ws) b) 0 inner other) → t ≡ matching p known (scope f xs base) T other
+    ((b : ℕ) → binders_of f zs b ≡ bind_pattern p (None ∷ binders_of f xs b)) → take (length xs) zs ≡ xs → mark ≡ length xs → inner ≡ T (binders_of f zs base) → ws ≡ zs →
+    ((b : ℕ) → t ≡ match_term p known (None ∷ binders_of f (take mark ws) b) 0 inner other) → t ≡ matching p known (binders_of f xs base) T other
 matched_made f p known xs zs ws mark base T inner other t k around m i w c =
     let kept : take mark ws ≡ xs = ap (λ n. take n ws) m ∙ ap (take (length xs)) w ∙ around in
-    c base ∙ ap (λ l. match_term p known (None ∷ scope f l base) 0 inner other) kept ∙ ap (λ u. match_term p known (None ∷ scope f xs base) 0 u other) (i ∙ ap T (k base))
+    c base ∙ ap (λ l. match_term p known (None ∷ binders_of f l base) 0 inner other) kept ∙ ap (λ u. match_term p known (None ∷ binders_of f xs base) 0 u other) (i ∙ ap T (k base))
 
 pub matched_kept : {A : Type 0} (xs zs ws vs : List (Option A)) (mark : ℕ) → take (length xs) zs ≡ xs → mark ≡ length xs → ws ≡ zs → vs ≡ take mark ws → vs ≡ xs
 matched_kept xs zs ws vs mark around m w v = v ∙ ap (λ n. take n ws) m ∙ ap (take (length xs)) w ∙ around
@@ -140,11 +141,11 @@ pub bounds_done : (known : Resolutions) (s : Binders) (bs : List Bind) (i : ℕ)
 bounds_done known s bs i xs l k = sym (append_none (map term_of xs)) ∙ sym (ap (λ ts. map term_of xs ++ bound_terms ts known s) (axes_past bs i l)) ∙ k
 
 pub axis_next : {A : Type 0} (f : A → Name) (bs : List Bind) (i : ℕ) (b : Bind) (v : A) (xs0 xs ys : List (Option A)) → i < length bs → b ≡ get_or bs i b → f v ≡ b.name → ys ≡ xs ++ Some v ∷ [] →
-    ((base : ℕ) → under_axes (axes_in (drop i bs)) (scope f xs base) ≡ under_axes (axes_in bs) (scope f xs0 base)) → (base : ℕ) →
-    under_axes (axes_in (drop (i + 1) bs)) (scope f ys base) ≡ under_axes (axes_in bs) (scope f xs0 base)
+    ((base : ℕ) → under_axes (axes_in (drop i bs)) (binders_of f xs base) ≡ under_axes (axes_in bs) (binders_of f xs0 base)) → (base : ℕ) →
+    under_axes (axes_in (drop (i + 1) bs)) (binders_of f ys base) ≡ under_axes (axes_in bs) (binders_of f xs0 base)
 axis_next f bs i b v xs0 xs ys l h n e k base =
-    ap (under_axes (axes_in (drop (i + 1) bs))) (ap (λ zs. scope f zs base) e ∙ scope_last f xs (Some v) base ∙ ap (λ y. Some y ∷ scope f xs base) n)
-    ∙ sym (ap (λ a. under_axes a (scope f xs base)) (axes_next bs i b l h)) ∙ k base
+    ap (under_axes (axes_in (drop (i + 1) bs))) (ap (λ zs. binders_of f zs base) e ∙ binders_of-last f xs (Some v) base ∙ ap (λ y. Some y ∷ binders_of f xs base) n)
+    ∙ sym (ap (λ a. under_axes a (binders_of f xs base)) (axes_next bs i b l h)) ∙ k base
 
 length-starts : (es : Trees) (known : Resolutions) (s : Binders) → length (starts es known s) ≡ count_trees es
 length-starts tree.no_tree known s = refl
@@ -153,10 +154,6 @@ length-starts (tree.tree e es) known s = ap suc (length-starts es known s)
 starts-append : (a b : Trees) (known : Resolutions) (s : Binders) → starts (append a b) known s ≡ starts a known s ++ starts b known s
 starts-append tree.no_tree b known s = refl
 starts-append (tree.tree e a) b known s = ap (λ l. start e known s ∷ l) (starts-append a b known s)
-
-pub greatest-append : (a b : Trees) (ms : Extents) → greatest (append a b) ms ≡ max (greatest a ms) (greatest b ms)
-greatest-append tree.no_tree b ms = omega arith
-greatest-append (tree.tree e a) b ms = omega (arith, greatest-append a b ms)
 
 -- a literal array
 pub literal_made : (ds cs : Trees) (known : Resolutions) (s : Binders) → literal_term (starts ds known s) (starts cs known s) ≡ start (tree.op (Strict.literal (count_trees ds)) (append ds cs)) known s
@@ -168,7 +165,7 @@ literal_made ds cs known s =
 find-extent : (x : Name) (ds : List Declaration) → find x (extents_of ds) ≡ option_map (λ r. extent r.0 (extents_of r.1)) (declaration_of x ds)
 find-extent x [] = refl
 find-extent x (d ∷ ds) =
-    elim (names_equal x (declared d)) as (λ b. (if b then Some (extent d (extents_of ds)) else find x (extents_of ds)) ≡ option_map (λ r. extent r.0 (extents_of r.1)) (if b then Some (d, ds) else declaration_of x ds)) [
+    elim (names_equal x (declared_name d)) as (λ b. (if b then Some (extent d (extents_of ds)) else find x (extents_of ds)) ≡ option_map (λ r. extent r.0 (extents_of r.1)) (if b then Some (d, ds) else declaration_of x ds)) [
       | true ↦ refl
       | false ↦ find-extent x ds
     ]
@@ -178,26 +175,26 @@ extent_some x ds d before e = find-extent x ds ∙ ap (option_map (λ r. extent 
 
 -- the loops over an array
 pub grid_made : {A : Type 0} (f : A → Name) (ps : List Pattern) (q : Pat) (known : Resolutions) (xs ys hs zs ws : List (Option A)) (base low added : ℕ) (T : Binders → Term) (array body walked other : Term) →
-    ys ≡ xs ++ None ∷ [] → ((b : ℕ) → scope f hs b ≡ under (length ps) (scope f ys b)) → ((b : ℕ) → scope f zs b ≡ bound_axes (pats_of ps) (scope f hs b)) → take (length hs) zs ≡ hs → low ≡ length hs →
-    added ≡ length zs - low → body ≡ matching q known (scope f zs base) T other → ws ≡ zs →
-    ((b : ℕ) → walked ≡ loops_term (length ps) 0 (length ps) (axes_term (pats_of ps) known (scope f (take low ws) b) 0 (let_term (cell_term (length ps) added) body) other)) →
-    let_term array walked ≡ array_term (pats_of ps) known (scope f xs base) array (λ inner. matching q known inner T other) other
+    ys ≡ xs ++ None ∷ [] → ((b : ℕ) → binders_of f hs b ≡ under (length ps) (binders_of f ys b)) → ((b : ℕ) → binders_of f zs b ≡ bound_axes (pats_of ps) (binders_of f hs b)) → take (length hs) zs ≡ hs → low ≡ length hs →
+    added ≡ length zs - low → body ≡ matching q known (binders_of f zs base) T other → ws ≡ zs →
+    ((b : ℕ) → walked ≡ loops_term (length ps) 0 (length ps) (axes_term (pats_of ps) known (binders_of f (take low ws) b) 0 (let_term (cell_term (length ps) added) body) other)) →
+    let_term array walked ≡ array_term (pats_of ps) known (binders_of f xs base) array (λ inner. matching q known inner T other) other
 grid_made f ps q known xs ys hs zs ws base low added T array body walked other e h k around m d i w o =
-    let mid : scope f hs base ≡ under (count_pats (pats_of ps)) (None ∷ scope f xs base) =
-    h base ∙ ap (under (length ps)) (ap (λ us. scope f us base) e ∙ scope_last f xs None base) ∙ ap (λ n. under n (None ∷ scope f xs base)) (sym (count_pats-list ps)) in
-    let inside : scope f zs base ≡ bound_axes (pats_of ps) (under (count_pats (pats_of ps)) (None ∷ scope f xs base)) = k base ∙ ap (bound_axes (pats_of ps)) mid in
+    let mid : binders_of f hs base ≡ under (count_pats (pats_of ps)) (None ∷ binders_of f xs base) =
+    h base ∙ ap (under (length ps)) (ap (λ us. binders_of f us base) e ∙ binders_of-last f xs None base) ∙ ap (λ n. under n (None ∷ binders_of f xs base)) (sym (count_pats-list ps)) in
+    let inside : binders_of f zs base ≡ bound_axes (pats_of ps) (under (count_pats (pats_of ps)) (None ∷ binders_of f xs base)) = k base ∙ ap (bound_axes (pats_of ps)) mid in
     let kept : take low ws ≡ hs = ap (λ n. take n ws) m ∙ ap (take (length hs)) w ∙ around in
-    let more : added ≡ grown_axes (pats_of ps) = omega (arith, d, m, length-scope f zs 0, length-scope f hs 0, ap length (k 0), length-bound_axes (pats_of ps) (scope f hs 0)) in
+    let more : added ≡ grown_axes (pats_of ps) = omega (arith, d, m, length-binders_of f zs 0, length-binders_of f hs 0, ap length (k 0), length-bound_axes (pats_of ps) (binders_of f hs 0)) in
     let many : length ps ≡ count_pats (pats_of ps) = sym (count_pats-list ps) in
     let F : ℕ → ℕ → Binders → Binders → Term = λ n g outer inner. let_term array (loops_term n 0 n (axes_term (pats_of ps) known outer 0 (let_term (cell_term n g) (matching q known inner T other)) other)) in
-    ap (let_term array) (o base ∙ ap (λ us. loops_term (length ps) 0 (length ps) (axes_term (pats_of ps) known (scope f us base) 0 (let_term (cell_term (length ps) added) body) other)) kept
-    ∙ ap (λ u. loops_term (length ps) 0 (length ps) (axes_term (pats_of ps) known (scope f hs base) 0 (let_term (cell_term (length ps) added) u) other)) i)
+    ap (let_term array) (o base ∙ ap (λ us. loops_term (length ps) 0 (length ps) (axes_term (pats_of ps) known (binders_of f us base) 0 (let_term (cell_term (length ps) added) body) other)) kept
+    ∙ ap (λ u. loops_term (length ps) 0 (length ps) (axes_term (pats_of ps) known (binders_of f hs base) 0 (let_term (cell_term (length ps) added) u) other)) i)
     ∙ (λ j. F (many j) (more j) (mid j) (inside j))
 
 pub grid_kept : {A : Type 0} (xs ys hs zs ws us rs : List (Option A)) (low mark : ℕ) → ys ≡ xs ++ None ∷ [] → take (length ys) hs ≡ ys → take (length hs) zs ≡ hs → low ≡ length hs → mark ≡ length xs → ws ≡ zs → us ≡ take low ws →
     rs ≡ take mark us → rs ≡ xs
 grid_kept xs ys hs zs ws us rs low mark e h k l m w u r =
-    r ∙ ap (λ n. take n us) m ∙ ap (take (length xs)) (u ∙ ap (λ n. take n ws) l ∙ ap (take (length hs)) w ∙ k) ∙ extends_all xs ys hs h (goes_on xs xs ys None e (take_all xs))
+    r ∙ ap (λ n. take n us) m ∙ ap (take (length xs)) (u ∙ ap (λ n. take n ws) l ∙ ap (take (length hs)) w ∙ k) ∙ extends_all xs ys hs h (goes_on xs xs ys None e (take_all (length xs) xs (omega arith)))
 
 -- one part of a list that has a first
 pub no_quals : (qs : List Qual) → length qs ≡ 0 → quals_of qs ≡ tree.no_qual

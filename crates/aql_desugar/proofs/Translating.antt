@@ -1,5 +1,5 @@
 -- What the start term of a declaration is, by the laws of start terms and what inference answers.
-use Rattle.std.proofs.Common.{◌≡◌, ◌<◌, ◌≤◌, ◌*◌, ℕ, zero, suc, ◌+◌, ◌-◌, List, [], ◌∷◌, ◌++◌, length, map, take, get_or, Option, Some, None, IsSome, Result, Ok, Err, IfOk, IfErr, refl, sym, ap, ◌∙◌, subst, reverse, arith, append-nil, append_assoc, length-append}
+use Rattle.std.proofs.Common.{◌≡◌, ◌<◌, ◌≤◌, ◌*◌, ℕ, zero, suc, ◌+◌, ◌-◌, List, [], ◌∷◌, ◌++◌, length, map, take, get_or, Option, Some, None, IsSome, Result, Ok, Err, IfErr, refl, sym, ap, ◌∙◌, subst, reverse, arith, append-nil, append_assoc, length-append}
 use Rattle.std.proofs.lemmas.Grind.{get_or_at_push}
 use Rattle.std.specs.List.{slice_get}
 use mathlib.Core.List.{reverse_aux}
@@ -7,8 +7,8 @@ use Rattle.aql_types.specs.Types.{Ty, Sort, value, macro}
 use Rattle.aql_syntax.specs.Tree as tree
 use Rattle.aql_syntax.specs.Tree.{Tree, Declaration}
 use Rattle.aql_syntax.specs.View.{tree_of, decl_of, decls_of}
-use Rattle.aql_syntax.specs.Measured.{onto, latest}
-use Rattle.aql_syntax.specs.Typing.{Environment, Has, DeclHas, scope_of, argument_type}
+use Rattle.aql_syntax.specs.Measured.{latest}
+use Rattle.aql_syntax.specs.Typing.{Environment, Has, DeclHas, environment_of, argument_type}
 use Rattle.aql_syntax.specs.Size as sizes
 use Rattle.aql_syntax.specs.Size.{before, expanded_size, expanded_levels, size_at, levels_at, size, levels, extents_of, most_nodes, most_levels, AreWithin, IsWithinLimits}
 use Rattle.aql_syntax.specs.declared.ast.Decl.{Decl}
@@ -24,6 +24,7 @@ use Rattle.aql_desugar_spec.specs.Laws.{sort_types, EachHas, EachPrincipal}
 use Rattle.aql_desugar_spec.specs.Positions.{outcomes_of, value_type}
 use Rattle.aql_syntax.specs.Written.{IsWritten}
 use Rattle.aql_syntax.specs.Laws.Written.{written, decl_written}
+use Rattle.aql_syntax.specs.Laws.Measuring.{latest-take}
 use Rattle.aql_desugar_spec.specs.Laws.Positions.{start-means, start-turns}
 use Rattle.aql_desugar_spec.specs.Laws.ClosedLaws.{start-closes}
 use Rattle.aql_desugar_spec.specs.Laws.WellFormedLaws.{start-formed}
@@ -35,18 +36,9 @@ use Rattle.aql_desugar.specs.declared.fault.Fault.{Fault}
 
 -- Lists of declarations.
 
-onto-reverse : (ds : List Decl) (earlier : List Declaration) → onto ds earlier ≡ reverse_aux (decls_of ds) earlier
-onto-reverse [] earlier = refl
-onto-reverse (d ∷ ds) earlier = onto-reverse ds (decl_of d ∷ earlier)
-
-decls_take : (i : ℕ) (ds : List Decl) → decls_of (take i ds) ≡ take i (decls_of ds)
-decls_take zero ds = refl
-decls_take (suc i) [] = refl
-decls_take (suc i) (d ∷ ds) = ap (λ l. decl_of d ∷ l) (decls_take i ds)
-
 -- those before a declaration
 pub latest_before : (ds : List Decl) (n i : ℕ) → i ≡ n - 1 → latest (take i ds) ≡ before (decls_of ds) n
-latest_before ds n i e = onto-reverse (take i ds) [] ∙ ap reverse (decls_take i ds) ∙ ap (λ k. reverse (take k (decls_of ds))) e
+latest_before ds n i e = latest-take i ds ∙ ap (λ k. reverse (take k (decls_of ds))) e
 
 -- Sizes.
 
@@ -88,11 +80,11 @@ each_has (d ∷ earlier) sorts (s, rest, e, w, p, h) = ((s, p.has), each_has ear
 
 -- the declaration itself has a sort
 has_sort : (i : ℕ) (ds : List Declaration) (ss : List Sort) (earlier : List Declaration) (d : Declaration) → ArePrincipal earlier ds ss →
-    slice_get ds i ≡ Some d → (s : Sort) × DeclHas d (scope_of (reverse_aux (take i ds) earlier)) s
+    slice_get ds i ≡ Some d → (s : Sort) × DeclHas d (environment_of (reverse_aux (take i ds) earlier)) s
 has_sort i [] ss earlier d h e = absurd (let bad : ⊥ = cc in bad)
 has_sort i (x ∷ ds) [] earlier d h e = absurd h
 has_sort zero (x ∷ ds) (s ∷ ss) earlier d h e =
-    let k : x ≡ d = cc in (s, subst (λ y. DeclHas y (scope_of earlier) s) k h.0.principal.has)
+    let k : x ≡ d = cc in (s, subst (λ y. DeclHas y (environment_of earlier) s) k h.0.principal.has)
 has_sort (suc i) (x ∷ ds) (s ∷ ss) earlier d h e = has_sort i ds ss (x ∷ earlier) d h.1 e
 
 -- an expression of a declaration that has a sort has a type
@@ -116,11 +108,11 @@ declaration_at (Some d) e q = (d, refl, q)
 
 -- the expression of a declaration of a script that inference answers has a type
 query_typed : (ds : List Declaration) (sorts : List Sort) (n : ℕ) (e : Tree) → ArePrincipal [] ds sorts → query_of ds n ≡ Some e →
-    (T : Ty) × Has e (scope_of (before ds n)) [] T
+    (T : Ty) × Has e (environment_of (before ds n)) [] T
 query_typed ds sorts n e h q =
     let found = declaration_at (slice_get ds (n - 1)) e q in
     let sort = has_sort (n - 1) ds sorts [] found.0 h found.1 in
-    has_type found.0 (scope_of (before ds n)) sort.0 e sort.1 found.2
+    has_type found.0 (environment_of (before ds n)) sort.0 e sort.1 found.2
 
 -- The whole.
 
@@ -204,11 +196,6 @@ pub small_here : (ds before : List Decl) (n : ℕ) (x : Expr) → Chosen ds befo
     AreWithin (size (tree_of x) (extents_of (latest before))) (levels (tree_of x) (extents_of (latest before))) →
     ArePrincipal [] (decls_of ds) sorts → IsSmall 0 t
 small_here ds before n x h sorts t is w p = small_within ds before n x h sorts t is (within_here ds before n x h w) p
-
--- what follows from two things that are known of an answer
-pub ok_join : {T E : Type 0} (r : Result T E) (P Q R : T → Type 0) → ((x : T) → P x → Q x → R x) → IfOk r P → IfOk r Q → IfOk r R
-ok_join (Ok x) P Q R f h k = f x h k
-ok_join (Err e) P Q R f h k = tt
 
 -- what follows from what is known of a fault
 pub err_map : {T E : Type 0} (r : Result T E) (P Q : E → Type 0) → ((x : E) → P x → Q x) → IfErr r P → IfErr r Q

@@ -11,7 +11,7 @@ use Rattle.aql_syntax.specs.Denotation.{den}
 use Rattle.aql_syntax.specs.Work.{work}
 use Rattle.aql_syntax.specs.Script.{Earlier, globals_of}
 use Rattle.aql_syntax.specs.Sound.{declarations_of}
-use Rattle.aql_syntax.specs.Typing.{Has, scope_of}
+use Rattle.aql_syntax.specs.Typing.{Has, environment_of}
 use Rattle.aql_syntax.specs.Size.{before, size, levels, extents_of, expanded_size, expanded_levels, PassLimits}
 use Rattle.aql_syntax.specs.Measured.{latest}
 use Rattle.aql_infer_steps.specs.Typed.{ArePrincipal, sorts_of}
@@ -56,7 +56,7 @@ pub record IsTranslated (ds : List Declaration) (sorts : List Sort) (n : ℕ) (e
   -- it weighs at most 64 times the expanded size
   pub weight : ArePrincipal [] ds sorts → weight_of t ≤ 64 * expanded_size ds n
   -- each type of the expression that is one of the language is a type of it, over the principal types of the positions
-  pub types : ArePrincipal [] ds sorts → (later : List Ty) (T : Ty) → IsType T → Has e (scope_of (before ds n)) [] T →
+  pub types : ArePrincipal [] ds sorts → (later : List Ty) (T : Ty) → IsType T → Has e (environment_of (before ds n)) [] T →
       ctyped (instances (types_before sorts n ++ later)) [] t T
 
 -- the term translates declaration n of the code's, where that has an expression

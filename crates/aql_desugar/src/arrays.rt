@@ -6,7 +6,7 @@ ghost use Rattle.nrca_term.specs.Nodes.{let_term};
 ghost use Rattle.nrca_term.specs.View.{term_of};
 ghost use Rattle.aql_desugar_spec.specs.Start as start_term;
 ghost use Rattle.aql_desugar_spec.specs.Start.{under, bound_axes, axes_term, loops_term, cell_term};
-ghost use Rattle.aql_desugar.specs.Names.{missing_term, scope_in, knowns_in, Enters};
+ghost use Rattle.aql_desugar.specs.Names.{missing_term, binders_in, knowns_in, Enters};
 
 use crate::matches::{Missing, add_numbers, enter_past, wrap};
 use crate::names::enter;
@@ -96,7 +96,7 @@ fn wrap_axes<'a>(
     other: Missing,
 ) -> Result<Core, Memory>
     ensures made { IfOk result (λ c. (base : ℕ) → term_of c ≡ axes_term (pats_of ps.now)
-        (knowns_in earlier.now) (scope_in names.old.items base) added (term_of inside)
+        (knowns_in earlier.now) (binders_in names.old.items base) added (term_of inside)
         (missing_term other)) }
     ensures kept { OnOk result (names.new.items ≡ names.old.items) }
 {
@@ -127,7 +127,7 @@ pub fn walk<'a>(
 ) -> Result<Core, Memory>
     ensures made { IfOk result (λ c. (base : ℕ) → term_of c ≡ loops_term (length ps.now) 0
         (length ps.now) (axes_term (pats_of ps.now) (knowns_in earlier.now)
-        (scope_in (take low names.old.items) base) 0 (let_term (cell_term (length ps.now) added)
+        (binders_in (take low names.old.items) base) 0 (let_term (cell_term (length ps.now) added)
         (term_of body)) (missing_term Missing.Empty))) }
     ensures kept { OnOk result (names.new.items ≡ take low names.old.items) }
 {

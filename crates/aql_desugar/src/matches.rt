@@ -7,7 +7,7 @@ ghost use Rattle.nrca_term.specs.Nodes.{if_term};
 ghost use Rattle.nrca_term.specs.View.{term_of};
 ghost use Rattle.aql_desugar_spec.specs.Start as start_term;
 ghost use Rattle.aql_desugar_spec.specs.Start.{match_term, parts_term, equal_term};
-ghost use Rattle.aql_desugar.specs.Names.{scope, missing_term, scope_in, knowns_in, Enters};
+ghost use Rattle.aql_desugar.specs.Names.{binders_of, missing_term, binders_in, knowns_in, Enters};
 
 use crate::names::{enter, index_of};
 use crate::nodes::{choose, compare, let_in, proj};
@@ -47,7 +47,7 @@ pub fn add_numbers(a: u64, b: u64) -> Result<u64, Memory>
 /// A name: the variable, else the position.
 pub fn name_term(name: &Str, earlier: &Earlier, names: &[Option<&Str>]) -> Core
     ensures { (base : ℕ) → term_of result ≡ start_term.name_term
-        (start_term.index_of name.now (scope_in names.now base))
+        (start_term.index_of name.now (binders_in names.now base))
         (surface_names.find name.now (knowns_in earlier.now)) }
 {
     match index_of(names, name) {
@@ -78,7 +78,7 @@ pub(crate) fn wrap<'a>(
     other: Missing,
 ) -> Result<Core, Memory>
     ensures made { IfOk result (λ c. (base : ℕ) → term_of c ≡ match_term (pat_of p.now)
-        (knowns_in earlier.now) (scope_in names.old.items base) at (term_of inside)
+        (knowns_in earlier.now) (binders_in names.old.items base) at (term_of inside)
         (missing_term other)) }
     ensures kept { OnOk result (names.new.items ≡ names.old.items) }
 {
@@ -119,7 +119,7 @@ fn wrap_parts<'a>(
     other: Missing,
 ) -> Result<Core, Memory>
     ensures made { IfOk result (λ c. (base : ℕ) → term_of c ≡ parts_term (pats_of ps.now)
-        (knowns_in earlier.now) (scope_in names.old.items base) at j n (term_of inside)
+        (knowns_in earlier.now) (binders_in names.old.items base) at j n (term_of inside)
         (missing_term other)) }
     ensures kept { OnOk result (names.new.items ≡ names.old.items) }
 {
@@ -150,7 +150,7 @@ pub fn close<'a>(
     other: Missing,
 ) -> Result<Core, Memory>
     ensures made { IfOk result (λ c. (base : ℕ) → term_of c ≡ match_term (pat_of p.now)
-        (knowns_in earlier.now) (None ∷ scope_in (take mark names.old.items) base) 0
+        (knowns_in earlier.now) (None ∷ binders_in (take mark names.old.items) base) 0
         (term_of inside) (missing_term other)) }
     ensures kept { OnOk result (names.new.items ≡ take mark names.old.items) }
 {
@@ -172,7 +172,7 @@ fn hide_one(names: &mut Vec<Option<&Str>>) -> Result<(), Memory>
 /// Puts on the variable that is matched and those inside its match.
 #[tactic(auto, using(crate::proofs::Scoping::entering))]
 pub fn open<'a>(p: &'a Pattern, names: &mut Vec<Option<&'a Str>>) -> Result<(), Memory>
-    ensures inside { OnOk result (Enters (λ s. start_term.bound (pat_of p.now) (None ∷ s))
+    ensures inside { OnOk result (Enters (λ s. start_term.bind_pattern (pat_of p.now) (None ∷ s))
         names.old.items names.new.items) }
     ensures around { OnOk result (take (length names.old.items) names.new.items ≡ names.old.items) }
 {
@@ -186,7 +186,7 @@ pub(crate) fn enter_past<'a>(
     names: &mut Vec<Option<&'a Str>>,
     at: u64,
 ) -> Result<u64, Memory>
-    ensures inside { OnOk result (Enters (start_term.bound (pat_of p.now)) names.old.items
+    ensures inside { OnOk result (Enters (start_term.bind_pattern (pat_of p.now)) names.old.items
         names.new.items) }
     ensures around { OnOk result (take (length names.old.items) names.new.items ≡ names.old.items) }
     ensures number { IfOk result (λ n. n ≡ at + (length names.new.items - length names.old.items)) }
@@ -198,7 +198,7 @@ pub(crate) fn enter_past<'a>(
 
 // The same with the variable that is matched.
 fn open_past<'a>(p: &'a Pattern, names: &mut Vec<Option<&'a Str>>, at: u64) -> Result<u64, Memory>
-    ensures inside { OnOk result (Enters (λ s. start_term.bound (pat_of p.now) (None ∷ s))
+    ensures inside { OnOk result (Enters (λ s. start_term.bind_pattern (pat_of p.now) (None ∷ s))
         names.old.items names.new.items) }
     ensures around { OnOk result (take (length names.old.items) names.new.items ≡ names.old.items) }
     ensures number { IfOk result (λ n. n ≡ at + (length names.new.items - length names.old.items)) }

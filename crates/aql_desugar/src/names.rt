@@ -3,15 +3,15 @@
 ghost use Rattle.std.specs.Prelude.{◌≡◌, ℕ, length, take, option_map, OnOk};
 ghost use Rattle.aql_syntax.specs.View.{pat_of, pats_of};
 ghost use Rattle.aql_desugar_spec.specs.Start as start_term;
-ghost use Rattle.aql_desugar_spec.specs.Start.{bound, bound_all};
-ghost use Rattle.aql_desugar.specs.Names.{has_name, scope_in, Enters};
+ghost use Rattle.aql_desugar_spec.specs.Start.{bind_pattern, bind_patterns};
+ghost use Rattle.aql_desugar.specs.Names.{has_name, binders_in, Enters};
 
 use aql_syntax::ast::Pattern;
 use aql_value::{Memory, Str};
 
 /// The number of the innermost variable of that name.
 pub fn index_of(names: &[Option<&Str>], name: &Str) -> Option<u64>
-    ensures { (base : ℕ) → result ≡ start_term.index_of name.now (scope_in names.now base) }
+    ensures { (base : ℕ) → result ≡ start_term.index_of name.now (binders_in names.now base) }
 {
     let mut i = names.len();
     while i > 0 {
@@ -36,7 +36,8 @@ fn is_named(slot: Option<&Str>, name: &Str) -> bool
 #[cycle(enter)]
 #[tactic(auto, using(crate::proofs::Scoping::entering))]
 pub(crate) fn enter<'a>(p: &'a Pattern, names: &mut Vec<Option<&'a Str>>) -> Result<(), Memory>
-    ensures inside { OnOk result (Enters (bound (pat_of p.now)) names.old.items names.new.items) }
+    ensures inside { OnOk result
+        (Enters (bind_pattern (pat_of p.now)) names.old.items names.new.items) }
     ensures around { OnOk result (take (length names.old.items) names.new.items ≡ names.old.items) }
 {
     match p {
@@ -54,7 +55,7 @@ pub(crate) fn enter<'a>(p: &'a Pattern, names: &mut Vec<Option<&'a Str>>) -> Res
 #[cycle(enter)]
 #[tactic(auto, using(crate::proofs::Scoping::entering))]
 fn enter_all<'a>(ps: &'a [Pattern], names: &mut Vec<Option<&'a Str>>) -> Result<(), Memory>
-    ensures inside { OnOk result (Enters (bound_all (pats_of ps.now)) names.old.items
+    ensures inside { OnOk result (Enters (bind_patterns (pats_of ps.now)) names.old.items
         names.new.items) }
     ensures around { OnOk result (take (length names.old.items) names.new.items ≡ names.old.items) }
 {

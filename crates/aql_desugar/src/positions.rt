@@ -3,7 +3,7 @@
 ghost use Rattle.std.specs.Prelude.{◌≡◌, ◌<◌, ◌≤◌, ◌+◌, ◌++◌, ◌∷◌, [], length, take, option_map, IfSome, IfOk, OnOk};
 ghost use Rattle.aql_names.specs.Named.{last_named};
 ghost use Rattle.aql_syntax.specs.Names.{find};
-ghost use Rattle.aql_syntax.specs.Tree.{declared};
+ghost use Rattle.aql_syntax.specs.Tree.{declared_name};
 ghost use Rattle.aql_syntax.specs.View.{decl_of};
 ghost use Rattle.aql_syntax.specs.Measured.{latest, names_of};
 ghost use Rattle.nrca_term.specs.View.{term_of};
@@ -99,7 +99,7 @@ pub(crate) fn index_names(alloc: Global, decls: &[Decl]) -> Result<Names, Memory
 
 // The name of one declaration more.
 fn push_name(alloc: Global, names: &mut Names, d: &Decl) -> Result<(), Memory>
-    ensures { OnOk result (names.new ≡ names.old ++ declared (decl_of d.now) ∷ []) }
+    ensures { OnOk result (names.new ≡ names.old ++ declared_name (decl_of d.now) ∷ []) }
 {
     let name = d.name_copy(alloc)?;
     names.push(alloc, &name)

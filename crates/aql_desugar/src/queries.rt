@@ -9,7 +9,7 @@ ghost use Rattle.nrca_term.specs.Term.{Term};
 ghost use Rattle.nrca_term.specs.View.{term_of};
 ghost use Rattle.aql_desugar_spec.specs.Start as start_term;
 ghost use Rattle.aql_desugar_spec.specs.Start.{matching, starts, bound_terms, under_axes, quals_term, defs_term, array_term};
-ghost use Rattle.aql_desugar.specs.Names.{missing_term, scope_in, knowns_in, Enters, IsTermIn};
+ghost use Rattle.aql_desugar.specs.Names.{missing_term, binders_in, knowns_in, Enters, IsTermIn};
 
 use crate::arrays::{enter_axes, hide, walk};
 use crate::matches::{Missing, add_numbers, close, name_term, open};
@@ -153,7 +153,7 @@ fn all<'a>(
     names: &mut Vec<Option<&'a Str>>,
 ) -> Result<Vec<Core>, Memory>
     ensures made { IfOk result (λ ts. map term_of ts.items ≡ starts (trees_of es.now)
-        (knowns_in earlier.now) (scope_in names.old.items base)) }
+        (knowns_in earlier.now) (binders_in names.old.items base)) }
     ensures kept { OnOk result (names.new.items ≡ names.old.items) }
 {
     let mut made = Vec::new(alloc);
@@ -175,7 +175,7 @@ fn bounds<'a>(
     names: &mut Vec<Option<&'a Str>>,
 ) -> Result<Vec<Core>, Memory>
     ensures made { IfOk result (λ ts. map term_of ts.items ≡ bound_terms (axes_in binds.now)
-        (knowns_in earlier.now) (scope_in names.old.items base)) }
+        (knowns_in earlier.now) (binders_in names.old.items base)) }
     ensures kept { OnOk result (names.new.items ≡ names.old.items) }
 {
     let mut made = Vec::new(alloc);
@@ -209,7 +209,8 @@ fn index_body<'a>(
     names: &mut Vec<Option<&'a Str>>,
 ) -> Result<Core, Memory>
     ensures made { IfOk result (λ c. term_of c ≡ start_term.start (tree_of body.now)
-        (knowns_in earlier.now) (under_axes (axes_in binds.now) (scope_in names.old.items base))) }
+        (knowns_in earlier.now)
+        (under_axes (axes_in binds.now) (binders_in names.old.items base))) }
     ensures kept { OnOk result (names.new.items ≡ names.old.items) }
 {
     let mark = names.len();
@@ -230,7 +231,7 @@ fn match_body<'a>(
     names: &mut Vec<Option<&'a Str>>,
 ) -> Result<Core, Memory>
     ensures made { IfOk result (λ c. term_of c ≡ matching (pat_of p.now) (knowns_in earlier.now)
-        (scope_in names.old.items base) (start_term.start (tree_of body.now)
+        (binders_in names.old.items base) (start_term.start (tree_of body.now)
         (knowns_in earlier.now)) (missing_term Missing.Undefined)) }
     ensures kept { OnOk result (names.new.items ≡ names.old.items) }
 {
@@ -250,8 +251,9 @@ fn call<'a>(
     names: &[Option<&Str>],
 ) -> Result<Core, Memory>
     ensures { IfOk result (λ c. term_of c ≡ start_term.call_term
-        (start_term.index_of name.now (scope_in names.now base))
-        (surface_names.find name.now (knowns_in earlier.now)) (length (scope_in names.now base))) }
+        (start_term.index_of name.now (binders_in names.now base))
+        (surface_names.find name.now (knowns_in earlier.now))
+        (length (binders_in names.now base))) }
 {
     match index_of(names, name) {
         Some(_) => Ok(Core::Bottom),
@@ -303,7 +305,7 @@ fn comprehend<'a>(
 ) -> Result<Core, Memory>
     ensures made { IfOk result (λ c. term_of c ≡ quals_term (quals_of quals.now)
         (start_term.start (tree_of head.now) (knowns_in earlier.now)) (knowns_in earlier.now)
-        (scope_in names.old.items base)) }
+        (binders_in names.old.items base)) }
     ensures kept { OnOk result (names.new.items ≡ names.old.items) }
 {
     match quals.split_first() {
@@ -362,7 +364,7 @@ fn match_qualifiers<'a>(
     names: &mut Vec<Option<&'a Str>>,
 ) -> Result<Core, Memory>
     ensures made { IfOk result (λ c. term_of c ≡ matching (pat_of p.now) (knowns_in earlier.now)
-        (scope_in names.old.items base) (quals_term (quals_of rest.now)
+        (binders_in names.old.items base) (quals_term (quals_of rest.now)
         (start_term.start (tree_of head.now) (knowns_in earlier.now)) (knowns_in earlier.now))
         (missing_term Missing.Empty)) }
     ensures kept { OnOk result (names.new.items ≡ names.old.items) }
@@ -386,7 +388,7 @@ fn grid<'a>(
     names: &mut Vec<Option<&'a Str>>,
 ) -> Result<Core, Memory>
     ensures made { IfOk result (λ c. (array : Term) → let_term array (term_of c) ≡ array_term
-        (pats_of ps.now) (knowns_in earlier.now) (scope_in names.old.items base) array
+        (pats_of ps.now) (knowns_in earlier.now) (binders_in names.old.items base) array
         (λ inner. matching (pat_of p.now) (knowns_in earlier.now) inner
         (quals_term (quals_of rest.now) (start_term.start (tree_of head.now)
         (knowns_in earlier.now)) (knowns_in earlier.now)) empty_term) empty_term) }
@@ -416,7 +418,7 @@ fn bind_all<'a>(
 ) -> Result<Core, Memory>
     ensures made { IfOk result (λ c. term_of c ≡ defs_term (defs_in binds.now)
         (start_term.start (tree_of body.now) (knowns_in earlier.now)) (knowns_in earlier.now)
-        (scope_in names.old.items base)) }
+        (binders_in names.old.items base)) }
     ensures kept { OnOk result (names.new.items ≡ names.old.items) }
 {
     match binds.split_first() {
@@ -441,7 +443,7 @@ fn bind_rest<'a>(
     names: &mut Vec<Option<&'a Str>>,
 ) -> Result<Core, Memory>
     ensures made { IfOk result (λ c. term_of c ≡ matching (pat_of p.now) (knowns_in earlier.now)
-        (scope_in names.old.items base)
+        (binders_in names.old.items base)
         (defs_term (defs_in rest.now) (start_term.start (tree_of body.now) (knowns_in earlier.now))
         (knowns_in earlier.now)) (missing_term Missing.Undefined)) }
     ensures kept { OnOk result (names.new.items ≡ names.old.items) }

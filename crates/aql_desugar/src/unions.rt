@@ -12,7 +12,7 @@ use std::alloc::Global;
 
 /// The sets of one member each of the terms, united; the empty set where there is none.
 pub fn unite(alloc: Global, items: Result<Vec<Core>, Memory>) -> Result<Core, Memory>
-    ensures { IfOk result (λ c. IsOkAnd items (λ v. term_of c ≡ start_term.united
+    ensures { IfOk result (λ c. IsOkAnd items (λ v. term_of c ≡ start_term.balanced_union
         (length (map term_of v.items)) (map term_of v.items))) }
 {
     let mut rest = items?;
@@ -25,7 +25,7 @@ pub fn unite(alloc: Global, items: Result<Vec<Core>, Memory>) -> Result<Core, Me
 // Of the last terms, which are taken off.
 fn unite_last(alloc: Global, items: &mut Vec<Core>, count: usize) -> Result<Core, Memory>
     requires { count ≤ length items.old.items }
-    ensures made { IfOk result (λ c. term_of c ≡ start_term.united count
+    ensures made { IfOk result (λ c. term_of c ≡ start_term.balanced_union count
         (map term_of (drop (length items.old.items - count) items.old.items))) }
     ensures left { OnOk result (items.new.items ≡ take (length items.old.items - count)
         items.old.items) }

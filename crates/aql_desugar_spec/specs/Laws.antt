@@ -23,7 +23,7 @@ use Rattle.aql_syntax.specs.Script.{Earlier, globals_of}
 use Rattle.aql_syntax.specs.Sound.{declarations_of}
 use Rattle.aql_types.specs.Types.{Ty, Sort, IsType}
 use Rattle.aql_syntax.specs.Size.{size, extents_of}
-use Rattle.aql_syntax.specs.Typing.{Has, DeclHas, IsPrincipal, scope_of}
+use Rattle.aql_syntax.specs.Typing.{Has, DeclHas, IsPrincipal, environment_of}
 use Rattle.nrca_term.specs.Term.{Closed, WellFormed, weight_of}
 use Rattle.nrca_term.specs.Meaning.{Outcomes, cden}
 use Rattle.nrca_term.specs.Turns.{settle}
@@ -52,18 +52,18 @@ StartIsWellFormed = (earlier : List Declaration) (e : Tree) → WellFormed (star
 -- each declaration has some sort over those before it, the latest first
 abbrev pub EachHas : List Declaration → Type 0
 EachHas [] = Unit {0}
-EachHas (d ∷ earlier) = ((s : Sort) × DeclHas d (scope_of earlier) s) × EachHas earlier
+EachHas (d ∷ earlier) = ((s : Sort) × DeclHas d (environment_of earlier) s) × EachHas earlier
 
 -- it weighs at most 64 times the expanded size, where the query has a type and the declarations before it have sorts
 abbrev pub StartWeighs : Type 0
-StartWeighs = (earlier : List Declaration) (e : Tree) (T : Ty) → EachHas earlier → Has e (scope_of earlier) [] T →
+StartWeighs = (earlier : List Declaration) (e : Tree) (T : Ty) → EachHas earlier → Has e (environment_of earlier) [] T →
     weight_of (start e (knowns_of earlier) []) ≤ 64 * size e (extents_of earlier)
 
 -- each declaration is written in the surface language and has its principal sort over those before it, the latest first
 abbrev pub EachPrincipal : List Declaration → List Sort → Type 0
 EachPrincipal [] sorts = sorts ≡ []
 EachPrincipal (d ∷ earlier) sorts =
-    (s : Sort) × (rest : List Sort) × (sorts ≡ s ∷ rest) × DeclWritten d × IsPrincipal d (scope_of earlier) s × EachPrincipal earlier rest
+    (s : Sort) × (rest : List Sort) × (sorts ≡ s ∷ rest) × DeclWritten d × IsPrincipal d (environment_of earlier) s × EachPrincipal earlier rest
 
 -- the types of positions of which the latest is first, in order
 abbrev pub sort_types : List Sort → List Ty
@@ -73,4 +73,4 @@ sort_types (s ∷ earlier) = sort_types earlier ++ value_type s ∷ []
 -- each type of the query that is one of the language is a type of its start term, over the principal types of the positions
 abbrev pub StartTyped : Type 0
 StartTyped = (earlier : List Declaration) (sorts : List Sort) (later : List Ty) (e : Tree) (T : Ty) → EachPrincipal earlier sorts → IsWritten e → IsType T →
-    Has e (scope_of earlier) [] T → ctyped (instances (sort_types sorts ++ later)) [] (start e (knowns_of earlier) []) T
+    Has e (environment_of earlier) [] T → ctyped (instances (sort_types sorts ++ later)) [] (start e (knowns_of earlier) []) T

@@ -2,7 +2,7 @@
 -- A term is made in the scope in which it stands, so that nothing moves under a binder and nothing is shifted.
 use Rattle.std.specs.Prelude.{ℕ, zero, suc, ◌+◌, ◌/◌, true, false, List, [], ◌∷◌, length, take, drop, Option, Some, None, if◌then◌else◌}
 use Rattle.aql_value.specs.declared.ops.CompareOp.TheVariants as compare_op
-use Rattle.aql_syntax.specs.Tree.{Name, Constant, number, truth, bytes, Pat, bind, any, equals, refers, tuple, Pats, no_pat, pat, Tree, name, op, members, comp, tab, bindings, choice, conjunction, disjunction, negation, default, apply, function, summap, Trees, no_tree, tree, Axes, no_axis, axis, Quals, no_qual, from, cells, same, test, Defs, no_def, def, Declaration, val, mac, read, bare, declared, count_pats, axes}
+use Rattle.aql_syntax.specs.Tree.{Name, Constant, number, truth, bytes, Pat, bind, any, equals, refers, tuple, Pats, no_pat, pat, Tree, name, op, members, comp, tab, bindings, choice, conjunction, disjunction, negation, default, apply, function, summap, Trees, no_tree, tree, Axes, no_axis, axis, Quals, no_qual, from, cells, same, test, Defs, no_def, def, Declaration, val, mac, read, bare, declared_name, count_pats, axes}
 use Rattle.aql_syntax.specs.Names.{names_equal, find}
 use Rattle.nrca_term.specs.Term.{Term, node, none, plain, Form}
 use Rattle.nrca_term.specs.Nodes as nodes
@@ -64,31 +64,31 @@ constant_term (bytes s) = text_term s
 
 abbrev mutual
   -- the scope inside a match
-  pub bound : Pat → Binders → Binders
-  bound (bind x) s = Some x ∷ s
-  bound any s = s
-  bound (equals c) s = s
-  bound (refers x) s = s
-  bound (tuple ps) s = bound_all ps s
+  pub bind_pattern : Pat → Binders → Binders
+  bind_pattern (bind x) s = Some x ∷ s
+  bind_pattern any s = s
+  bind_pattern (equals c) s = s
+  bind_pattern (refers x) s = s
+  bind_pattern (tuple ps) s = bind_patterns ps s
 
   -- the variables around what follows these patterns
-  pub bound_all : Pats → Binders → Binders
-  bound_all no_pat s = s
-  bound_all (pat p ps) s = bound_all ps (bound p (None ∷ s))
+  pub bind_patterns : Pats → Binders → Binders
+  bind_patterns no_pat s = s
+  bind_patterns (pat p ps) s = bind_patterns ps (bind_pattern p (None ∷ s))
 
 abbrev mutual
   -- the number of variables that a match adds
-  pub grown : Pat → ℕ
-  grown (bind x) = 1
-  grown any = 0
-  grown (equals c) = 0
-  grown (refers x) = 0
-  grown (tuple ps) = growns ps
+  pub count_binders : Pat → ℕ
+  count_binders (bind x) = 1
+  count_binders any = 0
+  count_binders (equals c) = 0
+  count_binders (refers x) = 0
+  count_binders (tuple ps) = count_all_binders ps
 
   -- how many variables the matches of these patterns add
-  pub growns : Pats → ℕ
-  growns no_pat = 0
-  growns (pat p ps) = growns ps + (grown p + 1)
+  pub count_all_binders : Pats → ℕ
+  count_all_binders no_pat = 0
+  count_all_binders (pat p ps) = count_all_binders ps + (count_binders p + 1)
 
 -- whether variable `at` equals a term
 abbrev pub equal_term : (at : ℕ) → Term → Term
@@ -108,19 +108,19 @@ abbrev mutual
   parts_term no_pat known s at j n inside other = inside
   parts_term (pat p ps) known s at j n inside other =
       let_term (proj_term j n (variable at))
-      (match_term p known (None ∷ s) 0 (parts_term ps known (bound p (None ∷ s)) (at + (grown p + 1)) (suc j) n inside other) other)
+      (match_term p known (None ∷ s) 0 (parts_term ps known (bind_pattern p (None ∷ s)) (at + (count_binders p + 1)) (suc j) n inside other) other)
 
 -- the match of the variable that the node around it binds, around what `inside` makes in the scope inside the match
 abbrev pub matching : Pat → Resolutions → Binders → (inside : Binders → Term) → (other : Term) → Term
-matching p known s inside other = match_term p known (None ∷ s) 0 (inside (bound p (None ∷ s))) other
+matching p known s inside other = match_term p known (None ∷ s) 0 (inside (bind_pattern p (None ∷ s))) other
 
 -- the sets of one member each, united as a balanced tree with the smaller half on the left, for at most n terms
-abbrev pub united : ℕ → List Term → Term
-united zero ts = empty_term
-united (suc n) [] = empty_term
-united (suc n) (t ∷ []) = single_term t
-united (suc n) (t ∷ u ∷ ts) =
-    union_term (united n (take (length (t ∷ u ∷ ts) / 2) (t ∷ u ∷ ts))) (united n (drop (length (t ∷ u ∷ ts) / 2) (t ∷ u ∷ ts)))
+abbrev pub balanced_union : ℕ → List Term → Term
+balanced_union zero ts = empty_term
+balanced_union (suc n) [] = empty_term
+balanced_union (suc n) (t ∷ []) = single_term t
+balanced_union (suc n) (t ∷ u ∷ ts) =
+    union_term (balanced_union n (take (length (t ∷ u ∷ ts) / 2) (t ∷ u ∷ ts))) (balanced_union n (drop (length (t ∷ u ∷ ts) / 2) (t ∷ u ∷ ts)))
 
 -- Array generators: inside the variable of the array stand the loops over its dimensions, then the matches of the numbers of
 -- the index, then the variable of the cell and its match.
@@ -144,18 +144,18 @@ under (suc n) s = under n (None ∷ s)
 -- the variables around what follows these index patterns
 abbrev pub bound_axes : Pats → Binders → Binders
 bound_axes no_pat s = s
-bound_axes (pat p ps) s = bound_axes ps (bound p s)
+bound_axes (pat p ps) s = bound_axes ps (bind_pattern p s)
 
 -- how many variables the matches of these index patterns add
 abbrev pub grown_axes : Pats → ℕ
 grown_axes no_pat = 0
-grown_axes (pat p ps) = grown_axes ps + grown p
+grown_axes (pat p ps) = grown_axes ps + count_binders p
 
 -- the matches of the numbers of an index, which stand under `added` further variables, the last number the innermost
 abbrev pub axes_term : Pats → Resolutions → Binders → (added : ℕ) → (inside other : Term) → Term
 axes_term no_pat known s added inside other = inside
 axes_term (pat p ps) known s added inside other =
-    match_term p known s (added + count_pats ps) (axes_term ps known (bound p s) (added + grown p) inside other) other
+    match_term p known s (added + count_pats ps) (axes_term ps known (bind_pattern p s) (added + count_binders p) inside other) other
 
 -- the m variables of an index under `added` further ones
 abbrev pub index_terms : (m added : ℕ) → List Term
@@ -167,8 +167,8 @@ abbrev pub cell_term : (m added : ℕ) → Term
 cell_term m added = sub_term (variable (added + m)) (index_terms m added)
 
 -- the scope of the variable of the cell
-abbrev pub cell_scope : Pats → Binders → Binders
-cell_scope ps s = bound_axes ps (under (count_pats ps) (None ∷ s))
+abbrev pub cell_binders : Pats → Binders → Binders
+cell_binders ps s = bound_axes ps (under (count_pats ps) (None ∷ s))
 
 -- the loops over an array: at each index that matches, what `inside` makes stands under a variable that holds the cell
 abbrev pub array_term : Pats → Resolutions → Binders → (array : Term) → (inside : Binders → Term) → (other : Term) → Term
@@ -176,7 +176,7 @@ array_term ps known s array inside other =
     let_term array
     (loops_term (count_pats ps) 0 (count_pats ps)
     (axes_term ps known (under (count_pats ps) (None ∷ s)) 0
-    (let_term (cell_term (count_pats ps) (grown_axes ps)) (inside (cell_scope ps s))) other))
+    (let_term (cell_term (count_pats ps) (grown_axes ps)) (inside (cell_binders ps s))) other))
 
 -- the scope of a tabulation's body
 abbrev pub under_axes : Axes → Binders → Binders
@@ -188,7 +188,7 @@ abbrev mutual
   pub start : Tree → Resolutions → Binders → Term
   start (name x) known s = name_term (index_of x s) (find x known)
   start (op o es) known s = node (Form.strict o) (plain (starts es known s) none)
-  start (members es) known s = united (length (starts es known s)) (starts es known s)
+  start (members es) known s = balanced_union (length (starts es known s)) (starts es known s)
   start (comp head quals) known s = quals_term quals (start head known) known s
   start (tab xs body) known s = tab_term (bound_terms xs known s) (start body known (under_axes xs s))
   start (bindings ds body) known s = defs_term ds (start body known) known s
@@ -226,13 +226,13 @@ abbrev mutual
   defs_term (def p e rest) body known s = let_term (start e known s) (matching p known s (defs_term rest body known) bottom_term)
 
 -- n variables without a name
-abbrev pub hidden : ℕ → Binders
-hidden zero = []
-hidden (suc n) = None ∷ hidden n
+abbrev pub unnamed_binders : ℕ → Binders
+unnamed_binders zero = []
+unnamed_binders (suc n) = None ∷ unnamed_binders n
 
 -- a macro's body under the match of its argument: none of the names around the application is in its scope
 abbrev pub inline : Pat → Tree → Resolutions → ℕ → Term
-inline p body known n = matching p known (hidden n) (start body known) bottom_term
+inline p body known n = matching p known (unnamed_binders n) (start body known) bottom_term
 
 -- what a position is to the terms after it, by the positions before it and its number
 abbrev pub known_of : Declaration → Resolutions → ℕ → Resolved
@@ -244,7 +244,7 @@ known_of (bare e) earlier n = numbered n
 -- of declarations, the latest first; positions are numbered from 1
 abbrev pub knowns_of : List Declaration → Resolutions
 knowns_of [] = []
-knowns_of (d ∷ earlier) = (declared d, known_of d (knowns_of earlier) (suc (length earlier))) ∷ knowns_of earlier
+knowns_of (d ∷ earlier) = (declared_name d, known_of d (knowns_of earlier) (suc (length earlier))) ∷ knowns_of earlier
 
 -- the expression of a position: of a readval its argument. A macro has none.
 abbrev pub query : Declaration → Option Tree

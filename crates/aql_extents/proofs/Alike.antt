@@ -1,11 +1,11 @@
 -- Sizes and levels by what is kept are those of the definition, as far as a limit.
 use Rattle.std.proofs.Common.{ℕ, ◌≡◌, ◌+◌, ◌-◌, ◌*◌, ◌^◌, min, max, Bool, true, false, List, [], ◌∷◌, Some, refl, arith, if◌then◌else◌}
 use Rattle.aql_syntax.specs.Names.{names_equal, find}
-use Rattle.aql_syntax.specs.Tree.{Name, Tree, name, op, members, comp, tab, bindings, choice, conjunction, disjunction, negation, default, apply, function, summap, Trees, no_tree, tree, Axes, no_axis, axis, Quals, no_qual, from, cells, same, test, Defs, no_def, def, Declaration, val, mac, read, bare, declared, count_trees, count_axes}
+use Rattle.aql_syntax.specs.Tree.{Name, Tree, name, op, members, comp, tab, bindings, choice, conjunction, disjunction, negation, default, apply, function, summap, Trees, no_tree, tree, Axes, no_axis, axis, Quals, no_qual, from, cells, same, test, Defs, no_def, def, Declaration, val, mac, read, bare, declared_name, count_trees, count_axes}
 use Rattle.aql_syntax.specs.Size.{Extent, Extents, extent_of, extent, extents_of, pat_nodes, count_quals, count_defs, quals_patterns, defs_patterns, binary_digits, size, sizes, axes_sizes, quals_sizes, defs_sizes, levels, greatest, axes_greatest, quals_greatest, defs_greatest}
 use Rattle.aql_syntax.specs.Measured.{latest}
 use Rattle.aql_syntax.specs.declared.ast.Decl.{Decl}
-use Rattle.aql_extents.specs.Kept.{in_words, kept_of, kept}
+use Rattle.aql_extents.specs.Kept.{saturate_extent, kept_of, extents_after}
 
 -- two numbers that are one as far as m
 record Alike (m a b : ℕ) : Type 0 where
@@ -114,7 +114,7 @@ nothing n = record { pattern = itself n 0; size = itself n 0; levels = itself n 
 
 -- what is kept of a declaration
 extent-alike : (d : Declaration) (x y : Extents) → AreAlike (2 ^ 64 - 1) x y →
-    AlikeExtent (2 ^ 64 - 1) (in_words (extent_of (Some (extent d x)))) (extent_of (Some (extent d y)))
+    AlikeExtent (2 ^ 64 - 1) (saturate_extent (extent_of (Some (extent d x)))) (extent_of (Some (extent d y)))
 extent-alike (val z e) x y h = nothing (2 ^ 64 - 1)
 extent-alike (mac f p body) x y h = record {
   pattern = cut (itself (2 ^ 64 - 1) (pat_nodes p));
@@ -127,15 +127,15 @@ extent-alike (bare e) x y h = nothing (2 ^ 64 - 1)
 -- what is kept of declarations: an extent rests on the declarations before its own alone
 kept-alike : (ds : List Declaration) → AreAlike (2 ^ 64 - 1) (kept_of ds) (extents_of ds)
 kept-alike [] f = nothing (2 ^ 64 - 1)
-kept-alike (d ∷ ds) f = go (names_equal f (declared d)) (kept-alike ds)
+kept-alike (d ∷ ds) f = go (names_equal f (declared_name d)) (kept-alike ds)
   where
-    go : (b : Bool) → AreAlike (2 ^ 64 - 1) (kept_of ds) (extents_of ds) → AlikeExtent (2 ^ 64 - 1) (extent_of (if b then Some (Some (in_words (extent_of (Some (extent d (kept_of ds)))))) else find f (kept_of ds)))
+    go : (b : Bool) → AreAlike (2 ^ 64 - 1) (kept_of ds) (extents_of ds) → AlikeExtent (2 ^ 64 - 1) (extent_of (if b then Some (Some (saturate_extent (extent_of (Some (extent d (kept_of ds)))))) else find f (kept_of ds)))
         (extent_of (if b then Some (extent d (extents_of ds)) else find f (extents_of ds)))
     go true h = extent-alike d (kept_of ds) (extents_of ds) h
     go false h = h f
 
-pub size-kept : (t : Tree) (ds : List Decl) → min (size t (kept ds)) (2 ^ 64 - 1) ≡ min (size t (extents_of (latest ds))) (2 ^ 64 - 1)
-size-kept t ds = (size-alike (2 ^ 64 - 1) (kept ds) (extents_of (latest ds)) (kept-alike (latest ds)) t).alike
+pub size-kept : (t : Tree) (ds : List Decl) → min (size t (extents_after ds)) (2 ^ 64 - 1) ≡ min (size t (extents_of (latest ds))) (2 ^ 64 - 1)
+size-kept t ds = (size-alike (2 ^ 64 - 1) (extents_after ds) (extents_of (latest ds)) (kept-alike (latest ds)) t).alike
 
-pub levels-kept : (t : Tree) (ds : List Decl) → min (levels t (kept ds)) (2 ^ 64 - 1) ≡ min (levels t (extents_of (latest ds))) (2 ^ 64 - 1)
-levels-kept t ds = (levels-alike (2 ^ 64 - 1) (kept ds) (extents_of (latest ds)) (kept-alike (latest ds)) t).alike
+pub levels-kept : (t : Tree) (ds : List Decl) → min (levels t (extents_after ds)) (2 ^ 64 - 1) ≡ min (levels t (extents_of (latest ds))) (2 ^ 64 - 1)
+levels-kept t ds = (levels-alike (2 ^ 64 - 1) (extents_after ds) (extents_of (latest ds)) (kept-alike (latest ds)) t).alike

@@ -1,5 +1,5 @@
 -- The names of the positions with what is kept of each: the last that has a name, one more, and the names alone.
-use Rattle.std.proofs.Common.{ℕ, suc, ◌≡◌, ◌<◌, Bool, true, false, List, [], ◌∷◌, ◌++◌, length, get_or, Option, Some, None, refl, sym, ap, ◌∙◌, arith, if◌then◌else◌}
+use Rattle.std.proofs.Common.{ℕ, suc, ◌≡◌, ◌<◌, Bool, true, false, List, [], ◌∷◌, ◌++◌, length, get_or, Option, Some, None, refl, sym, ap, ◌∙◌, arith, append-nil, if◌then◌else◌}
 use Rattle.std.specs.List.{slice_get}
 use Rattle.std.specs.Option.{option_map}
 use Rattle.std.proofs.lemmas.Option.{slice_get-get_or}
@@ -7,13 +7,13 @@ use Rattle.aql_value.specs.Partial.{or_else}
 use Rattle.aql_names.specs.Named.{last_named}
 use Rattle.aql_names.specs.Laws.Named.{last_named_inside}
 use Rattle.aql_syntax.specs.Names.{names_equal, find}
-use Rattle.aql_syntax.specs.Tree.{Name, Declaration, declared}
+use Rattle.aql_syntax.specs.Tree.{Name, Declaration, declared_name}
 use Rattle.aql_syntax.specs.View.{decl_of}
 use Rattle.aql_syntax.specs.Size.{Extent, Extents, extent_of, no_extent, extent}
 use Rattle.aql_syntax.specs.Measured.{onto, names_of}
 use Rattle.aql_syntax.specs.declared.ast.Decl.{Decl}
 use Rattle.aql_syntax.specs.Laws.Measuring.{latest_last}
-use Rattle.aql_extents.specs.Kept.{in_words, keep, kept_of, kept}
+use Rattle.aql_extents.specs.Kept.{saturate_extent, keep, kept_of, extents_after}
 use Rattle.aql_extents.specs.View.{extent_in, entries_onto, entries}
 use Rattle.aql_extents.specs.declared.extents.Added.{Added}
 
@@ -67,7 +67,7 @@ latest-some x xs ks i k l e is =
 
 -- What is kept of declarations and one more.
 
-pub kept-last : (ds : List Decl) (d : Decl) → kept (ds ++ d ∷ []) ≡ keep (decl_of d) (kept ds)
+pub kept-last : (ds : List Decl) (d : Decl) → extents_after (ds ++ d ∷ []) ≡ keep (decl_of d) (extents_after ds)
 kept-last ds d = ap kept_of (latest_last ds d)
 
 -- The names alone.
@@ -87,17 +87,13 @@ back-kept : (ds : List Decl) (rest : List Declaration) (ys : List Name) → name
 back-kept [] rest ys = refl
 back-kept (d ∷ ds) rest ys = back-kept ds (decl_of d ∷ rest) ys
 
-append-nil : (xs : List Name) → xs ++ [] ≡ xs
-append-nil [] = refl
-append-nil (x ∷ xs) = ap (λ l. x ∷ l) (append-nil xs)
-
-pub names-kept : (xs : List Name) (ks : List Added) (ds : List Decl) → length xs ≡ length ks → entries xs ks ≡ kept ds → xs ≡ names_of ds
+pub names-kept : (xs : List Name) (ks : List Added) (ds : List Decl) → length xs ≡ length ks → entries xs ks ≡ extents_after ds → xs ≡ names_of ds
 names-kept xs ks ds l e =
     sym (append-nil xs) ∙ sym (back-entries xs ks [] [] l) ∙ ap (λ ms. names_back ms []) e ∙ back-kept ds [] [] ∙ append-nil (names_of ds)
 
 -- One declaration more.
 
-pub one-more : (x : Name) (k : Added) (old new : Extents) (d : Decl) → x ≡ declared (decl_of d) → extent_in k ≡ in_words (extent_of (Some (extent (decl_of d) old))) →
-    new ≡ (x, Some (extent_in k)) ∷ old → (ds : List Decl) → old ≡ kept ds → new ≡ kept (ds ++ d ∷ [])
+pub one-more : (x : Name) (k : Added) (old new : Extents) (d : Decl) → x ≡ declared_name (decl_of d) → extent_in k ≡ saturate_extent (extent_of (Some (extent (decl_of d) old))) →
+    new ≡ (x, Some (extent_in k)) ∷ old → (ds : List Decl) → old ≡ extents_after ds → new ≡ extents_after (ds ++ d ∷ [])
 one-more x k old new d e h n ds o =
-    n ∙ ap (λ y. (y, Some (extent_in k)) ∷ old) e ∙ ap (λ z. (declared (decl_of d), Some z) ∷ old) h ∙ ap (keep (decl_of d)) o ∙ sym (kept-last ds d)
+    n ∙ ap (λ y. (y, Some (extent_in k)) ∷ old) e ∙ ap (λ z. (declared_name (decl_of d), Some z) ∷ old) h ∙ ap (keep (decl_of d)) o ∙ sym (kept-last ds d)

@@ -7,7 +7,7 @@ ghost use Rattle.aql_syntax.specs.Size as sizes;
 ghost use Rattle.aql_syntax.specs.Size.{extents_of, extent_of, extent, decl_size, decl_levels};
 ghost use Rattle.aql_syntax.specs.Measured.{latest, names_of};
 ghost use Rattle.aql_syntax.specs.declared.ast.Decl.{Decl};
-ghost use Rattle.aql_extents.specs.Kept.{in_words, kept};
+ghost use Rattle.aql_extents.specs.Kept.{saturate_extent, extents_after};
 ghost use Rattle.aql_extents.specs.View.{extent_in};
 
 use crate::walk;
@@ -50,7 +50,7 @@ impl Model for Extents {
 impl Extents {
     /// Of no declarations.
     pub fn new(alloc: Global) -> Extents
-        ensures { result ≡ kept [] }
+        ensures { result ≡ extents_after [] }
     {
         Extents {
             names: Names::new(alloc),
@@ -60,8 +60,8 @@ impl Extents {
 
     /// One declaration more, the latest. For want of memory nothing is added.
     pub fn push(&mut self, alloc: Global, d: &Decl) -> Result<(), Memory>
-        ensures pushed { OnOk result ((ds : List Decl) → self.old ≡ kept ds →
-            self.new ≡ kept (ds ++ d.now ∷ [])) }
+        ensures pushed { OnOk result ((ds : List Decl) → self.old ≡ extents_after ds →
+            self.new ≡ extents_after (ds ++ d.now ∷ [])) }
         ensures as_before { OnErr result (self.new ≡ self.old) }
     {
         let added = self.added_by(d);
@@ -71,9 +71,9 @@ impl Extents {
 
     /// The size and the levels of an expression after the declarations.
     pub fn measure(&self, e: &Expr) -> Counts
-        ensures size { (ds : List Decl) → self.now ≡ kept ds →
+        ensures size { (ds : List Decl) → self.now ≡ extents_after ds →
             result.size ≡ min (sizes.size (tree_of e.now) (extents_of (latest ds))) (2 ^ 64 - 1) }
-        ensures levels { (ds : List Decl) → self.now ≡ kept ds →
+        ensures levels { (ds : List Decl) → self.now ≡ extents_after ds →
             result.levels ≡ min (sizes.levels (tree_of e.now) (extents_of (latest ds)))
             (2 ^ 64 - 1) }
     {
@@ -82,9 +82,9 @@ impl Extents {
 
     /// The size and the levels of a declaration after the declarations.
     pub fn declaration(&self, d: &Decl) -> Counts
-        ensures size { (ds : List Decl) → self.now ≡ kept ds →
+        ensures size { (ds : List Decl) → self.now ≡ extents_after ds →
             result.size ≡ min (decl_size (decl_of d.now) (extents_of (latest ds))) (2 ^ 64 - 1) }
-        ensures levels { (ds : List Decl) → self.now ≡ kept ds →
+        ensures levels { (ds : List Decl) → self.now ≡ extents_after ds →
             result.levels ≡ min (decl_levels (decl_of d.now) (extents_of (latest ds)))
             (2 ^ 64 - 1) }
     {
@@ -109,7 +109,7 @@ impl Extents {
 
     /// The names that the declarations bind, in order.
     pub fn names(&self) -> &Names
-        ensures { (ds : List Decl) → self.now ≡ kept ds → result.now ≡ names_of ds }
+        ensures { (ds : List Decl) → self.now ≡ extents_after ds → result.now ≡ names_of ds }
     {
         &self.names
     }
@@ -143,7 +143,8 @@ impl Extents {
 
     // What an application of a declaration after the declarations adds.
     fn added_by(&self, d: &Decl) -> Added
-        ensures { extent_in result ≡ in_words (extent_of (Some (extent (decl_of d.now) self.now))) }
+        ensures { extent_in result
+            ≡ saturate_extent (extent_of (Some (extent (decl_of d.now) self.now))) }
     {
         match d {
             Decl::Val { name: _, expr: _ } => nothing(),

@@ -6,7 +6,7 @@ use Rattle.aql_types.specs.Unifiers.{IsBest}
 use Rattle.aql_types.specs.View.{sort_of}
 use Rattle.aql_types.specs.declared.ty.Scheme as code_scheme
 use Rattle.aql_syntax.specs.Tree.{Declaration}
-use Rattle.aql_infer_steps.specs.Constraints.{NumberedSorts, State, initial, make_decl}
+use Rattle.aql_infer_steps.specs.Constraints.{NumberedSchemes, State, initial, make_decl}
 use Rattle.aql_types.specs.Variables.{sort_variables}
 use Rattle.aql_infer_steps.specs.Numbering.{number}
 use Rattle.aql_infer_steps.specs.declared.positions.Position.{Position}
@@ -15,7 +15,7 @@ use Rattle.aql_infer_steps.specs.declared.fault.NoTyping.TheVariants as faults
 use Rattle.aql_infer.specs.Inferred.{Inferred, Placed}
 
 -- a most general solution, and its scheme with the variables numbered
-pub solved : (d : Declaration) (ss : NumberedSorts) (o : Sort) (n : State) (u : Subst) (made : Result code_scheme.Scheme Memory) (r : Result Position NoTyping) →
+pub solved : (d : Declaration) (ss : NumberedSchemes) (o : Sort) (n : State) (u : Subst) (made : Result code_scheme.Scheme Memory) (r : Result Position NoTyping) →
     make_decl d ss initial ≡ Some (record { result = o; state = n }) → IsBest n.eqs n.uses u → IfOk made (λ m. sort_of m ≡ apply_sort u o) → Placed r made d →
     Inferred r d ss
 solved d ss o n u (Ok m) (Ok p) asked best e placed = (

@@ -3,28 +3,23 @@ use Rattle.std.specs.Prelude.{ℕ, zero, suc, List, [], ◌∷◌, Result, Ok, E
 use Rattle.aql_types.specs.Types.{Sort}
 use Rattle.aql_types.specs.View.{sort_of}
 use Rattle.aql_syntax.specs.Tree.{Declaration}
-use Rattle.aql_syntax.specs.Typing.{DeclHas, scope_of}
+use Rattle.aql_syntax.specs.Typing.{DeclHas, environment_of}
 use Rattle.aql_infer_steps.specs.Typed.{sorts_of, ArePrincipal}
 use Rattle.aql_infer_steps.specs.declared.positions.Position.{Position}
 use Rattle.aql_infer_steps.specs.declared.typed.Typed.{Typed}
 use Rattle.aql_infer.specs.declared.fault.TypeFault.{TypeFault}
 use Rattle.aql_infer.specs.declared.fault.TypeFault.TheVariants as faults
 
--- declarations behind others, the latest first
-abbrev pub behind : List Declaration → List Declaration → List Declaration
-behind [] earlier = earlier
-behind (d ∷ ds) earlier = behind ds (d ∷ earlier)
-
 -- no sort
 abbrev pub HasNoSort : Declaration → List Declaration → Type 0
-HasNoSort d earlier = (s : Sort) → DeclHas d (scope_of earlier) s → ⊥
+HasNoSort d earlier = (s : Sort) → DeclHas d (environment_of earlier) s → ⊥
 
 -- declaration n, counted from 1, has no typing, and each before it has one
 abbrev pub IsFirstUntyped : List Declaration → List Declaration → ℕ → Type 0
 IsFirstUntyped earlier [] n = ⊥
 IsFirstUntyped earlier (d ∷ ds) zero = ⊥
 IsFirstUntyped earlier (d ∷ ds) (suc zero) = HasNoSort d earlier
-IsFirstUntyped earlier (d ∷ ds) (suc (suc k)) = ((s : Sort) × DeclHas d (scope_of earlier) s) × IsFirstUntyped (d ∷ earlier) ds (suc k)
+IsFirstUntyped earlier (d ∷ ds) (suc (suc k)) = ((s : Sort) × DeclHas d (environment_of earlier) s) × IsFirstUntyped (d ∷ earlier) ds (suc k)
 
 -- a principal scheme a position, or the first position that has no typing
 abbrev pub IsChecked : Result Typed TypeFault → List Declaration → Type 0

@@ -10,7 +10,7 @@ use Rattle.aql_types.specs.View.{sort_of}
 use Rattle.aql_syntax.specs.Tree.{Name}
 use Rattle.aql_syntax.specs.Names.{names_equal, find}
 use Rattle.aql_syntax.specs.Typing.{Locals}
-use Rattle.aql_infer_steps.specs.Constraints.{NumberedSort, NumberedSorts}
+use Rattle.aql_infer_steps.specs.Constraints.{NumberedScheme, NumberedSchemes}
 use Rattle.aql_infer_steps.specs.View.{sketch_type, locals_onto, locals_of, scheme_of, schemes_onto, schemes_of, names_of}
 use Rattle.aql_infer_steps.specs.Ground.{AreOf, IsLatest, ground_of}
 use Rattle.aql_infer_steps.proofs.Sketching.{sort_here, ground_here}
@@ -43,11 +43,11 @@ pub ruleset local_steps = (local_here, local_past, local_none)
 -- The latest position of a name, by the place of the last that has it.
 
 -- what the position at a place has, and else what was found before
-abbrev found_at : List Position → Option ℕ → Option NumberedSort → Option NumberedSort
+abbrev found_at : List Position → Option ℕ → Option NumberedScheme → Option NumberedScheme
 found_at ps None o = o
 found_at ps (Some i) o = option_map scheme_of (slice_get ps i)
 
-find-onto : (x : Name) (ps : List Position) (ss : NumberedSorts) → find x (schemes_onto ps ss) ≡ found_at ps (last_named x (names_of ps)) (find x ss)
+find-onto : (x : Name) (ps : List Position) (ss : NumberedSchemes) → find x (schemes_onto ps ss) ≡ found_at ps (last_named x (names_of ps)) (find x ss)
 find-onto x [] ss = refl
 find-onto x (p ∷ ps) ss = find-onto x ps ((p.name, scheme_of p) ∷ ss) ∙ go (last_named x (names_of ps)) (names_equal x p.name)
   where

@@ -9,7 +9,7 @@ use Rattle.aql_syntax.specs.Laws.View.{pat_of_row, pats_from, pats_past, count_p
 use Rattle.aql_syntax.specs.declared.ast.Pattern as code_pattern
 use Rattle.aql_syntax.specs.declared.ast.Pattern.{Pattern}
 use Rattle.aql_syntax.specs.declared.ast.Patterns.{Patterns}
-use Rattle.aql_infer_steps.specs.Constraints.{State, Made, MatchedAll, NumberedSorts, after, made, equate, make_pat, make_pats, matched_index}
+use Rattle.aql_infer_steps.specs.Constraints.{State, Made, MatchedAll, NumberedSchemes, after, pure, equate, make_pat, make_pats, matched_index}
 use Rattle.aql_infer_steps.specs.View.{sketch_type, sketch_types}
 use Rattle.aql_infer_steps.specs.declared.sketch.Sketch.{Sketch}
 use Rattle.aql_infer_steps.specs.declared.positions.Position.{Position}
@@ -27,17 +27,17 @@ pub ruleset patterns_steps = (extends_itself, extends_extends, pats_from, pats_p
 
 -- the types of patterns behind others
 abbrev pub behind : Tys → MatchedAll → State → Option (Made MatchedAll)
-behind ts q = made (record { of = append ts q.of; names = q.names })
+behind ts q = pure (record { of = append ts q.of; names = q.names })
 
 -- one pattern more
-pub pats_more : (qs : List Position) (ps : List Pattern) (i : ℕ) (p : Pattern) (ss : NumberedSorts) (env inner : Locals) (n m : State) (parts new : List Sketch) (t : Sketch) (all : Option (Made MatchedAll)) →
+pub pats_more : (qs : List Position) (ps : List Pattern) (i : ℕ) (p : Pattern) (ss : NumberedSchemes) (env inner : Locals) (n m : State) (parts new : List Sketch) (t : Sketch) (all : Option (Made MatchedAll)) →
     i < length ps → p ≡ get_or ps i p → make_pat (pat_of p) ss env n ≡ Some (record { result = record { of = sketch_type qs t; names = inner }; state = m }) →
     new ≡ parts ++ t ∷ [] → after (make_pats (pats_of (drop i ps)) ss env n) (behind (sketch_types qs parts)) ≡ all →
     after (make_pats (pats_of (drop (i + 1) ps)) ss inner m) (behind (sketch_types qs new)) ≡ all
 unfolding after
 pats_more qs ps i p ss env inner n m parts new t all h e k g total =
     go (make_pats (pats_of (drop (i + 1) ps)) ss inner m)
-    ∙ sym (ap (λ o. after (after o (λ r n. after (make_pats (pats_of (drop (i + 1) ps)) ss r.names n) (λ q. made (record { of = type r.of q.of; names = q.names })))) (behind (sketch_types qs parts)))
+    ∙ sym (ap (λ o. after (after o (λ r n. after (make_pats (pats_of (drop (i + 1) ps)) ss r.names n) (λ q. pure (record { of = type r.of q.of; names = q.names })))) (behind (sketch_types qs parts)))
     (ap (λ (p : Pattern). make_pat (pat_of p) ss env n) (sym e) ∙ k))
     ∙ sym (ap (λ (x : Pats). after (make_pats x ss env n) (behind (sketch_types qs parts))) (pats_from ps i p h)) ∙ total
   where
@@ -47,12 +47,12 @@ pats_more qs ps i p ss env inner n m parts new t all h e k g total =
         ∙ append_assoc_types (sketch_types qs parts) (type (sketch_type qs t) no_type) ts
 
     go : (o : Option (Made MatchedAll)) →
-        after o (behind (sketch_types qs new)) ≡ after (after o (λ q. made (record { of = type (sketch_type qs t) q.of; names = q.names }))) (behind (sketch_types qs parts))
+        after o (behind (sketch_types qs new)) ≡ after (after o (λ q. pure (record { of = type (sketch_type qs t) q.of; names = q.names }))) (behind (sketch_types qs parts))
     go None = refl
     go (Some q) = ap (λ (ts : Tys). Some (record { result = record { of = ts; names = q.result.names }; state = q.state })) (longer q.result.of)
 
 -- one part of an index more
-pub index_more : (ps : List Pattern) (i : ℕ) (p : Pattern) (ss : NumberedSorts) (env inner : Locals) (n m last : State) (t : Ty) (all : Option (Made Locals)) →
+pub index_more : (ps : List Pattern) (i : ℕ) (p : Pattern) (ss : NumberedSchemes) (env inner : Locals) (n m last : State) (t : Ty) (all : Option (Made Locals)) →
     i < length ps → p ≡ get_or ps i p → make_pat (pat_of p) ss env n ≡ Some (record { result = record { of = t; names = inner }; state = m }) →
     equate t natural m ≡ Some (record { result = tt; state = last }) → matched_index (pats_of (drop i ps)) ss env n ≡ all →
     matched_index (pats_of (drop (i + 1) ps)) ss inner last ≡ all

@@ -1,9 +1,9 @@
 -- The code's lists of types, one by one.
-use Rattle.std.proofs.Common.{ℕ, zero, suc, ◌≡◌, ◌+◌, ◌<◌, ◌≤◌, List, [], ◌∷◌, ◌++◌, Option, Some, None, refl, sym, ap, ◌∙◌, arith, length, drop, get_or, add-one}
+use Rattle.std.proofs.Common.{ℕ, suc, ◌≡◌, ◌+◌, ◌<◌, ◌≤◌, List, [], ◌∷◌, ◌++◌, Option, Some, None, refl, sym, ap, ◌∙◌, arith, length, drop, get_or, add-one}
 use Rattle.std.proofs.lemmas.List.{at_drop_all}
 use Rattle.std.proofs.Math.Seq.{drop-cons}
 use Rattle.aql_types.specs.Types as types
-use Rattle.aql_types.specs.Types.{Ty, Tys, Subst, no_type, type, natural, append, apply, apply_all, tys_of, index_type}
+use Rattle.aql_types.specs.Types.{Ty, Tys, Subst, no_type, type, natural, append, apply, apply_all, tys_of}
 use Rattle.aql_types.specs.View.{type_of, types_of}
 use Rattle.aql_types.specs.Laws.View.{types_last, types_from, append_assoc_types, append_none}
 use Rattle.aql_types.specs.declared.ty.Ty as code
@@ -14,7 +14,6 @@ use Rattle.aql_infer_steps.specs.View.{sketch_type, sketch_types, types_in}
 use Rattle.aql_infer_steps.proofs.Sketching.{sketches_from}
 use Rattle.aql_infer_steps.specs.declared.sketch.Sketch.{Sketch}
 use Rattle.aql_infer_steps.specs.declared.positions.Position.{Position}
-use Rattle.aql_infer_steps.specs.Rows.{numbers}
 
 pub length_types_in : (ps : List Position) (ts : List Sketch) → length (types_in ps ts) ≡ length ts
 length_types_in ps [] = refl
@@ -49,24 +48,6 @@ literal_parts-append ps (d ∷ ds) cs s n = go (equate (sketch_type ps d) natura
     go (Some m) h = h m.state
 
 pub ruleset literal_parts_steps = (literal_parts-append)
-
--- an index from rank 2 on
-pub index_row : (k : ℕ) → (k ≡ 1 → ⊥) → index_type k ≡ types.product (numbers k)
-index_row zero h = refl
-index_row (suc zero) h = absurd (h refl)
-index_row (suc (suc k)) h = refl
-
-pub ruleset index_steps = (index_row)
-
-pub numbers_more : (k : ℕ) → append (numbers k) (type natural no_type) ≡ numbers (k + 1)
-numbers_more zero = refl
-numbers_more (suc k) = ap (type natural) (numbers_more k) ∙ (let e : suc (k + 1) ≡ suc k + 1 = omega arith in ap numbers e)
-
-pub types_of_more : (ts : List code.Ty) → types_of (ts ++ code.Nat ∷ []) ≡ append (types_of ts) (type natural no_type)
-types_of_more [] = refl
-types_of_more (t ∷ ts) = ap (type (type_of t)) (types_of_more ts)
-
-pub ruleset naturals_steps = (numbers_more, types_of_more)
 
 -- The fields of a record.
 
@@ -123,9 +104,6 @@ equate_more ps ts i d t n m all h e k total =
     let rest : List Ty = types_in ps (drop (i + 1) ts) in
     sym (ap (λ (o : Option (Made (Unit {0}))). after o (λ _. equate_each rest t)) k)
     ∙ sym (ap (λ (l : List Ty). equate_each l t n) (types_in_from ps ts i d h ∙ ap (λ (d : Sketch). sketch_type ps d ∷ rest) (sym e))) ∙ total
-
-pub naturals_more : (made new : List code.Ty) (k : ℕ) → types_of made ≡ numbers k → new ≡ made ++ code.Nat ∷ [] → types_of new ≡ numbers (k + 1)
-naturals_more made new k e f = ap types_of f ∙ types_of_more made ∙ ap (λ (l : Tys). append l (type natural no_type)) e ∙ numbers_more k
 
 -- one field more
 pub fields_more : (made new : List code.Ty) (one : code.Ty) (ks : List Kind) (i : ℕ) (d : Kind) (all : Tys) → i < length ks →

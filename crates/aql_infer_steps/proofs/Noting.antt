@@ -15,7 +15,7 @@ use Rattle.aql_type_graph.specs.Forms as form
 use Rattle.aql_type_graph.specs.Graphs.{Adds}
 use Rattle.aql_type_solve.specs.Pushed.{shift, Extends, Pushes, PushesAll, PushesEquations}
 use Rattle.aql_type_solve.specs.Laws.Pushing.{longer, kept, kept_numbered, itself, added, leaf_ok, shift_none, one_more, equations_more}
-use Rattle.aql_infer_steps.specs.Constraints.{raised}
+use Rattle.aql_infer_steps.specs.Constraints.{raise_variables}
 use Rattle.aql_infer_steps.specs.View.{sketch_type, sketch_types, sides_of, instance_type, part_of, sort_at}
 use Rattle.aql_infer_steps.specs.Nodes.{IsNode, AreNodes, IsUnderWay, IsKnown, IsNoted}
 use Rattle.aql_infer_steps.specs.declared.positions.Position.{Position}
@@ -133,11 +133,11 @@ known_node ps w i n h k =
 pub part_ok : (ps : List Position) (r : Result (ℕ × Graph) Memory) (g : Graph) (i : Instance) (t : Ty) → part_of i.part (sort_at ps i.position) ≡ t →
     IfOk r (λ r. Pushes r.0 r.1 g (apply (shift i.first) t)) → IfOk r (λ r. Pushes r.0 r.1 g (instance_type ps i))
 part_ok ps r g i t e p =
-    subst (λ x. IfOk r (λ r. Pushes r.0 r.1 g x)) (shift_raised i.first t ∙ ap (apply (raised i.first)) (sym e)) p
+    subst (λ x. IfOk r (λ r. Pushes r.0 r.1 g x)) (shift_raised i.first t ∙ ap (apply (raise_variables i.first)) (sym e)) p
 
 pub no_part : (ps : List Position) (r : Result (ℕ × Graph) Memory) (g : Graph) (i : Instance) → part_of i.part (sort_at ps i.position) ≡ natural →
     IfOk r (λ r. Adds r.0 r.1 g (form.made shape.natural)) → IfOk r (λ r. Pushes r.0 r.1 g (instance_type ps i))
-no_part ps r g i e a = leaf_ok r g shape.natural (instance_type ps i) tt (ap (apply (raised i.first)) e) a
+no_part ps r g i e a = leaf_ok r g shape.natural (instance_type ps i) tt (ap (apply (raise_variables i.first)) e) a
 
 -- Several.
 

@@ -7,11 +7,12 @@ use Rattle.std.proofs.Math.Seq.{drop-cons}
 use Rattle.aql_types.specs.Types as types
 use Rattle.aql_types.specs.Types.{Ty, Tys, no_type, type, product, append, Subst, apply, apply_all}
 use Rattle.aql_types.specs.Unifiers.{Equations}
-use Rattle.aql_types.specs.View.{sort_of, onto}
+use Rattle.aql_types.specs.View.{sort_of}
 use Rattle.aql_types.specs.Laws.Types.{row_is}
 use Rattle.aql_types.specs.Laws.View.{append_assoc_types, append_none}
+use Rattle.aql_value.specs.Lists.{onto}
 use Rattle.aql_type_solve.specs.Pushed.{shift}
-use Rattle.aql_infer_steps.specs.Constraints.{raised}
+use Rattle.aql_infer_steps.specs.Constraints.{raise_variables}
 use Rattle.aql_infer_steps.specs.View.{sketch_type, sketch_row, sketch_types, sides_of, sort_at, part_of}
 use Rattle.aql_infer_steps.specs.declared.sketch.Instance.{Instance}
 use Rattle.aql_infer_steps.specs.declared.sketch.Part.TheVariants as part
@@ -116,15 +117,15 @@ ground_here (p ∷ ps) zero g d h = refl
 ground_here (p ∷ ps) (suc i) g d h = ground_here ps i g d (omega (arith, h))
 
 -- the numbers raised, as the graph has it
-pub shift_raised : (n : ℕ) (t : Ty) → apply (shift n) t ≡ apply (raised n) t
-unfolding raised
+pub shift_raised : (n : ℕ) (t : Ty) → apply (shift n) t ≡ apply (raise_variables n) t
+unfolding raise_variables
 shift_raised n t = refl
 
 -- a reference to a part without variables, and to another
-pub refer_ground : (n m : ℕ) (s t : Ty) (b : Bool) → s ≡ t → b ≡ is_ground t → b ≡ true → apply (raised n) s ≡ apply (raised m) t
-refer_ground n m s t b e f g = ap (apply (raised n)) e ∙ ground_same (raised n) (raised m) t (sym f ∙ g)
+pub refer_ground : (n m : ℕ) (s t : Ty) (b : Bool) → s ≡ t → b ≡ is_ground t → b ≡ true → apply (raise_variables n) s ≡ apply (raise_variables m) t
+refer_ground n m s t b e f g = ap (apply (raise_variables n)) e ∙ ground_same (raise_variables n) (raise_variables m) t (sym f ∙ g)
 
-pub refer_open : (n m : ℕ) (s t : Ty) → s ≡ t → n ≡ m → apply (raised n) s ≡ apply (raised m) t
+pub refer_open : (n m : ℕ) (s t : Ty) → s ≡ t → n ≡ m → apply (raise_variables n) s ≡ apply (raise_variables m) t
 refer_open n m s t e f = cc
 
 pub ruleset refer_steps = (refer_ground, refer_open)

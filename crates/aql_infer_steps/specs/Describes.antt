@@ -3,18 +3,8 @@ use Rattle.std.proofs.Common.{ℕ, ◌≡◌, ◌<◌, List, [], ◌∷◌, Opti
 use Rattle.aql_types.specs.Types.{Ty, Subst, apply, IsWithin, Sort, value, macro, apply_sort}
 use Rattle.aql_syntax.specs.Tree.{Name}
 use Rattle.aql_syntax.specs.Names.{find}
-use Rattle.aql_syntax.specs.Typing.{Environment, Locals}
-use Rattle.aql_infer_steps.specs.Constraints.{NumberedSort, NumberedSorts}
-
--- local names with the instances of their types
-abbrev pub at : Subst → Locals → Locals
-at u [] = []
-at u ((x, t) ∷ env) = (x, apply u t) ∷ at u env
-
--- the instance of a type that is there
-abbrev pub at_some : Subst → Option Ty → Option Ty
-at_some u None = None
-at_some u (Some t) = Some (apply u t)
+use Rattle.aql_syntax.specs.Typing.{Environment}
+use Rattle.aql_infer_steps.specs.Constraints.{NumberedScheme, NumberedSchemes}
 
 -- the instances of a list
 abbrev pub apply_each : Subst → List Ty → List Ty
@@ -32,12 +22,12 @@ SortTakes (value r) s t = ⊥
 SortTakes (macro a b) s t = IsWithin s × IsWithin t × ((w : Subst) × (s ≡ apply w a) × (t ≡ apply w b))
 
 -- a position of this scheme has the type
-abbrev pub SchemeHas : Option NumberedSort → Ty → Type 0
+abbrev pub SchemeHas : Option NumberedScheme → Ty → Type 0
 SchemeHas None t = ⊥
 SchemeHas (Some s) t = SortHas s.sort t
 
 -- a macro of this scheme takes the first type and gives the second
-abbrev pub SchemeTakes : Option NumberedSort → Ty → Ty → Type 0
+abbrev pub SchemeTakes : Option NumberedScheme → Ty → Ty → Type 0
 SchemeTakes None s t = ⊥
 SchemeTakes (Some r) s t = SortTakes r.sort s t
 
@@ -46,12 +36,12 @@ abbrev pub IsClosedSort : ℕ → Sort → Type 0
 IsClosedSort k s = (u v : Subst) → ((x : ℕ) → x < k → u x ≡ v x) → apply_sort u s ≡ apply_sort v s
 
 -- the scheme has no variables but its own
-abbrev pub SchemeClosed : Option NumberedSort → Type 0
+abbrev pub SchemeClosed : Option NumberedScheme → Type 0
 SchemeClosed None = Unit {0}
 SchemeClosed (Some s) = IsClosedSort s.variables s.sort
 
 -- the schemes say what the positions have
-pub record Describes (g : Environment) (ss : NumberedSorts) : Type 0 where
+pub record Describes (g : Environment) (ss : NumberedSchemes) : Type 0 where
   pub has : (x : Name) (t : Ty) → SchemeHas (find x ss) t → g.has x t
   pub had : (x : Name) (t : Ty) → g.has x t → SchemeHas (find x ss) t
   pub takes : (x : Name) (s t : Ty) → SchemeTakes (find x ss) s t → g.takes x s t

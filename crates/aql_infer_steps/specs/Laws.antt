@@ -1,6 +1,5 @@
 -- The laws of this crate: what follows from its definitions.
 pub mod Complete
-pub mod Describes
 pub mod Growing
 pub mod Numbering
 pub mod Operations

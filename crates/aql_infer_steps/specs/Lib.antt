@@ -4,7 +4,6 @@ pub mod Ground
 pub mod Nodes
 pub mod Numbering
 pub mod Principal
-pub mod Rows
 pub mod Typed
 pub mod View
 pub mod Laws

@@ -18,12 +18,12 @@ abbrev pub number : Sort → Sort
 number s = apply_sort (renumbering (sort_variables s)) s
 
 -- The numbering can be undone.
-abbrev pub named : List ℕ → Subst
-named vs i = var (at_index i vs)
+abbrev pub undo_numbering : List ℕ → Subst
+undo_numbering vs i = var (at_index i vs)
 
 -- what gives the variables of a numbered sort their names again
 unfoldable pub names_back : Sort → Subst
-names_back s = named (sort_variables s)
+names_back s = undo_numbering (sort_variables s)
 
 -- The numbers of a numbered sort go by first appearance.
 

@@ -4,7 +4,7 @@ use Rattle.aql_types.specs.Types.{Sort}
 use Rattle.aql_types.specs.View.{sort_of}
 use Rattle.aql_types.specs.declared.ty.Scheme as code_scheme
 use Rattle.aql_syntax.specs.Tree.{Declaration}
-use Rattle.aql_syntax.specs.Typing.{scope_of, IsPrincipal}
+use Rattle.aql_syntax.specs.Typing.{environment_of, IsPrincipal}
 use Rattle.aql_infer_steps.specs.Numbering.{IsNumbered}
 
 -- the sorts that the schemes of a list are
@@ -14,7 +14,7 @@ sorts_of (s ∷ ss) = sort_of s ∷ sorts_of ss
 
 -- principal over the positions before it, the latest first, with its variables numbered by first appearance
 pub record IsPrincipalScheme (d : Declaration) (earlier : List Declaration) (s : Sort) : Type 0 where
-  pub principal : IsPrincipal d (scope_of earlier) s
+  pub principal : IsPrincipal d (environment_of earlier) s
   pub numbered : IsNumbered s
 
 -- as many sorts as declarations, each principal for its own over the positions before it

@@ -2,10 +2,11 @@
 use Rattle.std.specs.Prelude.{ℕ, zero, suc, ◌≡◌, List, [], ◌∷◌, map, take, length, Option, Some, None, Result, Ok, Err, IfOk}
 use Rattle.aql_types.specs.Types.{Ty, natural, product, set_of, array_of, Tys, no_type, type, apply, Sort, value, macro}
 use Rattle.aql_types.specs.Unifiers.{Equations}
-use Rattle.aql_types.specs.View.{type_of, sort_of, onto}
+use Rattle.aql_types.specs.View.{type_of, sort_of}
+use Rattle.aql_value.specs.Lists.{onto}
 use Rattle.aql_names.specs.Named.{Name}
 use Rattle.aql_syntax.specs.Typing.{Locals}
-use Rattle.aql_infer_steps.specs.Constraints.{State, Made, NumberedSort, NumberedSorts, raised}
+use Rattle.aql_infer_steps.specs.Constraints.{State, Made, NumberedScheme, NumberedSchemes, raise_variables}
 use Rattle.aql_infer_steps.specs.declared.sketch.Part.TheVariants as part
 use Rattle.aql_infer_steps.specs.declared.sketch.Part.{Part}
 use Rattle.aql_infer_steps.specs.declared.sketch.Instance.{Instance}
@@ -39,7 +40,7 @@ part_of part.Result (macro a b) = b
 
 -- the type of that part of that position, with each variable's number raised
 abbrev pub instance_type : List Position → Instance → Ty
-instance_type ps i = apply (raised i.first) (part_of i.part (sort_at ps i.position))
+instance_type ps i = apply (raise_variables i.first) (part_of i.part (sort_at ps i.position))
 
 abbrev mutual
   -- the type that a sketch is
@@ -95,16 +96,16 @@ abbrev pub Extends : List Local → List Local → Type 0
 Extends old new = take (length old) new ≡ old
 
 -- the scheme of a position
-abbrev pub scheme_of : Position → NumberedSort
+abbrev pub scheme_of : Position → NumberedScheme
 scheme_of p = record { sort = sort_of p.scheme; variables = p.variables }
 
 -- the schemes of these positions, put in front of others one after another
-abbrev pub schemes_onto : List Position → NumberedSorts → NumberedSorts
+abbrev pub schemes_onto : List Position → NumberedSchemes → NumberedSchemes
 schemes_onto [] ss = ss
 schemes_onto (p ∷ ps) ss = schemes_onto ps ((p.name, scheme_of p) ∷ ss)
 
 -- what the positions of a list have, the latest first
-abbrev pub schemes_of : List Position → NumberedSorts
+abbrev pub schemes_of : List Position → NumberedSchemes
 schemes_of ps = schemes_onto ps []
 
 -- the names of positions, in order

@@ -4,7 +4,7 @@ ghost use Rattle.std.specs.Prelude.{◌≡◌, ◌∷◌, IfOk, OnOk, Some};
 ghost use Rattle.aql_types.specs.Types.{apply};
 ghost use Rattle.aql_types.specs.View.{type_of, sort_of};
 ghost use Rattle.aql_syntax.specs.Names.{names_equal, find};
-ghost use Rattle.aql_infer_steps.specs.Constraints.{raised, opened, make_value, make_global, make_name, make_macro, make_call};
+ghost use Rattle.aql_infer_steps.specs.Constraints.{raise_variables, fresh_variables, make_value, make_global, make_name, make_macro, make_call};
 ghost use Rattle.aql_infer_steps.specs.View.{sketch_type, sketch_in, sort_at, part_of, state_of, locals_of, schemes_of, Extends, MakesType};
 ghost use Rattle.aql_infer_steps.specs.Ground.{is_ground, ground_of};
 
@@ -206,10 +206,10 @@ fn apply_macro(
 }
 
 // That many new variables: the first.
-#[tactic(auto, unfolding(crate::specs::Constraints::opened))]
+#[tactic(auto, unfolding(crate::specs::Constraints::fresh_variables))]
 fn open(count: u64, positions: &Positions, s: Store) -> Result<(u64, Store), Memory>
-    ensures { IfOk result (λ r. opened count (state_of positions.now s) ≡ Some
-        (record { result = raised r.0; state = state_of positions.now r.1 })) }
+    ensures { IfOk result (λ r. fresh_variables count (state_of positions.now s) ≡ Some
+        (record { result = raise_variables r.0; state = state_of positions.now r.1 })) }
 {
     let mut s = s;
     let first = s.next;
@@ -227,7 +227,7 @@ fn open(count: u64, positions: &Positions, s: Store) -> Result<(u64, Store), Mem
 fn refer(i: Instance, t: &Ty, ground: bool, positions: &Positions) -> Sketch
     requires here { part_of i.part (sort_at positions.now i.position) ≡ type_of t.now }
     requires ground { ground ≡ is_ground (type_of t.now) }
-    ensures { sketch_type positions.now result ≡ apply (raised i.first) (type_of t.now) }
+    ensures { sketch_type positions.now result ≡ apply (raise_variables i.first) (type_of t.now) }
 {
     let first = if ground { 0 } else { i.first };
     Sketch::Instance(Instance {

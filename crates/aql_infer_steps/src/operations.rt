@@ -2,18 +2,16 @@
 
 ghost use Rattle.std.specs.Prelude.{◌≡◌, ◌++◌, IfOk, length};
 ghost use Rattle.aql_types.specs.Types as types;
-ghost use Rattle.aql_types.specs.Types.{index_type};
-ghost use Rattle.aql_types.specs.View.{type_of, types_of};
 ghost use Rattle.aql_infer_steps.specs.Constraints as constraints;
 ghost use Rattle.aql_infer_steps.specs.Constraints.{equate_each, pair_type, made_truth, made_truths, made_either, made_choice, made_empty, made_arith, made_compare, made_union, made_gen, made_get, made_sub, made_dim, made_index, made_literal, made_tuple};
-ghost use Rattle.aql_infer_steps.specs.Rows.{numbers};
 ghost use Rattle.aql_infer_steps.specs.View.{sketch_type, state_of, types_in, MakesType, GivesState};
 
 use crate::fault::NoTyping;
 use crate::positions::Positions;
 use crate::sketch::{Sketch, tuple_of};
 use crate::store::{Store, becomes, equal_types, new_variable, require, use_type};
-use aql_types::ty::{Ty, row};
+use aql_types::index::index_type;
+use aql_types::ty::Ty;
 use aql_value::Memory;
 use aql_value::made::make_pair_list;
 use std::alloc::Global;
@@ -222,7 +220,7 @@ pub fn dimensions(
     let s = require(1 <= rank && rank <= 8, positions, s)?;
     let (t, s) = new_variable(positions, s)?;
     let s = becomes(alloc, a, array_of(alloc, rank, t, positions), positions, s)?;
-    Ok((Sketch::Plain(index(alloc, rank)?), s))
+    Ok((Sketch::Plain(index_type(alloc, rank)?), s))
 }
 
 /// An array of sets, of a set of pairs of an index of that rank and a value. A rank that is none has no type.
@@ -341,35 +339,12 @@ pub fn array_of(
     })
 }
 
-/// The type of an index of that rank.
-#[tactic(auto, using(crate::proofs::Lists::index_steps))]
-pub fn index(alloc: Global, rank: u64) -> Result<Ty, Memory>
-    ensures { IfOk result (λ made. type_of made ≡ index_type rank) }
-{
-    if rank == 1 {
-        return Ok(Ty::Nat);
-    }
-    let parts = naturals(alloc, rank)?;
-    Ok(row(parts))
-}
-
-#[tactic(auto, using(crate::proofs::Lists::naturals_steps))]
-fn naturals(alloc: Global, count: u64) -> Result<Vec<Ty>, Memory>
-    ensures { IfOk result (λ made. types_of made.items ≡ numbers count) }
-{
-    let mut made = Vec::new(alloc);
-    for _k in 0..count {
-        made.push(Ty::Nat)?;
-    }
-    Ok(made)
-}
-
 // The type of sets of pairs of an index of that rank and that type.
 fn pairs_of(alloc: Global, rank: u64, t: Sketch, positions: &Positions) -> Result<Sketch, Memory>
     ensures { IfOk result (λ made. sketch_type positions.now made
         ≡ types.set_of (pair_type rank (sketch_type positions.now t))) }
 {
-    let index = Sketch::Plain(index(alloc, rank)?);
+    let index = Sketch::Plain(index_type(alloc, rank)?);
     let parts = make_pair_list(alloc, Ok(index), Ok(t))?;
     set_of(alloc, tuple_of(parts, positions), positions)
 }

@@ -104,7 +104,7 @@ pub fn match_pattern(
     env: &mut Vec<Local>,
     s: Store,
 ) -> Result<Store, NoTyping>
-    ensures made { MakesLocals positions.now env.new.items result (constraints.matched
+    ensures made { MakesLocals positions.now env.new.items result (constraints.make_match
         (pat_of p.now)
         (schemes_of positions.now) (locals_of positions.now env.old.items)
         (sketch_type positions.now t.now) (state_of positions.now s)) }

@@ -9,8 +9,8 @@ ghost use Rattle.aql_syntax.specs.Typing.{field_type, field_types, record_type};
 ghost use Rattle.aql_syntax.specs.View.{reader_of};
 ghost use Rattle.aql_infer_steps.specs.Constraints.{reader_fits};
 
-use crate::operations::index;
 use aql_syntax::ast::{Kind, Reader};
+use aql_types::index::index_type;
 use aql_types::ty::{Ty, row};
 use aql_value::Memory;
 use aql_value::made::make_pair_list;
@@ -91,8 +91,8 @@ fn slab_parts(alloc: Global, rank: u64) -> Result<Vec<Ty>, Memory>
     let mut parts = Vec::new(alloc);
     parts.push(Ty::Text)?;
     parts.push(Ty::Text)?;
-    parts.push(index(alloc, rank)?)?;
-    parts.push(index(alloc, rank)?)?;
+    parts.push(index_type(alloc, rank)?)?;
+    parts.push(index_type(alloc, rank)?)?;
     Ok(parts)
 }
 
@@ -112,7 +112,7 @@ fn strided_slab(alloc: Global, rank: u64) -> Result<Ty, Memory>
         ∷ []))) }
 {
     let mut parts = slab_parts(alloc, rank)?;
-    parts.push(index(alloc, rank)?)?;
+    parts.push(index_type(alloc, rank)?)?;
     Ok(row(parts))
 }
 

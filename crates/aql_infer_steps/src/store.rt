@@ -1,7 +1,7 @@
 //! Equations as they are written.
 
 ghost use Rattle.std.specs.Prelude.{◌≡◌, IfOk, IsOkAnd, Some};
-ghost use Rattle.aql_infer_steps.specs.Constraints.{fresh, equate, within, tied, guard};
+ghost use Rattle.aql_infer_steps.specs.Constraints.{fresh, equate, within, add_equation, guard};
 ghost use Rattle.aql_infer_steps.specs.View.{sketch_type, state_of, MakesState, GivesType, GivesState};
 
 use crate::fault::NoTyping;
@@ -83,7 +83,7 @@ pub(crate) fn becomes(
     s: Store,
 ) -> Result<Store, Memory>
     ensures { IfOk result (λ x. IsOkAnd made (λ b. state_of positions.now x
-        ≡ tied (sketch_type positions.now a.now) (sketch_type positions.now b)
+        ≡ add_equation (sketch_type positions.now a.now) (sketch_type positions.now b)
         (state_of positions.now s))) }
 {
     let b = made?;

@@ -6,7 +6,7 @@ use Rattle.aql_syntax.specs.declared.token.TokenKind.{TokenKind}
 use Rattle.aql_syntax.specs.declared.token.TokenKind.TheVariants as kinds
 use Rattle.aql_syntax.specs.Signs.{spelling, is_word}
 use Rattle.aql_syntax.specs.Lexis.{Lexeme, named, numeral, quoted, mark, kind_of}
-use Rattle.aql_syntax.specs.Scan.{scanned, first_deep, no_counters, DeepFaultAt}
+use Rattle.aql_syntax.specs.Scan.{scan_token, first_deep, no_counters, DeepFaultAt}
 use Rattle.aql_lex.specs.declared.signs.TheConstants.{ALL}
 use Rattle.aql_lex.specs.Texts.{Says, text_of, EachSays}
 use Rattle.aql_lex.specs.Lexing.{first_spelled}
@@ -21,7 +21,7 @@ mark_said g true t e = subst (λ z. first_spelled ALL z ≡ Some g) e (all_found
 mark_said g false t e = subst (λ z. first_spelled ALL z ≡ Some g) e (all_found g)
 
 -- a token counts as its lexeme does
-counts : (k : TokenKind) (t : List ℕ) (l : Lexeme) (counters : List ℕ) → k ≡ kind_of l → Says t l → after_sign (sign_said k t) counters ≡ scanned l counters
+counts : (k : TokenKind) (t : List ℕ) (l : Lexeme) (counters : List ℕ) → k ≡ kind_of l → Says t l → after_sign (sign_said k t) counters ≡ scan_token l counters
 counts k t (named x) counters e s = rw e refl
 counts k t (numeral x) counters e s = rw e refl
 counts k t (quoted x) counters e s = rw e refl
@@ -42,9 +42,9 @@ stays script [] (l ∷ ls) counters says e = absurd says
 stays script (t ∷ ts) [] counters says e = absurd says
 stays script (t ∷ ts) (l ∷ ls) counters says e =
     let same = counts t.kind (text_of script t) l counters says.0 says.1 in
-    tested (nat_lt 400 (sum (scanned l counters))) _ _ _ (first_deep counters (l ∷ ls) ≡ None) (rw same at e)
+    tested (nat_lt 400 (sum (scan_token l counters))) _ _ _ (first_deep counters (l ∷ ls) ≡ None) (rw same at e)
     (λ q f. cc)
-    (λ q f. let later = stays script ts ls (scanned l counters) says.2 f in rw (q, later) refl)
+    (λ q f. let later = stays script ts ls (scan_token l counters) says.2 f in rw (q, later) refl)
 
 pub passes : (script : List ℕ) (ts : List Token) (ls : List Lexeme) (counters : List ℕ) (at : ℕ) → EachSays script ts ls → deep_from script counters ts ≡ Some at →
     Passes at counters ts ls
@@ -53,10 +53,10 @@ passes script [] (l ∷ ls) counters at says e = absurd says
 passes script (t ∷ ts) [] counters at says e = absurd says
 passes script (t ∷ ts) (l ∷ ls) counters at says e =
     let same = counts t.kind (text_of script t) l counters says.0 says.1 in
-    tested (nat_lt 400 (sum (scanned l counters))) _ _ _ (Passes at counters (t ∷ ts) (l ∷ ls)) (rw same at e)
+    tested (nat_lt 400 (sum (scan_token l counters))) _ _ _ (Passes at counters (t ∷ ts) (l ∷ ls)) (rw same at e)
     (λ q f. record { before = 0; token = t; first = rw q refl; there = refl; begins = cc })
     (λ q f.
-    let later = passes script ts ls (scanned l counters) at says.2 f in
+    let later = passes script ts ls (scan_token l counters) at says.2 f in
     record {
       before = suc later.before;
       token = later.token;

@@ -2,7 +2,7 @@
 use Rattle.std.proofs.Common.{ℕ, ◌≡◌, ◌<◌, ◌≤◌, ◌^◌, ◌-◌, List, [], ◌∷◌, ◌++◌, Bool, true, false, ◌||◌, ◌==◌, Option, Some, None, refl, sym, ap, ◌∙◌, subst, arith, length, take, if◌then◌else◌, nat_lt, length-append}
 use Rattle.std.proofs.Math.Seq.{take-append_seam}
 use Rattle.std.proofs.lemmas.Grind.{common_steps}
-use Rattle.std.proofs.lemmas.Bool.{eqb-true, ltb-true}
+use Rattle.std.proofs.lemmas.Bool.{eqb-true, ltb-true, or_parts}
 use Rattle.aql_syntax.specs.declared.sign.Sign.{Sign}
 use Rattle.aql_syntax.specs.declared.sign.Sign.TheVariants as signs
 use Rattle.aql_syntax.specs.declared.token.TokenKind.{TokenKind}
@@ -60,10 +60,6 @@ unfolding found_at
 blank_found (blank_space {b} e) = rw (space_is_no_letter b e, space_is_no_digit b e, e) refl
 blank_found (blank_comment d) = rw (comment-is d) refl
 
-either_false : (a b : Bool) → (a || b) ≡ false → (a ≡ false) × (b ≡ false)
-either_false true b e = cc
-either_false false b e = (refl, e)
-
 -- a sign is found at its spelling, where no longer one stands
 abbrev SignFound : Sign → List ℕ → Type 0
 SignFound g r =
@@ -74,11 +70,11 @@ unfolding found_at
 sign_found signs.Open [] = λ e. refl
 sign_found signs.Open (b ∷ r) = λ e. rw e refl
 sign_found signs.Equal [] = λ e. refl
-sign_found signs.Equal (b ∷ r) = λ e. let h = either_false (b == 61) (b == 62) e in rw (h.0, h.1) refl
+sign_found signs.Equal (b ∷ r) = λ e. let h = or_parts (b == 61) (b == 62) e in rw (h.0, h.1) refl
 sign_found signs.Less [] = λ e. refl
 sign_found signs.Less (b ∷ r) = λ e.
-    let h = either_false (b == 45 || b == 61) (b == 62) e in
-    let k = either_false (b == 45) (b == 61) h.0 in rw (k.0, k.1, h.1) refl
+    let h = or_parts (b == 45 || b == 61) (b == 62) e in
+    let k = or_parts (b == 45) (b == 61) h.0 in rw (k.0, k.1, h.1) refl
 sign_found signs.Greater [] = λ e. refl
 sign_found signs.Greater (b ∷ r) = λ e. rw e refl
 sign_found _ r = λ e. refl

@@ -4,7 +4,7 @@ use Rattle.std.proofs.lemmas.Bool.{eqb-true}
 use Rattle.std.proofs.lemmas.Grind.{common_steps}
 use Rattle.aql_syntax.specs.Lexis.{is_digit, is_plain, is_hex, hex_value, closes_comment, Ends, MaximalMunch, munch_end, munch_more, Digits, digits_end, digits_more, InString, string_end, string_plain, string_escape, string_hex, InComment, comment_end, comment_more}
 use Rattle.aql_lex.specs.Texts.{digits_value}
-use Rattle.aql_lex.specs.Lexing.{munch_rest, Place, string_rest, inside, escaped, hex, last_hex, comment_rest}
+use Rattle.aql_lex.specs.Lexing.{munch_rest, StringState, string_rest, inside, escaped, hex, last_hex, comment_rest}
 
 pub munch-reads : (p : ℕ → Bool) (s : List ℕ) → (t : List ℕ) × MaximalMunch p t s (munch_rest p s)
 munch-reads p [] = ([], munch_end tt)
@@ -34,7 +34,7 @@ tested true x y z Q e f g = f refl e
 tested false x y z Q e f g = g refl e
 
 -- what a string's rest is, by the place in it
-abbrev At : Place → List ℕ → List ℕ → Type 0
+abbrev At : StringState → List ℕ → List ℕ → Type 0
 At inside s r = (t : List ℕ) × InString t s r
 At escaped s r = (t : List ℕ) × InString t (92 ∷ s) r
 At hex s r = (t : List ℕ) × InString t (92 ∷ 120 ∷ s) r
@@ -43,7 +43,7 @@ At last_hex s r = (a : ℕ) → is_hex a ≡ true → (t : List ℕ) × InString
 at_number : {b n : ℕ} {s r : List ℕ} → (b == n) ≡ true → (t : List ℕ) × InString t (n ∷ s) r → (t : List ℕ) × InString t (b ∷ s) r
 at_number {b} {n} {s} {r} e h = subst (λ (z : ℕ). (t : List ℕ) × InString t (z ∷ s) r) (sym (eqb-true b n e)) h
 
-pub string-reads : (p : Place) (s r : List ℕ) → string_rest p s ≡ Some r → At p s r
+pub string-reads : (p : StringState) (s r : List ℕ) → string_rest p s ≡ Some r → At p s r
 string-reads inside [] r e = cc
 string-reads escaped [] r e = cc
 string-reads hex [] r e = cc

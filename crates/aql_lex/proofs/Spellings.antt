@@ -8,6 +8,7 @@ use Rattle.aql_syntax.specs.declared.sign.Sign.{Sign}
 use Rattle.aql_syntax.specs.declared.sign.Sign.TheVariants as signs
 use Rattle.aql_syntax.specs.Signs.{spelling, is_word, joins}
 use Rattle.aql_syntax.specs.Lexis.{behind, Ends, IsNoWord}
+use Rattle.aql_syntax.specs.Laws.Lexis.{behind_is}
 use Rattle.aql_lex.specs.declared.signs.TheConstants.{WORDS, SIGNS, ALL}
 use Rattle.aql_value.specs.Partial.{or_else}
 use Rattle.aql_lex.specs.Lexing.{first_spelled, sign_from}
@@ -69,14 +70,6 @@ no_word_is t n = go (first_spelled WORDS t) refl
     go : (o : Option Sign) → first_spelled WORDS t ≡ o → o ≡ None
     go None e = refl
     go (Some w) e = absurd (n w (word_reads t w e) (spelled_so WORDS t w e))
-
-behind_is : (p s r : List ℕ) → behind p s ≡ Some r → s ≡ p ++ r
-behind_is [] s r e = cc
-behind_is (a ∷ p) [] r e = cc
-behind_is (a ∷ p) (b ∷ s) r e =
-    tested (b == a) _ _ _ (b ∷ s ≡ a ∷ (p ++ r)) e
-    (λ q f. let h : b ≡ a = eqb-true b a q in let k : s ≡ p ++ r = behind_is p s r f in cc)
-    (λ _ f. cc)
 
 -- a sign that is found stands at the front
 pub sign_stands : (gs : List Sign) (s : List ℕ) (g : Sign) (r : List ℕ) → sign_from gs s ≡ Some (g, r) → s ≡ spelling g ++ r

@@ -19,14 +19,14 @@ munch_rest p [] = []
 munch_rest p (b ∷ s) = if p b then munch_rest p s else b ∷ s
 
 -- the rest of a string: what may come next
-pub data Place : Type 0 where
-  inside : Place
-  escaped : Place
-  hex : Place
-  last_hex : Place
+pub data StringState : Type 0 where
+  inside : StringState
+  escaped : StringState
+  hex : StringState
+  last_hex : StringState
 
 -- what follows a string, from a place in it on
-abbrev pub string_rest : Place → List ℕ → Option (List ℕ)
+abbrev pub string_rest : StringState → List ℕ → Option (List ℕ)
 string_rest _ [] = None
 string_rest inside (b ∷ s) =
     if b == 34 then Some s else if b == 92 then string_rest escaped s else if is_plain b then string_rest inside s else None

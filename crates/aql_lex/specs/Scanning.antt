@@ -4,7 +4,7 @@ use Rattle.aql_syntax.specs.declared.sign.Sign.{Sign}
 use Rattle.aql_syntax.specs.declared.token.Token.{Token}
 use Rattle.aql_syntax.specs.declared.token.TokenKind.{TokenKind}
 use Rattle.aql_syntax.specs.declared.token.TokenKind.TheVariants as kinds
-use Rattle.aql_syntax.specs.Scan.{sign_scanned}
+use Rattle.aql_syntax.specs.Scan.{scan_sign}
 use Rattle.aql_lex.specs.declared.scan.Counters.{Counters}
 use Rattle.aql_lex.specs.declared.signs.TheConstants.{ALL}
 use Rattle.aql_lex.specs.Texts.{text_of}
@@ -30,7 +30,7 @@ sign_said kinds.Sign t = first_spelled ALL t
 -- the counters behind a token, which is a sign or none
 abbrev pub after_sign : Option Sign → List ℕ → List ℕ
 after_sign None counters = counters
-after_sign (Some g) counters = sign_scanned g counters
+after_sign (Some g) counters = scan_sign g counters
 
 -- where the first token begins after which the counters' sum passes 400
 abbrev pub deep_from : List ℕ → List ℕ → List Token → Option ℕ

@@ -41,9 +41,9 @@ pub data Spot : Type 0 where
   low : ℕ → Spot
 
 -- the bytes that a string stands for, up to its closing quote
-abbrev pub unescaped : Spot → List ℕ → List ℕ
-unescaped _ [] = []
-unescaped within (b ∷ s) = if b == 34 then [] else if b == 92 then unescaped escape s else b ∷ unescaped within s
-unescaped escape (b ∷ s) = if b == 120 then unescaped high s else b ∷ unescaped within s
-unescaped high (b ∷ s) = unescaped (low (hex_value b)) s
-unescaped (low h) (b ∷ s) = ((16 * h + hex_value b) % 256) ∷ unescaped within s
+abbrev pub string_bytes : Spot → List ℕ → List ℕ
+string_bytes _ [] = []
+string_bytes within (b ∷ s) = if b == 34 then [] else if b == 92 then string_bytes escape s else b ∷ string_bytes within s
+string_bytes escape (b ∷ s) = if b == 120 then string_bytes high s else b ∷ string_bytes within s
+string_bytes high (b ∷ s) = string_bytes (low (hex_value b)) s
+string_bytes (low h) (b ∷ s) = ((16 * h + hex_value b) % 256) ∷ string_bytes within s

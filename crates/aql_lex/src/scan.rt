@@ -2,7 +2,7 @@
 
 ghost use Rattle.std.specs.Prelude.{◌≡◌, ◌≤◌, sum, IfOk, Bool, Some, None};
 ghost use Rattle.aql_syntax.specs.Scan as table;
-ghost use Rattle.aql_syntax.specs.Scan.{pushed, popped, incremented, reset, sign_scanned, no_counters};
+ghost use Rattle.aql_syntax.specs.Scan.{push_counter, pop_counter, increment, reset, scan_sign, no_counters};
 ghost use Rattle.aql_lex.specs.Texts.{text_of};
 ghost use Rattle.aql_lex.specs.Scanning.{counters_of, sign_said, after_sign, deep_from, Scans};
 
@@ -95,7 +95,7 @@ fn scan_token(counters: Counters, sign: Option<Sign>) -> Result<Counters, AllocF
 fn push(counters: Counters) -> Result<Counters, AllocFailed<u64>>
     requires adds { sum (counters_of counters) ≡ counters.total }
     requires low { counters.total ≤ 400 }
-    ensures { IfOk result (λ c. Scans c (pushed (counters_of counters))) }
+    ensures { IfOk result (λ c. Scans c (push_counter (counters_of counters))) }
 {
     let Counters { top, below, total } = counters;
     let mut below = below;
@@ -111,7 +111,7 @@ fn push(counters: Counters) -> Result<Counters, AllocFailed<u64>>
 fn pop(counters: Counters) -> Counters
     requires adds { sum (counters_of counters) ≡ counters.total }
     requires low { counters.total ≤ 400 }
-    ensures { Scans result (popped (counters_of counters)) }
+    ensures { Scans result (pop_counter (counters_of counters)) }
 {
     let Counters { top, below, total } = counters;
     let mut below = below;
@@ -129,7 +129,7 @@ fn pop(counters: Counters) -> Counters
 fn raise(counters: Counters) -> Counters
     requires adds { sum (counters_of counters) ≡ counters.total }
     requires low { counters.total ≤ 400 }
-    ensures { Scans result (incremented (counters_of counters)) }
+    ensures { Scans result (increment (counters_of counters)) }
 {
     let Counters { top, below, total } = counters;
     Counters {

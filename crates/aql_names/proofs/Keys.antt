@@ -7,11 +7,8 @@ use Rattle.std.proofs.lemmas.List.Quantifiers.{position-Some}
 use Rattle.std.proofs.lemmas.Slice.Eq.{bytes_eq-Decides}
 use Rattle.indexmap.specs.IndexMap.{insert_entry, set_value_at, with_value_at, keys, values, get_by}
 use Rattle.indexmap.proofs.CallerLemmas.{insert_entry-new, keys-with_value_at}
-use Rattle.aql_names.specs.Index.{Places, positions_in, has_key, key_at, GainsPlace, SamePlaces}
+use Rattle.aql_names.specs.Index.{NameIndex, positions_in, has_key, key_at, GainsPosition, SamePositions}
 use Rattle.aql_names.specs.Named.{Name}
-
-equal_self : (x : Name) → bytes_eq x x ≡ true
-equal_self x = (bytes_eq-Decides x x).1 refl
 
 equal_true : (x y : Name) → bytes_eq x y ≡ true → x ≡ y
 equal_true x y e = (bytes_eq-Decides x y).0 e
@@ -108,17 +105,17 @@ length-keys_of : (es : Entries) → length (keys_of es) ≡ length es
 length-keys_of [] = refl
 length-keys_of (e ∷ es) = ap suc (length-keys_of es)
 
-module _ {S : Type 0} (m : Places S) where
+module _ {S : Type 0} (m : NameIndex S) where
   -- one position more at a key
   pub gains-known : (name bytes : Name) (d v w : Vec ℕ) (n k : ℕ) → bytes ≡ name → Some k ≡ position (λ q. bytes_eq bytes q.items) (keys m) →
-      slice_get (values m) k ≡ get_by (λ q. bytes_eq bytes q.items) m → slice_get (values m) k ≡ Some v → w.items ≡ v.items ++ n ∷ [] → GainsPlace m (with_value_at m k w) name n k
+      slice_get (values m) k ≡ get_by (λ q. bytes_eq bytes q.items) m → slice_get (values m) k ≡ Some v → w.items ≡ v.items ++ n ∷ [] → GainsPosition m (with_value_at m k w) name n k
   gains-known name bytes d v w n k e at_k value there more =
-      subst (λ x. GainsPlace m (with_value_at m k w) x n k) e
+      subst (λ x. GainsPosition m (with_value_at m k w) x n k) e
       (let p = position-Some (λ q. bytes_eq bytes q.items) (keys m) k d (sym at_k) in
       let same : keys (with_value_at m k w) ≡ keys m = keys-with_value_at m k w in
       let has : at bytes m.entries ≡ Some v = sym value ∙ there in
       record {
-        places = λ x. ap positions_in (at_set x bytes w m.entries k d p.0 p.1 p.2)
+        positions = λ x. ap positions_in (at_set x bytes w m.entries k d p.0 p.1 p.2)
             ∙ positions_after x bytes w n m.entries (more ∙ ap (λ o. positions_in o ++ n ∷ []) (sym has));
         kept = λ i lt. ap (λ ks. key_at ks i) same;
         longer = let z : length (keys (with_value_at m k w)) ≡ length (keys m) = ap length same in omega (arith, z);
@@ -128,11 +125,11 @@ module _ {S : Type 0} (m : Places S) where
 
   -- a list that is as it was
   pub same-known : (bytes : Name) (d v w : Vec ℕ) (k : ℕ) → Some k ≡ position (λ q. bytes_eq bytes q.items) (keys m) →
-      slice_get (values m) k ≡ get_by (λ q. bytes_eq bytes q.items) m → slice_get (values m) k ≡ Some v → w.items ≡ v.items → SamePlaces m (with_value_at m k w)
+      slice_get (values m) k ≡ get_by (λ q. bytes_eq bytes q.items) m → slice_get (values m) k ≡ Some v → w.items ≡ v.items → SamePositions m (with_value_at m k w)
   same-known bytes d v w k at_k value there same =
       let p = position-Some (λ q. bytes_eq bytes q.items) (keys m) k d (sym at_k) in
       record {
-        places = λ x. ap positions_in (at_set x bytes w m.entries k d p.0 p.1 p.2) ∙ by x (bytes_eq x bytes) refl;
+        positions = λ x. ap positions_in (at_set x bytes w m.entries k d p.0 p.1 p.2) ∙ by x (bytes_eq x bytes) refl;
         keys = keys-with_value_at m k w;
       }
     where
@@ -141,8 +138,8 @@ module _ {S : Type 0} (m : Places S) where
       by x false q = refl
 
   -- a position for a new key
-  pub gains-new : (new : Places S) (name : Name) (key list : Vec ℕ) (n : ℕ) → key.items ≡ name → list.items ≡ n ∷ [] → has_key m name ≡ false →
-      new.entries ≡ insert_entry (λ a b. bytes_eq a.items b.items) m.entries key list → GainsPlace m new name n (length m.entries)
+  pub gains-new : (new : NameIndex S) (name : Name) (key list : Vec ℕ) (n : ℕ) → key.items ≡ name → list.items ≡ n ∷ [] → has_key m name ≡ false →
+      new.entries ≡ insert_entry (λ a b. bytes_eq a.items b.items) m.entries key list → GainsPosition m new name n (length m.entries)
   gains-new new name key list n e f none inserted =
       let absent : at name m.entries ≡ None = no_list (at name m.entries) none in
       let es : new.entries ≡ m.entries ++ (key, list) ∷ [] =
@@ -151,7 +148,7 @@ module _ {S : Type 0} (m : Places S) where
       let count : length (keys m) ≡ length m.entries = length-keys_of m.entries in
       let counted : length (keys new) ≡ length (keys m) + 1 = ap length ks ∙ length-append (keys m) (key ∷ []) in
       record {
-        places = λ x. ap (λ es. positions_in (at x es)) es ∙ ap positions_in (at_new x name list m.entries key e absent)
+        positions = λ x. ap (λ es. positions_in (at x es)) es ∙ ap positions_in (at_new x name list m.entries key e absent)
             ∙ positions_after x name list n m.entries (f ∙ ap (λ o. positions_in o ++ n ∷ []) (sym absent));
         kept = λ i lt. ap (λ l. key_at l i) ks ∙ key_at-before (keys m) (key ∷ []) i lt;
         longer = omega (arith, counted);

@@ -8,8 +8,8 @@ use Rattle.aql_value.specs.Partial.{or_else}
 use Rattle.aql_names.specs.Named.{Name}
 
 -- the map
-abbrev pub Places : Type 0 → Type 0
-Places S = IndexMap (Vec ℕ) (Vec ℕ) S
+abbrev pub NameIndex : Type 0 → Type 0
+NameIndex S = IndexMap (Vec ℕ) (Vec ℕ) S
 
 -- the positions of a list that may be there
 abbrev pub positions_in : Option (Vec ℕ) → List ℕ
@@ -17,11 +17,11 @@ positions_in None = []
 positions_in (Some list) = list.items
 
 -- the positions that the map has for a name
-abbrev pub places_in : {S : Type 0} → Places S → Name → List ℕ
-places_in m x = positions_in (get_by (λ k. bytes_eq x k.items) m)
+abbrev pub name_positions : {S : Type 0} → NameIndex S → Name → List ℕ
+name_positions m x = positions_in (get_by (λ k. bytes_eq x k.items) m)
 
 -- whether the name is a key of the map
-abbrev pub has_key : {S : Type 0} → Places S → Name → Bool
+abbrev pub has_key : {S : Type 0} → NameIndex S → Name → Bool
 has_key m x = is_some (get_by (λ k. bytes_eq x k.items) m)
 
 -- the key of that number
@@ -31,7 +31,7 @@ key_at (k ∷ ks) zero = k.items
 key_at (k ∷ ks) (suc i) = key_at ks i
 
 -- the names of the positions
-abbrev pub names_in : {S : Type 0} → Places S → List ℕ → List Name
+abbrev pub names_in : {S : Type 0} → NameIndex S → List ℕ → List Name
 names_in m numbers = map (key_at (keys m)) numbers
 
 -- each of these numbers is below n
@@ -40,26 +40,26 @@ AreBelow n [] = Unit {0}
 AreBelow n (k ∷ ks) = (k < n) × AreBelow n ks
 
 -- the positions that have the name, ascending, the first of these names being that of position n
-abbrev pub places_from : ℕ → Name → List Name → List ℕ
-places_from n x [] = []
-places_from n x (y ∷ ys) = if bytes_eq x y then n ∷ places_from (n + 1) x ys else places_from (n + 1) x ys
+abbrev pub positions_from : ℕ → Name → List Name → List ℕ
+positions_from n x [] = []
+positions_from n x (y ∷ ys) = if bytes_eq x y then n ∷ positions_from (n + 1) x ys else positions_from (n + 1) x ys
 
 -- the map has the positions of each name
-pub record IsIndex {S : Type 0} (m : Places S) (numbers : List ℕ) : Type 0 where
+pub record IsIndex {S : Type 0} (m : NameIndex S) (numbers : List ℕ) : Type 0 where
   pub numbered : AreBelow (length (keys m)) numbers
-  pub places : (x : Name) → places_in m x ≡ places_from 0 x (names_in m numbers)
+  pub positions : (x : Name) → name_positions m x ≡ positions_from 0 x (names_in m numbers)
 
 -- the map has one position more for the name, which is the key of number k, and else what it had
-pub record GainsPlace {S : Type 0} (old new : Places S) (name : Name) (n k : ℕ) : Type 0 where
-  pub places : (x : Name) → places_in new x ≡ (if bytes_eq x name then places_in old x ++ n ∷ [] else places_in old x)
+pub record GainsPosition {S : Type 0} (old new : NameIndex S) (name : Name) (n k : ℕ) : Type 0 where
+  pub positions : (x : Name) → name_positions new x ≡ (if bytes_eq x name then name_positions old x ++ n ∷ [] else name_positions old x)
   pub kept : (i : ℕ) → i < length (keys old) → key_at (keys new) i ≡ key_at (keys old) i
   pub longer : length (keys old) ≤ length (keys new)
   pub inside : k < length (keys new)
   pub named : key_at (keys new) k ≡ name
 
 -- the map has for each name what it had
-pub record SamePlaces {S : Type 0} (old new : Places S) : Type 0 where
-  pub places : (x : Name) → places_in new x ≡ places_in old x
+pub record SamePositions {S : Type 0} (old new : NameIndex S) : Type 0 where
+  pub positions : (x : Name) → name_positions new x ≡ name_positions old x
   pub keys : keys new ≡ keys old
 
 -- the last of a list

@@ -3,7 +3,7 @@
 ghost use Rattle.std.specs.Prelude.{◌≡◌, ◌++◌, ◌∷◌, [], IfOk, OnOk, OnErr, length, take, nat_lt, false};
 ghost use Rattle.std.specs.List.Sorted.{IsPartitionedBy};
 ghost use Rattle.aql_names.specs.Named.{last_named};
-ghost use Rattle.aql_names.specs.Index.{places_in, has_key, GainsPlace, SamePlaces, last_of, count_below};
+ghost use Rattle.aql_names.specs.Index.{name_positions, has_key, GainsPosition, SamePositions, last_of, count_below};
 
 use aql_value::made::{both, make_list};
 use aql_value::{Memory, Str};
@@ -15,7 +15,7 @@ use std::marker::Model;
 #[derive(Drop)]
 pub struct Names {
     // The positions of each name, ascending, by its bytes.
-    places: IndexMap<Vec<u8>, Vec<usize>>,
+    positions: IndexMap<Vec<u8>, Vec<usize>>,
     // Of each position the number of its name among the keys.
     numbers: Vec<usize>,
 }
@@ -31,9 +31,9 @@ impl Model for Names {
 
     ghost use Rattle.aql_names.specs.Index.{names_in, IsIndex};
 
-    ghost view = { λ s. names_in s.places s.numbers.items };
+    ghost view = { λ s. names_in s.positions s.numbers.items };
 
-    ghost invariant = { λ s. IsIndex s.places s.numbers.items };
+    ghost invariant = { λ s. IsIndex s.positions s.numbers.items };
 }
 
 impl Names {
@@ -42,7 +42,7 @@ impl Names {
         ensures { result ≡ [] }
     {
         Names {
-            places: IndexMap::new(alloc),
+            positions: IndexMap::new(alloc),
             numbers: Vec::new(alloc),
         }
     }
@@ -61,7 +61,7 @@ impl Names {
     {
         let n = self.numbers.len();
         self.numbers.push(0)?;
-        match add_place(alloc, &mut self.places, name, n) {
+        match add_position(alloc, &mut self.positions, name, n) {
             Ok(k) => {
                 self.numbers[n] = k;
                 Ok(())
@@ -77,41 +77,41 @@ impl Names {
     pub fn latest(&self, name: &Str) -> Option<usize>
         ensures { result ≡ last_named name.now self.now }
     {
-        last(places_of(&self.places, name))
+        last(positions_of(&self.positions, name))
     }
 
     /// The last position below n that has the name: none where none has.
     pub fn latest_before(&self, name: &Str, n: usize) -> Option<usize>
         ensures { result ≡ last_named name.now (take n self.now) }
     {
-        let places = places_of(&self.places, name);
-        last(&places[..number_below(places, n)])
+        let positions = positions_of(&self.positions, name);
+        last(&positions[..number_below(positions, n)])
     }
 }
 
 // The positions of a name, ascending.
-fn places_of<'a>(places: &'a IndexMap<Vec<u8>, Vec<usize>>, name: &Str) -> &'a [usize]
-    ensures { result.now ≡ places_in places.now name.now }
+fn positions_of<'a>(positions: &'a IndexMap<Vec<u8>, Vec<usize>>, name: &Str) -> &'a [usize]
+    ensures { result.now ≡ name_positions positions.now name.now }
 {
-    match places.get(name.bytes.as_slice()) {
+    match positions.get(name.bytes.as_slice()) {
         Some(list) => list.as_slice(),
         None => &[],
     }
 }
 
 // The last of these positions.
-fn last(places: &[usize]) -> Option<usize>
-    ensures { result ≡ last_of places.now }
+fn last(positions: &[usize]) -> Option<usize>
+    ensures { result ≡ last_of positions.now }
 {
-    places.last().copied()
+    positions.last().copied()
 }
 
 // How many of these positions are below n.
-fn number_below(places: &[usize], n: usize) -> usize
-    requires ascending { IsPartitionedBy (λ p. nat_lt p n) places.now }
-    ensures { result ≡ count_below n places.now }
+fn number_below(positions: &[usize], n: usize) -> usize
+    requires ascending { IsPartitionedBy (λ p. nat_lt p n) positions.now }
+    ensures { result ≡ count_below n positions.now }
 {
-    places.partition_point(
+    positions.partition_point(
         |p: &usize| -> bool
             ensures { result ≡ nat_lt p.now n }
         { *p < n },
@@ -119,37 +119,37 @@ fn number_below(places: &[usize], n: usize) -> usize
 }
 
 // Position n for a name, behind those that it has: the number of the name among the keys.
-fn add_place(
+fn add_position(
     alloc: Global,
-    places: &mut IndexMap<Vec<u8>, Vec<usize>>,
+    positions: &mut IndexMap<Vec<u8>, Vec<usize>>,
     name: &Str,
     n: usize,
 ) -> Result<usize, Memory>
-    ensures added { IfOk result (λ k. GainsPlace places.old places.new name.now n k) }
-    ensures as_before { OnErr result (SamePlaces places.old places.new) }
+    ensures added { IfOk result (λ k. GainsPosition positions.old positions.new name.now n k) }
+    ensures as_before { OnErr result (SamePositions positions.old positions.new) }
 {
-    match places.get_index_of(name.bytes.as_slice()) {
+    match positions.get_index_of(name.bytes.as_slice()) {
         Some(k) => {
-            places[k].push(n)?;
+            positions[k].push(n)?;
             Ok(k)
         }
-        None => add_name(alloc, places, name, n),
+        None => add_name(alloc, positions, name, n),
     }
 }
 
 // Position n for a name that has none.
 fn add_name(
     alloc: Global,
-    places: &mut IndexMap<Vec<u8>, Vec<usize>>,
+    positions: &mut IndexMap<Vec<u8>, Vec<usize>>,
     name: &Str,
     n: usize,
 ) -> Result<usize, Memory>
-    requires new { has_key places.old name.now ≡ false }
-    ensures added { IfOk result (λ k. GainsPlace places.old places.new name.now n k) }
-    ensures as_before { OnErr result (SamePlaces places.old places.new) }
+    requires new { has_key positions.old name.now ≡ false }
+    ensures added { IfOk result (λ k. GainsPosition positions.old positions.new name.now n k) }
+    ensures as_before { OnErr result (SamePositions positions.old positions.new) }
 {
-    let k = places.len();
+    let k = positions.len();
     let (key, list) = both(name.copy(alloc), make_list(alloc, Ok(n)))?;
-    places.insert(key.bytes, list)?;
+    positions.insert(key.bytes, list)?;
     Ok(k)
 }

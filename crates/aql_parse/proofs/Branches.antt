@@ -6,13 +6,10 @@ use Rattle.aql_syntax.specs.declared.sign.Sign.TheVariants as signs
 use Rattle.aql_syntax.specs.Lexis.{Lexeme, named, numeral, quoted, mark}
 use Rattle.aql_syntax.specs.Tree.{Name, Pat, Tree, op, choice, members, bindings, Trees, no_tree, tree, Axes, Quals, Defs, count_trees}
 use Rattle.aql_value.specs.Partial.{◌>>=◌}
+use Rattle.aql_value.specs.Laws.Partial.{then-ext}
 use Rattle.aql_parse_spec.specs.Parsing.{Out, Parser, Parsers, after, Joiner, joined_by, Front, short, pat_then, list_at, list_rest, maybe_at, axes_at, axes_rest, binder_at, quals_at, quals_rest, front_at, defs_at, defs_rest, def_at, closed_twice, literal_of, whole_at, choice_at, default_rest, level_at, negation_at, chain_step, function_at, primary_at, paren_at, let_at, braces_at, brace_rest, bracket_rest, sub_rest, sub_step}
 use Rattle.aql_parse.specs.Parts.{few_of, one_of, leaf_at}
 use Rattle.aql_parse.specs.Cycle.{when, expr_then, default_at, not_at, argument_at, joined_at, subs_at, sub_at, comp_at, double_at, list_or_none_at, cells_at, table_at, more_trees, more_axes, more_quals, more_defs}
-
-same_next : {A B : Type 0} (o : Option A) (f g : A → Option B) → ((x : A) → f x ≡ g x) → (o >>= f) ≡ (o >>= g)
-same_next None f g h = refl
-same_next (Some x) f g h = h x
 
 -- what was read, before what follows it
 abbrev before : {A : Type 0} → A → Option (List Lexeme) → Out A
@@ -51,14 +48,14 @@ whole_first p k (mark signs.If ∷ s) = refl
 whole_first p k (mark _ ∷ s) = refl
 
 pub whole_parts : (p : Parsers) (k : ℕ) (s : List Lexeme) → whole_at p k s ≡ when (after signs.If s) (choice_at p) (level_at p k 7 s >>= λ x. default_at p x.0 x.1)
-whole_parts p k s = whole_first p k s ∙ ap (when (after signs.If s) (choice_at p)) (same_next (level_at p k 7 s) _ _ (λ x. default_same p x.0 x.1))
+whole_parts p k s = whole_first p k s ∙ ap (when (after signs.If s) (choice_at p)) (then-ext (level_at p k 7 s) _ _ (λ x _. default_same p x.0 x.1))
 
 pub choice_parts : (p : Parsers) (s : List Lexeme) →
     choice_at p s ≡ (expr_then signs.Then p s >>= λ c. expr_then signs.Else p c.1 >>= λ a. p 8 a.1 >>= λ b. Some (choice c.0 a.0 b.0, b.1))
 unfolding choice_at expr_then
 choice_parts p s =
     then signs.Then (p 8 s) (λ c r. p 8 r >>= λ a. after signs.Else a.1 >>= λ r'. p 8 r' >>= λ b. Some (choice c a.0 b.0, b.1))
-    ∙ same_next (expr_then signs.Then p s) _ _ (λ c. then signs.Else (p 8 c.1) (λ a r. p 8 r >>= λ b. Some (choice c.0 a b.0, b.1)))
+    ∙ then-ext (expr_then signs.Then p s) _ _ (λ c _. then signs.Else (p 8 c.1) (λ a r. p 8 r >>= λ b. Some (choice c.0 a b.0, b.1)))
 
 -- levels
 not_same : (p : Parsers) (q : Parser) (s : List Lexeme) → negation_at p q s ≡ not_at p q s
@@ -91,9 +88,9 @@ pub function_parts : (f : Pat → Tree → Tree → Tree) (p : Parsers) (k : ℕ
     function_at f p k s ≡ (pat_then signs.FatArrow k s >>= λ x. expr_then signs.Close p x.1 >>= λ e. argument_at p e.1 >>= λ a. Some (f x.0 e.0 a.0, a.1))
 unfolding function_at expr_then argument_at
 function_parts f p k s =
-    same_next (pat_then signs.FatArrow k s) _ _ (λ x.
+    then-ext (pat_then signs.FatArrow k s) _ _ (λ x _.
     then signs.Close (p 8 x.1) (λ e r. after signs.Bang r >>= λ r'. p 0 r' >>= λ a. Some (f x.0 e a.0, a.1))
-    ∙ same_next (expr_then signs.Close p x.1) _ _ (λ e. argument (after signs.Bang e.1) (λ a. Some (f x.0 e.0 a.0, a.1))))
+    ∙ then-ext (expr_then signs.Close p x.1) _ _ (λ e _. argument (after signs.Bang e.1) (λ a. Some (f x.0 e.0 a.0, a.1))))
   where
     argument : (o : Option (List Lexeme)) (g : Tree × List Lexeme → Out Tree) → (o >>= λ r. p 0 r >>= g) ≡ ((o >>= λ r. p 0 r) >>= g)
     argument None g = refl
@@ -146,7 +143,7 @@ pub let_parts : (p : Parsers) (k : ℕ) (s : List Lexeme) →
     let_at p k s ≡ (defs_at p k k s >>= λ x. after signs.In x.1 >>= λ r. expr_then signs.End p r >>= λ e. Some (bindings x.0 e.0, e.1))
 unfolding let_at expr_then
 let_parts p k s =
-    same_next (defs_at p k k s) _ _ (λ x. same_next (after signs.In x.1) _ _ (λ r. then signs.End (p 8 r) (λ e r'. Some (bindings x.0 e, r'))))
+    then-ext (defs_at p k k s) _ _ (λ x _. then-ext (after signs.In x.1) _ _ (λ r _. then signs.End (p 8 r) (λ e r'. Some (bindings x.0 e, r'))))
 
 -- braces
 pub braces_parts : (p : Parsers) (k : ℕ) (s : List Lexeme) →
@@ -192,7 +189,7 @@ bracket_parts p k es [] = refl
 bracket_parts p k es (named n ∷ s) = refl
 bracket_parts p k es (numeral n ∷ s) = refl
 bracket_parts p k es (quoted n ∷ s) = refl
-bracket_parts p k es (mark signs.Semicolon ∷ s) = same_next (short (count_trees es) es) _ _ (λ ds. cells_same p k ds s)
+bracket_parts p k es (mark signs.Semicolon ∷ s) = then-ext (short (count_trees es) es) _ _ (λ ds _. cells_same p k ds s)
 bracket_parts p k es (mark signs.Bar ∷ s) = refl
 bracket_parts p k es (mark _ ∷ s) = refl
 
@@ -244,25 +241,25 @@ pub list_at_turn : (p : Parsers) (d i : ℕ) (s : List Lexeme) → i < d →
 unfolding list_at
 list_at_turn p d i s l =
     let e : d - i ≡ suc (d - (i + 1)) = omega arith in
-    rw e (same_next (p 8 s) _ _ (λ x. trees_same (list_at p (d - (i + 1))) x.0 x.1))
+    rw e (then-ext (p 8 s) _ _ (λ x _. trees_same (list_at p (d - (i + 1))) x.0 x.1))
 
 pub axes_at_turn : (p : Parsers) (d i : ℕ) (s : List Lexeme) → i < d →
     axes_at p (d - i) s ≡ (binder_at signs.Less s >>= λ x. p 8 x.1 >>= λ e. more_axes (axes_at p (d - (i + 1))) x.0 e.0 e.1)
 unfolding axes_at
 axes_at_turn p d i s l =
     let e : d - i ≡ suc (d - (i + 1)) = omega arith in
-    rw e (same_next (binder_at signs.Less s) _ _ (λ x. same_next (p 8 x.1) _ _ (λ e. axes_same (axes_at p (d - (i + 1))) x.0 e.0 e.1)))
+    rw e (then-ext (binder_at signs.Less s) _ _ (λ x _. then-ext (p 8 x.1) _ _ (λ e _. axes_same (axes_at p (d - (i + 1))) x.0 e.0 e.1)))
 
 pub quals_at_turn : (p : Parsers) (n d i : ℕ) (s : List Lexeme) → i < d →
     quals_at p n (d - i) s ≡ (p 8 (front_at n s).1 >>= λ e. more_quals (quals_at p n (d - (i + 1))) (front_at n s).0 e.0 e.1)
 unfolding quals_at
 quals_at_turn p n d i s l =
     let e : d - i ≡ suc (d - (i + 1)) = omega arith in
-    rw e (same_next (p 8 (front_at n s).1) _ _ (λ e. quals_same (quals_at p n (d - (i + 1))) (front_at n s).0 e.0 e.1))
+    rw e (then-ext (p 8 (front_at n s).1) _ _ (λ e _. quals_same (quals_at p n (d - (i + 1))) (front_at n s).0 e.0 e.1))
 
 pub defs_at_turn : (p : Parsers) (n d i : ℕ) (s : List Lexeme) → i < d →
     defs_at p n (d - i) s ≡ (def_at n s >>= λ x. p 8 x.1 >>= λ e. more_defs (defs_at p n (d - (i + 1))) x.0 e.0 e.1)
 unfolding defs_at
 defs_at_turn p n d i s l =
     let e : d - i ≡ suc (d - (i + 1)) = omega arith in
-    rw e (same_next (def_at n s) _ _ (λ x. same_next (p 8 x.1) _ _ (λ e. defs_same (defs_at p n (d - (i + 1))) x.0 e.0 e.1)))
+    rw e (then-ext (def_at n s) _ _ (λ x _. then-ext (p 8 x.1) _ _ (λ e _. defs_same (defs_at p n (d - (i + 1))) x.0 e.0 e.1)))

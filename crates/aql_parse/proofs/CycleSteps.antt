@@ -1,17 +1,11 @@
 -- The functions on lists, a turn at a time.
-use Rattle.std.proofs.Common.{ℕ, zero, suc, ◌≡◌, ◌≢◌, length, ◌<◌, ◌≤◌, ◌+◌, ◌-◌, List, [], ◌∷◌, Some, None, if◌then◌else◌, ◌==◌, Bool, true, false, refl, ap, arith, sub-one}
+use Rattle.std.proofs.Common.{ℕ, zero, suc, ◌≡◌, ◌≢◌, ◌<◌, ◌≤◌, ◌+◌, ◌-◌, List, Some, None, if◌then◌else◌, ◌==◌, Bool, true, false, refl, arith, sub-one}
 use Rattle.std.proofs.lemmas.Bool.{eqb-true}
 use Rattle.aql_syntax.specs.Lexis.{Lexeme}
-use Rattle.aql_syntax.specs.declared.ast.Bind.{Bind}
-use Rattle.aql_syntax.specs.Tree.{Tree, Trees, no_tree, Axes, no_axis, Quals, no_qual, Defs, no_def, count_axes}
-use Rattle.aql_syntax.specs.View.{axes_in}
+use Rattle.aql_syntax.specs.Tree.{Tree, Trees, no_tree, Axes, no_axis, Quals, no_qual, Defs, no_def}
 use Rattle.aql_value.specs.Partial.{◌>>=◌}
 use Rattle.aql_parse_spec.specs.Parsing.{Out, Parser, Parsers, parse_at, whole_at, level_at, application_at, chain_rest, chain_step, operator_at, turns, negation_at, sub_rest, list_at, axes_at, quals_at, defs_at}
 use Rattle.aql_parse.specs.Cycle.{with_trees, with_axes, with_quals, with_defs}
-
-pub count_axes_in : (xs : List Bind) → count_axes (axes_in xs) ≡ length xs
-count_axes_in [] = refl
-count_axes_in (x ∷ xs) = ap suc (count_axes_in xs)
 
 -- levels and depths
 pub parse_at_none : (n h : ℕ) (s : List Lexeme) → n ≡ 0 → parse_at n h s ≡ None

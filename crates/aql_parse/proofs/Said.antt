@@ -3,9 +3,7 @@ use Rattle.std.proofs.Common.{ℕ, ◌≡◌, List, [], ◌∷◌, ◌++◌, Boo
 use Rattle.aql_syntax.specs.declared.sign.Sign.{Sign}
 use Rattle.aql_syntax.specs.declared.token.Token.{Token}
 use Rattle.aql_syntax.specs.declared.token.TokenKind.TheVariants as kinds
-use Rattle.aql_syntax.specs.declared.ast.Decl.{Decl}
 use Rattle.aql_syntax.specs.Signs.{is_word}
-use Rattle.aql_syntax.specs.View.{decl_of, decls_of}
 use Rattle.aql_syntax.specs.Lexis.{Lexeme, named, numeral, quoted, mark, kind_of}
 use Rattle.aql_lex.specs.Texts.{Says, EachSays, text_of}
 use Rattle.aql_lex.specs.Laws.Text.{unescaped_is}
@@ -41,15 +39,6 @@ rest_next source t ts left w ws more ls is grown word r = go r.later (rw is at r
       says = d.2;
       whole = ap (λ z. lexemes source z ++ ms) grown ∙ lexemes_last source ws w ms ∙ ap (λ z. lexemes source ws ++ (z ∷ ms)) (word m d.0 d.1) ∙ e;
     }
-
--- one more declaration
-pub decls_last : (ds : List Decl) (d : Decl) → decls_of (ds ++ d ∷ []) ≡ decls_of ds ++ decl_of d ∷ []
-decls_last [] d = refl
-decls_last (x ∷ ds) d = ap (λ z. decl_of x ∷ z) (decls_last ds d)
-
-pub decls_length : (ds : List Decl) → length (decls_of ds) ≡ length ds
-decls_length [] = refl
-decls_length (x ∷ ds) = omega (arith, decls_length ds)
 
 pub lexemes_length : (source : List ℕ) (ws : List Word) → length (lexemes source ws) ≡ length ws
 lexemes_length source [] = refl

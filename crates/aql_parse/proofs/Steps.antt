@@ -11,8 +11,9 @@ use Rattle.aql_syntax.specs.Nodes.{joined_of}
 use Rattle.aql_syntax.specs.declared.nodes.Operator.{Operator}
 use Rattle.aql_syntax.specs.declared.nodes.Operator.TheVariants as operators
 use Rattle.aql_syntax.specs.View.{pats_of, tree_of, trees_of}
+use Rattle.aql_syntax.specs.Laws.View.{count_trees-list}
 use Rattle.aql_value.specs.Partial.{◌>>=◌}
-use Rattle.aql_parse_spec.specs.Parsing.{Out, after, pat_at, pat_in, pats_at, pats_rest, enclosed_pats, enclosed, front_of, joined_by}
+use Rattle.aql_parse_spec.specs.Parsing.{Out, after, pat_at, pat_in, pats_at, pats_rest, enclosed_pats, grouping, front_of, joined_by}
 use Rattle.aql_parse.specs.Forms.{joiner_of}
 use Rattle.aql_parse.specs.Parts.{few_of, one_of}
 use Rattle.aql_parse.specs.Laws.Short.{short_ok, short_long}
@@ -55,23 +56,18 @@ enclosed_pats_many [] h = refl
 enclosed_pats_many (x ∷ []) h = absurd (h refl)
 enclosed_pats_many (x ∷ y ∷ xs) h = refl
 
-pub enclosed_many : (xs : List Expr) → length xs ≢ 1 → enclosed (trees_of xs) ≡ op Strict.tuple (trees_of xs)
+pub enclosed_many : (xs : List Expr) → length xs ≢ 1 → grouping (trees_of xs) ≡ op Strict.tuple (trees_of xs)
 enclosed_many [] h = refl
 enclosed_many (x ∷ []) h = absurd (h refl)
 enclosed_many (x ∷ y ∷ xs) h = refl
 
--- a list of expressions has as many as its trees
-pub count_trees_of : (xs : List Expr) → count_trees (trees_of xs) ≡ length xs
-count_trees_of [] = refl
-count_trees_of (x ∷ xs) = ap suc (count_trees_of xs)
-
 pub few_ok : (xs : List Expr) → length xs ≤ 8 → few_of (trees_of xs) ≡ Some (trees_of xs)
 unfolding few_of
-few_ok xs l = short_ok (count_trees (trees_of xs)) (trees_of xs) (rw (count_trees_of xs) l)
+few_ok xs l = short_ok (count_trees (trees_of xs)) (trees_of xs) (rw (count_trees-list xs) l)
 
 pub few_long : (xs : List Expr) → 8 < length xs → few_of (trees_of xs) ≡ None
 unfolding few_of
-few_long xs l = short_long (count_trees (trees_of xs)) (trees_of xs) (rw (count_trees_of xs) l)
+few_long xs l = short_long (count_trees (trees_of xs)) (trees_of xs) (rw (count_trees-list xs) l)
 
 pub not_one : (xs : List Expr) → length xs ≢ 1 → one_of (trees_of xs) ≡ None
 unfolding one_of

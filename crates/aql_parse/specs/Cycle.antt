@@ -7,7 +7,7 @@ use Rattle.aql_syntax.specs.declared.sign.Sign.TheVariants as signs
 use Rattle.aql_syntax.specs.Lexis.{Lexeme}
 use Rattle.aql_syntax.specs.Tree.{Name, Pat, Tree, op, comp, tab, negation, default, Trees, no_tree, tree, Axes, no_axis, axis, Quals, no_qual, Defs, no_def, def, count_axes, append, append_axes, append_quals, append_defs}
 use Rattle.aql_value.specs.Partial.{◌>>=◌}
-use Rattle.aql_parse_spec.specs.Parsing.{Out, Parser, Parsers, after, Joiner, Front, joined_by, qualified, short, list_at, axes_at, quals_at, brackets_at, closed_twice, literal_of}
+use Rattle.aql_parse_spec.specs.Parsing.{Out, Parser, Parsers, after, Joiner, Front, joined_by, add_qualifier, short, list_at, axes_at, quals_at, brackets_at, closed_twice, literal_of}
 use Rattle.aql_parse.specs.Parts.{few_of}
 
 -- one thing behind the sign that was looked for, another without it
@@ -73,7 +73,7 @@ more_axes more x e s = when (after signs.Comma s) (λ r. more r >>= λ y. Some (
 
 -- what follows the first qualifier, by its sign
 unfoldable pub more_quals : (List Lexeme → Out Quals) → Front → Tree → List Lexeme → Out Quals
-more_quals more f e s = when (after signs.Comma s) (λ r. more r >>= λ y. Some (qualified f e y.0, y.1)) (Some (qualified f e no_qual, s))
+more_quals more f e s = when (after signs.Comma s) (λ r. more r >>= λ y. Some (add_qualifier f e y.0, y.1)) (Some (add_qualifier f e no_qual, s))
 
 -- behind one binding of a let: `val` and more, or nothing
 unfoldable pub more_defs : (List Lexeme → Out Defs) → Pat → Tree → List Lexeme → Out Defs

@@ -5,7 +5,7 @@ use Rattle.aql_syntax.specs.Lexis.{Lexeme, named, numeral, quoted, mark}
 use Rattle.aql_syntax.specs.Tree.{Pats, append_pats}
 use Rattle.aql_value.specs.Partial.{◌>>=◌}
 use Rattle.aql_parse_spec.specs.Parsing.{Out}
-use Rattle.aql_lex.specs.Texts.{text_of, unescaped, within, Spot, escape, high, low}
+use Rattle.aql_lex.specs.Texts.{text_of, string_bytes, within, Spot, escape, high, low}
 use Rattle.aql_parse.specs.declared.words.Word.{Word}
 use Rattle.aql_parse.specs.declared.words.Word.TheVariants as words
 use Rattle.aql_parse.specs.declared.words.Spot as code_spot
@@ -16,7 +16,7 @@ use Rattle.aql_parse.specs.declared.refusal.Refusal.TheVariants as refusals
 -- what a string's text, from quote to quote, stands for
 abbrev pub string_of : List ℕ → List ℕ
 string_of [] = []
-string_of (b ∷ t) = unescaped within t
+string_of (b ∷ t) = string_bytes within t
 
 -- what a word says
 abbrev pub lexeme_of : List ℕ → Word → Lexeme

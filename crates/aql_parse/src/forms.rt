@@ -7,7 +7,7 @@ ghost use Rattle.aql_syntax.specs.Nodes.{operation_form};
 ghost use Rattle.aql_syntax.specs.View.{tree_of, trees_of, qual_of};
 ghost use Rattle.aql_syntax.specs.Grammar.{head_operator};
 ghost use Rattle.aql_parse_spec.specs.Parsing as grammar;
-ghost use Rattle.aql_parse_spec.specs.Parsing.{joined_by, operand, enclosed, qualified};
+ghost use Rattle.aql_parse_spec.specs.Parsing.{joined_by, operand, grouping, add_qualifier};
 ghost use Rattle.aql_parse.specs.Words.{lexemes, GivesReading};
 ghost use Rattle.aql_parse.specs.Parts.{few_of, one_of};
 ghost use Rattle.aql_parse.specs.Forms.{joiner_of, opening_of, front_seen};
@@ -171,7 +171,7 @@ pub fn opening<'a>(source: &[u8], words: &'a [Word]) -> Option<(Head, &'a [Word]
 /// What stands in parentheses: one expression, or a tuple of several.
 #[tactic(auto, using(crate::proofs::Steps::enclosed_many))]
 pub fn enclose(items: Vec<Expr>) -> Expr
-    ensures { tree_of result ≡ grammar.enclosed (trees_of items.items) }
+    ensures { tree_of result ≡ grammar.grouping (trees_of items.items) }
 {
     if items.len() != 1 {
         return row(items);
@@ -219,7 +219,7 @@ pub enum Front {
 
 /// A qualifier.
 pub fn qualifier(front: Front, expr: Expr) -> Qual
-    ensures { (rest : tree.Quals) → qual_of result rest ≡ qualified (front_seen front)
+    ensures { (rest : tree.Quals) → qual_of result rest ≡ add_qualifier (front_seen front)
         (tree_of expr) rest }
 {
     match front {

@@ -2,7 +2,7 @@
 
 ghost use Rattle.std.specs.Prelude.{◌≡◌, ◌<◌, ◌+◌, ◌*◌, ◌^◌, IfOk, MatchOption, Some, None, [], ◌∷◌};
 ghost use Rattle.aql_syntax.specs.Lexis.{hex_value};
-ghost use Rattle.aql_lex.specs.Texts.{text_of, digits_value, unescaped, within};
+ghost use Rattle.aql_lex.specs.Texts.{text_of, digits_value, string_bytes, within};
 ghost use Rattle.aql_parse_spec.specs.SignNumbers.{same_sign};
 ghost use Rattle.aql_parse_spec.specs.Parsing.{after};
 ghost use Rattle.aql_parse.specs.Words.{string_of, lexemes, GivesReading};
@@ -102,7 +102,7 @@ pub enum Spot {
 // The bytes before the closing quote, each escape as the byte that it stands for.
 #[tactic(auto, using(crate::proofs::Strings::spelled))]
 fn unescape(alloc: Global, text: &[u8]) -> Result<Str, Memory>
-    ensures { IfOk result (λ s. s ≡ unescaped within text.now) }
+    ensures { IfOk result (λ s. s ≡ string_bytes within text.now) }
 {
     let mut bytes = Vec::new(alloc);
     let mut spot = Spot::Within;

@@ -12,7 +12,7 @@ use Rattle.aql_syntax.specs.declared.ast.Kind.TheVariants as field_kinds
 use Rattle.aql_syntax.specs.Lexis.{behind, Lexeme, named, numeral, quoted, mark}
 use Rattle.aql_syntax.specs.Tree.{Name, Pat, bind, any, equals, refers, tuple, Pats, no_pat, pat, number, truth, bytes, Tree, name, op, members, comp, tab, bindings, choice, negation, default, apply, function, summap, Trees, no_tree, tree, Axes, no_axis, axis, Quals, no_qual, from, cells, same, test, Defs, no_def, def, Reader, plain, signed, strided, records, Declaration, val, mac, read, bare, count_trees, count_axes, append}
 use Rattle.aql_syntax.specs.View.{of_one, of_two}
-use Rattle.aql_syntax.specs.Grammar.{Junction, both, either, joined, head_operator, netcdf, csv}
+use Rattle.aql_syntax.specs.Grammar.{Junction, both, either, junction, head_operator, netcdf, csv}
 use Rattle.aql_parse_spec.specs.SignNumbers.{same_sign}
 
 -- what was read, and what follows it
@@ -84,7 +84,7 @@ pub data Joiner : Type 0 where
 -- two operands under an operator
 abbrev pub joined_by : Joiner → Tree → Tree → Tree
 joined_by (builds o) a b = of_two o a b
-joined_by (joins j) a b = joined j a b
+joined_by (joins j) a b = junction j a b
 
 -- an operator's level, and what it makes
 abbrev pub operator_of : Lexeme → Option (ℕ × Joiner)
@@ -177,10 +177,10 @@ only (tree e no_tree) = Some e
 only _ = None
 
 -- one expression in parentheses is that expression
-abbrev pub enclosed : Trees → Tree
-enclosed no_tree = op Strict.tuple no_tree
-enclosed (tree e no_tree) = e
-enclosed (tree e (tree d es)) = op Strict.tuple (tree e (tree d es))
+abbrev pub grouping : Trees → Tree
+grouping no_tree = op Strict.tuple no_tree
+grouping (tree e no_tree) = e
+grouping (tree e (tree d es)) = op Strict.tuple (tree e (tree d es))
 
 -- `\`, a name and a sign
 unfoldable pub binder_at : Sign → List Lexeme → Out Name
@@ -204,11 +204,11 @@ pub data Front : Type 0 where
   tests : Front
 
 -- a qualifier of that front, before others
-abbrev pub qualified : Front → Tree → Quals → Quals
-qualified (from_set p) e qs = from p e qs
-qualified (from_cells p q) e qs = cells p q e qs
-qualified (matches p) e qs = same p e qs
-qualified tests e qs = test e qs
+abbrev pub add_qualifier : Front → Tree → Quals → Quals
+add_qualifier (from_set p) e qs = from p e qs
+add_qualifier (from_cells p q) e qs = cells p q e qs
+add_qualifier (matches p) e qs = same p e qs
+add_qualifier tests e qs = test e qs
 
 -- a pattern and `<-` or `==`
 abbrev pub front_of : Out Pat → Out Front
@@ -233,8 +233,8 @@ front_at n s = or_tests s (or_else (front_of (pat_at n s)) (cells_front n s))
 
 -- what follows the first qualifier: a comma and more, or nothing
 abbrev pub quals_rest : (List Lexeme → Out Quals) → Front → Tree → List Lexeme → Out Quals
-quals_rest more f e (mark signs.Comma ∷ s) = more s >>= λ y. Some (qualified f e y.0, y.1)
-quals_rest more f e s = Some (qualified f e no_qual, s)
+quals_rest more f e (mark signs.Comma ∷ s) = more s >>= λ y. Some (add_qualifier f e y.0, y.1)
+quals_rest more f e s = Some (add_qualifier f e no_qual, s)
 
 -- qualifiers, one or more
 unfoldable pub quals_at : Parsers → ℕ → ℕ → List Lexeme → Out Quals
@@ -298,7 +298,7 @@ let_at p k s =
 
 -- behind an open parenthesis
 unfoldable pub paren_at : Parsers → ℕ → Parser
-paren_at p k s = list_at p k s >>= λ x. after signs.Close x.1 >>= λ r. Some (enclosed x.0, r)
+paren_at p k s = list_at p k s >>= λ x. after signs.Close x.1 >>= λ r. Some (grouping x.0, r)
 
 -- a primary expression: a name, a constant, or what stands in brackets
 abbrev pub primary_in : Parsers → ℕ → Parser
@@ -340,16 +340,16 @@ function_at f p k s =
     p 0 r' >>= λ a. Some (f x.0 e.0 a.0, a.1)
 
 -- an application, by what it begins with
-abbrev pub applied : Parsers → ℕ → List Lexeme → Opening → Out Tree
-applied p k s (applies f r) = p 0 r >>= λ a. Some (apply f a.0, a.1)
-applied p k s (operates o r) = p 0 r >>= λ a. Some (of_one o a.0, a.1)
-applied p k s (functions r) = function_at function p k r
-applied p k s (summaps r) = function_at summap p k r
-applied p k s operand = postfix_at p k s
+abbrev pub application : Parsers → ℕ → List Lexeme → Opening → Out Tree
+application p k s (applies f r) = p 0 r >>= λ a. Some (apply f a.0, a.1)
+application p k s (operates o r) = p 0 r >>= λ a. Some (of_one o a.0, a.1)
+application p k s (functions r) = function_at function p k r
+application p k s (summaps r) = function_at summap p k r
+application p k s operand = postfix_at p k s
 
 -- an application or an operand
 unfoldable pub application_at : Parsers → ℕ → Parser
-application_at p k s = applied p k s (opening s)
+application_at p k s = application p k s (opening s)
 
 -- goes on after an operator, or ends
 abbrev pub chain_step : Parser → (Tree → Parser) → Tree → List Lexeme → Option (Joiner × List Lexeme) → Out Tree

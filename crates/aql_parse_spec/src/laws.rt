@@ -1,6 +1,6 @@
 //! Laws of the grammar, each the contract of a function that does nothing.
 
-ghost use Rattle.aql_parse_spec.specs.Laws.{PatternsSound, PatternsComplete, ExpressionsSound, ExpressionsComplete, DeclarationsSound, DeclarationsComplete};
+ghost use Rattle.aql_parse_spec.specs.Readings.{PatternsSound, PatternsComplete, ExpressionsSound, ExpressionsComplete, DeclarationsSound, DeclarationsComplete};
 ghost use Rattle.aql_parse_spec.specs.Scripts.{OneReading, OneFault, ReadsOrFaults};
 
 /// A script has one reading at most, one first fault at most, and not both.

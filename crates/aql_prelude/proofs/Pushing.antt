@@ -1,17 +1,14 @@
 -- Declarations pushed one by one.
-use Rattle.std.proofs.Common.{ℕ, suc, ◌≡◌, List, [], ◌∷◌, ◌++◌, length, refl, sym, ap, ◌∙◌, append-nil, append_assoc}
+use Rattle.std.proofs.Common.{ℕ, ◌≡◌, List, [], ◌∷◌, ◌++◌, sym, ap, ◌∙◌, append-nil, append_assoc}
 use Rattle.aql_syntax.specs.Tree.{Declaration}
 use Rattle.aql_syntax.specs.View.{decl_of, decls_of}
 use Rattle.aql_syntax.specs.declared.ast.Decl.{Decl}
+use Rattle.aql_syntax.specs.Laws.View.{decls_of-append}
 use Rattle.aql_prelude.specs.Prelude.{prelude_decls, of_pairs_and_counts, of_sets, of_numbers, of_arrays}
-
-decls_last : (ds : List Decl) (d : Decl) → decls_of (ds ++ d ∷ []) ≡ decls_of ds ++ decl_of d ∷ []
-decls_last [] d = refl
-decls_last (x ∷ ds) d = ap (λ l. decl_of x ∷ l) (decls_last ds d)
 
 -- a declaration pushed
 pub pushed : (now next : List Decl) (d : Decl) (x : Declaration) → next ≡ now ++ d ∷ [] → decl_of d ≡ x → decls_of next ≡ decls_of now ++ x ∷ []
-pushed now next d x e k = ap decls_of e ∙ decls_last now d ∙ ap (λ y. decls_of now ++ y ∷ []) k
+pushed now next d x e k = ap decls_of e ∙ decls_of-append now (d ∷ []) ∙ ap (λ y. decls_of now ++ y ∷ []) k
 
 -- none is pushed yet
 pub none_pushed : (l : List Declaration) → l ≡ l ++ []
@@ -27,7 +24,3 @@ pub all_pushed : (none first second third fourth : List Decl) → none ≡ [] �
     decls_of fourth ≡ prelude_decls
 all_pushed none first second third fourth z a b c d =
     d ∙ ap (λ l. l ++ of_arrays) (c ∙ ap (λ l. l ++ of_numbers) (b ∙ ap (λ l. l ++ of_sets) (a ∙ ap (λ l. decls_of l ++ of_pairs_and_counts) z)))
-
-pub count_decls : (ds : List Decl) → length ds ≡ length (decls_of ds)
-count_decls [] = refl
-count_decls (d ∷ ds) = ap suc (count_decls ds)

@@ -170,13 +170,13 @@ abbrev pub dimensions : Tree → Tree
 dimensions a = of_one (Strict.dim 2) a
 
 -- a[j,i]
-abbrev pub turned : Tree
-turned = op Strict.sub (tree.tree (name "a") (tree.tree (name "j") (tree.tree (name "i") no_tree)))
+abbrev pub cell_j_i : Tree
+cell_j_i = op Strict.sub (tree.tree (name "a") (tree.tree (name "j") (tree.tree (name "i") no_tree)))
 
 -- macro \transpose = fn \a => [[a[j,i] | \i<snd!(dim_2!a), \j<fst!(dim_2!a)]];
 abbrev pub transpose : Declaration
 transpose = define "transpose" (bind "a")
-    (tree.tab (index "i" (call "snd" (dimensions (name "a"))) (index "j" (call "fst" (dimensions (name "a"))) no_axis)) turned)
+    (tree.tab (index "i" (call "snd" (dimensions (name "a"))) (index "j" (call "fst" (dimensions (name "a"))) no_axis)) cell_j_i)
 
 -- macro \zip = fn (\a,\b) => [[(a[i],b[i]) | \i<min2!(len!a,len!b)]];
 abbrev pub zip : Declaration

@@ -7,8 +7,8 @@ use Rattle.aql_value.specs.declared.ops.ArithOp.{ArithOp}
 use Rattle.aql_value.specs.declared.ops.CompareOp.{CompareOp}
 use Rattle.nrca_term.specs.Term.{Term, Parts, none, part, plain}
 use Rattle.nrca_term.specs.Nodes.{let_term, if_term, default_term, tuple_term, proj_term, arith_term, compare_term, single_term, union_term, big_union_term, sum_term, gen_term, get_term, tab_term, sub_term, dim_term, index_term, literal_term}
-use Rattle.aql_print.specs.Joined.{separated}
-use Rattle.aql_print.specs.CoreText.{arith_text, compare_text, between, joined, loop_text, tabulated_text, indexed_text, literal_text, core_text, part_texts, one}
+use Rattle.aql_print.specs.Joined.{join_texts}
+use Rattle.aql_print.specs.CoreText.{arith_text, compare_text, between, in_parentheses, loop_text, tabulated_text, indexed_text, literal_text, core_text, part_texts, one}
 use Rattle.aql_print.specs.Names.{bound_text}
 
 -- the texts of terms
@@ -28,16 +28,16 @@ text-let d a b = rw (core_text-none_more d a) refl
 pub text-if : (d : ℕ) (c a b : Term) → core_text d (if_term c a b) ≡ between (codes "(if ") (core_text d c ++ (codes " then " ++ (core_text d a ++ (codes " else " ++ core_text d b)))) (codes ")")
 text-if d c a b = rw (core_text-none_more d c, core_text-none_more d a, core_text-none_more d b) refl
 
-pub text-default : (d : ℕ) (a b : Term) → core_text d (default_term a b) ≡ joined (core_text d a) (codes " default ") (core_text d b)
+pub text-default : (d : ℕ) (a b : Term) → core_text d (default_term a b) ≡ in_parentheses (core_text d a) (codes " default ") (core_text d b)
 text-default d a b = rw (core_text-none_more d a, core_text-none_more d b) refl
 
-pub text-arith : (d : ℕ) (op : ArithOp) (a b : Term) → core_text d (arith_term op a b) ≡ joined (core_text d a) (arith_text op) (core_text d b)
+pub text-arith : (d : ℕ) (op : ArithOp) (a b : Term) → core_text d (arith_term op a b) ≡ in_parentheses (core_text d a) (arith_text op) (core_text d b)
 text-arith d op a b = rw (core_text-none_more d a, core_text-none_more d b) refl
 
-pub text-compare : (d : ℕ) (op : CompareOp) (a b : Term) → core_text d (compare_term op a b) ≡ joined (core_text d a) (compare_text op) (core_text d b)
+pub text-compare : (d : ℕ) (op : CompareOp) (a b : Term) → core_text d (compare_term op a b) ≡ in_parentheses (core_text d a) (compare_text op) (core_text d b)
 text-compare d op a b = rw (core_text-none_more d a, core_text-none_more d b) refl
 
-pub text-union : (d : ℕ) (a b : Term) → core_text d (union_term a b) ≡ joined (core_text d a) (codes " union ") (core_text d b)
+pub text-union : (d : ℕ) (a b : Term) → core_text d (union_term a b) ≡ in_parentheses (core_text d a) (codes " union ") (core_text d b)
 text-union d a b = rw (core_text-none_more d a, core_text-none_more d b) refl
 
 pub text-proj : (d at of : ℕ) (a : Term) → core_text d (proj_term at of a) ≡ codes "#" ++ (decimal at ++ (codes "/" ++ (decimal of ++ between (codes "(") (core_text d a) (codes ")"))))
@@ -76,7 +76,7 @@ length-core_texts d ts = sym (length-map ts (core_text d))
 append-none : (d : ℕ) (ts : List Term) → part_texts d (plain ts none) ≡ core_texts d ts
 append-none d ts = part_texts-plain d ts none ∙ append-nil (core_texts d ts)
 
-pub text-tuple : (d : ℕ) (ts : List Term) → core_text d (tuple_term ts) ≡ between (codes "(") (separated (codes ", ") (core_texts d ts)) (codes ")")
+pub text-tuple : (d : ℕ) (ts : List Term) → core_text d (tuple_term ts) ≡ between (codes "(") (join_texts (codes ", ") (core_texts d ts)) (codes ")")
 text-tuple d ts = rw (append-none d ts) refl
 
 pub text-sub : (d : ℕ) (a : Term) (ts : List Term) → core_text d (sub_term a ts) ≡ indexed_text (core_text d a) (core_texts d ts)

@@ -15,5 +15,3 @@ pub part_at : (ts : List Ty) (vs : List ℕ) (i : ℕ) (d : Ty) →
 part_at [] vs i d = refl
 part_at (t ∷ ts) vs zero d = refl
 part_at (t ∷ ts) vs (suc i) d = part_at ts vs i d
-
-pub ruleset part_steps = (length-parts, part_at)

@@ -9,7 +9,7 @@ use Rattle.aql_value.specs.declared.ops.CompareOp.{CompareOp}
 use Rattle.aql_value.specs.declared.ops.CompareOp.TheVariants.{Equal, Unequal, Less, LessEqual, Greater, GreaterEqual}
 use Rattle.nrca_term.specs.Term.{Term, node, Parts, none, part, Form, var, global, bind, choose, default, big_union, sum, tab, strict}
 use Rattle.aql_prelude.specs.Prelude.{prelude_count}
-use Rattle.aql_print.specs.Joined.{separated}
+use Rattle.aql_print.specs.Joined.{join_texts}
 use Rattle.aql_print.specs.Names.{bound_text, variable_text}
 use Rattle.aql_print.specs.ValueText.{text}
 
@@ -35,8 +35,8 @@ abbrev pub between : List ℕ → List ℕ → List ℕ → List ℕ
 between left s right = left ++ (s ++ right)
 
 -- two texts in parentheses, with what stands between them
-abbrev pub joined : List ℕ → List ℕ → List ℕ → List ℕ
-joined a mid b = between (codes "(") (a ++ (mid ++ b)) (codes ")")
+abbrev pub in_parentheses : List ℕ → List ℕ → List ℕ → List ℕ
+in_parentheses a mid b = between (codes "(") (a ++ (mid ++ b)) (codes ")")
 
 -- each bound behind its index, the first of which has d binders around it
 abbrev pub bounds_text : ℕ → List (List ℕ) → List (List ℕ)
@@ -45,15 +45,15 @@ bounds_text d (b ∷ bs) = (bound_text d ++ (codes "<" ++ b)) ∷ bounds_text (s
 
 -- a text with an index
 abbrev pub indexed_text : List ℕ → List (List ℕ) → List ℕ
-indexed_text a at = between (codes "sub(") (a ++ (codes "; " ++ separated (codes ", ") at)) (codes ")")
+indexed_text a at = between (codes "sub(") (a ++ (codes "; " ++ join_texts (codes ", ") at)) (codes ")")
 
 -- an array of dimensions and cells
 abbrev pub literal_text : List (List ℕ) → List (List ℕ) → List ℕ
-literal_text ds cs = between (codes "[[") (separated (codes ",") ds ++ (codes "; " ++ separated (codes ", ") cs)) (codes "]]")
+literal_text ds cs = between (codes "[[") (join_texts (codes ",") ds ++ (codes "; " ++ join_texts (codes ", ") cs)) (codes "]]")
 
 -- a tabulation: its body, and then the bounds
 abbrev pub tabulated_text : ℕ → List ℕ → List (List ℕ) → List ℕ
-tabulated_text d b bs = between (codes "[[") (b ++ (codes " | " ++ separated (codes ", ") (bounds_text d bs))) (codes "]]")
+tabulated_text d b bs = between (codes "[[") (b ++ (codes " | " ++ join_texts (codes ", ") (bounds_text d bs))) (codes "]]")
 
 -- a loop: its body, the variable and what it goes over
 abbrev pub loop_text : List ℕ → ℕ → List ℕ → List ℕ → List ℕ
@@ -91,13 +91,13 @@ strict_text (Strict.nat n) ts = text (natural n)
 strict_text (Strict.bool b) ts = text (truth b)
 strict_text (Strict.text s) ts = text (datum.text s)
 strict_text Strict.bottom ts = codes "undefined"
-strict_text Strict.tuple ts = between (codes "(") (separated (codes ", ") ts) (codes ")")
+strict_text Strict.tuple ts = between (codes "(") (join_texts (codes ", ") ts) (codes ")")
 strict_text (Strict.proj at of) ts = one (λ a. codes "#" ++ (decimal at ++ (codes "/" ++ (decimal of ++ between (codes "(") a (codes ")"))))) ts
-strict_text (Strict.arith op) ts = two (λ a b. joined a (arith_text op) b) ts
-strict_text (Strict.compare op) ts = two (λ a b. joined a (compare_text op) b) ts
+strict_text (Strict.arith op) ts = two (λ a b. in_parentheses a (arith_text op) b) ts
+strict_text (Strict.compare op) ts = two (λ a b. in_parentheses a (compare_text op) b) ts
 strict_text Strict.empty ts = codes "{}"
 strict_text Strict.single ts = one (λ a. between (codes "{") a (codes "}")) ts
-strict_text Strict.union ts = two (λ a b. joined a (codes " union ") b) ts
+strict_text Strict.union ts = two (λ a b. in_parentheses a (codes " union ") b) ts
 strict_text Strict.gen ts = one (λ a. between (codes "gen(") a (codes ")")) ts
 strict_text Strict.get ts = one (λ a. between (codes "get(") a (codes ")")) ts
 strict_text Strict.sub ts = first_and_rest indexed_text ts
@@ -115,7 +115,7 @@ form_text d (var i) ts = variable_text d i
 form_text d (global n) ts = position_text n
 form_text d bind ts = two (λ a b. between (codes "(let ") (bound_text d ++ (codes " = " ++ (a ++ (codes " in " ++ b)))) (codes ")")) ts
 form_text d choose ts = three (λ c a b. between (codes "(if ") (c ++ (codes " then " ++ (a ++ (codes " else " ++ b)))) (codes ")")) ts
-form_text d default ts = two (λ a b. joined a (codes " default ") b) ts
+form_text d default ts = two (λ a b. in_parentheses a (codes " default ") b) ts
 form_text d big_union ts = two (loop_text (codes "U{") d) ts
 form_text d sum ts = two (loop_text (codes "S{") d) ts
 form_text d (tab rank) ts = one (λ b. tabulated_text d b (take rank ts)) (drop rank ts)

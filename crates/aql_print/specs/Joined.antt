@@ -7,9 +7,9 @@ after sep [] = []
 after sep (s ∷ rest) = sep ++ (s ++ after sep rest)
 
 -- the texts with a separator between each two
-abbrev pub separated : List ℕ → List (List ℕ) → List ℕ
-separated sep [] = []
-separated sep (s ∷ rest) = s ++ after sep rest
+abbrev pub join_texts : List ℕ → List (List ℕ) → List ℕ
+join_texts sep [] = []
+join_texts sep (s ∷ rest) = s ++ after sep rest
 
 -- what stands before text i
 abbrev pub before : ℕ → List ℕ → List ℕ

@@ -3,7 +3,7 @@ use Rattle.std.specs.Prelude.{ℕ, List, [], ◌∷◌, map, codes}
 use Rattle.nrca_motion.specs.declared.moves.Move.{Move}
 use Rattle.nrca_motion.specs.declared.moves.MoveRule.{MoveRule}
 use Rattle.nrca_motion.specs.declared.moves.MoveRule.TheVariants as rules
-use Rattle.aql_print.specs.Joined.{separated}
+use Rattle.aql_print.specs.Joined.{join_texts}
 
 -- the name of a rule
 abbrev pub move_text : MoveRule → List ℕ
@@ -19,4 +19,4 @@ move_texts moves = map (λ m. move_text m.rule) moves
 -- the names with single spaces, and `none` where there is no move
 abbrev pub moves_text : List Move → List ℕ
 moves_text [] = codes "none"
-moves_text (m ∷ rest) = separated (codes " ") (move_texts (m ∷ rest))
+moves_text (m ∷ rest) = join_texts (codes " ") (move_texts (m ∷ rest))

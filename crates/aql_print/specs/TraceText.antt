@@ -3,7 +3,7 @@ use Rattle.std.specs.Prelude.{ℕ, List, [], ◌∷◌, map, codes}
 use Rattle.nrca_term.specs.declared.trace.Rule.{Rule}
 use Rattle.nrca_term.specs.declared.trace.Rule.TheVariants as rules
 use Rattle.nrca_term.specs.declared.trace.Step.{Step}
-use Rattle.aql_print.specs.Joined.{separated}
+use Rattle.aql_print.specs.Joined.{join_texts}
 
 -- the name of a rule
 abbrev pub rule_text : Rule → List ℕ
@@ -46,4 +46,4 @@ rule_texts steps = map (λ step. rule_text step.rule) steps
 -- the names with single spaces, and `none` where there is no rewriting
 abbrev pub trace_text : List Step → List ℕ
 trace_text [] = codes "none"
-trace_text (s ∷ rest) = separated (codes " ") (rule_texts (s ∷ rest))
+trace_text (s ∷ rest) = join_texts (codes " ") (rule_texts (s ∷ rest))

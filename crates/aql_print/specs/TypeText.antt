@@ -3,7 +3,7 @@ use Rattle.std.specs.Prelude.{ℕ, ◌+◌, ◌/◌, ◌%◌, ◌==◌, List, []
 use Rattle.aql_types.specs.Types as types
 use Rattle.aql_types.specs.Types.{Ty, natural, truth, var, product, set_of, array_of, Tys, no_type, type, Sort, value, macro}
 use Rattle.aql_types.specs.Variables.{variable_index, sort_variables}
-use Rattle.aql_print.specs.Joined.{separated}
+use Rattle.aql_print.specs.Joined.{join_texts}
 
 -- variable n, counted from 0: `'a` to `'z`, then `'a1` to `'z1`, `'a2` and so on
 abbrev pub variable_text : ℕ → List ℕ
@@ -26,7 +26,7 @@ abbrev mutual
   type_text truth vs = codes "bool"
   type_text types.text vs = codes "string"
   type_text (var x) vs = variable_text (variable_index x vs)
-  type_text (product ts) vs = separated (codes " * ") (part_texts ts vs)
+  type_text (product ts) vs = join_texts (codes " * ") (part_texts ts vs)
   type_text (set_of t) vs = codes "{" ++ (type_text t vs ++ codes "}")
   type_text (array_of k t) vs = codes "[[" ++ (type_text t vs ++ (codes "]]_" ++ decimal k))
 

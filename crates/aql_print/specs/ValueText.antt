@@ -3,7 +3,7 @@ use Rattle.std.specs.Prelude.{ℕ, ◌+◌, ◌/◌, ◌%◌, ◌&&◌, nat_eq, 
 use Rattle.std.specs.List.{flat_map}
 use Rattle.aql_value.specs.Datum as datum
 use Rattle.aql_value.specs.Datum.{Datum, natural, truth, tuple, set, array, Data, nil, cons}
-use Rattle.aql_print.specs.Joined.{separated}
+use Rattle.aql_print.specs.Joined.{join_texts}
 
 -- a hexadecimal digit, in lower case
 abbrev pub hex_digit : ℕ → ℕ
@@ -19,7 +19,7 @@ byte_text b =
 
 -- the dimensions of an array
 abbrev pub dims_text : List ℕ → List ℕ
-dims_text ds = separated (codes ",") (map decimal ds)
+dims_text ds = join_texts (codes ",") (map decimal ds)
 
 abbrev mutual
   -- the text of a value
@@ -27,9 +27,9 @@ abbrev mutual
   text (natural n) = decimal n
   text (truth b) = if b then codes "true" else codes "false"
   text (datum.text s) = codes "\"" ++ (flat_map byte_text s ++ codes "\"")
-  text (tuple vs) = codes "(" ++ (separated (codes ", ") (texts vs) ++ codes ")")
-  text (set vs) = codes "{" ++ (separated (codes ", ") (texts vs) ++ codes "}")
-  text (array ds vs) = codes "[[" ++ (dims_text ds ++ (codes "; " ++ (separated (codes ", ") (texts vs) ++ codes "]]")))
+  text (tuple vs) = codes "(" ++ (join_texts (codes ", ") (texts vs) ++ codes ")")
+  text (set vs) = codes "{" ++ (join_texts (codes ", ") (texts vs) ++ codes "}")
+  text (array ds vs) = codes "[[" ++ (dims_text ds ++ (codes "; " ++ (join_texts (codes ", ") (texts vs) ++ codes "]]")))
 
   -- of each value
   pub texts : Data → List (List ℕ)

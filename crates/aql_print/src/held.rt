@@ -1,7 +1,7 @@
 ghost use Rattle.std.specs.Prelude.{◌≡◌, ◌++◌, codes, OnOk};
 ghost use Rattle.aql_value.specs.Datum.{data_of, set};
 ghost use Rattle.aql_print.specs.Appends.{AppendsPrefix};
-ghost use Rattle.aql_print.specs.Joined.{separated};
+ghost use Rattle.aql_print.specs.Joined.{join_texts};
 ghost use Rattle.aql_print.specs.ValueText.{text, texts};
 ghost use Rattle.nrca_array.specs.Held.{held_datum, table_datum};
 
@@ -40,10 +40,10 @@ fn put_array(alloc: Global, a: &Flat, out: &mut Vec<u8>) -> Result<(), Memory>
 
 // Appends the texts of the cells, with `, ` between each two.
 fn put_cells(alloc: Global, a: &Flat, out: &mut Vec<u8>) -> Result<(), Memory>
-    ensures ok { OnOk result (out.new.items ≡ out.old.items ++ separated (codes ", ")
+    ensures ok { OnOk result (out.new.items ≡ out.old.items ++ join_texts (codes ", ")
         (texts (data_of a.now.cells))) }
     ensures prefix { AppendsPrefix out.old.items out.new.items
-        (separated (codes ", ") (texts (data_of a.now.cells))) }
+        (join_texts (codes ", ") (texts (data_of a.now.cells))) }
 {
     for i in 0..a.len() {
         put_before(i, b", ", out)?;
@@ -66,10 +66,10 @@ fn put_set(alloc: Global, s: &Set, out: &mut Vec<u8>) -> Result<(), Memory>
 
 // Appends the texts of the members, with `, ` between each two.
 fn put_members(alloc: Global, s: &Set, out: &mut Vec<u8>) -> Result<(), Memory>
-    ensures ok { OnOk result (out.new.items ≡ out.old.items ++ separated (codes ", ")
+    ensures ok { OnOk result (out.new.items ≡ out.old.items ++ join_texts (codes ", ")
         (texts (data_of s.now))) }
     ensures prefix { AppendsPrefix out.old.items out.new.items
-        (separated (codes ", ") (texts (data_of s.now))) }
+        (join_texts (codes ", ") (texts (data_of s.now))) }
 {
     for i in 0..s.count() {
         put_before(i, b", ", out)?;

@@ -1,7 +1,7 @@
 ghost use Rattle.std.specs.Prelude.{◌≡◌, ◌+◌, ◌++◌, ◌∷◌, [], OnOk, IfOk, decimal, codes};
 ghost use Rattle.aql_types.specs.View.{type_of, types_of, sort_of};
 ghost use Rattle.aql_print.specs.Appends.{AppendsPrefix};
-ghost use Rattle.aql_print.specs.Joined.{separated};
+ghost use Rattle.aql_print.specs.Joined.{join_texts};
 ghost use Rattle.aql_print.specs.TypeText.{variable_text, part_text, part_texts, type_text, scheme_text};
 
 use crate::bytes::{put, put_before, put_number};
@@ -93,7 +93,7 @@ fn add_type(t: &Ty, names: &[u64], text: Vec<u8>) -> Result<Vec<u8>, Memory>
 // Adds the texts of a tuple's parts, with ` * ` between each two.
 #[cycle(add_type)]
 fn add_parts(ts: &[Ty], names: &[u64], text: Vec<u8>) -> Result<Vec<u8>, Memory>
-    ensures { IfOk result (λ made. made.items ≡ text.items ++ separated (codes " * ")
+    ensures { IfOk result (λ made. made.items ≡ text.items ++ join_texts (codes " * ")
         (part_texts (types_of ts.now) names.now)) }
 {
     let mut text = text;

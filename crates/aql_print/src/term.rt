@@ -3,8 +3,8 @@ ghost use Rattle.nrca_term.specs.Nodes.{let_term, if_term, tab_term, sub_term, l
 ghost use Rattle.nrca_term.specs.View.{term_of, terms_of};
 ghost use Rattle.aql_print.specs.Appends.{AppendsPrefix};
 ghost use Rattle.aql_print.specs.CoreText as texts;
-ghost use Rattle.aql_print.specs.CoreText.{between, bounds_text, core_text, joined, loop_text, position_text};
-ghost use Rattle.aql_print.specs.Joined.{separated};
+ghost use Rattle.aql_print.specs.CoreText.{between, bounds_text, core_text, in_parentheses, loop_text, position_text};
+ghost use Rattle.aql_print.specs.Joined.{join_texts};
 
 use crate::bytes::{put, put_before, put_number, put_quoted};
 use crate::names::{put_bound, put_variable};
@@ -88,8 +88,9 @@ fn put_one(
 // Adds the texts of two terms in parentheses, with what stands between them.
 #[cycle(put_term)]
 fn put_two(a: &Core, middle: &[u8], b: &Core, depth: u64, out: &mut Vec<u8>) -> Result<(), Memory>
-    ensures { OnOk result (out.new.items ≡ out.old.items ++ joined (core_text depth (term_of a.now))
-        middle.now (core_text depth (term_of b.now))) }
+    ensures { OnOk result (out.new.items ≡ out.old.items
+        ++ in_parentheses (core_text depth (term_of a.now)) middle.now
+        (core_text depth (term_of b.now))) }
 {
     put(b"(", out)?;
     put_term(a, depth, out)?;
@@ -206,7 +207,7 @@ fn put_tabulation(bounds: &Terms, body: &Core, depth: u64, out: &mut Vec<u8>) ->
 // Adds the bounds of a tabulation, each behind its index.
 #[cycle(put_term)]
 fn put_bounds(bounds: &Terms, depth: u64, out: &mut Vec<u8>) -> Result<(), Memory>
-    ensures { OnOk result (out.new.items ≡ out.old.items ++ separated (codes ", ")
+    ensures { OnOk result (out.new.items ≡ out.old.items ++ join_texts (codes ", ")
         (bounds_text depth (map (core_text depth) (terms_of bounds.now)))) }
 {
     for (i, bound) in bounds.0.iter().enumerate() {
@@ -249,7 +250,7 @@ fn put_all(
     out: &mut Vec<u8>,
 ) -> Result<(), Memory>
     ensures { OnOk result (out.new.items ≡ out.old.items ++ between left.now
-        (separated separator.now (map (core_text depth) (terms_of terms.now))) right.now) }
+        (join_texts separator.now (map (core_text depth) (terms_of terms.now))) right.now) }
 {
     put(left, out)?;
     put_each(terms, separator, depth, out)?;
@@ -258,7 +259,7 @@ fn put_all(
 
 #[cycle(put_term)]
 fn put_each(terms: &Terms, separator: &[u8], depth: u64, out: &mut Vec<u8>) -> Result<(), Memory>
-    ensures { OnOk result (out.new.items ≡ out.old.items ++ separated separator.now
+    ensures { OnOk result (out.new.items ≡ out.old.items ++ join_texts separator.now
         (map (core_text depth) (terms_of terms.now))) }
 {
     for (i, term) in terms.0.iter().enumerate() {

@@ -4,7 +4,7 @@ ghost use Rattle.std.specs.Prelude.{◌≡◌, ◌++◌, map, codes, decimal, On
 ghost use Rattle.aql_value.specs.Datum.{data_of};
 ghost use Rattle.aql_value.specs.Meaning.{datum};
 ghost use Rattle.aql_print.specs.Appends.{AppendsPrefix};
-ghost use Rattle.aql_print.specs.Joined.{separated};
+ghost use Rattle.aql_print.specs.Joined.{join_texts};
 ghost use Rattle.aql_print.specs.ValueText.{text, texts, dims_text};
 
 use crate::bytes::{put, put_before, put_number, put_quoted};
@@ -41,9 +41,9 @@ fn put_enclosed(
     out: &mut Vec<u8>,
 ) -> Result<(), Memory>
     ensures ok { OnOk result (out.new.items ≡ out.old.items
-        ++ (left.now ++ (separated (codes ", ") (texts (data_of items.now)) ++ right.now))) }
+        ++ (left.now ++ (join_texts (codes ", ") (texts (data_of items.now)) ++ right.now))) }
     ensures prefix { AppendsPrefix out.old.items out.new.items
-        (left.now ++ (separated (codes ", ") (texts (data_of items.now)) ++ right.now)) }
+        (left.now ++ (join_texts (codes ", ") (texts (data_of items.now)) ++ right.now)) }
 {
     put(left, out)?;
     put_items(alloc, items, out)?;
@@ -53,10 +53,10 @@ fn put_enclosed(
 // Appends the texts of values, with `, ` between each two.
 #[cycle(print_value)]
 fn put_items(alloc: Global, items: &Items, out: &mut Vec<u8>) -> Result<(), Memory>
-    ensures ok { OnOk result (out.new.items ≡ out.old.items ++ separated (codes ", ")
+    ensures ok { OnOk result (out.new.items ≡ out.old.items ++ join_texts (codes ", ")
         (texts (data_of items.now))) }
     ensures prefix { AppendsPrefix out.old.items out.new.items
-        (separated (codes ", ") (texts (data_of items.now))) }
+        (join_texts (codes ", ") (texts (data_of items.now))) }
 {
     for (i, x) in items.items.iter().enumerate() {
         put_before(i, b", ", out)?;

@@ -7,9 +7,8 @@ use Rattle.aql_value.specs.Datum.{Datum, natural, truth, tuple, set, array, Data
 use Rattle.aql_value.specs.Laws.Datum.{data_of-list_of}
 use Rattle.aql_value.specs.Laws.Canon.{canon_ascending}
 use Rattle.aql_value.specs.Indices.{product}
-use Rattle.aql_value.specs.Operations.{as_natural, tuple_of, literal_of}
-use Rattle.aql_value.specs.Laws.Operations.{array_of-made}
-use Rattle.aql_value.specs.Partial.{each}
+use Rattle.aql_value.specs.Operations.{tuple_of, literal_of}
+use Rattle.aql_value.specs.Laws.Operations.{array_of-made, each-naturals}
 use Rattle.aql_value.specs.Valid.{IsValue, AreValues}
 use Rattle.aql_syntax.specs.Tree.{Trees, count_trees, append}
 use Rattle.aql_syntax.specs.Matching.{Env, Globals}
@@ -27,16 +26,12 @@ dens-numbers : (globals : Globals) (env : Env) (ds : List ℕ) (es : Trees) (ws 
 dens-numbers globals env [] es ws e = e
 dens-numbers globals env (d ∷ ds) es ws e = rw (dens-numbers globals env ds es ws e) refl
 
-each-numbers : (ds : List ℕ) → each as_natural (map natural ds) ≡ Some ds
-each-numbers [] = refl
-each-numbers (d ∷ ds) = rw (each-numbers ds) refl
-
 literal_back : (n : ℕ) (ds : List ℕ) (ws : List Datum) → n ≡ length ds → 1 ≤ length ds → length ds ≤ 8 → product ds ≡ length ws →
     literal_of n (map natural ds ++ ws) ≡ Some (array ds (data_of ws))
 literal_back n ds ws e some few full =
     let l : length (map natural ds) ≡ length ds = length-map ds natural in
     ap (λ k. literal_of k (map natural ds ++ ws)) (e ∙ sym l)
-    ∙ rw (take-append_seam (map natural ds) ws, drop-append_seam (map natural ds) ws, each-numbers ds, eq-eqb (length ds) (length (map natural ds)) (sym l)) (array_of-made ds ws some few full)
+    ∙ rw (take-append_seam (map natural ds) ws, drop-append_seam (map natural ds) ws, each-naturals ds, eq-eqb (length ds) (length (map natural ds)) (sym l)) (array_of-made ds ws some few full)
 
 mutual
   pub denotes : (globals : Globals) (env : Env) (v : Datum) → IsValue v → den (expression v) globals env ≡ Some v

@@ -11,7 +11,7 @@ use Rattle.aql_syntax.specs.declared.sign.Sign.TheVariants as signs
 use Rattle.aql_syntax.specs.declared.token.Token.{Token}
 use Rattle.aql_syntax.specs.Signs.{spelling, is_word, joins}
 use Rattle.aql_syntax.specs.Lexis.{Lexeme, numeral, mark, is_digit, is_name_byte, Ends, munch_end, munch_more, Blank, blank_space, Begins, begins_word, begins_text, begins_sign, token_between, Covers, covers_blank, covers_token}
-use Rattle.aql_print.specs.Joined.{after, separated}
+use Rattle.aql_print.specs.Joined.{after, join_texts}
 use Rattle.aql_print.specs.ValueText.{text, texts}
 use Rattle.aql_print_round_trip.proofs.Said.{said, said_list, said_after, said_numbers}
 use Rattle.aql_print_round_trip.proofs.Numerals.{spelled, begins}
@@ -120,9 +120,9 @@ mutual
   spans (array [] vs) h r t ls s d = absurd (omega (arith, h.1.some))
   spans (array (n ∷ ns) vs) h r t ls s d =
       let others = after (44 ∷ []) (map decimal ns) in
-      let behind = (separated (44 ∷ 32 ∷ []) (texts vs) ++ 93 ∷ 93 ∷ []) ++ r in
+      let behind = (join_texts (44 ∷ 32 ∷ []) (texts vs) ++ 93 ∷ 93 ∷ []) ++ r in
       let ends : Separate (59 ∷ 32 ∷ behind) = record { word = refl; digit = refl } in
-      subst (λ l. Spans (91 ∷ 91 ∷ l) (said (array (n ∷ ns) vs) ls) t) (sym (regroup (decimal n) others (59 ∷ 32 ∷ (separated (44 ∷ 32 ∷ []) (texts vs) ++ 93 ∷ 93 ∷ [])) r))
+      subst (λ l. Spans (91 ∷ 91 ∷ l) (said (array (n ∷ ns) vs) ls) t) (sym (regroup (decimal n) others (59 ∷ 32 ∷ (join_texts (44 ∷ 32 ∷ []) (texts vs) ++ 93 ∷ 93 ∷ [])) r))
       (bracket signs.OpenBracket refl (λ b. refl) (91 ∷ (decimal n ++ (others ++ 59 ∷ 32 ∷ behind))) t _
       (bracket signs.OpenBracket refl (λ b. refl) (decimal n ++ (others ++ 59 ∷ 32 ∷ behind)) t _
       (number n (h.0 0 0 (omega arith)) (others ++ 59 ∷ 32 ∷ behind) t _ (separate_numbers ns (59 ∷ 32 ∷ behind) ends)
@@ -140,7 +140,7 @@ mutual
 
   -- the cells of an array, and its closing brackets
   spans_cells : (vs : Data) → AreValues vs → (r t : List ℕ) (ls : List Lexeme) → Spans r ls t →
-      Spans ((separated (44 ∷ 32 ∷ []) (texts vs) ++ 93 ∷ 93 ∷ []) ++ r) (said_list vs (mark signs.CloseBracket ∷ mark signs.CloseBracket ∷ ls)) t
+      Spans ((join_texts (44 ∷ 32 ∷ []) (texts vs) ++ 93 ∷ 93 ∷ []) ++ r) (said_list vs (mark signs.CloseBracket ∷ mark signs.CloseBracket ∷ ls)) t
   spans_cells nil h r t ls d = bracket signs.CloseBracket refl (λ b. refl) (93 ∷ r) t _ (bracket signs.CloseBracket refl (λ b. refl) r t ls d)
   spans_cells (cons v vs) h r t ls d =
       let others = after (44 ∷ 32 ∷ []) (texts vs) in

@@ -11,14 +11,14 @@ use Rattle.aql_syntax.specs.Denotation.{den}
 use Rattle.aql_print.specs.ValueText.{text}
 
 -- the bytes have tokens, and these are the declarations
-abbrev pub IsScript : List ℕ → List Declaration → Type 0
-IsScript bytes ds = (ts : List Token) × ((ls : List Lexeme) × (AreTokens bytes ts ls × ReadsScript ds ls))
+abbrev pub ReadsAs : List ℕ → List Declaration → Type 0
+ReadsAs bytes ds = (ts : List Token) × ((ls : List Lexeme) × (AreTokens bytes ts ls × ReadsScript ds ls))
 
 -- a value's text with a semicolon is a bare expression, has no other reading, and the expression denotes the value, whatever names there are
 pub record ReadsBack (v : Datum) : Type 0 where
   pub expression : Tree
-  pub reads : IsScript (text v ++ codes ";") (bare expression ∷ [])
-  pub only : (ds : List Declaration) → IsScript (text v ++ codes ";") ds → ds ≡ bare expression ∷ []
+  pub reads : ReadsAs (text v ++ codes ";") (bare expression ∷ [])
+  pub only : (ds : List Declaration) → ReadsAs (text v ++ codes ";") ds → ds ≡ bare expression ∷ []
   pub denotes : (globals : Globals) (env : Env) → den expression globals env ≡ Some v
 
 -- so does each value's

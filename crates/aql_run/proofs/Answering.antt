@@ -2,7 +2,7 @@
 use Rattle.std.proofs.Common.{ℕ, zero, suc, ◌≡◌, ◌+◌, ◌-◌, ◌<◌, ◌≤◌, ◌⊎◌, inl, inr, List, [], ◌∷◌, ◌++◌, refl, sym, ap, ◌∙◌, subst, length, take, map, length-append, arith}
 use Rattle.std.proofs.lemmas.Bool.{cases_lt}
 use Rattle.std.proofs.lemmas.List.{take-append-le, map-append}
-use Rattle.std.proofs.lemmas.Option.{slice_get_cases}
+use Rattle.std.proofs.lemmas.Option.{slice_get_cases, slice_get_within, same_Some}
 use Rattle.std.proofs.Math.Seq.{take-append_seam}
 use Rattle.std.specs.List.{slice_get}
 use Rattle.std.specs.Io.KnownBytes.{Appends}
@@ -14,9 +14,9 @@ use Rattle.aql_value.specs.Laws.Lists.{slice_get-append_left, slice_get-append_r
 use Rattle.aql_types.specs.Types.{Sort}
 use Rattle.aql_syntax.specs.Script.{Earlier, globals_of, outcome_after}
 use Rattle.aql_syntax.specs.Size.{IsWithinLimits, AreWithinLimits}
-use Rattle.aql_syntax.specs.Tree.{Declaration, declared}
+use Rattle.aql_syntax.specs.Tree.{Declaration, declared_name}
 use Rattle.aql_syntax.specs.View.{decls_of}
-use Rattle.aql_syntax.specs.declared.ast.Decl.{Decl}
+use Rattle.aql_syntax.specs.Laws.View.{length-decls_of}
 use Rattle.aql_words.specs.Settings.{Settings}
 use Rattle.aql_value.specs.Partial.{◌>>=◌}
 use Rattle.nrca_term.specs.Meaning.{Outcomes, outcome}
@@ -31,20 +31,16 @@ use Rattle.aql_session.specs.Step.{OutcomesFit, IsAnswer, IsAnswerable, IsCounte
 use Rattle.aql_session.specs.declared.answer.StepFault.{StepFault}
 use Rattle.aql_session.specs.declared.answer.Answer.{Answer}
 use Rattle.aql_run.specs.Answered.{IsAnswered, AreAnswered, IsStopped}
-use Rattle.aql_run.specs.Laws.Answered.{inside}
 use Rattle.aql_run.specs.Entry.{entry}
 use Rattle.aql_run.specs.Writing.{WritesFront}
 use Rattle.aql_run.specs.declared.steps.Halt.{Halt}
 use Rattle.aql_run.specs.declared.steps.Halt.TheVariants as halts
 use Rattle.aql_run.specs.Steps.{own, sorts_in, IsPrepared, Progress, AnswersOne, NextReadsNoFile, CutsEntry, Halts, IsNoFault}
 
-some_is : {A : Type 0} (x y : A) → ◌≡◌ {A = Option A} (Some x) (Some y) → x ≡ y
-some_is x y e = cc
-
 -- the images of one element more
 pub map_take_next : {X Y : Type 0} (f : X → Y) (xs : List X) (i : ℕ) (x : X) → slice_get xs i ≡ Some x → map f (take (suc i) xs) ≡ map f (take i xs) ++ f x ∷ []
 map_take_next f [] i x e = absurd cc
-map_take_next f (y ∷ ys) zero x e = ap (λ z. f z ∷ []) (some_is y x e)
+map_take_next f (y ∷ ys) zero x e = ap (λ z. f z ∷ []) (same_Some y x e)
 map_take_next f (y ∷ ys) (suc i) x e = ap (λ l. f y ∷ l) (map_take_next f ys i x e)
 
 pub onto_none : (ds : List Declaration) (earlier : Earlier) → onto ds [] earlier ≡ earlier
@@ -55,7 +51,7 @@ onto_none (d ∷ ds) earlier = refl
 pub onto_next : (ds : List Declaration) (V : Outcomes) (earlier : Earlier) (d : Declaration) (o : Option Datum) → slice_get ds (length V) ≡ Some d →
     onto ds (V ++ o ∷ []) earlier ≡ (d, o) ∷ onto ds V earlier
 onto_next [] V earlier d o e = absurd cc
-onto_next (x ∷ ds) [] earlier d o e = onto_none ds ((x, o) ∷ earlier) ∙ ap (λ z. (z, o) ∷ earlier) (some_is x d e)
+onto_next (x ∷ ds) [] earlier d o e = onto_none ds ((x, o) ∷ earlier) ∙ ap (λ z. (z, o) ∷ earlier) (same_Some x d e)
 onto_next (x ∷ ds) (v ∷ V) earlier d o e = onto_next ds V ((x, v) ∷ earlier) d o e
 
 -- an element behind others
@@ -63,7 +59,7 @@ behind : {A : Type 0} (xs : List A) (x y : A) (i : ℕ) → length xs ≤ i → 
 behind xs x y i le e = at (i - length xs) (sym (slice_get-append_right xs (x ∷ []) i le) ∙ e) refl
   where
     at : (k : ℕ) → slice_get (x ∷ []) k ≡ Some y → i - length xs ≡ k → (i ≡ length xs) × (x ≡ y)
-    at zero f h = (omega (arith, le, h), some_is x y f)
+    at zero f h = (omega (arith, le, h), same_Some x y f)
     at (suc k) f h = absurd cc
 
 -- the answers with one more
@@ -72,7 +68,7 @@ pub answered_more : (ds : List Declaration) (sorts : List Sort) (settings : Sett
     IsAnswered d (earlier_of (positions ds) V) (slice_get sorts (prelude_count + length answers)) settings holds a o →
     AreAnswered ds sorts settings holds (answers ++ a ∷ []) (V ++ o ∷ [])
 answered_more ds sorts settings holds answers V d a o h there own = record {
-  few = omega (arith, inside (positions ds) (prelude_count + length answers) d there, length_positions ds, length-append answers (a ∷ []));
+  few = omega (arith, slice_get_within (positions ds) (prelude_count + length answers) d there, length_positions ds, length-append answers (a ∷ []));
   many = length-append V (o ∷ []) ∙ (ap (λ n. n + 1) h.many ∙ (omega (arith, length-append answers (a ∷ []))));
   prelude = let n = h.many in take-append-le prelude_count V (o ∷ []) (omega (arith, n)) ∙ h.prelude;
   each = λ i e b p f g k. at i e b p f g k (cases_lt i (length answers));
@@ -100,11 +96,7 @@ answered_more ds sorts settings holds answers V d a o h there own = record {
         let n = h.many in
         let x = behind answers a b i le g in
         let y = behind V o p (prelude_count + i) (omega (arith, le, n)) k in
-        last i e b p x.0 x.1 y.1 (some_is d e (sym there ∙ (ap (λ m. slice_get (positions ds) (prelude_count + m)) (sym x.0) ∙ f)))
-
-pub decls_length : (ds : List Decl) → length (decls_of ds) ≡ length ds
-decls_length [] = refl
-decls_length (d ∷ ds) = ap suc (decls_length ds)
+        last i e b p x.0 x.1 y.1 (same_Some d e (sym there ∙ (ap (λ m. slice_get (positions ds) (prelude_count + m)) (sym x.0) ∙ f)))
 
 -- what a step says of the declaration that stands next, and of the session after it
 pub record HasStepped (p : Prepared) (o : Settings) (holds : Option Content) (answers : List Answer) (s s' : Bound) (a : Answer) : Type 0 where
@@ -131,7 +123,7 @@ stepped p o holds answers s s' a n d h is so_far e answer answerable binds =
     let has : OutcomesFit (earlier_of (positions (own p)) (outcomes s ++ binds.outcome ∷ [])) =
     subst OutcomesFit (sym (onto_next (positions (own p)) (outcomes s) [] d binds.outcome (ap (slice_get (positions (own p))) count ∙ there)))
     (subst (λ (ds : List Declaration). OutcomesFit ((d, binds.outcome) ∷ earlier_of ds (outcomes s))) h.all binds.typed) in
-    let more : outcomes s' ≡ outcomes s ++ binds.outcome ∷ [] = ap outcomes binds.bound ∙ map-append (λ b. b.1) s ((declared d, binds.outcome) ∷ []) in
+    let more : outcomes s' ≡ outcomes s ++ binds.outcome ∷ [] = ap outcomes binds.bound ∙ map-append (λ b. b.1) s ((declared_name d, binds.outcome) ∷ []) in
     record {
       outcome = binds.outcome;
       outcomes = more;
@@ -156,15 +148,15 @@ stepped p o holds answers s s' a n d h is so_far e answer answerable binds =
         let last : prelude_count + 1 + length (answers ++ a ∷ []) - 1 ≡ suc (prelude_count + length answers) = omega (arith, long) in
         let first : prelude_count + 1 + length answers - 1 ≡ prelude_count + length answers = omega arith in
         ap names binds.bound
-        ∙ (map-append (λ b. b.0) s ((declared d, binds.outcome) ∷ [])
-        ∙ (ap (λ l. l ++ declared d ∷ []) (so_far.bound ∙ ap (λ k. map declared (take k (positions (own p)))) first)
-        ∙ (sym (map_take_next declared (positions (own p)) (prelude_count + length answers) d there)
-        ∙ ap (λ k. map declared (take k (positions (own p)))) (sym last))))
+        ∙ (map-append (λ b. b.0) s ((declared_name d, binds.outcome) ∷ [])
+        ∙ (ap (λ l. l ++ declared_name d ∷ []) (so_far.bound ∙ ap (λ k. map declared_name (take k (positions (own p)))) first)
+        ∙ (sym (map_take_next declared_name (positions (own p)) (prelude_count + length answers) d there)
+        ∙ ap (λ k. map declared_name (take k (positions (own p)))) (sym last))))
 
 -- the limits on the declarations up to the next one
 pub next_within : (p : Prepared) (n : ℕ) → IsPrepared p → n ≤ length p.decls.items.items → AreWithinLimits (decls_of p.decls.items.items) n
 next_within p n h last m one le =
-    let count = decls_length p.decls.items.items in
+    let count = length-decls_of p.decls.items.items in
     let all = ap length h.all in
     let many = length_positions (own p) in
     let k = h.limits m one (omega (arith, le, last, count, all, many)) in
@@ -179,7 +171,7 @@ next_is p n one le = get (slice_get_cases (decls_of p.decls.items.items) (n - 1)
         ⊎ ((length (decls_of p.decls.items.items) ≤ n - 1) × (slice_get (decls_of p.decls.items.items) (n - 1) ≡ None)) →
         (d : Declaration) × (slice_get (decls_of p.decls.items.items) (n - 1) ≡ Some d)
     get (inl (x, lt, e, f)) = (x, e)
-    get (inr (past, e)) = let count = decls_length p.decls.items.items in absurd (omega (arith, one, le, past, count))
+    get (inr (past, e)) = let count = length-decls_of p.decls.items.items in absurd (omega (arith, one, le, past, count))
 
 pub stopped : (p : Prepared) (settings : Settings) (holds : Option Content) (before now : ℕ) (answers : List Answer) (V : Outcomes) (n : ℕ) (f : StepFault) → IsPrepared p →
     n ≡ prelude_count + 1 + length answers → n ≤ length p.decls.items.items →

@@ -21,6 +21,7 @@ use Rattle.aql_desugar_spec.specs.Positions.{outcomes_of}
 use Rattle.aql_desugar_spec.specs.Laws.Positions.{start-turns}
 use Rattle.aql_desugar_spec.specs.Start.{start, knowns_of}
 use Rattle.aql_prelude.specs.Prelude.{prelude_count}
+use Rattle.aql_prelude.specs.Typing.{HaveSorts}
 use Rattle.aql_script.specs.Script.{IsTokenisedAs, IsParsedAs, positions, IsFirstLarge}
 use Rattle.aql_session.specs.Bound.{earlier_of}
 use Rattle.std.proofs.lemmas.Str.{is_utf8-from_IsUtf8}
@@ -34,10 +35,10 @@ use Rattle.aql_session.specs.declared.answer.StepFault.{StepFault}
 use Rattle.aql_session.specs.declared.answer.StepFault.TheVariants as faults
 use Rattle.aql_words.specs.Words.{options_of}
 use Rattle.aql_words.specs.Settings.{Settings, settings_of}
-use Rattle.aql_run.specs.Answered.{AreAnswered, reached}
+use Rattle.aql_run.specs.Answered.{AreAnswered, reach}
 use Rattle.aql_run.specs.Laws.Answered.{told_at}
-use Rattle.aql_run.specs.Complete.{work_of, AreOutcomes, HaveTypings, IsWithinBudget, IsSound, EndsWell, Tokenised}
-use Rattle.aql_run.specs.Outcome.{Told, IsScript, HasRun, EndsEarly, HasScriptFault, RunsWords, IsBudgetFault, IsFileFault}
+use Rattle.aql_run.specs.Complete.{work_of, AreOutcomes, IsWithinBudget, IsSound, EndsWell, Tokenised}
+use Rattle.aql_run.specs.Outcome.{Told, IsScript, HasRun, StopsEarly, HasScriptFault, RunsWords, IsBudgetFault, IsFileFault}
 use Rattle.aql_run.specs.Reading.{most_bytes}
 use Rattle.aql_run.specs.declared.report.Stop.{Stop}
 use Rattle.aql_run.specs.declared.status.Status.{Status}
@@ -57,7 +58,7 @@ short_script None left taken script e (is, (few, _)) = few
 
 -- ---- faults of a script that it does not have
 
-typed_or_not : (earlier ds : List Declaration) (n : ℕ) → HaveTypings earlier ds → IsFirstUntyped earlier ds n → ⊥
+typed_or_not : (earlier ds : List Declaration) (n : ℕ) → HaveSorts earlier ds → IsFirstUntyped earlier ds n → ⊥
 typed_or_not earlier [] n h u = u
 typed_or_not earlier (d ∷ ds) zero h u = u
 typed_or_not earlier (d ∷ ds) (suc zero) ((s, has), more) u = u s has
@@ -129,7 +130,7 @@ are_outcomes ds sorts settings holds answers V h = record {
 -- no declaration of a sound script has a fault but want of memory
 never_stops : (words : List (List ℕ)) (told : Told) (same : Type 0) (begun : ℕ) (taken lines given : List ℕ) (answers : List Answer) (f : StepFault) →
     IsScript (options_of words).sample told.left taken given → IsSound words given told.holds →
-    (Rose told.files_before told.files_now → ⊥) → (run : HasRun (settings_of (options_of words)) told same begun taken answers lines) → EndsEarly run f → (f ≡ faults.Memory → ⊥) → ⊥
+    (Rose told.files_before told.files_now → ⊥) → (run : HasRun (settings_of (options_of words)) told same begun taken answers lines) → StopsEarly run f → (f ≡ faults.Memory → ⊥) → ⊥
 never_stops words told same begun taken lines given answers f it h quiet run (d, there, cause) other =
     let the : run.script ≡ given = same_script (options_of words).sample told.left taken run.script given it run.is in
     let ds : h.ds ≡ run.ds = run.reads.1 h.ds (subst (λ (x : List ℕ). IsParsedAs x h.ds) (sym the) h.are) in
@@ -199,7 +200,7 @@ module _ (one : OneList) (text : TokensOrTextFault) (deep : ShallowOrDeep) (word
   ends status.File (_, (lines, line, (f, of_file, run, stops, _, _), _)) whole =
       absurd (never_stops words told same (length answers + 1) taken lines given answers f it h quiet run stops (file_not_memory f of_file))
   ends status.Spent (_, (lines, line, (f, spent, run, stops, _, _), _)) whole =
-      absurd (never_stops words told same (reached f (length answers)) taken lines given answers f it h quiet run stops (spent_not_memory f spent))
+      absurd (never_stops words told same (reach f (length answers)) taken lines given answers f it h quiet run stops (spent_not_memory f spent))
   ends status.Files (_, (lines, line, (run, stops, _, _), _)) whole =
       absurd (never_stops words told same (length answers + 1) taken lines given answers faults.Device it h quiet run stops (λ e. absurd cc))
 

@@ -23,7 +23,7 @@ use Rattle.aql_session.specs.declared.answer.Answer.{Answer}
 use Rattle.aql_session.specs.declared.answer.StepFault.{StepFault}
 use Rattle.aql_session.specs.declared.answer.StepFault.TheVariants as faults
 use Rattle.aql_words.specs.Settings.{Settings, settings_of}
-use Rattle.aql_run.specs.Answered.{AreAnswered, IsStopped, ReadNoFile, reached}
+use Rattle.aql_run.specs.Answered.{AreAnswered, IsStopped, ReadNoFile, reach}
 use Rattle.aql_run.specs.Laws.Answered.{are_values}
 use Rattle.aql_run.specs.Entry.{entry, entries}
 use Rattle.aql_run.specs.Lines.{at_byte, in_declaration}
@@ -39,7 +39,7 @@ use Rattle.aql_run.specs.Reading.{most_bytes, ReadsWhole, ReadFails}
 use Rattle.aql_run.specs.declared.reading.ReadFault.TheVariants as reading
 use Rattle.aql_run.specs.Outcome.{Told, IsPrefix, IsCut, IsScript, HasRun, CutsLast, stop_of, Writes, WritesAll, Serves, RunsWords}
 use Rattle.aql_run.proofs.Completing.{ends_well}
-use Rattle.aql_run.specs.Ending.{Passes, Answering, AnswersEach, Asks, AsksSample, EndsWith, IsReady, Readies, Refused, Reported, Responds, Running, Samples, Serving, Stopped, refusal_line, stop_status, stop_line}
+use Rattle.aql_run.specs.Ending.{Passes, Answering, AnswersEach, ReadsOptions, HasSample, EndsWith, IsReady, Readies, Refused, Reported, Responds, Running, Samples, Serving, Stopped, refusal_line, stop_status, stop_line}
 use Rattle.aql_run.specs.declared.report.End.{End}
 use Rattle.aql_run.specs.declared.report.Report.{Report}
 use Rattle.aql_run.specs.declared.report.Stop.{Stop}
@@ -192,7 +192,7 @@ FaultWrites f o told same taken answers lines line =
 
 fault_writes : (p : Prepared) (o : Settings) (told : Told) (same : Type 0) (taken script : List ℕ) (answers : List Answer) (V : Outcomes) (f : StepFault) → IsPrepared p →
     ReadsAlone script (own p) → IsScript o.sample told.left taken script → AreAnswered (own p) (sorts_in p) o told.holds answers V →
-    IsStopped (own p) o told.holds told.files_before told.files_now (length answers) V f → (ReadNoFile (own p) o.budget V (reached f (length answers)) → same) →
+    IsStopped (own p) o told.holds told.files_before told.files_now (length answers) V f → (ReadNoFile (own p) o.budget V (reach f (length answers)) → same) →
     FaultWrites f o told same taken answers (entries o.plan answers (drop prelude_count V)) (stop_line (length answers + 1) f)
 unfolding has_run
 fault_writes p o told same taken script answers V (faults.Query start plan trace moved) h reads is answered stopped untouched =
@@ -241,7 +241,7 @@ none_cut (x ∷ front) (rest, some, e) = cc
 -- the sink failed behind a front of what is written for it
 fault_cut : (f : StepFault) (p : Prepared) (o : Settings) (told : Told) (same : Type 0) (taken script : List ℕ) (answers : List Answer) (V : Outcomes) (front : List ℕ) → IsPrepared p →
     ReadsAlone script (own p) → IsScript o.sample told.left taken script → AreAnswered (own p) (sorts_in p) o told.holds answers V →
-    IsStopped (own p) o told.holds told.files_before told.files_now (length answers) V f → (ReadNoFile (own p) o.budget V (reached f (length answers)) → same) →
+    IsStopped (own p) o told.holds told.files_before told.files_now (length answers) V f → (ReadNoFile (own p) o.budget V (reach f (length answers)) → same) →
     IsCut front (stop_line (length answers + 1) f) → Serves status.Output o told same taken answers stops.Other (entries o.plan answers (drop prelude_count V) ++ front)
 fault_cut f p o told same taken script answers V front h reads is answered stopped untouched split =
     by (fault_writes p o told same taken script answers V f h reads is answered stopped untouched)
@@ -271,7 +271,7 @@ ends_fault p o answers f n first second sink files e joins h (V, answered, stopp
     at : stop_line n f ≡ stop_line (length answers + 1) f
     at = ap (λ k. stop_line k f) is
 
-    all_reached : (f : StepFault) → ReadNoFile (own p) o.budget V (length answers + 1) → ReadNoFile (own p) o.budget V (reached f (length answers))
+    all_reached : (f : StepFault) → ReadNoFile (own p) o.budget V (length answers + 1) → ReadNoFile (own p) o.budget V (reach f (length answers))
     all_reached (faults.Query start plan trace moved) h = λ i d lt. h i d (omega (arith, lt))
     all_reached (faults.Cells c) h = h
     all_reached (faults.File g) h = h
@@ -550,21 +550,21 @@ pub no_memory : (words : List (List ℕ)) (answers : List Answer) (d : Devices) 
 unfolding Running
 no_memory words answers d none (unread, unwritten, there) = ([], [], unread, unwritten, omega arith, inl (refl, none, refl, refl, there))
 
-pub asked : (words : List (List ℕ)) (r : Result Options WordFault) → IfOk r (λ o. HasReading words × (o ≡ options_of words)) → (IsErrOf r wording.Usage → HasReading words → ⊥) → Asks words r
-unfolding Asks
+pub asked : (words : List (List ℕ)) (r : Result Options WordFault) → IfOk r (λ o. HasReading words × (o ≡ options_of words)) → (IsErrOf r wording.Usage → HasReading words → ⊥) → ReadsOptions words r
+unfolding ReadsOptions
 asked words r read usage = (read, usage)
 
-pub asks_sample : (words : List (List ℕ)) (o : Options) (n : ℕ) → Asks words (Ok o) → AsksSample words n → o.sample ≡ Some n
-unfolding Asks AsksSample
+pub asks_sample : (words : List (List ℕ)) (o : Options) (n : ℕ) → ReadsOptions words (Ok o) → HasSample words n → o.sample ≡ Some n
+unfolding ReadsOptions HasSample
 asks_sample words o n ((reads, is), _) a = ap (λ (x : Options). x.sample) is ∙ a
 
-pub options_run : (words : List (List ℕ)) (o : Options) (answers : List Answer) (d : Devices) (e : End) → Asks words (Ok o) → Serving (settings_of o) answers d e → Running words answers d e
-unfolding Asks
+pub options_run : (words : List (List ℕ)) (o : Options) (answers : List Answer) (d : Devices) (e : End) → ReadsOptions words (Ok o) → Serving (settings_of o) answers d e → Running words answers d e
+unfolding ReadsOptions
 options_run words o answers d e ((reads, is), _) h = words_run words (settings_of o) answers d e reads (ap settings_of is) h
 
-pub words_refused : (words : List (List ℕ)) (f : WordFault) (answers : List Answer) (d : Devices) → f ≡ wording.Usage → answers ≡ [] → IsUntouched d → Asks words (Err f) →
+pub words_refused : (words : List (List ℕ)) (f : WordFault) (answers : List Answer) (d : Devices) → f ≡ wording.Usage → answers ≡ [] → IsUntouched d → ReadsOptions words (Err f) →
     Running words answers d (record { status = status.Usage; stop = stops.Other })
-unfolding Asks
+unfolding ReadsOptions
 words_refused words f answers d is none untouched (_, usage) = no_words words answers d none untouched (usage (ap Err is))
 
 -- a run whose words have a reading does not end with that fault
@@ -590,13 +590,9 @@ reports words d e r is same (taken, written, consumed, appended, few, h) = (
   ),
 )
 
-pub reported_sample : (words : List (List ℕ)) (n : ℕ) → (options_of words).sample ≡ Some n → AsksSample words n
-unfolding AsksSample
+pub reported_sample : (words : List (List ℕ)) (n : ℕ) → (options_of words).sample ≡ Some n → HasSample words n
+unfolding HasSample
 reported_sample words n is = is
-
--- the number of a status is that of no other
-pub coded : (s t : Status) (n : ℕ) → n ≡ code_of s → n ≡ code_of t → s ≡ t
-coded s t n is at = status_is s t n is at
 
 pub reported_serves : (words : List (List ℕ)) (sink : Type 0) (d : Devices) (r : Report) → Tokenised → (r.status ≡ 11 → sink) → Reported words d r →
     (s : Status) × (r.status ≡ code_of s)

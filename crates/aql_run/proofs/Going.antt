@@ -11,6 +11,7 @@ use Rattle.aql_outside.specs.Contents.{Content}
 use Rattle.aql_value.specs.Datum.{Datum}
 use Rattle.aql_syntax.specs.Script.{Earlier}
 use Rattle.aql_syntax.specs.Tree.{Declaration}
+use Rattle.aql_syntax.specs.Laws.View.{length-decls_of}
 use Rattle.nrca_term.specs.Meaning.{Outcomes}
 use Rattle.aql_script.specs.Laws.Position.{length_positions}
 use Rattle.aql_script.specs.declared.preparing.Prepared.{Prepared}
@@ -23,12 +24,11 @@ use Rattle.aql_session.specs.declared.answer.StepFault.{StepFault}
 use Rattle.aql_session.specs.declared.answer.StepFault.TheVariants as faults
 use Rattle.aql_prelude.specs.Prelude.{prelude_count}
 use Rattle.aql_words.specs.Settings.{Settings}
-use Rattle.aql_run.specs.Answered.{AreAnswered, IsStopped, ReadNoFile, reached}
+use Rattle.aql_run.specs.Answered.{AreAnswered, IsStopped, ReadNoFile, reach}
 use Rattle.aql_run.specs.Entry.{entry, entries}
 use Rattle.aql_run.specs.Steps.{own, sorts_in, IsPrepared, Declared, AnswersOne, NextReadsNoFile, CutsEntry, Halts, IsOver, Going, AllAnswered, CutsLines, EndsEarly}
 use Rattle.aql_run.specs.declared.steps.Halt.{Halt}
 use Rattle.aql_run.specs.declared.steps.Halt.TheVariants as halts
-use Rattle.aql_run.proofs.Answering.{decls_length}
 use Rattle.aql_run.proofs.Prelude.{at_first, prelude_last}
 
 -- Lines of several answers.
@@ -134,7 +134,7 @@ all_answered p o holds same answers s n old new h g e =
     let is = g.next in
     let all = ap length h.all in
     let own_count = length_positions (own p) in
-    let count = decls_length p.decls.items.items in
+    let count = length-decls_of p.decls.items.items in
     record { outcomes = outcomes s; answered = g.progress.answered; all = omega (arith, is, all, own_count, count, e); written = g.written; untouched = g.untouched }
 
 -- a cause within a call is one within a longer call
@@ -222,7 +222,7 @@ module _ (p : Prepared) (o : Settings) (holds : Option Content) (same same' : Ty
   lines : Appends mid new [] → Appends old new (entries o.plan answers (drop prelude_count V))
   lines w = subst (Appends old new) (append-nil _) (Appends-trans old mid new (entries o.plan answers (drop prelude_count V)) [] g.written w)
 
-  came : (f : StepFault) → (same → IsOver (halts.Fault f) → same') → ReadNoFile (own p) o.budget V (reached f (length answers)) → same'
+  came : (f : StepFault) → (same → IsOver (halts.Fault f) → same') → ReadNoFile (own p) o.budget V (reach f (length answers)) → same'
   came (faults.Query start plan trace moved) over reads = over (g.untouched reads) tt
   came (faults.Cells c) over reads = stayed (length answers + 1) (omega arith) reads
   came (faults.File f) over reads = stayed (length answers + 1) (omega arith) reads
@@ -238,7 +238,7 @@ module _ (p : Prepared) (o : Settings) (holds : Option Content) (same same' : Ty
     subst (λ (l : List Answer). IsStopped (own p) o holds before' now' (length l) V f) (sym stays.same)
         (d, there, cause_wider d _ o.motion o.budget holds before now before' now' f a b cause),
     subst (λ (l : List Answer). Appends old new (entries o.plan l (drop prelude_count V))) (sym stays.same) (lines stays.written),
-    subst (λ (l : List Answer). ReadNoFile (own p) o.budget V (reached f (length l)) → same') (sym stays.same) (came f over),
+    subst (λ (l : List Answer). ReadNoFile (own p) o.budget V (reach f (length l)) → same') (sym stays.same) (came f over),
   )
   ends_early before now before' now' halts.Memory a b over (inl stays) = (
     entries o.plan answers (drop prelude_count V),

@@ -6,8 +6,9 @@ use Rattle.std.specs.Prelude.{Option, Some, None, replicate}
 use Rattle.aql_outside.specs.Contents.{Content}
 use Rattle.aql_value.specs.Datum.{Datum}
 use Rattle.aql_syntax.specs.Script.{Earlier}
-use Rattle.aql_syntax.specs.Tree.{Declaration, val, mac, read, bare, declared}
+use Rattle.aql_syntax.specs.Tree.{Declaration, val, mac, read, bare, declared_name}
 use Rattle.aql_syntax.specs.View.{decls_of}
+use Rattle.aql_syntax.specs.Laws.View.{length-decls_of}
 use Rattle.aql_script.specs.Laws.Position.{length_positions}
 use Rattle.aql_script.specs.Script.{positions}
 use Rattle.aql_script.specs.declared.preparing.Prepared.{Prepared}
@@ -19,7 +20,7 @@ use Rattle.aql_run.specs.Answered.{AreAnswered}
 use Rattle.aql_run.specs.Laws.Answered.{is_macro, macro_at}
 use Rattle.aql_words.specs.Settings.{Settings}
 use Rattle.aql_run.specs.Steps.{own, sorts_in, IsPrepared, Declared, Progress}
-use Rattle.aql_run.proofs.Answering.{map_take_next, onto_next, next_is, decls_length}
+use Rattle.aql_run.proofs.Answering.{map_take_next, onto_next, next_is}
 
 -- each position of the prelude is a macro
 prelude_macro : (p : Prepared) (k : ℕ) (d : Declaration) → IsPrepared p → k < prelude_count → slice_get (decls_of p.decls.items.items) k ≡ Some d → is_macro d ≡ true
@@ -44,7 +45,7 @@ there_is : (p : Prepared) (k : ℕ) → IsPrepared p → k < prelude_count → (
 there_is p k h lt =
     let n = length_positions (own p) in
     let e = ap length h.all in
-    let c = decls_length p.decls.items.items in
+    let c = length-decls_of p.decls.items.items in
     let same : suc k - 1 ≡ k = omega arith in
     let found = next_is p (suc k) (omega arith) (omega (arith, lt, n, e, c)) in
     (found.0, subst (λ i. slice_get (decls_of p.decls.items.items) i ≡ Some found.0) same found.1)
@@ -61,13 +62,13 @@ one_declared p budget holds s s' a k h lt so_far binds = let x = there_is p k h 
         let here : suc k - 1 ≡ k = omega arith in
         let after : suc (suc k) - 1 ≡ suc k = omega arith in
         let nothing = no_outcome d (earlier_of (decls_of p.decls.items.items) (outcomes s)) holds b.outcome (prelude_macro p k d h lt e) b.is in
-        let more : outcomes s' ≡ outcomes s ++ b.outcome ∷ [] = ap outcomes b.bound ∙ map-append (λ z. z.1) s ((declared d, b.outcome) ∷ []) in
+        let more : outcomes s' ≡ outcomes s ++ b.outcome ∷ [] = ap outcomes b.bound ∙ map-append (λ z. z.1) s ((declared_name d, b.outcome) ∷ []) in
         let count : length (outcomes s) ≡ k = length_nones k (outcomes s) so_far.none in
         record {
           bound = ap names b.bound
-              ∙ (map-append (λ z. z.0) s ((declared d, b.outcome) ∷ [])
-              ∙ (ap (λ l. l ++ declared d ∷ []) (so_far.bound ∙ ap (λ i. map declared (take i (positions (own p)))) here)
-              ∙ (sym (map_take_next declared (positions (own p)) k d there) ∙ ap (λ i. map declared (take i (positions (own p)))) (sym after))));
+              ∙ (map-append (λ z. z.0) s ((declared_name d, b.outcome) ∷ [])
+              ∙ (ap (λ l. l ++ declared_name d ∷ []) (so_far.bound ∙ ap (λ i. map declared_name (take i (positions (own p)))) here)
+              ∙ (sym (map_take_next declared_name (positions (own p)) k d there) ∙ ap (λ i. map declared_name (take i (positions (own p)))) (sym after))));
           none = more ∙ (ap (λ (V : List (Option Datum)). V ++ b.outcome ∷ []) so_far.none ∙ nones_last k b.outcome nothing);
           types = subst (λ (V : List (Option Datum)). OutcomesFit (earlier_of (positions (own p)) V)) (sym more)
               (subst OutcomesFit (sym (onto_next (positions (own p)) (outcomes s) [] d b.outcome (ap (slice_get (positions (own p))) count ∙ there)))
@@ -92,7 +93,7 @@ prelude_long : (p : Prepared) → IsPrepared p → prelude_count ≤ length p.de
 prelude_long p h =
     let n = length_positions (own p) in
     let e = ap length h.all in
-    let c = decls_length p.decls.items.items in
+    let c = length-decls_of p.decls.items.items in
     omega (arith, n, e, c)
 
 pub prelude_last : (p : Prepared) (n : ℕ) → IsPrepared p → n < prelude_count + 1 → n ≤ length p.decls.items.items
@@ -101,8 +102,8 @@ prelude_last p n h lt = let long = prelude_long p h in omega (arith, long, lt)
 pub prelude_bound : (p : Prepared) (n : ℕ) (s : Bound) → IsPrepared p → 1 ≤ n → Declared p (n - 1) s → AreBound (decls_of p.decls.items.items) n s
 prelude_bound p n s h one so_far =
     let same : suc (n - 1) - 1 ≡ n - 1 = omega arith in
-    subst (λ (ds : List Declaration). names s ≡ map declared (take (n - 1) ds)) (sym h.all)
-    (so_far.bound ∙ ap (λ k. map declared (take k (positions (own p)))) same)
+    subst (λ (ds : List Declaration). names s ≡ map declared_name (take (n - 1) ds)) (sym h.all)
+    (so_far.bound ∙ ap (λ k. map declared_name (take k (positions (own p)))) same)
 
 pub prelude_types : (p : Prepared) (k : ℕ) (s : Bound) → IsPrepared p → Declared p k s → OutcomesFit (earlier_of (decls_of p.decls.items.items) (outcomes s))
 prelude_types p k s h so_far = subst (λ (ds : List Declaration). OutcomesFit (earlier_of ds (outcomes s))) (sym h.all) so_far.types

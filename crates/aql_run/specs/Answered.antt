@@ -49,10 +49,10 @@ ReadNoFile ds budget V begun = (i : ℕ) (d : Declaration) → i < begun → sli
 
 -- how many declarations may have come to the files, where the one behind those that were answered has this fault: it did not where its
 -- turns passed the budget
-abbrev pub reached : StepFault → (answered : ℕ) → ℕ
-reached (faults.Query start plan trace moved) n = n
-reached (faults.Cells c) n = n + 1
-reached (faults.File f) n = n + 1
-reached (faults.Csv f) n = n + 1
-reached faults.Device n = n + 1
-reached faults.Memory n = n + 1
+abbrev pub reach : StepFault → (answered : ℕ) → ℕ
+reach (faults.Query start plan trace moved) n = n
+reach (faults.Cells c) n = n + 1
+reach (faults.File f) n = n + 1
+reach (faults.Csv f) n = n + 1
+reach faults.Device n = n + 1
+reach faults.Memory n = n + 1

@@ -1,19 +1,18 @@
 -- When a run ends well: what it must be given for that.
-use Rattle.std.specs.Prelude.{◌≡◌, ◌≤◌, ◌+◌, ◌⊎◌, ℕ, List, [], ◌∷◌, length, take, replicate, Option, Some, None}
+use Rattle.std.specs.Prelude.{◌≡◌, ◌≤◌, ◌+◌, ◌⊎◌, ℕ, List, [], length, take, replicate, Option, Some, None}
 use Rattle.std.specs.List.{slice_get}
 use Rattle.std.specs.Option.{ForSome}
 use Rattle.aql_outside.specs.Causes.{Rose}
 use Rattle.aql_outside.specs.Contents.{Content}
 use Rattle.aql_value.specs.Datum.{Datum}
-use Rattle.aql_types.specs.Types.{Sort}
 use Rattle.aql_syntax.specs.Script.{Earlier, globals_of, outcome_after}
 use Rattle.aql_syntax.specs.Size.{AreWithinLimits}
 use Rattle.aql_syntax.specs.Tree.{Declaration, val, mac, read, bare}
-use Rattle.aql_syntax.specs.Typing.{DeclHas, scope_of}
 use Rattle.aql_syntax.specs.Work.{work}
 use Rattle.aql_lex.specs.Lexed.{OneList, TokensOrTextFault, ShallowOrDeep}
 use Rattle.nrca_term.specs.Meaning.{Outcomes}
 use Rattle.aql_prelude.specs.Prelude.{prelude_count}
+use Rattle.aql_prelude.specs.Typing.{HaveSorts}
 use Rattle.aql_script.specs.Script.{IsParsedAs, positions}
 use Rattle.aql_session.specs.Asked.{Asked}
 use Rattle.aql_session.specs.Bound.{earlier_of}
@@ -46,17 +45,12 @@ pub record IsWithinBudget (d : Declaration) (earlier : Earlier) (budget : ℕ) (
   pub cells : (a : Asked) → asks d earlier ≡ Some a → IsAffordable budget holds a
   pub file : (a : Asked) → asks d earlier ≡ Some a → (files : Content) × (holds ≡ Some files) × IsFaultless files a
 
--- each declaration has a typing over those before it, the latest first
-abbrev pub HaveTypings : (earlier ds : List Declaration) → Type 0
-HaveTypings earlier [] = Unit {0}
-HaveTypings earlier (d ∷ ds) = ((s : Sort) × DeclHas d (scope_of earlier) s) × HaveTypings (d ∷ earlier) ds
-
 -- the words have a reading, and so has the script, with a typing, within the limits and the budget, and no fault of a file
 pub record IsSound (words : List (List ℕ)) (script : List ℕ) (holds : Option Content) : Type 0 where
   pub reads : HasReading words
   pub ds : List Declaration
   pub are : IsParsedAs script ds
-  pub typed : HaveTypings [] (positions ds)
+  pub typed : HaveSorts [] (positions ds)
   pub limits : AreWithinLimits (positions ds) (prelude_count + length ds)
   pub within : (V : Outcomes) (d : Declaration) → AreOutcomes ds holds V → slice_get (positions ds) (length V) ≡ Some d →
       IsWithinBudget d (earlier_of (positions ds) V) (options_of words).budget holds

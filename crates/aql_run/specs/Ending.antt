@@ -39,12 +39,12 @@ Passes source sink P = (taken written : List ℕ) × Consumes source.before sour
 -- words those of the command. Each names what is run, the settings, the answers, the devices and the end, in this order.
 
 -- the options of the words, or why there are none
-unfoldable pub Asks : (words : List (List ℕ)) → Result Options WordFault → Type 0
-Asks words r = IfOk r (λ o. HasReading words × (o ≡ options_of words)) × (IsErrOf r wording.Usage → HasReading words → ⊥)
+unfoldable pub ReadsOptions : (words : List (List ℕ)) → Result Options WordFault → Type 0
+ReadsOptions words r = IfOk r (λ o. HasReading words × (o ≡ options_of words)) × (IsErrOf r wording.Usage → HasReading words → ⊥)
 
 -- the words ask for the built-in script of n cells
-unfoldable pub AsksSample : (words : List (List ℕ)) → ℕ → Type 0
-AsksSample words n = (options_of words).sample ≡ Some n
+unfoldable pub HasSample : (words : List (List ℕ)) → ℕ → Type 0
+HasSample words n = (options_of words).sample ≡ Some n
 
 -- the positions of a script, or its first fault
 unfoldable pub Readies : (script : List ℕ) → Result Prepared ScriptFault → Type 0

@@ -31,8 +31,8 @@ outcome_text None = codes "undefined"
 outcome_text (Some v) = text v
 
 -- the value that is lent, where there is one
-abbrev pub lent : Option (Bor Held) → Option Datum
-lent o = option_map (λ h. held_datum h.now) o
+abbrev pub lent_value : Option (Bor Held) → Option Datum
+lent_value o = option_map (λ h. held_datum h.now) o
 
 -- the type
 abbrev pub type_line : Answer → List ℕ

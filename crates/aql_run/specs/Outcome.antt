@@ -21,7 +21,7 @@ use Rattle.aql_session.specs.declared.answer.StepFault.{StepFault}
 use Rattle.aql_session.specs.declared.answer.StepFault.TheVariants as faults
 use Rattle.aql_words.specs.Words.{HasReading, options_of}
 use Rattle.aql_words.specs.Settings.{Settings, settings_of}
-use Rattle.aql_run.specs.Answered.{AreAnswered, IsStopped, ReadNoFile, reached}
+use Rattle.aql_run.specs.Answered.{AreAnswered, IsStopped, ReadNoFile, reach}
 use Rattle.aql_run.specs.Entry.{entries}
 use Rattle.aql_run.specs.Lines.{at_byte, in_declaration, of_file, of_table}
 use Rattle.aql_run.specs.Sample.{sample_text}
@@ -76,9 +76,9 @@ pub record HasRun (settings : Settings) (told : Told) (same : Type 0) (begun : �
   pub untouched : ReadNoFile ds settings.budget outcomes begun → same
 
 -- the next declaration was not answered
-abbrev pub EndsEarly : {settings : Settings} {told : Told} {same : Type 0} {begun : ℕ} {taken lines : List ℕ} {answers : List Answer} →
+abbrev pub StopsEarly : {settings : Settings} {told : Told} {same : Type 0} {begun : ℕ} {taken lines : List ℕ} {answers : List Answer} →
     HasRun settings told same begun taken answers lines → StepFault → Type 0
-EndsEarly {settings} {told} {same} {begun} {taken} {lines} {answers} run f =
+StopsEarly {settings} {told} {same} {begun} {taken} {lines} {answers} run f =
     IsStopped run.ds settings told.holds told.files_before told.files_now (length answers) run.outcomes f
 
 -- what is kept of a fault of a step
@@ -143,13 +143,13 @@ Writes status.Input settings told same taken answers stop lines line =
     (settings.sample ≡ None) × (length taken ≤ most_bytes) × Rose told.input_before told.input_now
     × BeginsNone same answers stop lines line (codes "fault input\n")
 Writes status.File settings told same taken answers stop lines line =
-    (f : StepFault) × IsFileFault f × (run : HasRun settings told same (length answers + 1) taken answers lines) × EndsEarly run f × (stop ≡ stop_of f)
+    (f : StepFault) × IsFileFault f × (run : HasRun settings told same (length answers + 1) taken answers lines) × StopsEarly run f × (stop ≡ stop_of f)
     × (line ≡ file_line (length answers + 1) f)
 Writes status.Spent settings told same taken answers stop lines line =
-    (f : StepFault) × IsBudgetFault f × (run : HasRun settings told same (reached f (length answers)) taken answers lines) × EndsEarly run f × (stop ≡ stop_of f)
+    (f : StepFault) × IsBudgetFault f × (run : HasRun settings told same (reach f (length answers)) taken answers lines) × StopsEarly run f × (stop ≡ stop_of f)
     × (line ≡ in_declaration (codes "budget") (length answers + 1))
 Writes status.Files settings told same taken answers stop lines line =
-    (run : HasRun settings told same (length answers + 1) taken answers lines) × EndsEarly run faults.Device × (stop ≡ stops.Other) × (line ≡ codes "fault files\n")
+    (run : HasRun settings told same (length answers + 1) taken answers lines) × StopsEarly run faults.Device × (stop ≡ stops.Other) × (line ≡ codes "fault files\n")
 Writes status.Usage settings told same taken answers stop lines line = ⊥
 Writes status.Memory settings told same taken answers stop lines line = ⊥
 Writes status.Output settings told same taken answers stop lines line = ⊥

@@ -19,7 +19,7 @@ use Rattle.aql_session.specs.Step.{IsOverTurns, OutcomesFit, ReadsNoFile}
 use Rattle.aql_session.specs.declared.answer.Answer.{Answer}
 use Rattle.aql_session.specs.declared.answer.StepFault.TheVariants as faults
 use Rattle.aql_words.specs.Settings.{Settings}
-use Rattle.aql_run.specs.Answered.{AreAnswered, IsStopped, ReadNoFile, reached}
+use Rattle.aql_run.specs.Answered.{AreAnswered, IsStopped, ReadNoFile, reach}
 use Rattle.aql_run.specs.Entry.{entry, entries}
 use Rattle.aql_run.specs.declared.steps.Halt.{Halt}
 use Rattle.aql_run.specs.declared.steps.Halt.TheVariants as halts
@@ -130,7 +130,7 @@ pub record CutsLines (p : Prepared) (o : Settings) (holds : Option Content) (sam
 abbrev pub EndsEarly : Prepared → Settings → Option Content → (same : Type 0) → (before now : ℕ) → List Answer → (old new : Option (List ℕ)) → Halt → Type 0
 EndsEarly p o holds same before now answers old new (halts.Fault f) =
     (V : Outcomes) × AreAnswered (own p) (sorts_in p) o holds answers V × IsStopped (own p) o holds before now (length answers) V f
-    × Appends old new (entries o.plan answers (drop prelude_count V)) × (ReadNoFile (own p) o.budget V (reached f (length answers)) → same)
+    × Appends old new (entries o.plan answers (drop prelude_count V)) × (ReadNoFile (own p) o.budget V (reach f (length answers)) → same)
 EndsEarly p o holds same before now answers old new halts.Memory = (written : List ℕ) × Appends old new written
     × (((answers ≡ []) × (written ≡ []) × same) ⊎ CutsLines p o holds same (length answers + 1) answers written)
 EndsEarly p o holds same before now answers old new halts.Sink =

@@ -6,7 +6,7 @@ ghost use Rattle.aql_words.specs.Words.{AreInRange};
 ghost use Rattle.aql_session.specs.Device.{sink_of, files_of, BlamesSink, BlamesFiles};
 ghost use Rattle.aql_words.specs.Settings.{settings_of};
 ghost use Rattle.aql_run.specs.Steps.{IsOfDevice};
-ghost use Rattle.aql_run.specs.Ending.{Answering, Asks, IsReady, Readies};
+ghost use Rattle.aql_run.specs.Ending.{Answering, ReadsOptions, IsReady, Readies};
 
 use crate::steps::{Halt, answer_all};
 use aql_outside::{Files, Gate, Sink};
@@ -26,7 +26,7 @@ pub(crate) struct Machine<'a, R, G> {
 
 // The options that the words ask for.
 pub(crate) fn read_options(alloc: Global, words: &[String]) -> Result<Options, WordFault>
-    ensures asks { Asks (map string_bytes words.now) result }
+    ensures asks { ReadsOptions (map string_bytes words.now) result }
     ensures ranges { IfOk result AreInRange }
 {
     read_words(alloc, words)

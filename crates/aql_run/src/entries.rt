@@ -3,7 +3,7 @@ ghost use Rattle.std.specs.Prelude.{◌≡◌, ◌++◌, [], codes, IfOk, OnOk, 
 ghost use Rattle.nrca_term.specs.View.{term_of};
 ghost use Rattle.aql_print.specs.CoreText.{core_text};
 ghost use Rattle.aql_print.specs.MovesText.{moves_text};
-ghost use Rattle.aql_run.specs.Entry.{entry, lent, line, type_line, value_line, plan_line, plan_lines, rules_line, turns_line, moved_lines, outcome_text, graph_line, graph_text};
+ghost use Rattle.aql_run.specs.Entry.{entry, lent_value, line, type_line, value_line, plan_line, plan_lines, rules_line, turns_line, moved_lines, outcome_text, graph_line, graph_text};
 
 use aql_print::{print_core, print_held, print_moves, print_scheme, print_trace, print_value};
 use aql_session::{Answer, Graph, GraphRan, Ran};
@@ -23,7 +23,7 @@ pub fn entry_text(
     answer: &Answer,
     outcome: Option<&Held>,
 ) -> Result<Vec<u8>, Memory>
-    ensures { IfOk result (λ text. text.items ≡ entry plan answer.now (lent outcome.entry)) }
+    ensures { IfOk result (λ text. text.items ≡ entry plan answer.now (lent_value outcome.entry)) }
 {
     let mut text = Vec::new(alloc);
     push_type(alloc, answer, &mut text)?;
@@ -51,7 +51,7 @@ fn push_value(
     text: &mut Vec<u8>,
 ) -> Result<(), Memory>
     ensures { OnOk result (text.new.items ≡ text.old.items
-        ++ value_line answer.now.by answer.now.name (lent outcome.entry)) }
+        ++ value_line answer.now.by answer.now.name (lent_value outcome.entry)) }
 {
     match answer.by {
         Ran::Declared => {
@@ -74,7 +74,7 @@ fn push_outcome(
     text: &mut Vec<u8>,
 ) -> Result<(), Memory>
     ensures { OnOk result (text.new.items ≡ text.old.items
-        ++ line (codes "val ") name.now (codes " = ") (outcome_text (lent outcome.entry))) }
+        ++ line (codes "val ") name.now (codes " = ") (outcome_text (lent_value outcome.entry))) }
 {
     text.extend_from_slice(b"val ")?;
     text.extend_from_slice(name)?;

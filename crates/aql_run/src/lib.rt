@@ -14,7 +14,7 @@ ghost use Rattle.std.specs.Prelude.{◌≡◌, ◌≤◌, ◌<◌, ◌⊎◌, �
 ghost use Rattle.std.specs.String.{string_bytes};
 ghost use Rattle.aql_session.specs.Device.{source_of, sink_of, files_of, BlamesSink};
 ghost use Rattle.aql_run.specs.Headline.{Headline};
-ghost use Rattle.aql_run.specs.Ending.{AsksSample, Reported};
+ghost use Rattle.aql_run.specs.Ending.{HasSample, Reported};
 
 mod closed;
 mod entries;
@@ -81,7 +81,7 @@ fn report_run<R: Threads + Sync, S: Source, O: Sink, F: Files, G: Gate>(
     }) result }
     ensures untouched_input { result.status ≡ 2 → input.new ≡ input.old }
     ensures untouched_output { result.status ≡ 2 → output.new ≡ output.old }
-    ensures sample { (n : ℕ) → AsksSample (map string_bytes words.now) n →
+    ensures sample { (n : ℕ) → HasSample (map string_bytes words.now) n →
         input.new ≡ input.old }
     ensures output { BlamesSink O.Sink output.old output.new (result.status ≡ 11) }
     ensures kept { F.holds files.new ≡ F.holds files.old }

@@ -8,7 +8,7 @@ use aql_outside::Source;
 use std::alloc::{AllocError, Global};
 
 /// The most bytes of a script.
-const LIMIT: usize = 1_048_576;
+const MOST_BYTES: usize = 1_048_576;
 
 /// The most bytes that one call takes.
 const PIECE: usize = 4096;
@@ -39,7 +39,7 @@ pub fn read_script<S: Source>(alloc: Global, input: &mut S) -> Result<Vec<u8>, R
     ensures input { BlamesSource S.Source input.old input.new (IsErrOf result ReadFault.Failed) }
 {
     let mut script = Vec::new(alloc);
-    'pieces: while script.len() <= LIMIT {
+    'pieces: while script.len() <= MOST_BYTES {
         if read_piece(input, &mut script)? == 0 {
             return Ok(script);
         }
@@ -57,7 +57,7 @@ fn read_piece<S: Source>(input: &mut S, script: &mut Vec<u8>) -> Result<usize, R
     ensures input { BlamesSource S.Source input.old input.new (IsErrOf result ReadFault.Failed) }
 {
     let mut piece = [0u8; PIECE];
-    let room = (LIMIT + 1 - script.len()).min(PIECE);
+    let room = (MOST_BYTES + 1 - script.len()).min(PIECE);
     match input.read(&mut piece[..room]) {
         Ok(count) => {
             script.extend_from_slice(&piece[..count])?;

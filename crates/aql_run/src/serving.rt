@@ -6,7 +6,7 @@ ghost use Rattle.aql_session.specs.Device.{source_of, sink_of, files_of, BlamesS
 ghost use Rattle.aql_run.specs.Lines.{in_declaration};
 ghost use Rattle.aql_words.specs.Settings.{settings_of};
 ghost use Rattle.aql_run.specs.Devices.{NoticesFiles, NoticesInput};
-ghost use Rattle.aql_run.specs.Ending.{AnswersEach, AsksSample, EndsWith, IsReady, Refused, Responds, Running, Samples, Serving, Stopped};
+ghost use Rattle.aql_run.specs.Ending.{AnswersEach, HasSample, EndsWith, IsReady, Refused, Responds, Running, Samples, Serving, Stopped};
 
 use crate::closed::{Machine, answer_each, prepare_script, read_options};
 use crate::lines::{byte_line, declaration_line, file_line, table_line};
@@ -41,7 +41,7 @@ pub(crate) fn end_of<R: Threads + Sync, S: Source, O: Sink, F: Files, G: Gate>(
     }) result }
     ensures untouched_input { result.status ≡ Status.Usage → input.new ≡ input.old }
     ensures untouched_output { result.status ≡ Status.Usage → output.new ≡ output.old }
-    ensures sample { (n : ℕ) → AsksSample (map string_bytes words.now) n →
+    ensures sample { (n : ℕ) → HasSample (map string_bytes words.now) n →
         input.new ≡ input.old }
     ensures output { BlamesSink O.Sink output.old output.new (result.status ≡ Status.Output) }
     ensures kept { F.holds files.new ≡ F.holds files.old }

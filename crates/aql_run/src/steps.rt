@@ -4,7 +4,7 @@ ghost use Rattle.aql_words.specs.Words.{AreInRange};
 ghost use Rattle.aql_prelude.specs.Prelude.{prelude_count};
 ghost use Rattle.aql_session.specs.Bound.{outcomes};
 ghost use Rattle.aql_session.specs.Device.{sink_of, files_of, BlamesSink, BlamesFiles};
-ghost use Rattle.aql_run.specs.Entry.{entry, lent};
+ghost use Rattle.aql_run.specs.Entry.{entry, lent_value};
 ghost use Rattle.aql_words.specs.Settings.{settings_of};
 ghost use Rattle.aql_run.specs.Steps.{IsPrepared, Progress, AnswersOne, Halts, IsNoFault, IsOver, Declared, NextReadsNoFile, AnswersAll, EndsAt, IsOfDevice};
 ghost use Rattle.aql_run.specs.Writing.{WritesFront};
@@ -208,7 +208,7 @@ fn write_entry<O: Sink>(
     outcome: Option<&Held>,
 ) -> Result<(), Halt>
     ensures written { WritesFront (O.holds output.old) (O.holds output.new)
-        (entry plan answer.now (lent outcome.entry)) result }
+        (entry plan answer.now (lent_value outcome.entry)) result }
     ensures output { BlamesSink O.Sink output.old output.new (IsErrOf result Halt.Sink) }
     ensures causes { IfErr result IsNoFault }
 {

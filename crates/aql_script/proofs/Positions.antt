@@ -7,6 +7,7 @@ use Rattle.aql_syntax.specs.Size.{expanded_size, expanded_levels, most_nodes, mo
 use Rattle.aql_syntax.specs.Tree.{Declaration}
 use Rattle.aql_syntax.specs.View.{decl_of, decls_of}
 use Rattle.aql_syntax.specs.declared.ast.Decl.{Decl}
+use Rattle.aql_syntax.specs.Laws.View.{decls_of-append, length-decls_of}
 use Rattle.aql_infer.specs.Checked.{IsChecked, IsFirstUntyped}
 use Rattle.aql_infer.specs.declared.fault.TypeFault.{TypeFault}
 use Rattle.aql_infer.specs.declared.fault.TypeFault.TheVariants as type_faults
@@ -73,20 +74,12 @@ tested_within all (suc n) e =
 pub prelude_within : (ds : List Declaration) → AreWithinLimits (positions ds) prelude_count
 prelude_within ds = tested_within (positions ds) prelude_count (prelude_tested ds)
 
-decls_last : (ds : List Decl) (d : Decl) → decls_of (ds ++ d ∷ []) ≡ decls_of ds ++ decl_of d ∷ []
-decls_last [] d = refl
-decls_last (e ∷ ds) d = ap (λ l. decl_of e ∷ l) (decls_last ds d)
-
-decls_length : (ds : List Decl) → length (decls_of ds) ≡ length ds
-decls_length [] = refl
-decls_length (d ∷ ds) = ap suc (decls_length ds)
-
 -- the first of the declarations that are left was put behind those so far
 pub one_behind : (all : List Decl) (d : Decl) (rest : List Decl) → decls_of (all ++ d ∷ []) ++ decls_of rest ≡ decls_of all ++ decls_of (d ∷ rest)
-one_behind all d rest = ap (λ l. l ++ decls_of rest) (decls_last all d) ∙ append_assoc (decls_of all) (decl_of d ∷ []) (decls_of rest)
+one_behind all d rest = ap (λ l. l ++ decls_of rest) (decls_of-append all (d ∷ [])) ∙ append_assoc (decls_of all) (decl_of d ∷ []) (decls_of rest)
 
 pub many : (all : List Decl) (ds : List Declaration) → decls_of all ≡ positions ds → length all ≡ prelude_count + length ds
-many all ds e = sym (decls_length all) ∙ (ap length e ∙ length_positions ds)
+many all ds e = sym (length-decls_of all) ∙ (ap length e ∙ length_positions ds)
 
 within_join : (all : List Declaration) (n m : ℕ) → AreWithinLimits all n → WithinBetween all n m → AreWithinLimits all m
 within_join all n m a b k one last = at (cases_lt n k)

@@ -6,7 +6,7 @@ ghost use Rattle.aql_syntax.specs.Measured.{latest};
 ghost use Rattle.aql_syntax.specs.Size.{AreWithin, PassLimits, decl_size, decl_levels, extents_of};
 ghost use Rattle.aql_syntax.specs.View.{decl_of};
 ghost use Rattle.aql_syntax.specs.declared.ast.Decl.{Decl};
-ghost use Rattle.aql_extents.specs.Kept.{kept};
+ghost use Rattle.aql_extents.specs.Kept.{extents_after};
 ghost use Rattle.aql_script.specs.Limits.{SearchesLarge};
 
 use aql_extents::extents::Extents;
@@ -35,10 +35,11 @@ pub(crate) fn first_large(alloc: Global, decls: &Decls) -> Result<Option<u64>, M
 // Whether a declaration after these, of that number, stands behind the prelude and passes a limit.
 fn is_past(earlier: &Extents, d: &Decl, n: u64) -> bool
     ensures behind { result ≡ true → prelude_count < n }
-    ensures large { (ds : List Decl) → earlier.now ≡ kept ds → result ≡ true
+    ensures large { (ds : List Decl) → earlier.now ≡ extents_after ds → result ≡ true
         → PassLimits (decl_size (decl_of d.now) (extents_of (latest ds)))
         (decl_levels (decl_of d.now) (extents_of (latest ds))) }
-    ensures within { (ds : List Decl) → earlier.now ≡ kept ds → result ≡ false → prelude_count < n
+    ensures within { (ds : List Decl) → earlier.now ≡ extents_after ds → result ≡ false
+        → prelude_count < n
         → AreWithin (decl_size (decl_of d.now) (extents_of (latest ds)))
         (decl_levels (decl_of d.now) (extents_of (latest ds))) }
 {

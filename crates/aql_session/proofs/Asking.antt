@@ -8,7 +8,6 @@ use Rattle.aql_value.specs.Laws.Datum.{list_of-data_of}
 use Rattle.aql_value.specs.Meaning as meaning
 use Rattle.aql_value.specs.Operations.{as_natural, as_text, as_tuple, index_numbers}
 use Rattle.aql_value.specs.Partial.{◌>>=◌, each}
-use Rattle.aql_value.specs.Laws.Partial.{each-append}
 use Rattle.aql_value.specs.declared.value.Value.{Value}
 use Rattle.aql_types.specs.Types as types
 use Rattle.aql_types.specs.Types.{IsRank, IsType, IsWithin, index_type, tys_of}
@@ -17,20 +16,15 @@ use Rattle.aql_syntax.specs.Tree as tree
 use Rattle.aql_syntax.specs.Tree.{Reader}
 use Rattle.aql_syntax.specs.Typing.{reader_type, argument_type, record_type}
 use Rattle.aql_syntax.specs.declared.ast.Kind.{Kind}
-use Rattle.aql_session.specs.Asked.{Hyperslab, Asked, hyperslab, table, asked, asked_of, unstrided, with_strides}
+use Rattle.aql_session.specs.Asked.{Hyperslab, Asked, hyperslab, table, hyperslab_from, asked_of, without_strides, with_strides}
 use Rattle.nrca_loops.specs.Parts.{numbers_with}
-use Rattle.aql_session.specs.Runs.{HasRank, IsProper, asked_type, cell_type}
+use Rattle.nrca_loops.specs.Laws.Run.{each-more}
+use Rattle.aql_session.specs.Executions.{HasRank, IsProper, asked_type, cell_type}
 
 -- the numbers of one value more
 pub numbers_push : (vs : List Value) (v : Value) → each as_natural (map meaning.datum (vs ++ v ∷ [])) ≡ numbers_with (each as_natural (map meaning.datum vs)) (meaning.datum v)
 numbers_push vs v =
-    ap (each as_natural) (map-append meaning.datum vs (v ∷ [])) ∙ each-append as_natural (map meaning.datum vs) (meaning.datum v ∷ [])
-    ∙ go (each as_natural (map meaning.datum vs)) (as_natural (meaning.datum v))
-  where
-    go : (o : Option (List ℕ)) (p : Option ℕ) → (o >>= λ ys. (p >>= λ y. Some (y ∷ [])) >>= λ zs. Some (ys ++ zs)) ≡ (o >>= λ ys. p >>= λ y. Some (ys ++ y ∷ []))
-    go None p = refl
-    go (Some ys) None = refl
-    go (Some ys) (Some y) = refl
+    ap (each as_natural) (map-append meaning.datum vs (v ∷ [])) ∙ each-more as_natural (map meaning.datum vs) (meaning.datum v)
 
 naturals-typed : (k : ℕ) (vs : List Datum) → AllHaveTypes (tys_of (replicate k types.natural)) vs → (ns : List ℕ) × (each as_natural vs ≡ Some ns) × (length ns ≡ k)
 naturals-typed zero [] h = ([], refl, refl)
@@ -70,11 +64,11 @@ pub record AsksFor (r : Reader) (v : Datum) : Type 0 where
 
 same-parts : (k : ℕ) (sign : Bool) (f x s c : Datum) (stride : Option (List ℕ)) (file variable starts counts strides : List ℕ) → f ≡ datum.text file → x ≡ datum.text variable →
     index_numbers k s ≡ Some starts → index_numbers k c ≡ Some counts → stride ≡ Some strides →
-    asked k sign f x s c stride ≡ Some (record { file = file; variable = variable; start = starts; count = counts; stride = strides; signed = sign })
+    hyperslab_from k sign f x s c stride ≡ Some (record { file = file; variable = variable; start = starts; count = counts; stride = strides; signed = sign })
 same-parts k sign f x s c stride file variable starts counts strides e g h i j = rw (e, g, h, i, j) refl
 
 without : (k : ℕ) (sign : Bool) (v : Datum) → IsRank k → HasType (types.product (tys_of (types.text ∷ types.text ∷ index_type k ∷ index_type k ∷ []))) v →
-    (a : Hyperslab) × ((as_tuple v >>= unstrided k sign) ≡ Some a) × HasRank a × (length a.count ≡ k) × (a.signed ≡ sign)
+    (a : Hyperslab) × ((as_tuple v >>= without_strides k sign) ≡ Some a) × HasRank a × (length a.count ≡ k) × (a.signed ≡ sign)
 without k sign v rank ([], e, h) = absurd h
 without k sign v rank (f ∷ [], e, h) = absurd h.1
 without k sign v rank (f ∷ x ∷ [], e, h) = absurd h.1.1
@@ -85,7 +79,7 @@ without k sign v rank (f ∷ x ∷ s ∷ c ∷ [], e, h) =
     let j = index-typed k c rank.0 h.1.1.1.0 in
     let a : Hyperslab = record { file = h.0.0; variable = h.1.0.0; start = i.numbers; count = j.numbers; stride = replicate k 1; signed = sign } in (
       a,
-      ap (λ w. as_tuple w >>= unstrided k sign) e ∙ same-parts k sign f x s c (Some (replicate k 1)) h.0.0 h.1.0.0 i.numbers j.numbers (replicate k 1) h.0.1 h.1.0.1 i.is j.is refl,
+      ap (λ w. as_tuple w >>= without_strides k sign) e ∙ same-parts k sign f x s c (Some (replicate k 1)) h.0.0 h.1.0.0 i.numbers j.numbers (replicate k 1) h.0.1 h.1.0.1 i.is j.is refl,
       record {
         some = omega (arith, i.many, rank.0);
         few = omega (arith, i.many, rank.1);

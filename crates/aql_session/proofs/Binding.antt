@@ -1,13 +1,11 @@
 -- The positions of a session: names and outcomes side by side, and the last position of each name.
-use Rattle.std.proofs.Common.{◌≡◌, ℕ, suc, ◌+◌, Bool, true, false, List, [], ◌∷◌, ◌++◌, length, Option, Some, None, option_map, refl, sym, ap, ◌∙◌, arith, length-append, if◌then◌else◌}
+use Rattle.std.proofs.Common.{◌≡◌, ℕ, ◌+◌, List, [], ◌∷◌, ◌++◌, length, Option, option_map, refl, sym, ap, ◌∙◌, arith, length-append}
 use Rattle.std.specs.List.{zip}
 use Rattle.aql_names.specs.Named.{last_named}
 use Rattle.aql_value.specs.Datum.{Datum}
-use Rattle.aql_value.specs.Partial.{or_else}
 use Rattle.nrca_term.specs.Meaning.{Outcomes}
-use Rattle.aql_syntax.specs.Names.{names_equal}
 use Rattle.aql_syntax.specs.Tree.{Name}
-use Rattle.aql_session.specs.Bound.{Bound, names, outcomes, last_from, latest_of}
+use Rattle.aql_session.specs.Bound.{Bound, names, outcomes, latest_of}
 
 pub outcomes-zip : (xs : List Name) (V : Outcomes) → length xs ≡ length V → outcomes (zip xs V) ≡ V
 outcomes-zip [] [] e = refl
@@ -27,18 +25,6 @@ zip-push [] (p ∷ V) x o e = cc
 zip-push (y ∷ xs) [] x o e = cc
 zip-push (y ∷ xs) (p ∷ V) x o e = ap (λ l. (y, p) ∷ l) (zip-push xs V x o (omega (arith, e)))
 
--- the last position of a name, the first of the names having the number n
-last_from-named : (n : ℕ) (x : Name) (ns : List Name) → last_from n ns x ≡ option_map (λ i. i + n) (last_named x ns)
-last_from-named n x [] = refl
-last_from-named n x (y ∷ ys) =
-    ap (λ o. or_else o (if names_equal x y then Some n else None)) (last_from-named (n + 1) x ys) ∙ go (last_named x ys) (names_equal x y)
-  where
-    go : (o : Option ℕ) (b : Bool) → or_else (option_map (λ i. i + (n + 1)) o) (if b then Some n else None)
-        ≡ option_map (λ i. i + n) (or_else (option_map suc o) (if b then Some 0 else None))
-    go None true = let e : n ≡ 0 + n = omega arith in ap Some e
-    go None false = refl
-    go (Some i) b = let e : i + (n + 1) ≡ suc i + n = omega arith in ap Some e
-
 module _ (ns : List Name) (V : Outcomes) (many : length ns ≡ length V) (bound : Bound) (is : zip ns V ≡ bound) where
   -- the names of the positions
   pub names-are : names bound ≡ ns
@@ -46,7 +32,7 @@ module _ (ns : List Name) (V : Outcomes) (many : length ns ≡ length V) (bound 
 
   -- the last position of a name, counted from 1
   pub latest-is : (x : Name) (o : Option ℕ) → o ≡ last_named x ns → option_map (λ i. i + 1) o ≡ latest_of bound x
-  latest-is x o e = ap (option_map (λ i. i + 1)) e ∙ sym (last_from-named 1 x ns) ∙ ap (λ l. last_from 1 l x) (sym names-are)
+  latest-is x o e = ap (option_map (λ i. i + 1)) (e ∙ ap (last_named x) (sym names-are))
 
 module _ (ns ms : List Name) (V W : Outcomes) (name : Name) (o : Option Datum) where
   pub lengths-push : length ns ≡ length V → ms ≡ ns ++ name ∷ [] → W ≡ V ++ o ∷ [] → length ms ≡ length W

@@ -1,5 +1,5 @@
 -- The evaluation of a query's terms is that of the query.
-use Rattle.std.proofs.Common.{◌≡◌, ℕ, ◌-◌, ◌<◌, ◌≤◌, Bool, List, [], ◌∷◌, length, Option, Some, refl, sym, ap, ◌∙◌, subst, arith, inl, inr, if◌then◌else◌}
+use Rattle.std.proofs.Common.{◌≡◌, ℕ, ◌-◌, ◌<◌, ◌≤◌, Bool, List, [], ◌∷◌, length, Option, Some, sym, ap, ◌∙◌, subst, arith, inl, inr, if◌then◌else◌}
 use Rattle.std.specs.Global.{Box}
 use Rattle.std.specs.Option.{ForSome}
 use Rattle.std.proofs.lemmas.Bool.{cases_lt, le-ltb, lt-ltb}
@@ -7,9 +7,7 @@ use Rattle.aql_value.specs.Valid.{IsValue}
 use Rattle.aql_syntax.specs.Size.{before}
 use Rattle.aql_syntax.specs.Tree.{Declaration}
 use Rattle.aql_syntax.specs.Script.{Earlier}
-use Rattle.aql_syntax.specs.View.{decls_of}
-use Rattle.aql_syntax.specs.declared.ast.Decl.{Decl}
-use Rattle.nrca_loops.specs.Scope.{held_value}
+use Rattle.nrca_loops.specs.Values.{held_value}
 use Rattle.nrca_term.specs.Meaning.{Outcomes, cden}
 use Rattle.nrca_term.specs.Term.{Term}
 use Rattle.nrca_term.specs.Turns.{settle}
@@ -20,8 +18,8 @@ use Rattle.nrca_motion.specs.declared.still.Moved.{Moved}
 use Rattle.aql_desugar_spec.specs.Positions.{outcomes_of}
 use Rattle.aql_desugar_spec.specs.Start.{query}
 use Rattle.aql_session.specs.Bound.{earlier_of}
-use Rattle.aql_session.specs.Planned.{IsPlanned, Evaluates, PassAll}
-use Rattle.aql_session.specs.Runs.{IsQuery, IsEvaluated, IsSpentFault, query_value}
+use Rattle.aql_session.specs.Planned.{IsPlanned, EvaluatesOne, PassAll}
+use Rattle.aql_session.specs.Executions.{IsQuery, IsEvaluated, IsSpentFault, query_value}
 use Rattle.aql_session.specs.Step.{by_moved, choice, first_within, moved_term, moved_turns, start_term, start_of, query_turns, turns_in, IsMovedBy, MayBeEvaluated}
 use Rattle.aql_session.specs.declared.answer.Ran.{Ran}
 use Rattle.aql_session.specs.declared.answer.Ran.TheVariants as ran
@@ -30,10 +28,6 @@ use Rattle.aql_session.specs.declared.answer.StepFault.TheVariants as faults
 use Rattle.aql_session.specs.declared.queries.Evaluated.{Evaluated}
 use Rattle.aql_session.specs.declared.queries.Planned.{Planned}
 use Rattle.aql_session.proofs.Positions.{start-at, value-at, outcomes-earlier}
-
-pub length-decls_of : (xs : List Decl) → length (decls_of xs) ≡ length xs
-length-decls_of [] = refl
-length-decls_of (x ∷ xs) = omega (arith, length-decls_of xs)
 
 -- Which term counts.
 
@@ -83,7 +77,7 @@ module _ (ds : List Declaration) (V : Outcomes) (n : ℕ) (many : length V ≡ n
   moved-is : (motion : Bool) (u : Term) (m : Option (Box Moved)) → IsMovedBy motion V u m → IsMovedBy motion (outcomes_of (earlier_of ds V)) u m
   moved-is motion u m h = subst (λ W. IsMovedBy motion W u m) outcomes-are h
 
-  pub evaluated-is : (p : Option Declaration) → p ≡ Some d → IsQuery p → (motion : Bool) (budget : ℕ) (r : Planned) (q : Evaluated) → IsPlanned motion V t r → Evaluates V budget r q →
+  pub evaluated-is : (p : Option Declaration) → p ≡ Some d → IsQuery p → (motion : Bool) (budget : ℕ) (r : Planned) (q : Evaluated) → IsPlanned motion V t r → EvaluatesOne V budget r q →
       IsEvaluated d (earlier_of ds V) motion budget q
   evaluated-is p e k motion budget r q h x =
       let z : k.0 ≡ d = (let y = sym k.2 ∙ e in cc) in

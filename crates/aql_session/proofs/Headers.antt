@@ -1,12 +1,12 @@
 -- What the reader of headers answers, beside the header of the file's bytes.
 use Rattle.std.proofs.Common.{◌≡◌, List, ℕ, Err, refl}
-use Rattle.cdf_header.specs.File.{IsAnswered, IsLost, header_of}
+use Rattle.cdf_header.specs.File.{AnswersIfAble, IsLost, header_of}
 use Rattle.cdf_header.specs.declared.fault.CdfFault.{CdfFault}
 use Rattle.cdf_header.specs.declared.fault.CdfFault.TheVariants as faults
 use Rattle.aql_session.specs.Step.{IsOfFile}
 
 -- a fault of the file that is answered is that of the bytes
-pub header-failed : (bytes : List ℕ) (f : CdfFault) → IsOfFile f → IsAnswered (header_of bytes) (Err f) → header_of bytes ≡ Err f
+pub header-failed : (bytes : List ℕ) (f : CdfFault) → IsOfFile f → AnswersIfAble (header_of bytes) (Err f) → header_of bytes ≡ Err f
 header-failed bytes faults.Absent u r = r
 header-failed bytes faults.NotClassic u r = r
 header-failed bytes (faults.Version v) u r = r

@@ -14,10 +14,10 @@ use Rattle.aql_syntax.specs.Typing.{reader_type, argument_type}
 use Rattle.cdf_slab.specs.Numbers.{IsCell}
 use Rattle.cdf_slab.specs.Slab.{IsShaped}
 use Rattle.nrca_array.specs.Held.{table_datum}
-use Rattle.nrca_loops.specs.Scope.{held_value}
+use Rattle.nrca_loops.specs.Values.{held_value}
 use Rattle.aql_value.specs.Limits.{most_budget}
 use Rattle.aql_session.specs.Asked.{Hyperslab, Asked, hyperslab, asked_of, cells}
-use Rattle.aql_session.specs.Runs.{IsProper, IsReadBy, IsReadOf, IsRequestOf, IsSlabOf, asked_type, cell_type, request_asked}
+use Rattle.aql_session.specs.Executions.{IsProper, IsReadBy, IsReadOf, IsRequestOf, IsSlabOf, asked_type, cell_type, request_asked}
 use Rattle.aql_session.specs.Step.{IsCountOf, IsReadable}
 use Rattle.aql_session.specs.declared.readings.Read.{Read}
 use Rattle.aql_session.specs.declared.readings.Request.{Request}

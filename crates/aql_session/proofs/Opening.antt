@@ -8,7 +8,7 @@ use Rattle.std.proofs.lemmas.Str.{IsUtf8-from_is_utf8, is_utf8-from_IsUtf8}
 use Rattle.aql_outside.specs.Causes.{Rose}
 use Rattle.aql_outside.specs.Contents.{Content, bytes_in, IsAbsent}
 use Rattle.aql_value.specs.Datum.{Table}
-use Rattle.cdf_header.specs.File.{IsAnswered, IsLost, header_of}
+use Rattle.cdf_header.specs.File.{AnswersIfAble, IsLost, header_of}
 use Rattle.cdf_header.specs.Header.{Head}
 use Rattle.cdf_header.specs.Laws.Header.{header_of-bytes}
 use Rattle.cdf_header.specs.Places.{find_in, variable_at}
@@ -17,15 +17,15 @@ use Rattle.cdf_header.specs.declared.fault.CdfFault.TheVariants as file_faults
 use Rattle.cdf_slab.specs.Slab.{slab, slab_fault, IsSlabAnswer, IsOfRequest}
 use Rattle.nrca_array.specs.Held.{table_datum}
 use Rattle.aql_session.specs.Asked.{Hyperslab}
-use Rattle.aql_session.specs.Reading.{in_header, in_file, at_name, opened, fault_in, read_fault, value_in, unless, read_hyperslab}
-use Rattle.aql_session.specs.Runs.{handed_on, IsFileAt, IsFileCause}
+use Rattle.aql_session.specs.Reading.{in_header, in_file, at_name, open_hyperslab, fault_in, read_fault, value_in, unless, read_hyperslab}
+use Rattle.aql_session.specs.Executions.{handed_on, IsFileAt, IsFileCause}
 use Rattle.aql_session.specs.Step.{IsOfFile, IsOfVersion}
 use Rattle.aql_session.specs.declared.readings.Found.{Found}
 use Rattle.aql_session.proofs.Headers.{header-failed, lost-is}
 
 -- what a reader of headers says of its answer, where these files are held
 pub record Says (a : Hyperslab) (files : Content) (r : Result Head CdfFault) : Type 0 where
-  pub told : (bytes : List ℕ) → IsUtf8 a.file → files a.file ≡ Some bytes → IsAnswered (header_of bytes) r
+  pub told : (bytes : List ℕ) → IsUtf8 a.file → files a.file ≡ Some bytes → AnswersIfAble (header_of bytes) r
   pub absent : files a.file ≡ None → (f : CdfFault) × (r ≡ Err f) × IsLost f
   pub unnamed : (IsUtf8 a.file → ⊥) → r ≡ Err file_faults.Absent
 
@@ -33,14 +33,14 @@ err-is : (f g : CdfFault) → (let r : Result Head CdfFault = Err f in r) ≡ Er
 err-is f g e = cc
 
 module _ (a : Hyperslab) (files : Content) where
-  by-name : (b : Bool) → is_utf8 a.file ≡ b → opened files a ≡ at_name a (if b then files a.file else None)
+  by-name : (b : Bool) → is_utf8 a.file ≡ b → open_hyperslab files a ≡ at_name a (if b then files a.file else None)
   by-name b e = ap (λ t. at_name a (if t then files a.file else None)) e
 
-  by-bytes : (o : Option (List ℕ)) → is_utf8 a.file ≡ true → files a.file ≡ o → opened files a ≡ at_name a o
+  by-bytes : (o : Option (List ℕ)) → is_utf8 a.file ≡ true → files a.file ≡ o → open_hyperslab files a ≡ at_name a o
   by-bytes o u e = by-name true u ∙ ap (at_name a) e
 
   -- the fault of a header is that of the read
-  pub failed : (f : CdfFault) → IsOfFile f → Says a files (Err f) → opened files a ≡ Err f
+  pub failed : (f : CdfFault) → IsOfFile f → Says a files (Err f) → open_hyperslab files a ≡ Err f
   failed f u s = elim (cases_Bool (is_utf8 a.file)) [
     | inl e ↦ go e (files a.file) refl
     | inr e ↦
@@ -48,7 +48,7 @@ module _ (a : Hyperslab) (files : Content) where
         by-name false e ∙ ap Err (sym (err-is f file_faults.Absent (s.unnamed n))))
   ]
     where
-      go : is_utf8 a.file ≡ true → (o : Option (List ℕ)) → files a.file ≡ o → opened files a ≡ Err f
+      go : is_utf8 a.file ≡ true → (o : Option (List ℕ)) → files a.file ≡ o → open_hyperslab files a ≡ Err f
       go e None q =
           let l = s.absent q in
           let z : f ≡ l.0 = err-is f l.0 l.1 in
@@ -62,7 +62,7 @@ module _ (a : Hyperslab) (files : Content) where
     pub utf8 : IsUtf8 a.file
     pub there : files a.file ≡ Some bytes
     pub size : h.bytes ≡ length bytes
-    pub is : opened files a ≡ in_header bytes h (find_in h.vars a.variable)
+    pub is : open_hyperslab files a ≡ in_header bytes h (find_in h.vars a.variable)
 
   ok-is : (h : Head) (f : CdfFault) → (let r : Result Head CdfFault = Ok h in r) ≡ Err f → ⊥
   ok-is h f e = cc
@@ -137,7 +137,7 @@ module _ (a : Hyperslab) (files : Content) where
       (read_fault files a ≡ None) × (read_hyperslab files a ≡ Some (table_datum t))
   slab-read found at t s =
       let none : read_fault files a ≡ None = ap (fault_in a) at.is ∙ s.0 in
-      (none, ap (λ o. unless o (value_in a (opened files a))) none ∙ ap (value_in a) at.is ∙ ap (option_map table_datum) s.1)
+      (none, ap (λ o. unless o (value_in a (open_hyperslab files a))) none ∙ ap (value_in a) at.is ∙ ap (option_map table_datum) s.1)
 
 -- a name that cannot be other than UTF-8 is UTF-8
 pub utf8-is : (name : List ℕ) → ((IsUtf8 name → ⊥) → ⊥) → IsUtf8 name
@@ -167,7 +167,7 @@ handed-cause a holds before now file_faults.Memory r u v q t = tt
 
 -- what is said of the files at hand is said of those that are held
 pub says-of : (a : Hyperslab) (holds : Option Content) (files : Content) (r : Result Head CdfFault) → holds ≡ Some files →
-    ((bytes : List ℕ) → IsUtf8 a.file → bytes_in holds a.file ≡ Some bytes → IsAnswered (header_of bytes) r) →
+    ((bytes : List ℕ) → IsUtf8 a.file → bytes_in holds a.file ≡ Some bytes → AnswersIfAble (header_of bytes) r) →
     (IsAbsent holds a.file → (f : CdfFault) × (r ≡ Err f) × IsLost f) → ((IsUtf8 a.file → ⊥) → r ≡ Err file_faults.Absent) → Says a files r
 says-of a holds files r e t b u = record {
   told = λ bytes h q. t bytes h (ap (λ o. bytes_in o a.file) e ∙ q);

@@ -14,8 +14,9 @@ use Rattle.aql_syntax.specs.Script.{Earlier}
 use Rattle.aql_syntax.specs.Size.{before}
 use Rattle.aql_syntax.specs.Sound.{declarations_of, OutcomesTyped}
 use Rattle.aql_syntax.specs.Tree.{Tree, Declaration, val, mac, read, bare}
-use Rattle.aql_syntax.specs.Typing.{Environment, Has, DeclHas, scope_of, argument_type}
+use Rattle.aql_syntax.specs.Typing.{Environment, Has, DeclHas, environment_of, argument_type}
 use Rattle.aql_infer_steps.specs.Typed.{ArePrincipal}
+use Rattle.aql_infer_steps.specs.Laws.Principal.{sort-at}
 use Rattle.nrca_term.specs.Laws.Valid.{cden-valid}
 use Rattle.nrca_term.specs.Meaning.{Outcomes, cden}
 use Rattle.nrca_term.specs.Term.{Term, weight_of, IsSmall}
@@ -38,9 +39,8 @@ use Rattle.aql_desugar.specs.Translation.{IsTranslated, types_before, query_of, 
 use Rattle.aql_session.specs.Bound.{onto}
 use Rattle.aql_session.specs.Known.{Knows}
 use Rattle.aql_session.specs.Planned.{KeepsMoved}
-use Rattle.aql_session.specs.Runs.{IsReadyAt, IsQuery}
+use Rattle.aql_session.specs.Executions.{IsReadyAt, IsQuery}
 use Rattle.aql_session.specs.Step.{IsMovedBy, NoMacroHasValue, moved_term, moves_of}
-use Rattle.aql_session.proofs.Positions.{sort-at}
 
 -- The types of the positions' outcomes.
 
@@ -62,7 +62,7 @@ macros-behind (d ∷ ds) (o ∷ V) earlier h = bare-behind d o earlier (macros-b
 
 -- a value has each instance of its position's type
 first-has : (d : Declaration) (o : Option Datum) (earlier : Earlier) (s : Sort) → OutcomesTyped ((d, o) ∷ earlier) → NoMacroHasValue ((d, o) ∷ earlier) →
-    DeclHas d (scope_of (declarations_of earlier)) s → (v : Datum) → o ≡ Some v → (u : Subst) → HasType (apply u (value_type s)) v
+    DeclHas d (environment_of (declarations_of earlier)) s → (v : Datum) → o ≡ Some v → (u : Subst) → HasType (apply u (value_type s)) v
 first-has d o earlier (types.value t) h m k v e u = h.0 t v k e u
 first-has (val x b) o earlier (types.macro s t) h m k v e u = absurd k
 first-has (mac f p b) o earlier (types.macro s t) h m k v e u = (let z = sym m.0 ∙ e in cc)
@@ -79,7 +79,7 @@ have-from (d ∷ ds) before (t ∷ sorts) (x ∷ V) earlier e p h m l zero S v u
     let z : value_type t ≡ S = cc in
     subst (λ y. HasType (apply u y) v) z
     (first-has d x earlier t (typed-behind ds V ((d, x) ∷ earlier) h) (macros-behind ds V ((d, x) ∷ earlier) m)
-    (subst (λ y. DeclHas d (scope_of y) t) (sym e) p.0.principal.has) v o u)
+    (subst (λ y. DeclHas d (environment_of y) t) (sym e) p.0.principal.has) v o u)
 have-from (d ∷ ds) before (t ∷ sorts) (x ∷ V) earlier e p h m l (suc i) S v u s o =
     have-from ds (d ∷ before) sorts V ((d, x) ∷ earlier) (ap (λ y. d ∷ y) e) p.1 h m (omega (arith, l)) i S v u s o
 
@@ -105,7 +105,7 @@ pub query-term : (ds : List Declaration) (sorts : List Sort) (n : ℕ) (V : Outc
     ((e : Tree) → query_of ds n ≡ Some e → IsTranslated ds sorts n e t) → (ArePrincipal [] ds sorts → IsSmall 0 t) → IsTypedOver V t
 query-term ds sorts n V t h q x small =
     let s = sort-at ds sorts n q.0 h.checked q.2 in
-    let y = has-query q.0 q.1 (scope_of (before ds n)) s.0 q.3 s.2.principal.has in
+    let y = has-query q.0 q.1 (environment_of (before ds n)) s.0 q.3 s.2.principal.has in
     record {
       given = types_before sorts n ++ [];
       type = y.0;

@@ -13,22 +13,24 @@ use Rattle.aql_types.specs.ValueTypes.{HasType}
 use Rattle.aql_types.specs.View.{sort_of}
 use Rattle.aql_types.specs.declared.ty.Scheme.{Scheme}
 use Rattle.aql_infer_steps.specs.Typed.{ArePrincipal, sorts_of}
+use Rattle.aql_infer_steps.specs.Laws.Principal.{sort-at}
 use Rattle.aql_syntax.specs.Denotation.{den}
 use Rattle.aql_syntax.specs.Script.{Earlier, globals_of, ReaderMeaning, read_outcome, outcome_after}
 use Rattle.aql_syntax.specs.Size.{before}
 use Rattle.aql_syntax.specs.Sound.{OutcomesTyped, ReadsHave}
 use Rattle.aql_syntax.specs.Laws.Sound.{typed-value, outcome-has, apply-reader_type}
-use Rattle.aql_syntax.specs.Tree.{Name, Tree, Reader, Declaration, val, mac, read, bare, declared}
-use Rattle.aql_syntax.specs.Typing.{Has, DeclHas, IsPrincipal, scope_of, reader_type, argument_type}
+use Rattle.aql_syntax.specs.Tree.{Name, Tree, Reader, Declaration, val, mac, read, bare, declared_name}
+use Rattle.aql_syntax.specs.Typing.{Has, DeclHas, IsPrincipal, environment_of, reader_type, argument_type}
 use Rattle.aql_desugar_spec.specs.Positions.{outcomes_of}
 use Rattle.nrca_encoded.specs.declared.ran.Graph.{Graph}
-use Rattle.nrca_loops.specs.Scope.{held_value}
+use Rattle.nrca_loops.specs.Values.{held_value}
 use Rattle.nrca_term.specs.View.{term_of}
 use Rattle.nrca_term.specs.Meaning.{Outcomes}
 use Rattle.aql_value.specs.Limits.{most_budget}
+use Rattle.aql_value.specs.Laws.Lists.{entry-there}
 use Rattle.aql_session.specs.Bound.{Bound, AreBound, earlier_of, outcomes}
 use Rattle.aql_session.specs.Reading.{read_value, reading}
-use Rattle.aql_session.specs.Runs.{IsReadyAt, IsValueDeclaration, IsSpentFault, IsEvaluated, IsReadBy, IsArgumentCause, IsExecution, IsAnswerOf, asked_in, query_value, execution_with}
+use Rattle.aql_session.specs.Executions.{IsReadyAt, IsValueDeclaration, IsSpentFault, IsEvaluated, IsReadBy, IsArgumentCause, IsExecution, IsAnswerOf, asked_in, query_value, execution_with}
 use Rattle.aql_session.specs.Step.{CallsNoFile, HasGraph, HasMotion, HasPlan, IsAnswer, IsCounted, IsCountOf, IsGraphBy, IsOutcome, IsReadable, IsReadOutcome, BindsPosition, IsCause, NoMacroHasValue, OutcomesFit, ReadsNoFile, asks, start_of}
 use Rattle.aql_session.specs.declared.answer.Answer.{Answer}
 use Rattle.aql_session.specs.declared.answer.Ran.TheVariants as ran
@@ -36,18 +38,13 @@ use Rattle.aql_session.specs.declared.answer.StepFault.{StepFault}
 use Rattle.aql_session.specs.declared.answer.StepFault.TheVariants as faults
 use Rattle.aql_session.specs.declared.queries.Evaluated.{Evaluated}
 use Rattle.aql_session.specs.declared.readings.Read.{Read}
-use Rattle.aql_session.specs.declared.runs.Execution.{Execution}
+use Rattle.aql_session.specs.declared.executions.Execution.{Execution}
 use Rattle.aql_session.proofs.Evaluating.{evaluated-may, evaluated-within}
-use Rattle.aql_session.proofs.Positions.{declarations-before, sort-at}
-
-found-there : (ds : List Declaration) (i : ℕ) → i < length ds → (d : Declaration) × (slice_get ds i ≡ Some d)
-found-there [] i h = absurd (omega (arith, h))
-found-there (d ∷ ds) zero h = (d, refl)
-found-there (d ∷ ds) (suc i) h = found-there ds i (omega (arith, h))
+use Rattle.aql_session.proofs.Positions.{declarations-before}
 
 -- each number of a position has a declaration
 pub declaration-there : (ds : List Declaration) (n : ℕ) → 1 ≤ n → n ≤ length ds → (d : Declaration) × (slice_get ds (n - 1) ≡ Some d)
-declaration-there ds n h k = found-there ds (n - 1) (omega (arith, h, k))
+declaration-there ds n h k = entry-there ds (n - 1) (omega (arith, h, k))
 
 pub same-position : (p : Option Declaration) (c d : Declaration) → p ≡ Some c → p ≡ Some d → c ≡ d
 same-position p c d e f = let y = sym e ∙ f in cc
@@ -142,9 +139,9 @@ module _ (x : Name) (r : Reader) (e : Tree) (earlier : Earlier) (motion : Bool) 
 -- what the check says of a readval
 record ReadHas (r : Reader) (e : Tree) (earlier : List Declaration) : Type 0 where
   pub within : IsWithin (reader_type r)
-  pub has : Has e (scope_of earlier) [] (argument_type r)
+  pub has : Has e (environment_of earlier) [] (argument_type r)
 
-sort-read : (x : Name) (r : Reader) (e : Tree) (earlier : List Declaration) (s : Sort) → DeclHas (read x r e) (scope_of earlier) s → ReadHas r e earlier
+sort-read : (x : Name) (r : Reader) (e : Tree) (earlier : List Declaration) (s : Sort) → DeclHas (read x r e) (environment_of earlier) s → ReadHas r e earlier
 sort-read x r e earlier (value t) h = record { within = subst IsWithin h.0 h.1; has = h.3 }
 sort-read x r e earlier (macro s t) h = absurd h
 
@@ -160,7 +157,7 @@ module _ (ds : List Declaration) (sorts : List Sort) (n : ℕ) (V : Outcomes) (s
     pub argument-typed : (o : Option Datum) → o ≡ query_value (read x r e) (earlier_of ds V) → ForSome o (HasType (argument_type r))
     argument-typed o q v k =
         typed-value (earlier_of ds V) stands.typed e (argument_type r) v
-        (subst (λ l. Has e (scope_of l) [] (argument_type r)) (sym (declarations-before ds V n stands.many)) read-has.has) (sym q ∙ k)
+        (subst (λ l. Has e (environment_of l) [] (argument_type r)) (sym (declarations-before ds V n stands.many)) read-has.has) (sym q ∙ k)
 
   -- the answer of a run
   pub answer-is : (d : Declaration) → slice_get ds (n - 1) ≡ Some d → (motion graphs : Bool) (budget : ℕ) (holds : Option Content) (r : Execution) (a : Answer) →
@@ -172,8 +169,8 @@ module _ (ds : List Declaration) (sorts : List Sort) (n : ℕ) (V : Outcomes) (s
         name = k.name;
         found = k.found;
         principal =
-            subst (λ l. IsPrincipal d (scope_of l) (sort_of a.ty)) (sym (declarations-before ds V n stands.many))
-            (subst (IsPrincipal d (scope_of (before ds n))) z s.2.principal);
+            subst (λ l. IsPrincipal d (environment_of l) (sort_of a.ty)) (sym (declarations-before ds V n stands.many))
+            (subst (IsPrincipal d (environment_of (before ds n))) z s.2.principal);
         start = k.start ∙ h.start;
         planned =
             subst (λ t. HasPlan d (earlier_of ds V) t a.trace (term_of a.plan)) (sym (k.start ∙ h.start))
@@ -225,7 +222,7 @@ outcome-told (read x r e) earlier holds o k files l = go (den e (globals_of earl
 
 -- the position that a run binds
 pub binds-is : (d : Declaration) (earlier : Earlier) (motion graphs : Bool) (budget : ℕ) (holds : Option Content) (r : Execution) (sort : Option Sort) (a : Answer) (old new : Bound) →
-    OutcomesFit earlier → IsExecution d earlier motion graphs budget holds r → IsAnswerOf d sort r a → new ≡ old ++ (declared d, held_value r.value) ∷ [] → BindsPosition d earlier budget holds old new a
+    OutcomesFit earlier → IsExecution d earlier motion graphs budget holds r → IsAnswerOf d sort r a → new ≡ old ++ (declared_name d, held_value r.value) ∷ [] → BindsPosition d earlier budget holds old new a
 binds-is d earlier motion graphs budget holds r sort a old new t h k e = record {
   outcome = held_value r.value;
   bound = e;
@@ -242,7 +239,7 @@ binds-is d earlier motion graphs budget holds r sort a old new t h k e = record 
 -- as many outcomes as positions before n
 pub bound-many : (ds : List Declaration) (n : ℕ) (bound : Bound) → n ≤ length ds → AreBound ds n bound → length (outcomes bound) ≡ n - 1
 bound-many ds n bound l e =
-    omega (arith, l, ap length e, length-map bound (λ b. b.0), length-map bound (λ b. b.1), length-map (take (n - 1) ds) declared, length-take (n - 1) ds)
+    omega (arith, l, ap length e, length-map bound (λ b. b.0), length-map bound (λ b. b.1), length-map (take (n - 1) ds) declared_name, length-take (n - 1) ds)
 
 -- the scheme at a place
 pub scheme-at : (xs : List Scheme) (i : ℕ) (x : Scheme) → i < length xs → x ≡ get_or xs i x → slice_get (sorts_of xs) i ≡ Some (sort_of x)

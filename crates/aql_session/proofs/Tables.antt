@@ -20,10 +20,10 @@ use Rattle.aql_csv.specs.Records.{Record, records_of}
 use Rattle.aql_csv.specs.Rows.{IsOfRecords, field_value, field_values, in_front, or_fault, record_value, result_map, row, rows, rows_from}
 use Rattle.aql_csv.specs.declared.fault.CsvFault.{CsvFault}
 use Rattle.aql_csv.specs.declared.fault.CsvFault.TheVariants as csv_faults
-use Rattle.nrca_loops.specs.Scope.{held_value}
+use Rattle.nrca_loops.specs.Values.{held_value}
 use Rattle.aql_session.specs.Asked.{table}
 use Rattle.aql_session.specs.Reading.{file_in, in_table, read_table}
-use Rattle.aql_session.specs.Runs.{IsReadCause, IsReadOf, table_handed_on}
+use Rattle.aql_session.specs.Executions.{IsReadCause, IsReadOf, table_handed_on}
 use Rattle.aql_session.specs.Step.{GivesTable, HasTableFault, IsOfBytes, IsOfTable}
 use Rattle.aql_session.specs.declared.readings.Read.{Read}
 use Rattle.aql_session.proofs.Opening.{utf8-is}

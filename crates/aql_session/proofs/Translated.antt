@@ -1,14 +1,15 @@
 -- What the translation of a query says of its start term.
-use Rattle.std.proofs.Common.{◌≡◌, ℕ, zero, suc, ◌-◌, List, [], ◌∷◌, map, take, Option, Some, Result, Ok, Err, IfOk, refl, sym, ap, ◌∙◌, subst}
+use Rattle.std.proofs.Common.{◌≡◌, ℕ, ◌-◌, List, map, take, Option, Some, refl, sym, ap, ◌∙◌, subst, arith}
 use Rattle.std.specs.Prelude.{slice_get, IsSome}
+use Rattle.std.proofs.lemmas.List.{take-map, take-take}
 use Rattle.aql_types.specs.Types.{Sort}
 use Rattle.aql_syntax.specs.Size.{before}
-use Rattle.aql_syntax.specs.Tree.{Name, Tree, Declaration, declared}
+use Rattle.aql_syntax.specs.Tree.{Name, Tree, Declaration, declared_name}
 use Rattle.nrca_term.specs.Term.{Term}
 use Rattle.aql_desugar_spec.specs.Start.{query}
 use Rattle.aql_desugar.specs.Named.{NameThoseBefore}
 use Rattle.aql_desugar.specs.Translation.{query_at, query_of, IsTranslated}
-use Rattle.aql_session.specs.Runs.{IsQuery}
+use Rattle.aql_session.specs.Executions.{IsQuery}
 use Rattle.aql_session.specs.Step.{start_term}
 
 found-is : (x : Option Declaration) (q : IsQuery x) → query_at x ≡ Some q.1
@@ -29,22 +30,6 @@ start-is ds sorts n d t e q h =
     let y : query d ≡ Some q.1 = sym (ap query_at e) ∙ x in
     (h q.1 x).exact ∙ ap (λ z. start_term z (before ds n)) (sym y)
 
--- the first elements of a list, taken twice
-take_twice : {A : Type 0} (n : ℕ) (xs : List A) → take n (take n xs) ≡ take n xs
-take_twice zero xs = refl
-take_twice (suc n) [] = refl
-take_twice (suc n) (x ∷ xs) = ap (λ l. x ∷ l) (take_twice n xs)
-
-take_map : {A B : Type 0} (f : A → B) (n : ℕ) (xs : List A) → take n (map f xs) ≡ map f (take n xs)
-take_map f zero xs = refl
-take_map f (suc n) [] = refl
-take_map f (suc n) (x ∷ xs) = ap (λ l. f x ∷ l) (take_map f n xs)
-
 -- the names of all positions before one begin with themselves
-pub names-before : (ds : List Declaration) (n : ℕ) (ns : List Name) → ns ≡ map declared (take (n - 1) ds) → NameThoseBefore ds n ns
-names-before ds n ns e = ap (take (n - 1)) e ∙ take_map declared (n - 1) (take (n - 1) ds) ∙ ap (map declared) (take_twice (n - 1) ds)
-
--- what follows from two things that are known of an answer
-pub ok_join : {T E : Type 0} (r : Result T E) (P Q R : T → Type 0) → ((x : T) → P x → Q x → R x) → IfOk r P → IfOk r Q → IfOk r R
-ok_join (Ok x) P Q R f h k = f x h k
-ok_join (Err e) P Q R f h k = tt
+pub names-before : (ds : List Declaration) (n : ℕ) (ns : List Name) → ns ≡ map declared_name (take (n - 1) ds) → NameThoseBefore ds n ns
+names-before ds n ns e = ap (take (n - 1)) e ∙ take-map declared_name (n - 1) (take (n - 1) ds) ∙ ap (map declared_name) (take-take (n - 1) (n - 1) ds (omega arith))

@@ -23,24 +23,24 @@ pub data Asked : Type 0 where
   table : (file : List ℕ) → (header : Bool) → (kinds : List Kind) → Asked
 
 -- of two strings and two indices, and of the strides where they are indices
-abbrev pub asked : (rank : ℕ) → (signed : Bool) → (f x s c : Datum) → (stride : Option (List ℕ)) → Option Hyperslab
-asked rank signed f x s c stride =
+abbrev pub hyperslab_from : (rank : ℕ) → (signed : Bool) → (f x s c : Datum) → (stride : Option (List ℕ)) → Option Hyperslab
+hyperslab_from rank signed f x s c stride =
     as_text f >>= λ file. as_text x >>= λ variable. index_numbers rank s >>= λ start. index_numbers rank c >>= λ count. stride >>= λ apart.
     Some (record { file = file; variable = variable; start = start; count = count; stride = apart; signed = signed })
 
 -- of a tuple of file, variable, start and count; without strides each is 1
-abbrev pub unstrided : (rank : ℕ) → (signed : Bool) → List Datum → Option Hyperslab
-unstrided rank signed (f ∷ x ∷ s ∷ c ∷ []) = asked rank signed f x s c (Some (replicate rank 1))
-unstrided rank signed vs = None
+abbrev pub without_strides : (rank : ℕ) → (signed : Bool) → List Datum → Option Hyperslab
+without_strides rank signed (f ∷ x ∷ s ∷ c ∷ []) = hyperslab_from rank signed f x s c (Some (replicate rank 1))
+without_strides rank signed vs = None
 
 -- of a tuple of file, variable, start, count and stride
 abbrev pub with_strides : (rank : ℕ) → List Datum → Option Hyperslab
-with_strides rank (f ∷ x ∷ s ∷ c ∷ t ∷ []) = asked rank false f x s c (index_numbers rank t)
+with_strides rank (f ∷ x ∷ s ∷ c ∷ t ∷ []) = hyperslab_from rank false f x s c (index_numbers rank t)
 with_strides rank vs = None
 
 -- the hyperslab that a value asks for, where it is such a tuple
 abbrev pub unstrided_of : (rank : ℕ) → (signed : Bool) → Datum → Option Hyperslab
-unstrided_of rank signed v = as_tuple v >>= unstrided rank signed
+unstrided_of rank signed v = as_tuple v >>= without_strides rank signed
 
 -- the same with strides
 abbrev pub strided_of : (rank : ℕ) → Datum → Option Hyperslab

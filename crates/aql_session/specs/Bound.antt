@@ -1,10 +1,9 @@
 -- What a session keeps: the positions that are bound, and what they are to the declarations after them.
-use Rattle.std.specs.Prelude.{◌≡◌, ℕ, ◌+◌, ◌-◌, List, [], ◌∷◌, map, take, Option, Some, None, if◌then◌else◌}
+use Rattle.std.specs.Prelude.{◌≡◌, ℕ, ◌+◌, ◌-◌, List, [], ◌∷◌, map, take, Option, option_map}
 use Rattle.aql_value.specs.Datum.{Datum}
-use Rattle.aql_value.specs.Partial.{or_else}
-use Rattle.aql_syntax.specs.Names.{names_equal}
+use Rattle.aql_names.specs.Named.{last_named}
 use Rattle.aql_syntax.specs.Script.{Earlier}
-use Rattle.aql_syntax.specs.Tree.{Name, Declaration, declared}
+use Rattle.aql_syntax.specs.Tree.{Name, Declaration, declared_name}
 use Rattle.nrca_term.specs.Meaning.{Outcomes}
 
 -- the positions in the order in which they were bound, each with its name and its outcome; None is no value
@@ -19,18 +18,13 @@ names bound = map (λ b. b.0) bound
 abbrev pub outcomes : Bound → Outcomes
 outcomes bound = map (λ b. b.1) bound
 
--- the number of the last of these names that is x, the first of them having the number n
-abbrev pub last_from : (n : ℕ) → List Name → Name → Option ℕ
-last_from n [] x = None
-last_from n (y ∷ ys) x = or_else (last_from (n + 1) ys x) (if names_equal x y then Some n else None)
-
 -- the last position, counted from 1, that bound the name
 abbrev pub latest_of : Bound → Name → Option ℕ
-latest_of bound x = last_from 1 (names bound) x
+latest_of bound x = option_map (λ i. i + 1) (last_named x (names bound))
 
 -- the positions before position n are bound and no other, each under its declaration's name
 abbrev pub AreBound : List Declaration → ℕ → Bound → Type 0
-AreBound ds n bound = names bound ≡ map declared (take (n - 1) ds)
+AreBound ds n bound = names bound ≡ map declared_name (take (n - 1) ds)
 
 -- declarations with their outcomes put before others one after another
 abbrev pub onto : List Declaration → Outcomes → Earlier → Earlier

@@ -6,5 +6,5 @@ pub mod Step
 pub mod Known
 pub mod Planned
 pub mod Numbered
-pub mod Runs
+pub mod Executions
 pub mod Laws

@@ -3,7 +3,7 @@ use Rattle.std.specs.Prelude.{◌≡◌, ℕ, ◌<◌, Bool, List, [], Option, S
 use Rattle.std.specs.Global.{Box}
 use Rattle.std.specs.Option.{ForSome}
 use Rattle.aql_value.specs.Valid.{IsValue}
-use Rattle.nrca_loops.specs.Scope.{held_value}
+use Rattle.nrca_loops.specs.Values.{held_value}
 use Rattle.nrca_loops.specs.declared.done.Done.{Done}
 use Rattle.nrca_term.specs.Meaning.{Outcomes, cden}
 use Rattle.nrca_term.specs.Term.{Term}
@@ -58,7 +58,7 @@ abbrev pub IsChosen : Planned → Ran → Done → Evaluated → Type 0
 IsChosen p by done q = q ≡ record { start = p.start; plan = p.plan; trace = p.trace; moved = p.moved; by = by; value = done.value; turns = done.turns }
 
 -- one of the terms was evaluated within the budget: the plan where its turns are, else the start term, else what is moved in the plan
-pub record Evaluates (V : Outcomes) (budget : ℕ) (p : Planned) (q : Evaluated) : Type 0 where
+pub record EvaluatesOne (V : Outcomes) (budget : ℕ) (p : Planned) (q : Evaluated) : Type 0 where
   pub start : term_of q.start ≡ term_of p.start
   pub plan : term_of q.plan ≡ term_of p.plan
   pub trace : q.trace ≡ p.trace

@@ -45,8 +45,8 @@ abbrev pub file_in : Content → List ℕ → Option (List ℕ)
 file_in files name = if is_utf8 name then files name else None
 
 -- what is asked for is opened, or the first fault: Absent, the header's, NoVariable
-abbrev pub opened : Content → Hyperslab → Result Opened CdfFault
-opened files a = at_name a (file_in files a.file)
+abbrev pub open_hyperslab : Content → Hyperslab → Result Opened CdfFault
+open_hyperslab files a = at_name a (file_in files a.file)
 
 -- the fault of what was opened, or else of the hyperslab in it
 abbrev pub fault_in : Hyperslab → Result Opened CdfFault → Option CdfFault
@@ -55,7 +55,7 @@ fault_in a (Ok o) = slab_fault o.bytes o.head o.variable a.start a.count a.strid
 
 -- the first fault of a read: of opening, and then the hyperslab's
 abbrev pub read_fault : Content → Hyperslab → Option CdfFault
-read_fault files a = fault_in a (opened files a)
+read_fault files a = fault_in a (open_hyperslab files a)
 
 -- the hyperslab of what was opened
 abbrev pub value_in : Hyperslab → Result Opened CdfFault → Option Datum
@@ -69,7 +69,7 @@ unless (Some f) v = None
 
 -- the value of a hyperslab, and none where there is a fault
 abbrev pub read_hyperslab : Content → Hyperslab → Option Datum
-read_hyperslab files a = unless (read_fault files a) (value_in a (opened files a))
+read_hyperslab files a = unless (read_fault files a) (value_in a (open_hyperslab files a))
 
 -- the table that these bytes are, or the first fault of their records; without a file Absent
 abbrev pub in_table : (header : Bool) → List Kind → Option (List ℕ) → Result Datum CsvFault

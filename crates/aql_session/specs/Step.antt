@@ -13,8 +13,8 @@ use Rattle.aql_types.specs.View.{sort_of}
 use Rattle.aql_syntax.specs.Denotation.{den}
 use Rattle.aql_syntax.specs.Script.{Earlier, globals_of, outcome_after}
 use Rattle.aql_syntax.specs.Sound.{declarations_of, OutcomesTyped}
-use Rattle.aql_syntax.specs.Tree.{Tree, Reader, Declaration, val, mac, read, bare, declared}
-use Rattle.aql_syntax.specs.Typing.{reader_type, scope_of, IsPrincipal}
+use Rattle.aql_syntax.specs.Tree.{Tree, Reader, Declaration, val, mac, read, bare, declared_name}
+use Rattle.aql_syntax.specs.Typing.{reader_type, environment_of, IsPrincipal}
 use Rattle.aql_syntax.specs.declared.ast.Kind.{Kind}
 use Rattle.aql_csv.specs.File.{set_of}
 use Rattle.aql_csv.specs.declared.fault.CsvFault.{CsvFault}
@@ -132,8 +132,8 @@ abbrev pub choice : (budget plan start : ℕ) → (moved : Option ℕ) → Optio
 choice budget plan start moved = first_within budget ((ran.Plan, plan) ∷ (ran.Start, start) ∷ by_moved moved)
 
 -- the same of a declaration's query, this plan of it, and what was moved
-abbrev pub chosen : Declaration → Earlier → (budget : ℕ) → (plan : Term) → Option (Box Moved) → Option (Ran × ℕ)
-chosen d earlier budget plan moved = choice budget (turns_in earlier plan) (query_turns d earlier) (moved_turns (outcomes_of earlier) moved)
+abbrev pub choice_of : Declaration → Earlier → (budget : ℕ) → (plan : Term) → Option (Box Moved) → Option (Ran × ℕ)
+choice_of d earlier budget plan moved = choice budget (turns_in earlier plan) (query_turns d earlier) (moved_turns (outcomes_of earlier) moved)
 
 -- What is asked for.
 
@@ -191,12 +191,12 @@ pub record IsReadable (budget : ℕ) (holds : Option Content) (a : Asked) : Type
 -- argument and what reading took
 abbrev pub IsCounted : Declaration → Earlier → (budget : ℕ) → Option Content → (plan : Term) → (moved : Option (Box Moved)) → (outcome : Option Datum) →
     (took : Ran × ℕ) → Type 0
-IsCounted (val x e) earlier budget holds plan moved o took = chosen (val x e) earlier budget plan moved ≡ Some took
+IsCounted (val x e) earlier budget holds plan moved o took = choice_of (val x e) earlier budget plan moved ≡ Some took
 IsCounted (mac f p body) earlier budget holds plan moved o took = took ≡ (ran.Declared, 0)
 IsCounted (read x r e) earlier budget holds plan moved o took =
-    (c : Ran × ℕ) × (n : ℕ) × (chosen (read x r e) earlier budget plan moved ≡ Some c) × (took ≡ (ran.Read, c.1 + n))
+    (c : Ran × ℕ) × (n : ℕ) × (choice_of (read x r e) earlier budget plan moved ≡ Some c) × (took ≡ (ran.Read, c.1 + n))
     × IsCountOf budget holds (asks (read x r e) earlier) o n
-IsCounted (bare e) earlier budget holds plan moved o took = chosen (bare e) earlier budget plan moved ≡ Some took
+IsCounted (bare e) earlier budget holds plan moved o took = choice_of (bare e) earlier budget plan moved ≡ Some took
 
 -- The answer.
 
@@ -225,10 +225,10 @@ HasGraph (bare e) earlier graphs budget plan graph = IsGraphBy graphs (outcomes_
 -- the answer of a declaration: its name, its type, its start term, the plan with the rewritings that lead there, with the word `--motion`
 -- what is moved in the plan, and with the word `--graph` the array-free form of a query's plan
 pub record IsAnswer (d : Declaration) (earlier : Earlier) (sort : Option Sort) (motion graphs : Bool) (budget : ℕ) (a : Answer) : Type 0 where
-  pub name : a.name ≡ declared d
+  pub name : a.name ≡ declared_name d
   -- its type is the one that was found, and principal
   pub found : sort ≡ Some (sort_of a.ty)
-  pub principal : IsPrincipal d (scope_of (declarations_of earlier)) (sort_of a.ty)
+  pub principal : IsPrincipal d (environment_of (declarations_of earlier)) (sort_of a.ty)
   pub start : term_of a.start ≡ start_of d earlier
   pub planned : HasPlan d earlier (term_of a.start) a.trace (term_of a.plan)
   pub moved : HasMotion d earlier motion (term_of a.plan) a.moved
@@ -261,7 +261,7 @@ IsOutcome (bare e) earlier holds o = o ≡ den e (globals_of earlier) []
 -- one position more is bound, under the declaration's name, and the answer says what was evaluated and what that took
 pub record BindsPosition (d : Declaration) (earlier : Earlier) (budget : ℕ) (holds : Option Content) (old new : Bound) (a : Answer) : Type 0 where
   pub outcome : Option Datum
-  pub bound : new ≡ old ++ (declared d, outcome) ∷ []
+  pub bound : new ≡ old ++ (declared_name d, outcome) ∷ []
   pub is : IsOutcome d earlier holds outcome
   -- where it is a value it has every type of the position, and a macro has none
   pub typed : OutcomesFit ((d, outcome) ∷ earlier)
@@ -277,7 +277,7 @@ pub record BindsPosition (d : Declaration) (earlier : Earlier) (budget : ℕ) (h
 abbrev pub MayBeEvaluated : Declaration → Earlier → (motion : Bool) → (budget : ℕ) → Type 0
 MayBeEvaluated d earlier motion budget =
     (trace : List code.Step) × (plan : Term) × (moved : Option (Box Moved)) × (c : Ran × ℕ) × IsPlan (outcomes_of earlier) (start_of d earlier) trace plan
-    × IsMovedBy motion (outcomes_of earlier) plan moved × (chosen d earlier budget plan moved ≡ Some c)
+    × IsMovedBy motion (outcomes_of earlier) plan moved × (choice_of d earlier budget plan moved ≡ Some c)
 
 -- the argument of a readval has a value and was evaluated within the budget, and what it asks for is such
 abbrev pub AsksFor : Declaration → Earlier → (motion : Bool) → (budget : ℕ) → (Asked → Type 0) → Type 0

@@ -5,12 +5,12 @@ ghost use Rattle.nrca_encoded.specs.Encodings.{AreEncodings};
 ghost use Rattle.nrca_encoded.specs.Graphs.{IsTypedOver};
 ghost use Rattle.nrca_term.specs.Meaning.{cden};
 ghost use Rattle.nrca_term.specs.View.{term_of};
-ghost use Rattle.aql_session.specs.Runs.{HasWorkers, budget_of, IsExecutionWithGraph, execution_with};
+ghost use Rattle.aql_session.specs.Executions.{HasWorkers, budget_of, IsExecutionWithGraph, execution_with};
 ghost use Rattle.aql_session.specs.Step.{IsGraphBy};
 
 use crate::answer::StepFault;
+use crate::executions::{CheckedDeclaration, Execution};
 use crate::queries::Evaluated;
-use crate::runs::{CheckedDeclaration, Execution};
 use aql_outside::Gate;
 use aql_value::Memory;
 use aql_value::made::make_box;

@@ -10,15 +10,15 @@
 //! outcomes of the positions, which a session encodes where a query uses them, and keeps.
 //!
 //! Read `specs/Bound`, `Asked`, `Reading`, `Step` and `Numbered`; then `answer`, `session`, `step`,
-//! `runs`, `queries`, `graphs`, `readings`. What a session knows of its outcomes stands in `specs/Known` and
+//! `executions`, `queries`, `graphs`, `readings`. What a session knows of its outcomes stands in `specs/Known` and
 //! `shapes`, what is said of a query's terms in `specs/Planned`.
 #![tactic(auto)]
 
 mod answer;
+mod executions;
 mod graphs;
 mod queries;
 mod readings;
-mod runs;
 mod session;
 mod shapes;
 mod step;

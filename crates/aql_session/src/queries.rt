@@ -10,12 +10,12 @@ ghost use Rattle.nrca_term.specs.Term.{weight_of};
 ghost use Rattle.nrca_term.specs.Turns.{settle};
 ghost use Rattle.nrca_term.specs.View.{term_of};
 ghost use Rattle.aql_session.specs.Known.{Knows};
-ghost use Rattle.aql_session.specs.Planned.{IsPlanned, KeepsMoved, KeepsValue, IsUnchanged, IsUnmoved, KeepsTerms, IsChosen, PassAll, Evaluates, moved_of};
-ghost use Rattle.aql_session.specs.Runs.{StandsAt, AreNamesAt, HasWorkers, budget_of, declaration_of, declarations_at, sorts_at, IsQuery, IsStartAt, IsEvaluatedAt, IsSpentAt, IsQueryTermAt};
+ghost use Rattle.aql_session.specs.Planned.{IsPlanned, KeepsMoved, KeepsValue, IsUnchanged, IsUnmoved, KeepsTerms, IsChosen, PassAll, EvaluatesOne, moved_of};
+ghost use Rattle.aql_session.specs.Executions.{IsReadyOver, AreNamesAt, HasWorkers, budget_of, declaration_of, declarations_at, sorts_at, IsQuery, IsStartAt, IsEvaluatedAt, IsSpentAt, IsQueryTermAt};
 ghost use Rattle.aql_session.specs.Step.{IsMovedBy};
 
 use crate::answer::{Ran, StepFault};
-use crate::runs::CheckedDeclaration;
+use crate::executions::CheckedDeclaration;
 use aql_desugar::translate::translate_within;
 use aql_names::names::Names;
 use aql_outside::Gate;
@@ -66,7 +66,7 @@ pub(crate) fn run_query<R: Threads + Sync, G: Gate>(
     at: &CheckedDeclaration,
     gate: &G,
 ) -> Result<Evaluated, StepFault>
-    requires stands { StandsAt at.now globals.now }
+    requires stands { IsReadyOver at.now globals.now }
     requires named { AreNamesAt at.now names.now }
     requires query { IsQuery (declaration_of at.now) }
     requires workers { HasWorkers at.now }
@@ -174,7 +174,7 @@ fn run_planned<R: Threads + Sync, G: Gate>(
     requires unmoved { IsUnmoved planned }
     requires workers { (1 ≤ options.now.workers) × (options.now.workers ≤ most_workers) }
     requires budget { options.now.budget ≤ most_budget }
-    ensures evaluated { IfOk result (Evaluates globals.now options.now.budget planned) }
+    ensures evaluated { IfOk result (EvaluatesOne globals.now options.now.budget planned) }
     ensures spent { IfErr result (PassAll globals.now options.now.budget planned) }
 {
     match evaluate_term(rt, alloc, &planned.plan, globals, options, gate) {
@@ -202,7 +202,7 @@ fn run_start<R: Threads + Sync, G: Gate>(
     requires unmoved { IsUnmoved planned }
     requires workers { (1 ≤ options.now.workers) × (options.now.workers ≤ most_workers) }
     requires budget { options.now.budget ≤ most_budget }
-    ensures evaluated { IfOk result (Evaluates globals.now options.now.budget planned) }
+    ensures evaluated { IfOk result (EvaluatesOne globals.now options.now.budget planned) }
     ensures spent { IfErr result (PassAll globals.now options.now.budget planned) }
 {
     match evaluate_start(rt, alloc, &planned, globals, options, gate) {
@@ -230,7 +230,7 @@ fn run_moved<R: Threads + Sync, G: Gate>(
     requires unmoved { IsUnmoved planned }
     requires workers { (1 ≤ options.now.workers) × (options.now.workers ≤ most_workers) }
     requires budget { options.now.budget ≤ most_budget }
-    ensures evaluated { IfOk result (Evaluates globals.now options.now.budget planned) }
+    ensures evaluated { IfOk result (EvaluatesOne globals.now options.now.budget planned) }
     ensures spent { IfErr result (PassAll globals.now options.now.budget planned) }
 {
     match evaluate_moved(rt, alloc, &planned, globals, options, gate) {

@@ -13,7 +13,7 @@ ghost use Rattle.nrca_array.specs.Held.{held_datum};
 ghost use Rattle.nrca_loops.specs.Parts.{numbers_with};
 ghost use Rattle.aql_session.specs.Asked.{asked_of, hyperslab, unstrided_of, strided_of, cells};
 ghost use Rattle.aql_session.specs.Device.{BlamesFiles};
-ghost use Rattle.aql_session.specs.Runs.{slab_asked, table_asked, request_asked, asked_by, items_of, single_index, handed_on, table_handed_on, HasRank, IsProper, IsRequestOf, IsOpened, IsSlabOf, IsReadOf, Requests, RequestsSlab, ArgumentFits, AsksNoFile, ReadsBy, ArgumentFails, ReadFails, FileFails};
+ghost use Rattle.aql_session.specs.Executions.{slab_asked, table_asked, request_asked, asked_by, items_of, single_index, handed_on, table_handed_on, HasRank, IsProper, IsRequestOf, IsOpened, IsSlabOf, IsReadOf, Requests, RequestsSlab, ArgumentFits, AsksNoFile, ReadsBy, ArgumentFails, ReadvalFails, FileFails};
 ghost use Rattle.aql_session.specs.Step.{CallsNoFile};
 
 use crate::answer::StepFault;
@@ -130,7 +130,7 @@ fn read_request<F: Files>(
     requires budget { budget ≤ most_budget }
     ensures read { IfOk result (IsReadOf (request_asked request.now) budget (F.holds files.old)) }
     ensures cause { IfErr result
-        (ReadFails (request_asked request.now) budget F.Files files.old files.new) }
+        (ReadvalFails (request_asked request.now) budget F.Files files.old files.new) }
     ensures kept { F.holds files.new ≡ F.holds files.old }
     ensures blamed { BlamesFiles F.Files files.old files.new (IsErrOf result StepFault.Device) }
     ensures untouched { CallsNoFile budget (request_asked request.now) → files.new ≡ files.old }
@@ -153,7 +153,7 @@ fn read_table<F: Files>(
     ensures read { IfOk result
         (IsReadOf (table_asked file.now reader.now) budget (F.holds files.old)) }
     ensures cause { IfErr result
-        (ReadFails (table_asked file.now reader.now) budget F.Files files.old files.new) }
+        (ReadvalFails (table_asked file.now reader.now) budget F.Files files.old files.new) }
     ensures kept { F.holds files.new ≡ F.holds files.old }
     ensures blamed { BlamesFiles F.Files files.old files.new (IsErrOf result StepFault.Device) }
     ensures untouched { CallsNoFile budget (table_asked file.now reader.now)
@@ -201,7 +201,7 @@ fn read_hyperslab<F: Files>(
     ensures read { IfOk result
         (IsReadOf (hyperslab (slab_asked slab.now)) budget (F.holds files.old)) }
     ensures cause { IfErr result
-        (ReadFails (hyperslab (slab_asked slab.now)) budget F.Files files.old files.new) }
+        (ReadvalFails (hyperslab (slab_asked slab.now)) budget F.Files files.old files.new) }
     ensures kept { F.holds files.new ≡ F.holds files.old }
     ensures blamed { BlamesFiles F.Files files.old files.new (IsErrOf result StepFault.Device) }
     ensures untouched { budget < cells (slab_asked slab.now) → files.new ≡ files.old }

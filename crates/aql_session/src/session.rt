@@ -2,7 +2,7 @@
 ghost use Rattle.std.specs.Prelude.{◌≡◌, ◌+◌, ◌-◌, ◌++◌, ◌∷◌, [], IfOk, OnOk, OnErr, length, map, take};
 ghost use Rattle.std.specs.Option.{option_map};
 ghost use Rattle.nrca_array.specs.Held.{held_datum};
-ghost use Rattle.nrca_loops.specs.Scope.{held_value};
+ghost use Rattle.nrca_loops.specs.Values.{held_value};
 ghost use Rattle.nrca_term.specs.Meaning.{outcome};
 ghost use Rattle.aql_session.specs.Bound.{outcomes, latest_of};
 ghost use Rattle.std.specs.Option.{ForSome};

@@ -1,7 +1,7 @@
 //! What is known of an outcome.
 ghost use Rattle.std.specs.Prelude.{IfOk};
 ghost use Rattle.aql_value.specs.Datum.{data_of, set};
-ghost use Rattle.nrca_loops.specs.Scope.{held_value};
+ghost use Rattle.nrca_loops.specs.Values.{held_value};
 ghost use Rattle.nrca_ranges.specs.Bounds.{HasShape};
 ghost use Rattle.nrca_ranges.specs.Shapes.{bounds_of, bounds_there};
 ghost use Rattle.aql_session.specs.Known.{HasShapeThere};

@@ -7,16 +7,16 @@ ghost use Rattle.aql_syntax.specs.Size.{AreWithinLimits};
 ghost use Rattle.aql_types.specs.View.{sort_of};
 ghost use Rattle.aql_value.specs.Limits.{most_budget, most_workers};
 ghost use Rattle.aql_value.specs.Valid.{IsValue};
-ghost use Rattle.nrca_loops.specs.Scope.{held_value};
+ghost use Rattle.nrca_loops.specs.Values.{held_value};
 ghost use Rattle.aql_words.specs.Settings.{settings_of};
 ghost use Rattle.aql_session.specs.Bound.{AreBound, names, outcomes};
 ghost use Rattle.aql_session.specs.Device.{BlamesFiles};
 ghost use Rattle.aql_session.specs.Numbered.{declarations, sorts, declaration_numbered, sort_numbered, so_far, IsAnswerTo, MayBeAnswered, BindsNext, StepFails, UnlessRead};
-ghost use Rattle.aql_session.specs.Runs.{StandsAt, AreNamesAt, HasWorkers, budget_of, declaration_of, declarations_at, sorts_at, RunsPosition, PositionFails, UnlessReadAt, AnswersExecution, IsNameAt, BindsExecution};
+ghost use Rattle.aql_session.specs.Executions.{IsReadyOver, AreNamesAt, HasWorkers, budget_of, declaration_of, declarations_at, sorts_at, RunsPosition, PositionFails, UnlessReadAt, AnswersExecution, IsNameAt, BindsExecution};
 ghost use Rattle.aql_session.specs.Step.{OutcomesFit, IsOverTurns};
 
 use crate::answer::{Answer, StepFault};
-use crate::runs::{CheckedDeclaration, Execution, declaration, run_declaration};
+use crate::executions::{CheckedDeclaration, Execution, declaration, run_declaration};
 use crate::session::Session;
 use aql_infer_steps::typed::Typed;
 use aql_outside::{Files, Gate};
@@ -109,7 +109,7 @@ impl Session {
         files: &mut F,
         gate: &G,
     ) -> Result<Execution, StepFault>
-        requires stands { StandsAt at.now (outcomes self.old) }
+        requires stands { IsReadyOver at.now (outcomes self.old) }
         requires named { AreNamesAt at.now (names self.old) }
         requires workers { HasWorkers at.now }
         requires budget { budget_of at.now ≤ most_budget }

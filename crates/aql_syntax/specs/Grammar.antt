@@ -57,9 +57,9 @@ pub data Junction : Type 0 where
   either : Junction
 
 -- two expressions under `and` or `or`
-abbrev pub joined : Junction → Tree → Tree → Tree
-joined both a b = conjunction a b
-joined either a b = disjunction a b
+abbrev pub junction : Junction → Tree → Tree → Tree
+junction both a b = conjunction a b
+junction either a b = disjunction a b
 
 -- `and` and `or` by level, the tightest first
 abbrev pub loose_operator : ℕ → Lexeme → Option Junction
@@ -153,7 +153,7 @@ mutual
     -- and, or
     reads_looser : {h : ℕ} {e : Tree} {s r : List Lexeme} → Reads (loose h) e s r → Reads (loose (suc h)) e s r
     reads_junction : {h : ℕ} {a b : Tree} {l : Lexeme} {j : Junction} {s s' r : List Lexeme} → Reads (loose (suc h)) a s (l ∷ s') →
-        loose_operator (suc h) l ≡ Some j → Reads (loose h) b s' r → Reads (loose (suc h)) (joined j a b) s r
+        loose_operator (suc h) l ≡ Some j → Reads (loose h) b s' r → Reads (loose (suc h)) (junction j a b) s r
     -- expr
     reads_or : {e : Tree} {s r : List Lexeme} → Reads (loose 2) e s r → Reads whole e s r
     reads_default : {a b : Tree} {s s' r : List Lexeme} → Reads (loose 2) a s (mark signs.Default ∷ s') → Reads whole b s' r → Reads whole (default a b) s r

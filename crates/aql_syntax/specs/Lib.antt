@@ -6,7 +6,9 @@ pub mod Matching
 pub mod Measured
 pub mod Names
 pub mod Nodes
+pub mod Rows
 pub mod Scan
+pub mod Scopes
 pub mod Script
 pub mod Signs
 pub mod Size

@@ -1,6 +1,6 @@
 -- The declarations of the code as sizes and names take them.
 use Rattle.std.specs.Prelude.{ℕ, ◌+◌, List, [], ◌∷◌, map}
-use Rattle.aql_syntax.specs.Tree.{Name, Declaration, Tree, declared}
+use Rattle.aql_syntax.specs.Tree.{Name, Declaration, Tree, declared_name}
 use Rattle.aql_syntax.specs.View.{decl_of, tree_of, pat_of}
 use Rattle.aql_syntax.specs.Size.{pat_nodes}
 use Rattle.aql_syntax.specs.declared.ast.Qual as code_qual
@@ -17,7 +17,7 @@ latest ds = onto ds []
 
 -- the names that declarations bind, in order
 abbrev pub names_of : List Decl → List Name
-names_of ds = map (λ d. declared (decl_of d)) ds
+names_of ds = map (λ d. declared_name (decl_of d)) ds
 
 -- the expression of a qualifier
 abbrev pub qual_part : code_qual.Qual → Tree

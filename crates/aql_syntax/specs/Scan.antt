@@ -57,20 +57,20 @@ resets _ = false
 -- Stacks of counters, the top first.
 
 -- 1 more on top, and then a new counter
-abbrev pub pushed : List ℕ → List ℕ
-pushed [] = 0 ∷ []
-pushed (c ∷ cs) = 0 ∷ (c + 1) ∷ cs
+abbrev pub push_counter : List ℕ → List ℕ
+push_counter [] = 0 ∷ []
+push_counter (c ∷ cs) = 0 ∷ (c + 1) ∷ cs
 
 -- without the top, where more than one is there
-abbrev pub popped : List ℕ → List ℕ
-popped [] = []
-popped (c ∷ []) = c ∷ []
-popped (c ∷ d ∷ cs) = d ∷ cs
+abbrev pub pop_counter : List ℕ → List ℕ
+pop_counter [] = []
+pop_counter (c ∷ []) = c ∷ []
+pop_counter (c ∷ d ∷ cs) = d ∷ cs
 
 -- 1 more on top
-abbrev pub incremented : List ℕ → List ℕ
-incremented [] = []
-incremented (c ∷ cs) = (c + 1) ∷ cs
+abbrev pub increment : List ℕ → List ℕ
+increment [] = []
+increment (c ∷ cs) = (c + 1) ∷ cs
 
 -- 0 on top
 abbrev pub reset : List ℕ → List ℕ
@@ -78,20 +78,20 @@ reset [] = []
 reset (c ∷ cs) = 0 ∷ cs
 
 -- the counters behind a sign
-abbrev pub sign_scanned : Sign → List ℕ → List ℕ
-sign_scanned s counters =
-    if opens s then pushed counters
-    else if closes s then popped counters
-    else if raises s then incremented counters
+abbrev pub scan_sign : Sign → List ℕ → List ℕ
+scan_sign s counters =
+    if opens s then push_counter counters
+    else if closes s then pop_counter counters
+    else if raises s then increment counters
     else if resets s then reset counters
     else counters
 
 -- the counters after a token
-abbrev pub scanned : Lexeme → List ℕ → List ℕ
-scanned (named x) counters = counters
-scanned (numeral n) counters = counters
-scanned (quoted s) counters = counters
-scanned (mark s) counters = sign_scanned s counters
+abbrev pub scan_token : Lexeme → List ℕ → List ℕ
+scan_token (named x) counters = counters
+scan_token (numeral n) counters = counters
+scan_token (quoted s) counters = counters
+scan_token (mark s) counters = scan_sign s counters
 
 -- the counters at first: one counter 0
 abbrev pub no_counters : List ℕ
@@ -101,7 +101,7 @@ no_counters = 0 ∷ []
 abbrev pub first_deep : List ℕ → List Lexeme → Option ℕ
 first_deep counters [] = None
 first_deep counters (l ∷ ls) =
-    if nat_lt 400 (sum (scanned l counters)) then Some 0 else option_map (λ n. n + 1) (first_deep (scanned l counters) ls)
+    if nat_lt 400 (sum (scan_token l counters)) then Some 0 else option_map (λ n. n + 1) (first_deep (scan_token l counters) ls)
 
 -- the scan first passes 400 at the token that begins at byte `at`
 pub record DeepFaultAt (at : ℕ) (tokens : List Token) (lexemes : List Lexeme) : Type 0 where

@@ -1,7 +1,7 @@
 -- The size and the levels of a declaration in which every application of a macro has the macro's pattern and body in it.
 use Rattle.std.specs.Prelude.{ℕ, zero, suc, ◌+◌, ◌-◌, ◌*◌, ◌/◌, ◌==◌, ◌≤◌, ◌<◌, ◌⊎◌, max, List, [], ◌∷◌, Option, Some, None, if◌then◌else◌, reverse, take}
 use Rattle.std.specs.List.{slice_get}
-use Rattle.aql_syntax.specs.Tree.{Name, Pat, bind, any, equals, refers, tuple, Pats, no_pat, pat, Tree, name, op, members, comp, tab, bindings, choice, conjunction, disjunction, negation, default, apply, function, summap, Trees, no_tree, tree, Axes, no_axis, axis, Quals, no_qual, from, cells, same, test, Defs, no_def, def, Declaration, val, mac, read, bare, declared, count_trees, count_axes}
+use Rattle.aql_syntax.specs.Tree.{Name, Pat, bind, any, equals, refers, tuple, Pats, no_pat, pat, Tree, name, op, members, comp, tab, bindings, choice, conjunction, disjunction, negation, default, apply, function, summap, Trees, no_tree, tree, Axes, no_axis, axis, Quals, no_qual, from, cells, same, test, Defs, no_def, def, Declaration, val, mac, read, bare, declared_name, count_trees, count_axes}
 use Rattle.aql_syntax.specs.Names.{find}
 
 -- of a macro: its pattern's nodes, its body's size, its body's levels
@@ -165,7 +165,7 @@ extent (bare e) earlier = None
 -- of declarations, the latest first
 abbrev pub extents_of : List Declaration → Extents
 extents_of [] = []
-extents_of (d ∷ earlier) = (declared d, extent d (extents_of earlier)) ∷ extents_of earlier
+extents_of (d ∷ earlier) = (declared_name d, extent d (extents_of earlier)) ∷ extents_of earlier
 
 -- a declaration's size: that of its expression, or for a macro the pattern's and the body's
 abbrev pub decl_size : Declaration → Extents → ℕ

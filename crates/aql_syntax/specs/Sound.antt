@@ -6,7 +6,7 @@ use Rattle.aql_types.specs.ValueTypes.{HasType}
 use Rattle.aql_syntax.specs.Tree as tree
 use Rattle.aql_syntax.specs.Tree.{Declaration}
 use Rattle.aql_syntax.specs.Script.{Earlier, ReaderMeaning}
-use Rattle.aql_syntax.specs.Typing.{DeclHas, scope_of, reader_type}
+use Rattle.aql_syntax.specs.Typing.{DeclHas, environment_of, reader_type}
 
 -- Scripts.
 abbrev pub declarations_of : Earlier → List Declaration
@@ -17,7 +17,7 @@ declarations_of ((d, o) ∷ earlier) = d ∷ declarations_of earlier
 abbrev pub OutcomesTyped : Earlier → Type 0
 OutcomesTyped [] = Unit {0}
 OutcomesTyped ((d, o) ∷ earlier) =
-    ((t : Ty) (v : Datum) → DeclHas d (scope_of (declarations_of earlier)) (value t) → o ≡ Some v → (u : Subst) → HasType (apply u t) v) × OutcomesTyped earlier
+    ((t : Ty) (v : Datum) → DeclHas d (environment_of (declarations_of earlier)) (value t) → o ≡ Some v → (u : Subst) → HasType (apply u t) v) × OutcomesTyped earlier
 
 -- what a reader gives has the reader's type
 abbrev pub ReadsHave : ReaderMeaning → Type 0

@@ -88,11 +88,11 @@ abbrev pub it : Name
 it = 105 ∷ 116 ∷ []
 
 -- the name that a declaration binds
-abbrev pub declared : Declaration → Name
-declared (val x e) = x
-declared (mac f p body) = f
-declared (read x reader e) = x
-declared (bare e) = it
+abbrev pub declared_name : Declaration → Name
+declared_name (val x e) = x
+declared_name (mac f p body) = f
+declared_name (read x reader e) = x
+declared_name (bare e) = it
 
 -- the number of patterns
 abbrev pub count_pats : Pats → ℕ

@@ -8,7 +8,7 @@ use Rattle.aql_types.specs.Types.{Ty, natural, Tys, no_type, type, Subst, IsRank
 use Rattle.aql_types.specs.OperationTypes.{strict_rule}
 use Rattle.aql_syntax.specs.declared.ast.Kind.{Kind}
 use Rattle.aql_syntax.specs.declared.ast.Kind.TheVariants as kinds
-use Rattle.aql_syntax.specs.Tree.{Name, Constant, number, truth, bytes, Pat, bind, any, equals, refers, tuple, Pats, no_pat, pat, Tree, name, op, members, comp, tab, bindings, choice, conjunction, disjunction, negation, default, apply, function, summap, Trees, no_tree, tree, Axes, no_axis, axis, Quals, no_qual, from, cells, same, test, Defs, no_def, def, Reader, plain, signed, strided, records, Declaration, val, mac, read, bare, declared, count_pats, count_axes, axes}
+use Rattle.aql_syntax.specs.Tree.{Name, Constant, number, truth, bytes, Pat, bind, any, equals, refers, tuple, Pats, no_pat, pat, Tree, name, op, members, comp, tab, bindings, choice, conjunction, disjunction, negation, default, apply, function, summap, Trees, no_tree, tree, Axes, no_axis, axis, Quals, no_qual, from, cells, same, test, Defs, no_def, def, Reader, plain, signed, strided, records, Declaration, val, mac, read, bare, declared_name, count_pats, count_axes, axes}
 use Rattle.aql_syntax.specs.Names.{names_equal, find}
 
 -- the types, within the limits, that a name of an earlier position has, and the pairs of argument and result types of a macro
@@ -19,6 +19,11 @@ pub record Environment : Type 1 where
 -- local names with their types, the innermost first
 abbrev pub Locals : Type 0
 Locals = List (Name × Ty)
+
+-- local names with the instances of their types
+abbrev pub local_instances : Subst → Locals → Locals
+local_instances u [] = []
+local_instances u ((x, t) ∷ env) = (x, types.apply u t) ∷ local_instances u env
 
 -- what a name has: the type of the innermost local name, else each type of the latest position that declares it
 abbrev pub NameHas : Environment → Option Ty → Name → Ty → Type 0
@@ -185,16 +190,16 @@ if_name true a b = a
 if_name false a b = b
 
 -- the scope with one position more: its name means this position and hides the earlier ones
-abbrev pub extended : Declaration → Environment → Environment
-extended d g = record {
-  has = λ x t. if_name (names_equal x (declared d)) (IsWithin t × IsInstanceOf d g (value t)) (g.has x t);
-  takes = λ x s t. if_name (names_equal x (declared d)) (IsWithin s × IsWithin t × IsInstanceOf d g (macro s t)) (g.takes x s t);
+abbrev pub extend : Declaration → Environment → Environment
+extend d g = record {
+  has = λ x t. if_name (names_equal x (declared_name d)) (IsWithin t × IsInstanceOf d g (value t)) (g.has x t);
+  takes = λ x s t. if_name (names_equal x (declared_name d)) (IsWithin s × IsWithin t × IsInstanceOf d g (macro s t)) (g.takes x s t);
 }
 
 -- the scope of positions, the latest first
-abbrev pub scope_of : List Declaration → Environment
-scope_of [] = record { has = λ x t. ⊥; takes = λ x s t. ⊥ }
-scope_of (d ∷ earlier) = extended d (scope_of earlier)
+abbrev pub environment_of : List Declaration → Environment
+environment_of [] = record { has = λ x t. ⊥; takes = λ x s t. ⊥ }
+environment_of (d ∷ earlier) = extend d (environment_of earlier)
 
 -- the position has the sort, and each that it has is an instance of it
 pub record IsPrincipal (d : Declaration) (g : Environment) (s : Sort) : Type 0 where

@@ -1,16 +1,16 @@
 -- The typing that asks at every expression and every pattern that its type is within the limits. So each type that it uses is:
 -- a name that comes in has the type of its pattern, an index that of its bound, and a macro takes the type of its argument and
 -- gives that of its application. `Typing` asks it in few places and means the same (`Laws/Uses`).
-use Rattle.std.specs.Prelude.{◌≡◌, List, [], ◌∷◌}
+use Rattle.std.specs.Prelude.{◌≡◌, List, [], ◌∷◌, ◌↔◌}
 use Rattle.aql_types.specs.Types as types
 use Rattle.aql_types.specs.Types.{Ty, natural, Tys, no_type, type, IsRank, IsWithin, Sort, value, macro}
 use Rattle.aql_types.specs.OperationTypes.{strict_rule}
 use Rattle.aql_syntax.specs.Tree.{Name, Pat, bind, any, equals, refers, tuple, Pats, no_pat, pat, Tree, name, op, members, comp, tab, bindings, choice, conjunction, disjunction, negation, default, apply, function, summap, Trees, no_tree, tree, Axes, no_axis, axis, Quals, no_qual, from, cells, same, test, Defs, no_def, def, Declaration, val, mac, read, bare, count_pats, count_axes, axes}
 use Rattle.aql_syntax.specs.Names.{find}
-use Rattle.aql_syntax.specs.Typing.{Environment, Locals, NameHas, MacroTakes, constant_type, with_indices, reader_type, argument_type}
+use Rattle.aql_syntax.specs.Typing.{Environment, Locals, NameHas, MacroTakes, constant_type, with_indices, reader_type, argument_type, Has, DeclHas, environment_of}
 
 -- the types that names have, and both types of each macro, are within the limits
-pub record ScopeWithin (g : Environment) : Type 0 where
+pub record EnvironmentWithin (g : Environment) : Type 0 where
   pub has : (x : Name) (t : Ty) → g.has x t → IsWithin t
   pub takes : (f : Name) (s t : Ty) → g.takes f s t → IsWithin s × IsWithin t
 
@@ -99,3 +99,11 @@ DeclHasWithin (read x reader e) g (value t) = IsWithin t × (t ≡ reader_type r
 DeclHasWithin (read x reader e) g (macro s t) = ⊥
 DeclHasWithin (bare e) g (value t) = HasWithin e g [] t
 DeclHasWithin (bare e) g (macro s t) = ⊥
+
+-- an expression whose type is within the limits has it by the one typing where it has it by the other, whatever stands before it
+abbrev pub ExpressionUses : Type 0
+ExpressionUses = (earlier : List Declaration) (e : Tree) (env : Locals) (t : Ty) → IsWithin t → Has e (environment_of earlier) env t ↔ HasWithin e (environment_of earlier) env t
+
+-- and so has a declaration its sort
+abbrev pub DeclarationUses : Type 0
+DeclarationUses = (earlier : List Declaration) (d : Declaration) (s : Sort) → DeclHas d (environment_of earlier) s ↔ DeclHasWithin d (environment_of earlier) s

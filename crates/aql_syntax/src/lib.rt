@@ -4,13 +4,14 @@
 //! trees; `build` and `nodes` make trees of parts; `name` of a declaration is what it binds, and `declaration_at` the one of a
 //! number. All else is definitions: read `specs/Tree`, `specs/Lexis`, `specs/Scan`, `specs/Grammar` for the text,
 //! `specs/Typing` for types, `specs/Matching`, `specs/Denotation`, `specs/Work` for values and turns, `specs/Script` for
-//! whole scripts, and `specs/Size`.
+//! whole scripts, and `specs/Size`. `laws` says what follows from them.
 #![tactic(auto)]
 
 pub mod ast;
 pub mod build;
 pub mod copies;
 pub mod counts;
+pub mod laws;
 mod names;
 pub mod nodes;
 pub mod positions;

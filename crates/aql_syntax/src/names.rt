@@ -2,7 +2,7 @@
 
 ghost use Rattle.std.specs.Prelude.{◌≡◌, IfOk};
 ghost use Rattle.aql_syntax.specs.Names.{names_equal};
-ghost use Rattle.aql_syntax.specs.Tree.{declared};
+ghost use Rattle.aql_syntax.specs.Tree.{declared_name};
 ghost use Rattle.aql_syntax.specs.View.{decl_of};
 
 use crate::ast::Decl;
@@ -12,7 +12,7 @@ use std::alloc::Global;
 impl Decl {
     /// The name that the declaration binds; a bare expression binds `it`.
     pub fn name(&self) -> &[u8]
-        ensures { result.now ≡ declared (decl_of self.now) }
+        ensures { result.now ≡ declared_name (decl_of self.now) }
     {
         match self {
             Decl::Val { name, expr: _ } => name.bytes.as_slice(),
@@ -32,7 +32,7 @@ impl Decl {
 
     /// A string that is the name.
     pub fn name_copy(&self, alloc: Global) -> Result<Str, Memory>
-        ensures { IfOk result (λ x. x ≡ declared (decl_of self.now)) }
+        ensures { IfOk result (λ x. x ≡ declared_name (decl_of self.now)) }
     {
         let bytes = Vec::from_slice(alloc, self.name())?;
         Ok(Str { bytes })
@@ -40,7 +40,7 @@ impl Decl {
 
     /// Whether the declaration binds that name.
     pub fn declares(&self, name: &Str) -> bool
-        ensures { result ≡ names_equal name.now (declared (decl_of self.now)) }
+        ensures { result ≡ names_equal name.now (declared_name (decl_of self.now)) }
     {
         name.is(self.name())
     }

@@ -3,6 +3,7 @@ use Rattle.std.proofs.Common.{ℕ, zero, suc, ◌≡◌, ◌+◌, ◌-◌, ◌<�
 use Rattle.std.specs.Prelude.{slice_get}
 use Rattle.std.proofs.lemmas.Bool.{cases_lt}
 use Rattle.std.proofs.lemmas.List.{get_or_append_left, get_or-append_right}
+use Rattle.std.proofs.lemmas.Option.{same_Some}
 use Rattle.aql_type_graph.specs.declared.closed.Cell.{Cell}
 use Rattle.aql_type_graph.specs.Closed.{cell_at, list_down, list_at, AreCells, GainsCell}
 
@@ -61,10 +62,7 @@ kept old new c g h (suc m) (suc k) le =
 
 at_get : (cs : List Cell) (i : ℕ) (c : Cell) → slice_get cs i ≡ Some c → (i < length cs) × (cell_at cs i ≡ c)
 at_get [] i c e = let bad : ⊥ = cc in absurd bad
-at_get (x ∷ cs) zero c e = (omega arith, some_is e)
-  where
-    some_is : {a b : Cell} → Some a ≡ Some b → a ≡ b
-    some_is e = cc
+at_get (x ∷ cs) zero c e = (omega arith, same_Some _ _ e)
 at_get (x ∷ cs) (suc i) c e = let h = at_get cs i c e in (omega (arith, h.0), h.1)
 
 -- the list that begins with a cell

@@ -13,7 +13,7 @@ use Rattle.aql_type_graph.specs.Forms.{Form, at}
 use Rattle.aql_type_graph.specs.Forms as form
 use Rattle.aql_type_graph.specs.Valuations.{Says, Holds, Equal, AreIn, Names, Named}
 use Rattle.aql_type_graph.specs.Steps.{IsFlat, Keeps, Leads}
-use Rattle.aql_type_graph.specs.Trees.{IsBuilt, Grows, grown, tree, type_at, equations_of, AreHomes}
+use Rattle.aql_type_graph.specs.Trees.{IsBuilt, Grows, form_type, tree, type_at, equations_of, AreHomes}
 use Rattle.aql_type_graph.specs.Extents.{read, extent, Measured}
 use Rattle.aql_type_graph.specs.Solved.{solution, IsSolution, Reads, Solves}
 use Rattle.aql_type_graph.specs.Laws.Trees.{type_grown}
@@ -38,7 +38,7 @@ under u fs i = apply u (type_at fs i)
 under_says : (u : Subst) (fs : List Form) → IsBuilt fs → Holds (under u fs) fs
 under_says u fs b i = go (at fs i) (b i) (type_grown fs b i)
   where
-    go : (x : Form) → Grows x i → type_at fs i ≡ grown (type_at fs) x → Says (under u fs) x (under u fs i)
+    go : (x : Form) → Grows x i → type_at fs i ≡ form_type (type_at fs) x → Says (under u fs) x (under u fs i)
     go (form.var z) h e = tt
     go (form.made s) h e = ap (apply u) e ∙ apply_whole u (type_at fs) s
     go (form.link j) h e = absurd h
@@ -46,7 +46,7 @@ under_says u fs b i = go (at fs i) (b i) (type_grown fs b i)
 under_names : (u : Subst) (fs : List Form) → IsBuilt fs → Named u (under u fs) fs
 under_names u fs b i = go (at fs i) (type_grown fs b i)
   where
-    go : (x : Form) → type_at fs i ≡ grown (type_at fs) x → Names u x (under u fs i)
+    go : (x : Form) → type_at fs i ≡ form_type (type_at fs) x → Names u x (under u fs i)
     go (form.var z) e = ap (apply u) e
     go (form.made s) e = tt
     go (form.link j) e = tt
@@ -57,7 +57,7 @@ unfolding tree
 back_tree u v fs b h n zero i lt inn = let bad : ⊥ = omega (arith, lt) in absurd bad
 back_tree u v fs b h n (suc m) i lt inn = go (back_tree u v fs b h n m) (at fs i) refl (b i) (h i)
   where
-    go : ((j : ℕ) → j < m → j < length fs → v j ≡ apply u (tree m fs j)) → (x : Form) → at fs i ≡ x → Grows x i → Says v x (v i) → v i ≡ apply u (grown (tree m fs) x)
+    go : ((j : ℕ) → j < m → j < length fs → v j ≡ apply u (tree m fs j)) → (x : Form) → at fs i ≡ x → Grows x i → Says v x (v i) → v i ≡ apply u (form_type (tree m fs) x)
     go r (form.var z) e g s = sym (n i z inn e)
     go r (form.made s) e g q =
         q

@@ -2,6 +2,7 @@
 use Rattle.std.proofs.Common.{ℕ, zero, suc, ◌≡◌, ◌+◌, ◌<◌, ◌≤◌, max, Option, Some, None, List, [], ◌∷◌, Bool, true, false, if◌then◌else◌, refl, sym, ap, ◌∙◌, subst, arith, inl, inr}
 use Rattle.std.proofs.Math.Dec.{leb}
 use Rattle.std.proofs.lemmas.Bool.{leb-true, le-leb, cases_lt}
+use Rattle.std.proofs.lemmas.Option.{same_Some}
 use Rattle.aql_value.specs.Lists.{Every}
 use Rattle.aql_types.specs.Types.{Ty, levels, levels_all, nodes, nodes_all, IsType, AreTypes}
 use Rattle.aql_types.specs.Laws.Types.{positive}
@@ -14,9 +15,6 @@ use Rattle.aql_type_graph.specs.Extents.{link_target, end, nothing, beside, abov
 use Rattle.aql_type_graph.specs.Laws.Shapes.{levels_whole, nodes_whole, type_formed}
 
 -- Of what an extent is made.
-
-pub some_is : {a b : Extent} → Some a ≡ Some b → a ≡ b
-some_is e = cc
 
 no_some : {a : Extent} → None ≡ Some a → ⊥
 no_some e = cc
@@ -44,8 +42,8 @@ beside_some most (Some a) (Some b) e h = split (leb (a.nodes + b.nodes) most) re
       other = b;
       first = refl;
       second = refl;
-      high = ap (λ (z : Extent). z.levels) (sym (some_is k));
-      large = ap (λ (z : Extent). z.nodes) (sym (some_is k));
+      high = ap (λ (z : Extent). z.levels) (sym (same_Some _ _ k));
+      large = ap (λ (z : Extent). z.nodes) (sym (same_Some _ _ k));
       few = leb-true (a.nodes + b.nodes) most q;
     }
     split false q k = absurd (no_some k)
@@ -65,8 +63,8 @@ above_some most (Some a) e h = split (leb (a.nodes + 1) most) refl h
     split true q k = record {
       one = a;
       first = refl;
-      high = ap (λ (z : Extent). z.levels) (sym (some_is k));
-      large = ap (λ (z : Extent). z.nodes) (sym (some_is k));
+      high = ap (λ (z : Extent). z.levels) (sym (same_Some _ _ k));
+      large = ap (λ (z : Extent). z.nodes) (sym (same_Some _ _ k));
       few = leb-true (a.nodes + 1) most q;
     }
     split false q k = absurd (no_some k)
@@ -104,7 +102,7 @@ at_end v fs i h = placed v (at fs i) i (h i)
 -- No solution has fewer nodes than were measured.
 
 parts_nodes : (most : ℕ) (v : Valuation) (f : ℕ → Option Extent) → ((p : ℕ) (a : Extent) → f p ≡ Some a → a.nodes ≤ nodes (v p)) → (ps : List ℕ) (e : Extent) → together most f ps ≡ Some e → e.nodes ≤ nodes_all (types_at v ps)
-parts_nodes most v f ih [] e h = let z : e.nodes ≡ 0 = ap (λ (z : Extent). z.nodes) (sym (some_is h)) in omega (arith, z)
+parts_nodes most v f ih [] e h = let z : e.nodes ≡ 0 = ap (λ (z : Extent). z.nodes) (sym (same_Some _ _ h)) in omega (arith, z)
 parts_nodes most v f ih (p ∷ ps) e h =
     let b = beside_some most (f p) (together most f ps) e h in
     let x = ih p b.one b.first in let y = parts_nodes most v f ih ps b.other b.second in
@@ -113,7 +111,7 @@ parts_nodes most v f ih (p ∷ ps) e h =
 one_node : (most : ℕ) (e : Extent) (t : Ty) → above most (Some nothing) ≡ Some e → e.nodes ≤ nodes t
 one_node most e t h =
     let a = above_some most (Some nothing) e h in
-    let z : a.one.nodes ≡ 0 = ap (λ (z : Extent). z.nodes) (sym (some_is a.first)) in
+    let z : a.one.nodes ≡ 0 = ap (λ (z : Extent). z.nodes) (sym (same_Some _ _ a.first)) in
     let p = positive t in
     omega (arith, a.large, z, p.0)
 

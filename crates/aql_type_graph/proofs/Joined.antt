@@ -8,7 +8,7 @@ use Rattle.aql_type_graph.specs.Shapes.{Valuation}
 use Rattle.aql_type_graph.specs.Forms.{Form, form_of, forms, at}
 use Rattle.aql_type_graph.specs.Forms as form
 use Rattle.aql_type_graph.specs.Valuations.{Says, Holds, IsOrdered, AreIn, IsRoot}
-use Rattle.aql_type_graph.specs.Steps.{is_var, alike_forms, form_parts, paired, Steps, SameFirst}
+use Rattle.aql_type_graph.specs.Steps.{is_var, alike_forms, form_parts, pair_parts, Steps, SameFirst}
 use Rattle.aql_type_graph.specs.Schemes.{IsClosed, AreApart}
 use Rattle.aql_type_graph.proofs.Bare.{forms_at, forms_set, forms_length}
 use Rattle.aql_type_graph.proofs.Joining.{Serves, joins, united, serves_high, serves_low, serves_alike, differs}
@@ -71,9 +71,9 @@ joined_low ps ns e low high w j v =
 
 -- two types of one form
 pub joined_alike : (ps : List ℕ) (ns : List Node) (e : Equation) (low high : Node) (w : List Equation) → Joint ps ns e low high w → alike_forms (form_of ps low) (form_of ps high) ≡ true →
-    Steps (forms ps ns) (forms ps (linked ns e low)) e w (w ++ paired (form_parts (form_of ps low)) (form_parts (form_of ps high)))
+    Steps (forms ps ns) (forms ps (linked ns e low)) e w (w ++ pair_parts (form_parts (form_of ps low)) (form_parts (form_of ps high)))
 joined_alike ps ns e low high w j v =
-    joined ps ns e low high low w (paired (form_parts (form_of ps low)) (form_parts (form_of ps high))) j (serves_alike (form_of ps low) (form_of ps high) v)
+    joined ps ns e low high low w (pair_parts (form_parts (form_of ps low)) (form_parts (form_of ps high))) j (serves_alike (form_of ps low) (form_of ps high) v)
 
 -- two types of different forms
 pub clashes : (ps : List ℕ) (ns : List Node) (e : Equation) (low high : Node) (w : List Equation) → Joint ps ns e low high w → is_var (form_of [] low) ≡ false → is_var (form_of [] high) ≡ false → alike_forms (form_of ps low) (form_of ps high) ≡ false →

@@ -7,7 +7,7 @@ use Rattle.aql_type_graph.specs.Shapes.{Valuation, parts}
 use Rattle.aql_type_graph.specs.Forms.{Form, at}
 use Rattle.aql_type_graph.specs.Forms as form
 use Rattle.aql_type_graph.specs.Valuations.{Says, Holds, Equal, Points, IsOrdered, AreIn, Names, Named, IsRoot}
-use Rattle.aql_type_graph.specs.Steps.{potential, potential_of, is_var, alike_forms, form_parts, paired, Steps}
+use Rattle.aql_type_graph.specs.Steps.{potential, potential_of, is_var, alike_forms, form_parts, pair_parts, Steps}
 use Rattle.aql_type_graph.specs.Laws.Shapes.{whole_alike, alike_whole, alike_length}
 use Rattle.aql_type_graph.proofs.Keeping.{held, ordered_put, holds_put, holds_before, potential_put}
 
@@ -38,20 +38,20 @@ append_in n (e ∷ w) x h = let k = append_in n w x h.2 in ((h.0, h.1, k.0), k.1
 pub last_in : (n : ℕ) (w : List Equation) (e : Equation) → AreIn n (w ++ e ∷ []) → AreIn n w × (e.left < n) × (e.right < n)
 last_in n w e h = let k = append_in n w (e ∷ []) h in (k.0, k.1.0, k.1.1)
 
-pub paired_in : (n : ℕ) (ps qs : List ℕ) → Every (λ p. p < n) ps → Every (λ p. p < n) qs → AreIn n (paired ps qs)
+pub paired_in : (n : ℕ) (ps qs : List ℕ) → Every (λ p. p < n) ps → Every (λ p. p < n) qs → AreIn n (pair_parts ps qs)
 paired_in n [] qs h k = tt
 paired_in n (p ∷ ps) [] h k = tt
 paired_in n (p ∷ ps) (q ∷ qs) h k = (h.0, k.0, paired_in n ps qs h.1 k.1)
 
-pub paired_length : (ps qs : List ℕ) → length ps ≡ length qs → length (paired ps qs) ≡ length ps
+pub paired_length : (ps qs : List ℕ) → length ps ≡ length qs → length (pair_parts ps qs) ≡ length ps
 paired_length [] qs e = refl
 paired_length (p ∷ ps) [] e = let bad : ⊥ = omega (arith, e) in absurd bad
 paired_length (p ∷ ps) (q ∷ qs) e = omega (arith, paired_length ps qs (omega (arith, e)))
 
-pub paired_next : (ps qs : List ℕ) (i : ℕ) → i < length ps → i < length qs → paired (take (i + 1) ps) (take (i + 1) qs) ≡ paired (take i ps) (take i qs) ++ record { left = get_or ps i 0; right = get_or qs i 0 } ∷ []
+pub paired_next : (ps qs : List ℕ) (i : ℕ) → i < length ps → i < length qs → pair_parts (take (i + 1) ps) (take (i + 1) qs) ≡ pair_parts (take i ps) (take i qs) ++ record { left = get_or ps i 0; right = get_or qs i 0 } ∷ []
 paired_next ps qs i h k = rw add-one (go ps qs i h k)
   where
-    go : (ps qs : List ℕ) (i : ℕ) → i < length ps → i < length qs → paired (take (suc i) ps) (take (suc i) qs) ≡ paired (take i ps) (take i qs) ++ record { left = get_or ps i 0; right = get_or qs i 0 } ∷ []
+    go : (ps qs : List ℕ) (i : ℕ) → i < length ps → i < length qs → pair_parts (take (suc i) ps) (take (suc i) qs) ≡ pair_parts (take i ps) (take i qs) ++ record { left = get_or ps i 0; right = get_or qs i 0 } ∷ []
     go [] qs i h k = let bad : ⊥ = omega (arith, h) in absurd bad
     go (p ∷ ps) [] i h k = let bad : ⊥ = omega (arith, k) in absurd bad
     go (p ∷ ps) (q ∷ qs) zero h k = refl
@@ -161,7 +161,7 @@ serves_low f (form.made s) e = let bad : ⊥ = cc in absurd bad
 serves_low f (form.link j) e = let bad : ⊥ = cc in absurd bad
 
 -- two types of one form: their parts are to be equal
-pub serves_alike : (f g : Form) → alike_forms f g ≡ true → Serves f g f (paired (form_parts f) (form_parts g))
+pub serves_alike : (f g : Form) → alike_forms f g ≡ true → Serves f g f (pair_parts (form_parts f) (form_parts g))
 serves_alike (form.made s) (form.made t) e =
     let n = alike_length s t e in
     record {

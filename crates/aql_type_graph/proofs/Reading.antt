@@ -1,5 +1,6 @@
 -- What is read of measured nodes: its extent, and that more room changes nothing.
 use Rattle.std.proofs.Common.{ℕ, zero, suc, ◌≡◌, ◌+◌, ◌-◌, ◌<◌, ◌≤◌, Some, List, [], ◌∷◌, refl, sym, ap, ◌∙◌, subst, arith}
+use Rattle.std.proofs.lemmas.Option.{same_Some}
 use Rattle.aql_value.specs.Lists.{Every}
 use Rattle.aql_types.specs.Types as types
 use Rattle.aql_types.specs.Types.{Ty, Subst, apply, levels, levels_all, nodes, nodes_all, IsType, AreTypes}
@@ -9,10 +10,10 @@ use Rattle.aql_type_graph.specs.Forms.{Form, at}
 use Rattle.aql_type_graph.specs.Forms as form
 use Rattle.aql_type_graph.specs.Valuations.{Says, Holds, Names, Named, IsRoot}
 use Rattle.aql_type_graph.specs.Steps.{IsFlat}
-use Rattle.aql_type_graph.specs.Trees.{grown}
+use Rattle.aql_type_graph.specs.Trees.{form_type}
 use Rattle.aql_type_graph.specs.Extents.{link_target, end, read, nothing, above, together, over, extent}
 use Rattle.aql_type_graph.specs.Laws.Shapes.{each, whole_same, apply_whole, levels_whole, nodes_whole, formed_type}
-use Rattle.aql_type_graph.proofs.Extents.{some_is, beside_some, above_some, same_beside, formed_some, formed_over, parts_some, at_end}
+use Rattle.aql_type_graph.proofs.Extents.{beside_some, above_some, same_beside, formed_some, formed_over, parts_some, at_end}
 
 -- What is known of a measured node.
 pub record Known (most m : ℕ) (fs : List Form) (i : ℕ) (e : Extent) : Type 0 where
@@ -37,16 +38,16 @@ record KnownForm (most m : ℕ) (fs : List Form) (f : Form) (e : Extent) : Type 
   few : e.levels ≤ suc m
   pos : 0 < e.levels
   small : e.nodes ≤ most
-  high : levels (grown (read m fs) f) ≡ e.levels
-  large : nodes (grown (read m fs) f) ≡ e.nodes
-  typed : IsType (grown (read m fs) f)
-  more : grown (read (suc m) fs) f ≡ grown (read m fs) f
+  high : levels (form_type (read m fs) f) ≡ e.levels
+  large : nodes (form_type (read m fs) f) ≡ e.nodes
+  typed : IsType (form_type (read m fs) f)
+  more : form_type (read (suc m) fs) f ≡ form_type (read m fs) f
   again : over most (extent most (suc m) fs) f ≡ Some e
 
 known_parts : (most m : ℕ) (fs : List Form) → ((p : ℕ) (e : Extent) → extent most m fs p ≡ Some e → Known most m fs p e) → (ps : List ℕ) (e : Extent) → together most (extent most m fs) ps ≡ Some e → KnownParts most m fs ps e
 known_parts most m fs ih [] e h =
-    let l : 0 ≡ e.levels = ap (λ (z : Extent). z.levels) (some_is h) in
-    let n : 0 ≡ e.nodes = ap (λ (z : Extent). z.nodes) (some_is h) in
+    let l : 0 ≡ e.levels = ap (λ (z : Extent). z.levels) (same_Some _ _ h) in
+    let n : 0 ≡ e.nodes = ap (λ (z : Extent). z.nodes) (same_Some _ _ h) in
     record { few = omega (arith, l); high = l; large = n; typed = tt; more = tt; again = h }
 known_parts most m fs ih (p ∷ ps) e h =
     let b = beside_some most (extent most m fs p) (together most (extent most m fs) ps) e h in
@@ -65,8 +66,8 @@ known_parts most m fs ih (p ∷ ps) e h =
 known_leaf : (most m : ℕ) (e : Extent) (t : Ty) → levels t ≡ 1 → nodes t ≡ 1 → above most (Some nothing) ≡ Some e → (e.levels ≤ suc m) × (0 < e.levels) × (e.nodes ≤ most) × (levels t ≡ e.levels) × (nodes t ≡ e.nodes)
 known_leaf most m e t l n h =
     let a = above_some most (Some nothing) e h in
-    let x : 0 ≡ a.one.levels = ap (λ (z : Extent). z.levels) (some_is a.first) in
-    let y : 0 ≡ a.one.nodes = ap (λ (z : Extent). z.nodes) (some_is a.first) in
+    let x : 0 ≡ a.one.levels = ap (λ (z : Extent). z.levels) (same_Some _ _ a.first) in
+    let y : 0 ≡ a.one.nodes = ap (λ (z : Extent). z.nodes) (same_Some _ _ a.first) in
     let p = a.high in let q = a.large in let r = a.few in
     (omega (arith, x, p), omega (arith, x, p), omega (arith, q, r), omega (arith, l, x, p), omega (arith, n, y, q))
 
@@ -159,7 +160,7 @@ extent_end most (suc m) fs i f = ap (λ e. over most (extent most m fs) (at fs e
 pub read_end : (m : ℕ) (fs : List Form) (i : ℕ) → IsFlat fs → read m fs (end fs i) ≡ read m fs i
 unfolding read
 read_end zero fs i f = refl
-read_end (suc m) fs i f = ap (λ e. grown (read m fs) (at fs e)) (end_end fs f i)
+read_end (suc m) fs i f = ap (λ e. form_type (read m fs) (at fs e)) (end_end fs f i)
 
 pub end_root : (fs : List Form) → IsFlat fs → (i : ℕ) → IsRoot (at fs (end fs i))
 end_root fs f i = go (at fs i) refl
@@ -171,7 +172,7 @@ end_root fs f i = go (at fs i) refl
 
 -- Who fits the graph has an instance of what is read.
 
-general_form : (most : ℕ) (u : Subst) (v : Valuation) (m : ℕ) (fs : List Form) → ((p : ℕ) (e : Extent) → extent most m fs p ≡ Some e → v p ≡ apply u (read m fs p)) → (f : Form) (t : Ty) (e : Extent) → IsRoot f → Says v f t → Names u f t → over most (extent most m fs) f ≡ Some e → t ≡ apply u (grown (read m fs) f)
+general_form : (most : ℕ) (u : Subst) (v : Valuation) (m : ℕ) (fs : List Form) → ((p : ℕ) (e : Extent) → extent most m fs p ≡ Some e → v p ≡ apply u (read m fs p)) → (f : Form) (t : Ty) (e : Extent) → IsRoot f → Says v f t → Names u f t → over most (extent most m fs) f ≡ Some e → t ≡ apply u (form_type (read m fs) f)
 general_form most u v m fs ih (form.var z) t e r h n k = n
 general_form most u v m fs ih (form.made s) t e r h n k =
     let f = formed_some most s (together most (extent most m fs) (parts s)) e k in
@@ -202,5 +203,5 @@ fits most (suc m) fs i e f h (form.made s) q =
     let g = formed_some most s (together most (extent most m fs) (parts s)) e o in
     let a = above_some most (together most (extent most m fs) (parts s)) e g.1 in
     let ps = parts_some most (extent most m fs) (parts s) a.one a.first in
-    ap (λ x. grown (read m fs) (at fs x)) p ∙ ap (grown (read m fs)) q
+    ap (λ x. form_type (read m fs) (at fs x)) p ∙ ap (form_type (read m fs)) q
     ∙ whole_same (read m fs) (read (suc m) fs) s (each (λ p. (b : Extent) × (extent most m fs p ≡ Some b)) (λ p. read m fs p ≡ read (suc m) fs p) (parts s) (λ p r. sym (known most m fs p r.0 r.1).more) ps)

@@ -6,7 +6,7 @@ use Rattle.aql_type_graph.specs.declared.extent.Extent.{Extent}
 use Rattle.aql_type_graph.specs.Shapes.{parts, is_formed}
 use Rattle.aql_type_graph.specs.Forms.{Form, at}
 use Rattle.aql_type_graph.specs.Forms as form
-use Rattle.aql_type_graph.specs.Trees.{grown}
+use Rattle.aql_type_graph.specs.Trees.{form_type}
 
 -- where a link leads, else the node itself
 abbrev pub link_target : Form → ℕ → ℕ
@@ -21,7 +21,7 @@ end fs i = link_target (at fs i) i
 -- the type that the node stands for, down to m levels
 unfoldable pub read : ℕ → List Form → ℕ → Ty
 read zero fs i = types.natural
-read (suc m) fs i = grown (read m fs) (at fs (end fs i))
+read (suc m) fs i = form_type (read m fs) (at fs (end fs i))
 
 -- the extent of no types
 abbrev pub nothing : Extent
@@ -57,12 +57,12 @@ extent most zero fs i = None
 extent most (suc m) fs i = over most (extent most m fs) (at fs (end fs i))
 
 -- the extent that was kept for a node
-abbrev pub kept : List Extent → ℕ → Extent
-kept es k = slice_index_or es k nothing
+abbrev pub kept_extent : List Extent → ℕ → Extent
+kept_extent es k = slice_index_or es k nothing
 
 -- each extent that was kept, those without levels apart, is that of its node
 abbrev pub IsMemo : ℕ → List Extent → List Form → Type 0
-IsMemo most es fs = (k : ℕ) → 0 < (kept es k).levels → extent most (kept es k).levels fs k ≡ Some (kept es k)
+IsMemo most es fs = (k : ℕ) → 0 < (kept_extent es k).levels → extent most (kept_extent es k).levels fs k ≡ Some (kept_extent es k)
 
 -- whether all nodes stand for types within these limits
 abbrev pub Measured : Bool → ℕ → ℕ → List Form → Type 0

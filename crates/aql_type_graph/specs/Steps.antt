@@ -63,9 +63,9 @@ form_parts (form.made s) = parts s
 form_parts (form.link j) = []
 
 -- the equations between parts, place by place
-abbrev pub paired : List ℕ → List ℕ → List Equation
-paired (p ∷ ps) (q ∷ qs) = record { left = p; right = q } ∷ paired ps qs
-paired _ _ = []
+abbrev pub pair_parts : List ℕ → List ℕ → List Equation
+pair_parts (p ∷ ps) (q ∷ qs) = record { left = p; right = q } ∷ pair_parts ps qs
+pair_parts _ _ = []
 
 -- the same types solve both: the first graph with the equations w, and the second with x
 pub record Leads (fs gs : List Form) (w x : List Equation) : Type 0 where

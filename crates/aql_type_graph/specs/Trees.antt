@@ -20,15 +20,15 @@ abbrev pub IsBuilt : List Form → Type 0
 IsBuilt fs = (i : ℕ) → Grows (at fs i) i
 
 -- the type of a form, of the types of its parts
-abbrev pub grown : Valuation → Form → Ty
-grown f (form.var x) = types.var x
-grown f (form.made s) = whole f s
-grown f (form.link j) = types.natural
+abbrev pub form_type : Valuation → Form → Ty
+form_type f (form.var x) = types.var x
+form_type f (form.made s) = whole f s
+form_type f (form.link j) = types.natural
 
 -- the type of a node, down to m levels
 unfoldable pub tree : ℕ → List Form → ℕ → Ty
 tree zero fs i = types.natural
-tree (suc m) fs i = grown (tree m fs) (at fs i)
+tree (suc m) fs i = form_type (tree m fs) (at fs i)
 
 -- the type that a node is
 abbrev pub type_at : List Form → ℕ → Ty

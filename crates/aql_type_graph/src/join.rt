@@ -4,7 +4,7 @@ ghost use Rattle.std.specs.Prelude.{true, ◌≡◌, ◌<◌, [], ◌++◌, leng
 ghost use Rattle.aql_type_graph.specs.declared.node.Node.TheVariants as node;
 ghost use Rattle.aql_type_graph.specs.Forms.{form_of, forms, at};
 ghost use Rattle.aql_type_graph.specs.Valuations.{IsOrdered, AreIn, IsRoot};
-ghost use Rattle.aql_type_graph.specs.Steps.{Stepped, SameFirst, is_var, alike_forms, form_parts, paired};
+ghost use Rattle.aql_type_graph.specs.Steps.{Stepped, SameFirst, is_var, alike_forms, form_parts, pair_parts};
 ghost use Rattle.aql_type_graph.specs.Schemes.{AreApart};
 
 use crate::cells::{node_at, parts_of, put};
@@ -145,7 +145,7 @@ fn push_parts(
 ) -> Result<Vec<Equation>, Memory>
     requires { alike_forms (form_of ps.now low) (form_of ps.now high) ≡ true }
     ensures { IfOk result (λ w. w.items ≡ work.items
-        ++ paired (form_parts (form_of ps.now low)) (form_parts (form_of ps.now high))) }
+        ++ pair_parts (form_parts (form_of ps.now low)) (form_parts (form_of ps.now high))) }
 {
     match (low, high) {
         (
@@ -169,7 +169,7 @@ fn push_parts(
 
 fn push_pairs(lefts: &[u32], rights: &[u32], work: Vec<Equation>) -> Result<Vec<Equation>, Memory>
     requires { length lefts.now ≡ length rights.now }
-    ensures { IfOk result (λ w. w.items ≡ work.items ++ paired lefts.now rights.now) }
+    ensures { IfOk result (λ w. w.items ≡ work.items ++ pair_parts lefts.now rights.now) }
 {
     let mut work = work;
     for i in 0..lefts.len() {

@@ -15,6 +15,7 @@ pub mod graph;
 pub mod grow;
 pub mod inside;
 mod join;
+pub mod laws;
 mod measure;
 pub mod node;
 pub mod read;

@@ -4,7 +4,7 @@ ghost use Rattle.std.specs.Prelude.{ℕ, List, ◌≡◌, ◌<◌, ◌≤◌, �
 ghost use Rattle.aql_type_graph.specs.Forms.{forms, at, parts_from};
 ghost use Rattle.aql_type_graph.specs.Steps.{IsFlat};
 ghost use Rattle.aql_type_graph.specs.Extents as extents;
-ghost use Rattle.aql_type_graph.specs.Extents.{IsMemo, Measured, nothing, kept, together, over, end};
+ghost use Rattle.aql_type_graph.specs.Extents.{IsMemo, Measured, nothing, kept_extent, together, over, end};
 
 use crate::cells::{node_at, parts_of};
 use crate::extent::Extent;
@@ -177,7 +177,7 @@ fn enclose_extent(a: Extent, most: u16) -> Option<Extent>
 }
 
 fn extent_at(memo: &[Extent], k: usize) -> Extent
-    ensures { result ≡ kept memo.now k }
+    ensures { result ≡ kept_extent memo.now k }
 {
     if k < memo.len() { memo[k] } else { NOTHING }
 }

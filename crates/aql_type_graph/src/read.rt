@@ -4,7 +4,7 @@ ghost use Rattle.std.specs.Prelude.{◌≡◌, IfOk};
 ghost use Rattle.aql_types.specs.View.{type_of, types_of};
 ghost use Rattle.aql_type_graph.specs.Shapes.{types_at};
 ghost use Rattle.aql_type_graph.specs.Forms.{forms, at};
-ghost use Rattle.aql_type_graph.specs.Trees.{grown};
+ghost use Rattle.aql_type_graph.specs.Trees.{form_type};
 ghost use Rattle.aql_type_graph.specs.Extents as extents;
 ghost use Rattle.aql_type_graph.specs.Graphs.{solved_forms};
 
@@ -39,7 +39,7 @@ fn read(alloc: Global, ns: &[Node], ps: &[u32], i: usize, left: u16) -> Result<T
 #[cycle(read)]
 #[tactic(auto, using(aql_types::specs::Laws::View::type_of_row))]
 fn read_node(alloc: Global, ns: &[Node], ps: &[u32], e: usize, left: u16) -> Result<Ty, Memory>
-    ensures { IfOk result (λ t. type_of t ≡ grown (extents.read left (forms ps.now ns.now))
+    ensures { IfOk result (λ t. type_of t ≡ form_type (extents.read left (forms ps.now ns.now))
         (at (forms ps.now ns.now) e)) }
 {
     match node_at(ns, e) {

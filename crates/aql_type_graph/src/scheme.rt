@@ -8,7 +8,7 @@ ghost use Rattle.aql_type_graph.specs.Forms as form;
 ghost use Rattle.aql_type_graph.specs.Trees.{IsBuilt};
 ghost use Rattle.aql_type_graph.specs.Ranges.{range_end, variables_in};
 ghost use Rattle.aql_type_graph.specs.Graphs.{forms_of, table_forms};
-ghost use Rattle.aql_type_graph.specs.Schemes.{moved, shifted};
+ghost use Rattle.aql_type_graph.specs.Schemes.{instance_part, instance_form};
 
 use crate::cells::parts_of;
 use crate::graph::Graph;
@@ -40,7 +40,8 @@ pub fn push_instance(g: Graph, scheme: &SchemeNodes, shared: u32) -> Result<Grap
     requires built { IsBuilt (take shared (forms_of g) ++ table_forms scheme.now.table) }
     requires numbered { variables_in (table_forms scheme.now.table) ≡ below scheme.now.variables }
     ensures nodes { IfOk result (λ m. forms_of m ≡ forms_of g
-        ++ map (shifted shared (length g.nodes.items) g.variables) (table_forms scheme.now.table)) }
+        ++ map (instance_form shared (length g.nodes.items) g.variables)
+        (table_forms scheme.now.table)) }
     ensures variables { IfOk result (λ m. m.variables ≡ g.variables + scheme.now.variables) }
 {
     let nodes = to_number(g.nodes.len())?;
@@ -69,7 +70,7 @@ pub fn push_instance(g: Graph, scheme: &SchemeNodes, shared: u32) -> Result<Grap
 // The table with the scheme's own nodes behind its own, moved.
 fn push_scheme(table: Table, scheme: &Table, shift: Shift) -> Result<Table, Memory>
     ensures { IfOk result (λ m. table_forms m ≡ table_forms table
-        ++ map (shifted shift.shared shift.nodes shift.first) (table_forms scheme.now)) }
+        ++ map (instance_form shift.shared shift.nodes shift.first) (table_forms scheme.now)) }
 {
     let mut made = table;
     for n in &scheme.nodes {
@@ -81,7 +82,7 @@ fn push_scheme(table: Table, scheme: &Table, shift: Shift) -> Result<Table, Memo
 // The table with one node of the scheme behind its own, moved.
 fn push_shifted(table: Table, n: Node, parts: &[u32], shift: Shift) -> Result<Table, Memory>
     ensures { IfOk result (λ m. table_forms m ≡ table_forms table
-        ++ shifted shift.shared shift.nodes shift.first (form_of parts.now n) ∷ []) }
+        ++ instance_form shift.shared shift.nodes shift.first (form_of parts.now n) ∷ []) }
 {
     match n {
         Node::Var(x) => push_plain(table, Node::Var(sum(shift.first, x)?)),
@@ -115,7 +116,7 @@ fn push_plain(table: Table, n: Node) -> Result<Table, Memory>
 // The table with a tuple behind its nodes, its parts moved.
 fn push_row(table: Table, row: &[u32], shift: Shift) -> Result<Table, Memory>
     ensures { IfOk result (λ m. table_forms m ≡ table_forms table ++ form.made
-        (shape.product (map (moved shift.shared shift.nodes) row.now)) ∷ []) }
+        (shape.product (map (instance_part shift.shared shift.nodes) row.now)) ∷ []) }
 {
     let first = to_number(table.parts.len())?;
     let count = to_number(row.len())?;
@@ -127,7 +128,7 @@ fn push_row(table: Table, row: &[u32], shift: Shift) -> Result<Table, Memory>
 fn push_moved(table: Table, row: &[u32], shift: Shift) -> Result<Table, Memory>
     ensures forms { IfOk result (λ m. table_forms m ≡ table_forms table) }
     ensures parts { IfOk result (λ m. m.parts.items ≡ table.parts.items
-        ++ map (moved shift.shared shift.nodes) row.now) }
+        ++ map (instance_part shift.shared shift.nodes) row.now) }
 {
     let parts = moved_parts(table.parts, row, shift)?;
     Ok(Table {
@@ -138,7 +139,7 @@ fn push_moved(table: Table, row: &[u32], shift: Shift) -> Result<Table, Memory>
 
 fn moved_parts(parts: Vec<u32>, row: &[u32], shift: Shift) -> Result<Vec<u32>, Memory>
     ensures { IfOk result (λ m. m.items ≡ parts.items
-        ++ map (moved shift.shared shift.nodes) row.now) }
+        ++ map (instance_part shift.shared shift.nodes) row.now) }
 {
     let mut parts = parts;
     for p in row {
@@ -149,7 +150,7 @@ fn moved_parts(parts: Vec<u32>, row: &[u32], shift: Shift) -> Result<Vec<u32>, M
 }
 
 fn moved_part(p: u32, shift: Shift) -> Result<u32, Memory>
-    ensures { IfOk result (λ q. q ≡ moved shift.shared shift.nodes p) }
+    ensures { IfOk result (λ q. q ≡ instance_part shift.shared shift.nodes p) }
 {
     if p < shift.shared {
         return Ok(p);

@@ -3,7 +3,7 @@
 ghost use Rattle.std.specs.Prelude.{◌∷◌, [], IfOk};
 ghost use Rattle.aql_types.specs.Types as types;
 ghost use Rattle.aql_types.specs.Types.{apply, apply_all};
-ghost use Rattle.aql_types.specs.View.{type_of, types_of, listed};
+ghost use Rattle.aql_types.specs.View.{type_of, types_of, equation_list};
 ghost use Rattle.aql_type_graph.specs.Graphs.{forms_of};
 ghost use Rattle.aql_type_solve.specs.Pushed.{shift, AreNumbered, IsFresh, Pushes, PushesAll, PushesUses, PushesEquations, Makes};
 
@@ -25,7 +25,8 @@ pub(crate) fn make_graph(
     work: Vec<Equation>,
     uses: Vec<Ty>,
 ) -> Result<(Vec<node::Equation>, Graph), Memory>
-    ensures { IfOk result (λ r. Makes r.0.items r.1 (listed work.items) (types_of uses.items)) }
+    ensures { IfOk result
+        (λ r. Makes r.0.items r.1 (equation_list work.items) (types_of uses.items)) }
 {
     let variables = count_variables(&work, &uses)?;
     let g = push_variables(alloc, variables)?;
@@ -61,7 +62,7 @@ fn push_equations(
     work: Vec<Equation>,
 ) -> Result<(Vec<node::Equation>, Graph), Memory>
     requires { AreNumbered g.variables (forms_of g) }
-    ensures { IfOk result (λ r. PushesEquations r.0.items r.1 g (listed work.items)) }
+    ensures { IfOk result (λ r. PushesEquations r.0.items r.1 g (equation_list work.items)) }
 {
     let mut g = g;
     let mut made = Vec::new(alloc);
@@ -75,7 +76,7 @@ fn push_equations(
 
 fn push_equation(alloc: Global, g: Graph, e: Equation) -> Result<(node::Equation, Graph), Memory>
     requires { AreNumbered g.variables (forms_of g) }
-    ensures { IfOk result (λ r. PushesEquations (r.0 ∷ []) r.1 g (listed (e ∷ []))) }
+    ensures { IfOk result (λ r. PushesEquations (r.0 ∷ []) r.1 g (equation_list (e ∷ []))) }
 {
     let (left, g) = push_type(alloc, g, &e.left, 0)?;
     let (right, g) = push_type(alloc, g, &e.right, 0)?;

@@ -1,10 +1,11 @@
 //! Solving equations between types, and the solution.
 
 ghost use Rattle.std.specs.Prelude.{◌≡◌, [], ◌∷◌, IfOk, length};
+ghost use Rattle.aql_value.specs.Lists.{onto};
 ghost use Rattle.aql_types.specs.Types as types;
 ghost use Rattle.aql_types.specs.Types.{Tys};
 ghost use Rattle.aql_types.specs.Unifiers.{Equations};
-ghost use Rattle.aql_types.specs.View.{type_of, types_of, onto, equations_of};
+ghost use Rattle.aql_types.specs.View.{type_of, types_of, equations_of};
 ghost use Rattle.aql_type_graph.specs.Valuations.{AreIn};
 ghost use Rattle.aql_type_solve.specs.Pushed.{shift, Makes};
 ghost use Rattle.aql_type_solve.specs.Solution.{subst_in, SolvedIn};

@@ -4,13 +4,13 @@ use Rattle.std.proofs.Math.Seq.{drop-cons}
 use Rattle.std.proofs.lemmas.List.{at_drop_all}
 use Rattle.aql_types.specs.Types.{Ty, apply, single}
 use Rattle.aql_types.specs.Laws.Types.{apply-apply, apply_same, apply_var, apply_all-append, absent_single}
-use Rattle.aql_types.specs.Unifiers.{Bindings, applied, as_subst}
+use Rattle.aql_types.specs.Unifiers.{Bindings, apply_bindings, as_subst}
 use Rattle.aql_types.specs.View.{type_of, bindings_of}
 use Rattle.aql_types.specs.Laws.View.{types_last, equations_last}
 use Rattle.aql_types.specs.declared.subst.Binding.{Binding}
 
 -- the substitution that the replacements are does what they do
-pub applied_is : (bs : Bindings) (t : Ty) → apply (as_subst bs) t ≡ applied bs t
+pub applied_is : (bs : Bindings) (t : Ty) → apply (as_subst bs) t ≡ apply_bindings bs t
 applied_is [] t = apply_var t
 applied_is ((x, s) ∷ bs) t =
     apply_same (as_subst ((x, s) ∷ bs)) (λ y. apply (as_subst bs) (single x s y)) (λ y. sym (applied_is bs (single x s y))) t

@@ -8,9 +8,9 @@ use Rattle.aql_types.proofs.Applying.{applied_is}
 use Rattle.aql_types.proofs.Moves.{Meets, move_meets, meets_move, MoveWithin, move_within}
 use Rattle.aql_types.proofs.Occurrences.{In, AllIn, StepIn, steps_in, replace_in, member, without, without_lt, member_without, variables, few_variables, its_variables, member_left, member_right}
 use Rattle.aql_types.proofs.Settling.{nodes_pos, size-append, Shrinks, move_shrinks}
-use Rattle.aql_types.specs.Solving.{Move, clash, more, binds, asks, SolveStep, done, bound, went, act, steps, settle, size, replace, all_fit, sides_fit, then_bind, next, solve, solved}
+use Rattle.aql_types.specs.Solving.{Move, clash, more, binds, asks, SolveStep, done, bound, went, act, steps, settle, size, replace, all_fit, sides_fit, then_bind, next, solve, solution_of}
 use Rattle.aql_types.specs.Types.{Ty, var, Tys, no_type, type, Subst, apply, apply_all, occurs, nodes, IsWithin, fits, single}
-use Rattle.aql_types.specs.Unifiers.{Equations, Bindings, applied, as_subst, AllUnify, AllWithin, SidesWithin, IsSolution, IsBest, Unifies, IsMostGeneral}
+use Rattle.aql_types.specs.Unifiers.{Equations, Bindings, apply_bindings, as_subst, AllUnify, AllWithin, SidesWithin, IsSolution, IsBest, Unifies, IsMostGeneral}
 
 -- u makes both sides of each binding equal
 abbrev pub Respects : Subst → Bindings → Type 0
@@ -216,11 +216,11 @@ self : (bs : Bindings) → IsTriangular bs → Respects (as_subst bs) bs
 self [] h = tt
 self ((x, s) ∷ bs) h =
     let here : single x s x ≡ s = rw (eq-eqb x x refl) refl in (
-      ap (applied bs) (here ∙ sym (absent_single x s s h.0)) ∙ sym (applied_is ((x, s) ∷ bs) s),
+      ap (apply_bindings bs) (here ∙ sym (absent_single x s s h.0)) ∙ sym (applied_is ((x, s) ∷ bs) s),
       shift x s bs bs h.1 (self bs h.2),
     )
 
-through : (u : Subst) (bs : Bindings) → Respects u bs → (t : Ty) → apply u (applied bs t) ≡ apply u t
+through : (u : Subst) (bs : Bindings) → Respects u bs → (t : Ty) → apply u (apply_bindings bs t) ≡ apply u t
 through u [] h t = refl
 through u ((x, s) ∷ bs) h t = through u bs h.1 (apply (single x s) t) ∙ respects_single u x s h.0 t
 
@@ -322,7 +322,7 @@ equations_in ((a, b) ∷ w) vs h = (
 )
 
 -- any equations, all sides of which are within the limits as they stand
-pub solved_none : (w : Equations) (us : Tys) → solved w us ≡ None → (u : Subst) → IsSolution u w us → ⊥
+pub solved_none : (w : Equations) (us : Tys) → solution_of w us ≡ None → (u : Subst) → IsSolution u w us → ⊥
 solved_none w us e u k =
     solve_none (size w + 1) (equation_variables w) (omega (arith, few_in_equations w)) w us
     (equations_in w (equation_variables w) (λ x h. h)) (go (all_fit us && sides_fit w) fit e) u k
@@ -334,7 +334,7 @@ solved_none w us e u k =
     go true f e = e
     go false f e = cc
 
-pub solved_some : (w : Equations) (us : Tys) (bs : Bindings) → solved w us ≡ Some bs → IsBest w us (as_subst bs)
+pub solved_some : (w : Equations) (us : Tys) (bs : Bindings) → solution_of w us ≡ Some bs → IsBest w us (as_subst bs)
 solved_some w us bs e = go (all_fit us && sides_fit w) refl e
   where
     go : (b : Bool) → (all_fit us && sides_fit w) ≡ b → (if b then solve (size w + 1) w us else None) ≡ Some bs → IsBest w us (as_subst bs)

@@ -1,5 +1,6 @@
 pub mod Applying
 pub mod Exact
+pub mod Indices
 pub mod Moves
 pub mod Occurrences
 pub mod Occurs

@@ -3,7 +3,7 @@ use Rattle.std.proofs.Common.{ℕ, ◌≡◌, Bool, true, false, ◌==◌, [], O
 use Rattle.std.proofs.lemmas.Bool.{eqb-true, eq-eqb}
 use Rattle.aql_types.specs.Laws.Types.{row_is, count_apply, member_within, cell_within, PartsWithin, parts_within, first_within, rest_within}
 use Rattle.aql_types.proofs.Occurs.{occurs_clash}
-use Rattle.aql_types.specs.Solving.{Move, clash, more, binds, is_var, bind, zipped, asks, asked, as_var, same_form, same_part}
+use Rattle.aql_types.specs.Solving.{Move, clash, more, binds, is_var, bind, zip, asks, move_of, as_var, same_form, same_part}
 use Rattle.aql_types.specs.Types.{Ty, natural, truth, var, product, set_of, Tys, no_type, type, Subst, apply, apply_all, occurs, IsWithin, count, text, array_of}
 use Rattle.aql_types.specs.Unifiers.{AllUnify, SidesWithin}
 
@@ -51,13 +51,13 @@ cells_is k r a b e = cc
 ranks_is : (k r : ℕ) (a b : Ty) → array_of k a ≡ array_of r b → k ≡ r
 ranks_is k r a b e = cc
 
-zip_meets : (u : Subst) (a b : Tys) → apply_all u a ≡ apply_all u b → AllUnify u (zipped a b)
+zip_meets : (u : Subst) (a b : Tys) → apply_all u a ≡ apply_all u b → AllUnify u (zip a b)
 zip_meets u no_type no_type e = tt
 zip_meets u no_type (type b bs) e = tt
 zip_meets u (type a as') no_type e = tt
 zip_meets u (type a as') (type b bs) e = (head_is _ _ _ _ e, zip_meets u as' bs (tail_is _ _ _ _ e))
 
-meets_zip : (u : Subst) (a b : Tys) → count a ≡ count b → AllUnify u (zipped a b) → apply_all u a ≡ apply_all u b
+meets_zip : (u : Subst) (a b : Tys) → count a ≡ count b → AllUnify u (zip a b) → apply_all u a ≡ apply_all u b
 meets_zip u no_type no_type e h = refl
 meets_zip u no_type (type b bs) e h = let bad : ⊥ = omega (arith, e) in absurd bad
 meets_zip u (type a as') no_type e h = let bad : ⊥ = omega (arith, e) in absurd bad
@@ -80,7 +80,7 @@ form_meets u (product a) (product b) n m e = go (count a == count b) refl
     h : apply_all u a ≡ apply_all u b
     h = parts_is _ _ e
 
-    go : (c : Bool) → (count a == count b) ≡ c → Meets u (if c then more (zipped a b) else clash)
+    go : (c : Bool) → (count a == count b) ≡ c → Meets u (if c then more (zip a b) else clash)
     go true k = zip_meets u a b h
     go false k = let same : (count a == count b) ≡ true = eq-eqb (count a) (count b) (sym (count_apply u a) ∙ ap count h ∙ count_apply u b) in cc
 form_meets u _ _ n m e = cc
@@ -97,7 +97,7 @@ meets_form u (array_of k a) (array_of r b) m = go (r == k) refl m
     go false j m = absurd m
 meets_form u (product a) (product b) m = go (count a == count b) refl m
   where
-    go : (c : Bool) → (count a == count b) ≡ c → Meets u (if c then more (zipped a b) else clash) → product (apply_all u a) ≡ product (apply_all u b)
+    go : (c : Bool) → (count a == count b) ≡ c → Meets u (if c then more (zip a b) else clash) → product (apply_all u a) ≡ product (apply_all u b)
     go true k m = ap product (meets_zip u a b (eqb-true _ _ k) m)
     go false k m = absurd m
 meets_form u _ _ m = absurd m
@@ -111,7 +111,7 @@ pub move_meets : (u : Subst) (a b : Ty) → apply u a ≡ apply u b → Meets u 
 unfolding asks
 move_meets u a b e = go (as_var a) (as_var b) refl refl
   where
-    go : (o p : Option ℕ) → as_var a ≡ o → as_var b ≡ p → Meets u (asked o p a b)
+    go : (o p : Option ℕ) → as_var a ≡ o → as_var b ≡ p → Meets u (move_of o p a b)
     go (Some x) p n m = bind_meets u x b (sym (ap (apply u) (var_of a x n)) ∙ e)
     go None (Some y) n m = bind_meets u y a (sym (ap (apply u) (var_of b y m)) ∙ sym e)
     go None None n m = form_meets u a b n m e
@@ -120,7 +120,7 @@ pub meets_move : (u : Subst) (a b : Ty) → Meets u (asks a b) → apply u a ≡
 unfolding asks
 meets_move u a b h = go (as_var a) (as_var b) refl refl h
   where
-    go : (o p : Option ℕ) → as_var a ≡ o → as_var b ≡ p → Meets u (asked o p a b) → apply u a ≡ apply u b
+    go : (o p : Option ℕ) → as_var a ≡ o → as_var b ≡ p → Meets u (move_of o p a b) → apply u a ≡ apply u b
     go (Some x) p n m h = ap (apply u) (var_of a x n) ∙ meets_bind u x b h
     go None (Some y) n m h = sym (ap (apply u) (var_of b y m) ∙ meets_bind u y a h)
     go None None n m h = meets_form u a b h
@@ -132,7 +132,7 @@ MoveWithin u clash = Unit {0}
 MoveWithin u (more ps) = SidesWithin u ps
 MoveWithin u (binds x t) = Unit {0}
 
-zip_within : (u : Subst) (a b : Tys) → PartsWithin (apply_all u a) → PartsWithin (apply_all u b) → SidesWithin u (zipped a b)
+zip_within : (u : Subst) (a b : Tys) → PartsWithin (apply_all u a) → PartsWithin (apply_all u b) → SidesWithin u (zip a b)
 zip_within u no_type no_type h k = tt
 zip_within u no_type (type b bs) h k = tt
 zip_within u (type a as') no_type h k = tt
@@ -160,7 +160,7 @@ form_within u (array_of n a) (array_of r b) h k = go (r == n)
     go false = tt
 form_within u (product a) (product b) h k = go (count a == count b)
   where
-    go : (c : Bool) → MoveWithin u (if c then more (zipped a b) else clash)
+    go : (c : Bool) → MoveWithin u (if c then more (zip a b) else clash)
     go true = zip_within u a b (parts_within (apply_all u a) h) (parts_within (apply_all u b) k)
     go false = tt
 form_within u _ _ h k = tt
@@ -169,7 +169,7 @@ pub move_within : (u : Subst) (a b : Ty) → IsWithin (apply u a) → IsWithin (
 unfolding asks
 move_within u a b h k = go (as_var a) (as_var b)
   where
-    go : (o p : Option ℕ) → MoveWithin u (asked o p a b)
+    go : (o p : Option ℕ) → MoveWithin u (move_of o p a b)
     go (Some x) p = bind_within u x b
     go None (Some y) = bind_within u y a
     go None None = form_within u a b h k

@@ -1,8 +1,8 @@
 -- Which variables occur.
 use Rattle.std.proofs.Common.{ℕ, zero, suc, ◌≡◌, ◌+◌, ◌<◌, ◌≤◌, Bool, true, false, ◌==◌, ◌||◌, List, [], ◌∷◌, ◌++◌, Option, Some, None, refl, ap, arith, if◌then◌else◌, length, inl, inr, ◌⊎◌}
-use Rattle.std.proofs.lemmas.Bool.{eqb-true, eq-eqb}
-use Rattle.aql_types.proofs.Occurs.{or_true, or_left, or_right, Was, was_in, was_there, was}
-use Rattle.aql_types.specs.Solving.{Move, clash, more, binds, is_var, bind, zipped, asks, asked, as_var, same_form, same_part, replace, SolveStep, done, bound, went, act, steps}
+use Rattle.std.proofs.lemmas.Bool.{eqb-true, eq-eqb, or_cases, or_left, or_right}
+use Rattle.aql_types.proofs.Occurs.{Was, was_in, was_there, was}
+use Rattle.aql_types.specs.Solving.{Move, clash, more, binds, is_var, bind, zip, asks, move_of, as_var, same_form, same_part, replace, SolveStep, done, bound, went, act, steps}
 use Rattle.aql_types.specs.Types.{Ty, natural, truth, var, product, set_of, Tys, no_type, type, apply, occurs, occurs_all, nodes, nodes_all, single, count, text, array_of}
 use Rattle.aql_types.specs.Unifiers.{Equations}
 
@@ -30,7 +30,7 @@ bind_in v x t h k = go (is_var x t) (occurs x t) refl
     go false true e = tt
     go false false e = (h, k, e)
 
-zip_in : (v : ℕ → Bool) (a b : Tys) → InAll v a → InAll v b → AllIn v (zipped a b)
+zip_in : (v : ℕ → Bool) (a b : Tys) → InAll v a → InAll v b → AllIn v (zip a b)
 zip_in v no_type no_type h k = tt
 zip_in v no_type (type b bs) h k = tt
 zip_in v (type a as') no_type h k = tt
@@ -52,7 +52,7 @@ form_in v (array_of n a) (array_of r b) h k = go (r == n)
     go false = tt
 form_in v (product a) (product b) h k = go (count a == count b)
   where
-    go : (c : Bool) → MoveIn v (if c then more (zipped a b) else clash)
+    go : (c : Bool) → MoveIn v (if c then more (zip a b) else clash)
     go true = zip_in v a b h k
     go false = tt
 form_in v _ _ h k = tt
@@ -66,7 +66,7 @@ pub move_in : (v : ℕ → Bool) (a b : Ty) → In v a → In v b → MoveIn v (
 unfolding asks
 move_in v a b h k = go (as_var a) (as_var b) refl refl
   where
-    go : (o p : Option ℕ) → as_var a ≡ o → as_var b ≡ p → MoveIn v (asked o p a b)
+    go : (o p : Option ℕ) → as_var a ≡ o → as_var b ≡ p → MoveIn v (move_of o p a b)
     go (Some x) p n m = bind_in v x b (var_in v a x n h) k
     go None (Some y) n m = bind_in v y a (var_in v b y m k) h
     go None None n m = form_in v a b h k
@@ -213,7 +213,7 @@ mutual
 
   pub their_variables : (x : ℕ) (ts : Tys) → occurs_all x ts ≡ true → member x (variables_all ts) ≡ true
   their_variables x no_type e = cc
-  their_variables x (type t ts) e = go (or_true _ _ e) (its_variables x t) (their_variables x ts)
+  their_variables x (type t ts) e = go (or_cases _ _ e) (its_variables x t) (their_variables x ts)
     where
       go : (occurs x t ≡ true) ⊎ (occurs_all x ts ≡ true) → (occurs x t ≡ true → member x (variables t) ≡ true) →
           (occurs_all x ts ≡ true → member x (variables_all ts) ≡ true) → member x (variables t ++ variables_all ts) ≡ true

@@ -1,20 +1,8 @@
 -- Which variables occur in a type, and after a replacement.
 use Rattle.std.proofs.Common.{ℕ, ◌≡◌, ◌+◌, ◌≤◌, Bool, true, false, ◌==◌, ◌||◌, refl, sym, ap, ◌∙◌, subst, arith, if◌then◌else◌, ◌⊎◌, inl, inr}
-use Rattle.std.proofs.lemmas.Bool.{eqb-true}
+use Rattle.std.proofs.lemmas.Bool.{eqb-true, or_cases, or_left, or_right}
 use Rattle.aql_types.specs.Solving.{is_var}
 use Rattle.aql_types.specs.Types.{Ty, natural, truth, text, var, product, set_of, array_of, Tys, no_type, type, Subst, apply, apply_all, occurs, occurs_all, nodes, nodes_all, single}
-
-pub or_true : (a b : Bool) → (a || b) ≡ true → (a ≡ true) ⊎ (b ≡ true)
-or_true true b e = inl refl
-or_true false b e = inr e
-
-pub or_left : (a b : Bool) → a ≡ true → (a || b) ≡ true
-or_left true b e = refl
-or_left false b e = cc
-
-pub or_right : (a b : Bool) → b ≡ true → (a || b) ≡ true
-or_right true b e = refl
-or_right false b e = e
 
 -- a variable after a replacement was in what was put in, or was there before and is another
 pub data Was (y x : ℕ) (s : Ty) (there : Bool) : Type 0 where
@@ -22,7 +10,7 @@ pub data Was (y x : ℕ) (s : Ty) (there : Bool) : Type 0 where
   was_there : there ≡ true → (y == x) ≡ false → Was y x s there
 
 was_or : (y x : ℕ) (s : Ty) (a b c d : Bool) → (a ≡ true → Was y x s c) → (b ≡ true → Was y x s d) → (a || b) ≡ true → Was y x s (c || d)
-was_or y x s a b c d f g e = go (or_true a b e)
+was_or y x s a b c d f g e = go (or_cases a b e)
   where
     left : Was y x s c → Was y x s (c || d)
     left (was_in h) = was_in h
@@ -68,7 +56,7 @@ mutual
 
   pub occurs_all_size : (u : Subst) (x : ℕ) (ts : Tys) → occurs_all x ts ≡ true → nodes (u x) ≤ nodes_all (apply_all u ts)
   occurs_all_size u x no_type e = cc
-  occurs_all_size u x (type t ts) e = go (or_true _ _ e) (occurs_size u x t) (occurs_all_size u x ts)
+  occurs_all_size u x (type t ts) e = go (or_cases _ _ e) (occurs_size u x t) (occurs_all_size u x ts)
     where
       go : (occurs x t ≡ true) ⊎ (occurs_all x ts ≡ true) → (occurs x t ≡ true → nodes (u x) ≤ nodes (apply u t)) →
           (occurs_all x ts ≡ true → nodes (u x) ≤ nodes_all (apply_all u ts)) → nodes (u x) ≤ nodes (apply u t) + nodes_all (apply_all u ts)

@@ -6,16 +6,17 @@ use Rattle.std.proofs.lemmas.Bool.{eqb-true}
 use Rattle.std.proofs.Math.Seq.{drop-cons}
 use Rattle.std.proofs.lemmas.List.{at_drop_all}
 use Rattle.aql_types.specs.declared.ty.Ty as code
-use Rattle.aql_types.specs.Solving.{Move, clash, more, binds, is_var, bind, zipped, asks, asked, as_var, same_form, same_part, size, SolveStep, done, bound, again, binding, went, act, steps, settle, replace, then_bind, next, solve, prefixed, all_fit, sides_fit}
+use Rattle.aql_types.specs.Solving.{Move, clash, more, binds, is_var, bind, zip, asks, move_of, as_var, same_form, same_part, size, SolveStep, done, bound, again, binding, went, act, steps, settle, replace, then_bind, next, solve, prefix, all_fit, sides_fit}
 use Rattle.aql_types.specs.Types.{apply_all, single, fits, Ty, natural, truth, var, product, set_of, Tys, no_type, type, nodes, nodes_all, occurs, count, text, array_of}
 use Rattle.aql_types.specs.Unifiers.{Equations, Bindings}
 use Rattle.aql_types.specs.Laws.Types.{fits_within}
 use Rattle.aql_types.specs.Laws.View.{equations_last, count_types}
-use Rattle.aql_types.specs.View.{types_of, type_of, listed, onto, equations_of, bindings_of}
+use Rattle.aql_types.specs.View.{types_of, type_of, equation_list, equations_of, bindings_of}
+use Rattle.aql_value.specs.Lists.{onto}
 
 pub zipped_last : (xs ys : List code.Ty) (x y : code.Ty) (w : Equations) → length xs ≡ length ys →
-    zipped (types_of (xs ++ (x ∷ []))) (types_of (ys ++ (y ∷ []))) ++ w
-    ≡ zipped (types_of xs) (types_of ys) ++ ((type_of x, type_of y) ∷ w)
+    zip (types_of (xs ++ (x ∷ []))) (types_of (ys ++ (y ∷ []))) ++ w
+    ≡ zip (types_of xs) (types_of ys) ++ ((type_of x, type_of y) ∷ w)
 zipped_last [] [] x y w e = refl
 zipped_last (a ∷ xs) (b ∷ ys) x y w e =
     ap (◌∷◌ (type_of a, type_of b)) (zipped_last xs ys x y w (omega (arith, e)))
@@ -42,7 +43,7 @@ pub size-append : (p w : Equations) → size (p ++ w) ≡ size p + size w
 size-append [] w = omega arith
 size-append ((a, b) ∷ p) w = omega (arith, size-append p w)
 
-zipped_size : (as' bs : Tys) → size (zipped as' bs) ≤ nodes_all as' + nodes_all bs
+zipped_size : (as' bs : Tys) → size (zip as' bs) ≤ nodes_all as' + nodes_all bs
 zipped_size no_type no_type = omega arith
 zipped_size no_type (type b bs) = omega arith
 zipped_size (type a as') no_type = omega arith
@@ -73,7 +74,7 @@ form_shrinks (array_of k a) (array_of r b) = go (r == k)
     go false = tt
 form_shrinks (product a) (product b) = go (count a == count b)
   where
-    go : (c : Bool) → Shrinks (nodes (product a) + nodes (product b)) (if c then more (zipped a b) else clash)
+    go : (c : Bool) → Shrinks (nodes (product a) + nodes (product b)) (if c then more (zip a b) else clash)
     go true = omega (arith, zipped_size a b)
     go false = tt
 form_shrinks _ _ = tt
@@ -82,7 +83,7 @@ pub move_shrinks : (a b : Ty) → Shrinks (nodes a + nodes b) (asks a b)
 unfolding asks
 move_shrinks a b = go (as_var a) (as_var b)
   where
-    go : (o p : Option ℕ) → Shrinks (nodes a + nodes b) (asked o p a b)
+    go : (o p : Option ℕ) → Shrinks (nodes a + nodes b) (move_of o p a b)
     go (Some x) p = bind_shrinks (nodes a + nodes b) x b (omega (arith, nodes_pos a))
     go None (Some y) = bind_shrinks (nodes a + nodes b) y a (omega (arith, nodes_pos a))
     go None None = form_shrinks a b
@@ -150,19 +151,13 @@ onto_replace x t [] acc = refl
 onto_replace x t ((a, b) ∷ p) acc = onto_replace x t p ((a, b) ∷ acc)
 
 pub listed_from : (ps : List Equation) (i : ℕ) (d : Equation) → i < length ps →
-    listed (drop i ps) ≡ (type_of (get_or ps i d).left, type_of (get_or ps i d).right) ∷ listed (drop (i + 1) ps)
+    equation_list (drop i ps) ≡ (type_of (get_or ps i d).left, type_of (get_or ps i d).right) ∷ equation_list (drop (i + 1) ps)
 listed_from ps i d h = rw (add-one, drop-cons ps i d h) refl
 
-pub listed_past : (ps : List Equation) (i : ℕ) → length ps ≤ i → listed (drop i ps) ≡ []
-listed_past ps i h = at_drop_all listed ps i h
+pub listed_past : (ps : List Equation) (i : ℕ) → length ps ≤ i → equation_list (drop i ps) ≡ []
+listed_past ps i h = at_drop_all equation_list ps i h
 
 pub ruleset replace_steps = (equations_last, onto_replace, listed_from, listed_past)
-
-and_and : (a b c : Bool) → (a && b) ≡ c → (b && a) ≡ c
-and_and true true c e = e
-and_and true false c e = e
-and_and false true c e = e
-and_and false false c e = e
 
 fit_onto : (p acc : Equations) → sides_fit (onto p acc) ≡ (sides_fit p && sides_fit acc)
 fit_onto [] acc = refl
@@ -179,8 +174,8 @@ and_true : (b : Bool) → (b && true) ≡ b
 and_true true = refl
 and_true false = refl
 
-pub fit_listed : (ps : List Equation) → sides_fit (equations_of ps) ≡ sides_fit (listed ps)
-fit_listed ps = fit_onto (listed ps) [] ∙ and_true (sides_fit (listed ps))
+pub fit_listed : (ps : List Equation) → sides_fit (equations_of ps) ≡ sides_fit (equation_list ps)
+fit_listed ps = fit_onto (equation_list ps) [] ∙ and_true (sides_fit (equation_list ps))
 
 -- The turns of solving.
 
@@ -196,7 +191,7 @@ prefixed_none : (bs : Bindings) → bs ++ [] ≡ bs
 prefixed_none [] = refl
 prefixed_none (b ∷ bs) = ap (◌∷◌ b) (prefixed_none bs)
 
-prefixed_bind : (bs : Bindings) (x : ℕ) (t : Ty) (o : Option Bindings) → prefixed bs (then_bind x t o) ≡ prefixed (bs ++ ((x, t) ∷ [])) o
+prefixed_bind : (bs : Bindings) (x : ℕ) (t : Ty) (o : Option Bindings) → prefix bs (then_bind x t o) ≡ prefix (bs ++ ((x, t) ∷ [])) o
 prefixed_bind bs x t None = refl
 prefixed_bind bs x t (Some s) = ap Some (assoc bs)
   where
@@ -205,16 +200,16 @@ prefixed_bind bs x t (Some s) = ap Some (assoc bs)
     assoc (b ∷ bs) = ap (◌∷◌ b) (assoc bs)
 
 pub solved_done : (n i : ℕ) (w : Equations) (us : Tys) (bs : Bindings) → i < n → settle w ≡ Some done →
-    prefixed bs (solve (n - i) w us) ≡ Some bs
+    prefix bs (solve (n - i) w us) ≡ Some bs
 solved_done n i w us bs h e = rw (solve_turn n i w us h, e) (ap Some (prefixed_none bs))
 
 pub solved_clash : (n i : ℕ) (w : Equations) (us : Tys) (bs : Bindings) → i < n → settle w ≡ None →
-    prefixed bs (solve (n - i) w us) ≡ None
+    prefix bs (solve (n - i) w us) ≡ None
 solved_clash n i w us bs h e = rw (solve_turn n i w us h, e) refl
 
 pub solved_large : (n i : ℕ) (w r w' : Equations) (us us' : Tys) (bs : Bindings) (x : ℕ) (t : Ty) → i < n →
     settle w ≡ Some (bound x t r) → us' ≡ apply_all (single x t) us → w' ≡ replace x t r → (all_fit us' && sides_fit w') ≡ false →
-    prefixed bs (solve (n - i) w us) ≡ None
+    prefix bs (solve (n - i) w us) ≡ None
 solved_large n i w r w' us us' bs x t h e k l f = rw (solve_turn n i w us h, e, f') refl
   where
     f' : (all_fit (apply_all (single x t) us) && sides_fit (replace x t r)) ≡ false
@@ -222,17 +217,17 @@ solved_large n i w r w' us us' bs x t h e k l f = rw (solve_turn n i w us h, e, 
 
 pub solved_bound : (n i : ℕ) (w r w' : Equations) (us us' : Tys) (bs bs' : Bindings) (x : ℕ) (t : Ty) (z : Option Bindings) → i < n →
     settle w ≡ Some (bound x t r) → us' ≡ apply_all (single x t) us → w' ≡ replace x t r → (all_fit us' && sides_fit w') ≡ true →
-    bs' ≡ bs ++ ((x, t) ∷ []) → prefixed bs (solve (n - i) w us) ≡ z → prefixed bs' (solve (n - (i + 1)) w' us') ≡ z
+    bs' ≡ bs ++ ((x, t) ∷ []) → prefix bs (solve (n - i) w us) ≡ z → prefix bs' (solve (n - (i + 1)) w' us') ≡ z
 solved_bound n i w r w' us us' bs bs' x t z h e k l f b m = rw (k, l, b) (sym here) ∙ m
   where
     f' : (all_fit (apply_all (single x t) us) && sides_fit (replace x t r)) ≡ true
     f' = rw (sym k, sym l) f
 
-    here : prefixed bs (solve (n - i) w us) ≡ prefixed (bs ++ ((x, t) ∷ [])) (solve (n - (i + 1)) (replace x t r) (apply_all (single x t) us))
+    here : prefix bs (solve (n - i) w us) ≡ prefix (bs ++ ((x, t) ∷ [])) (solve (n - (i + 1)) (replace x t r) (apply_all (single x t) us))
     here =
         rw (solve_turn n i w us h, e, f') (prefixed_bind bs x t (solve (n - (i + 1)) (replace x t r) (apply_all (single x t) us)))
 
-pub solved_end : (n i : ℕ) (w : Equations) (us : Tys) (bs : Bindings) → n ≤ i → prefixed bs (solve (n - i) w us) ≡ None
+pub solved_end : (n i : ℕ) (w : Equations) (us : Tys) (bs : Bindings) → n ≤ i → prefix bs (solve (n - i) w us) ≡ None
 unfolding solve
 solved_end n i w us bs h = let e : n - i ≡ zero = omega (arith, h) in rw e refl
 
@@ -244,8 +239,8 @@ pub size_onto : (p acc : Equations) → size (onto p acc) ≡ size p + size acc
 size_onto [] acc = omega arith
 size_onto ((a, b) ∷ p) acc = omega (arith, size_onto p ((a, b) ∷ acc))
 
-pub size_listed : (ps : List Equation) → size (equations_of ps) ≡ size (listed ps)
-size_listed ps = omega (arith, size_onto (listed ps) [])
+pub size_listed : (ps : List Equation) → size (equations_of ps) ≡ size (equation_list ps)
+size_listed ps = omega (arith, size_onto (equation_list ps) [])
 
 pub nodes_fit : (t : Ty) → fits t ≡ true → min (nodes t) (2 ^ 64 - 1) ≡ nodes t
 nodes_fit t e = omega (arith, (fits_within t e).0)

@@ -24,9 +24,9 @@ abbrev pub bind : ℕ → Ty → Move
 bind x t = if is_var x t then more [] else if occurs x t then clash else binds x t
 
 -- the pairs of the parts of two tuples
-abbrev pub zipped : Tys → Tys → Equations
-zipped (type a as') (type b bs) = (a, b) ∷ zipped as' bs
-zipped _ _ = []
+abbrev pub zip : Tys → Tys → Equations
+zip (type a as') (type b bs) = (a, b) ∷ zip as' bs
+zip _ _ = []
 
 -- the variable that a type is
 abbrev pub as_var : Ty → Option ℕ
@@ -106,7 +106,7 @@ same_part a (Some b) = more ((a, b) ∷ [])
 -- what two products ask: as many parts, equal one by one
 abbrev pub same_product : Tys → Option Tys → Move
 same_product a None = clash
-same_product a (Some b) = if count a == count b then more (zipped a b) else clash
+same_product a (Some b) = if count a == count b then more (zip a b) else clash
 
 -- what two types ask for of which none is a variable, by the form of the first
 abbrev pub same_form : Ty → Ty → Move
@@ -119,14 +119,14 @@ same_form (set_of a) b = same_part a (set_part b)
 same_form (array_of k a) b = same_part a (cell_part k b)
 
 -- what an equation asks: a variable bound to the other side, or two equal forms
-abbrev pub asked : Option ℕ → Option ℕ → Ty → Ty → Move
-asked (Some x) o a b = bind x b
-asked None (Some y) a b = bind y a
-asked None None a b = same_form a b
+abbrev pub move_of : Option ℕ → Option ℕ → Ty → Ty → Move
+move_of (Some x) o a b = bind x b
+move_of None (Some y) a b = bind y a
+move_of None None a b = same_form a b
 
 -- what one equation asks for
 unfoldable pub asks : Ty → Ty → Move
-asks a b = asked (as_var a) (as_var b) a b
+asks a b = move_of (as_var a) (as_var b) a b
 
 -- the nodes of all sides
 abbrev pub size : Equations → ℕ
@@ -186,14 +186,14 @@ then_bind x t None = None
 then_bind x t (Some s) = Some ((x, t) ∷ s)
 
 -- after a replacement, where all is within the limits
-abbrev pub fitted : (Equations → Tys → Option Bindings) → Equations → Tys → Option Bindings
-fitted go w us = if all_fit us && sides_fit w then go w us else None
+abbrev pub fit_then : (Equations → Tys → Option Bindings) → Equations → Tys → Option Bindings
+fit_then go w us = if all_fit us && sides_fit w then go w us else None
 
 -- what follows a step: the end, or a replacement in all that is left
 abbrev pub next : (Equations → Tys → Option Bindings) → Option SolveStep → Tys → Option Bindings
 next go None us = None
 next go (Some done) us = Some []
-next go (Some (bound x t w)) us = then_bind x t (fitted go (replace x t w) (apply_all (single x t) us))
+next go (Some (bound x t w)) us = then_bind x t (fit_then go (replace x t w) (apply_all (single x t) us))
 
 -- with fewer than n replacements
 unfoldable pub solve : ℕ → Equations → Tys → Option Bindings
@@ -201,10 +201,10 @@ solve zero w us = None
 solve (suc n) w us = next (solve n) (settle w) us
 
 -- enough for all variables that there are
-abbrev pub solved : Equations → Tys → Option Bindings
-solved w us = fitted (solve (size w + 1)) w us
+abbrev pub solution_of : Equations → Tys → Option Bindings
+solution_of w us = fit_then (solve (size w + 1)) w us
 
 -- bindings in front of those that follow, where these are there
-abbrev pub prefixed : Bindings → Option Bindings → Option Bindings
-prefixed bs None = None
-prefixed bs (Some s) = Some (bs ++ s)
+abbrev pub prefix : Bindings → Option Bindings → Option Bindings
+prefix bs None = None
+prefix bs (Some s) = Some (bs ++ s)

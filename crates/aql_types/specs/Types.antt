@@ -154,6 +154,10 @@ index_type zero = product no_type
 index_type (suc zero) = natural
 index_type (suc (suc k)) = product (tys_of (natural ∷ natural ∷ replicate k natural))
 
+-- so many types of numbers
+abbrev pub natural_types : ℕ → Tys
+natural_types n = tys_of (replicate n natural)
+
 -- what a declaration has: the type of its value, or a macro's argument and result types
 pub data Sort : Type 0 where
   value : Ty → Sort

@@ -11,13 +11,13 @@ abbrev pub Bindings : Type 0
 Bindings = List (ℕ × Ty)
 
 -- a type after all replacements
-abbrev pub applied : Bindings → Ty → Ty
-applied [] t = t
-applied ((x, s) ∷ bs) t = applied bs (apply (single x s) t)
+abbrev pub apply_bindings : Bindings → Ty → Ty
+apply_bindings [] t = t
+apply_bindings ((x, s) ∷ bs) t = apply_bindings bs (apply (single x s) t)
 
 -- the substitution that the replacements are
 abbrev pub as_subst : Bindings → Subst
-as_subst bs x = applied bs (var x)
+as_subst bs x = apply_bindings bs (var x)
 
 -- a substitution that makes both types one type within the limits
 pub record Unifies (u : Subst) (a b : Ty) : Type 0 where

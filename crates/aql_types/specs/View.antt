@@ -9,6 +9,7 @@ use Rattle.aql_types.specs.declared.subst.Binding.{Binding}
 use Rattle.aql_types.specs.declared.subst.Subst as code_subst
 use Rattle.aql_types.specs.declared.equation.Equation.{Equation}
 use Rattle.aql_types.specs.Unifiers.{Bindings, Equations, as_subst}
+use Rattle.aql_value.specs.Lists.{onto}
 
 abbrev mutual
   -- the type that a `Ty` is
@@ -46,15 +47,10 @@ abbrev pub subst_of : code_subst.Subst → Subst
 subst_of s = as_subst (bindings_of s.bindings.items)
 
 -- the equations of a list
-abbrev pub listed : List Equation → Equations
-listed [] = []
-listed (p ∷ ps) = (type_of p.left, type_of p.right) ∷ listed ps
-
--- equations put before others one after another, so that the last comes first
-abbrev pub onto : Equations → Equations → Equations
-onto [] acc = acc
-onto (p ∷ ps) acc = onto ps (p ∷ acc)
+abbrev pub equation_list : List Equation → Equations
+equation_list [] = []
+equation_list (p ∷ ps) = (type_of p.left, type_of p.right) ∷ equation_list ps
 
 -- the equations of a list, the last first: the code adds and takes at the end
 abbrev pub equations_of : List Equation → Equations
-equations_of ps = onto (listed ps) []
+equations_of ps = onto (equation_list ps) []

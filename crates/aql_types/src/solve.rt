@@ -2,9 +2,9 @@
 
 ghost use Rattle.std.specs.Prelude.{true, ◌≡◌, ◌+◌, IfOk, IfSome, [], ◌++◌, ◌∷◌, ◌&&◌};
 ghost use Rattle.aql_types.specs.Types as types;
-ghost use Rattle.aql_types.specs.View.{type_of, types_of, equations_of, listed, bindings_of};
+ghost use Rattle.aql_types.specs.View.{type_of, types_of, equations_of, equation_list, bindings_of};
 ghost use Rattle.aql_types.specs.Answers.{GivesUnifier, Unified, Solved};
-ghost use Rattle.aql_types.specs.Solving.{all_fit, sides_fit, size, solved};
+ghost use Rattle.aql_types.specs.Solving.{all_fit, sides_fit, size, solution_of};
 ghost use Rattle.aql_types.specs.Solving as solving;
 
 use crate::equation::Equation;
@@ -42,7 +42,7 @@ fn solved_bindings(
     uses: Vec<Ty>,
 ) -> Result<Vec<Binding>, UnifyFault>
     ensures { GivesUnifier (λ found. bindings_of found.items) result
-        (solved (equations_of work.items) (types_of uses.items)) }
+        (solution_of (equations_of work.items) (types_of uses.items)) }
 {
     if !both_within(&uses, &work) {
         return Err(UnifyFault::Clash);
@@ -118,7 +118,7 @@ fn all_within(ts: &[Ty]) -> bool
 
 #[tactic(auto, using(crate::proofs::Settling::replace_steps))]
 fn sides_within(work: &[Equation]) -> bool
-    ensures { result ≡ sides_fit (listed work.now) }
+    ensures { result ≡ sides_fit (equation_list work.now) }
 {
     for e in work {
         if !e.left.fits() {

@@ -4,7 +4,7 @@ ghost use Rattle.std.specs.Prelude.{◌≡◌, IfOk, Option, Some, List, [], if�
 ghost use Rattle.aql_types.specs.Types.{count};
 ghost use Rattle.aql_types.specs.View.{type_of, types_of, equations_of};
 ghost use Rattle.aql_types.specs.Answers.{GivesUnifier, step_of, went_of, items_in, type_in};
-ghost use Rattle.aql_types.specs.Solving.{went, settle, asks, same_form, same_part, same_product, is_natural, is_truth, is_text, set_part, cell_part, product_parts, more, clash, as_var, bind, zipped, is_var};
+ghost use Rattle.aql_types.specs.Solving.{went, settle, asks, same_form, same_part, same_product, is_natural, is_truth, is_text, set_part, cell_part, product_parts, more, clash, as_var, bind, zip, is_var};
 
 use crate::equation::Equation;
 use crate::fault::UnifyFault;
@@ -81,7 +81,7 @@ pub fn push_pair(left: Ty, right: Ty, work: Vec<Equation>) -> Result<Vec<Equatio
 #[tactic(auto, using(crate::proofs::Settling::work_steps))]
 fn push_pairs(left: Vec<Ty>, right: Vec<Ty>, work: Vec<Equation>) -> Result<Vec<Equation>, Memory>
     requires { length left.items ≡ length right.items }
-    ensures { IfOk result (λ w. equations_of w.items ≡ zipped (types_of left.items)
+    ensures { IfOk result (λ w. equations_of w.items ≡ zip (types_of left.items)
         (types_of right.items) ++ equations_of work.items) }
 {
     let mut left = left;

@@ -25,13 +25,13 @@ abbrev pub pairs : Table → List (List ℕ × Datum)
 pairs t = zip (indices t.dims) t.cells
 
 -- the value paired with an index, or none
-abbrev pub paired : List ℕ → List (List ℕ × Datum) → Option Datum
-paired at [] = None
-paired at (p ∷ ps) = cond (pointwise nat_eq at p.0) (Some p.1) (paired at ps)
+abbrev pub paired_value : List ℕ → List (List ℕ × Datum) → Option Datum
+paired_value at [] = None
+paired_value at (p ∷ ps) = cond (pointwise nat_eq at p.0) (Some p.1) (paired_value at ps)
 
 -- the cell at an index, or none
 abbrev pub cell : Table → List ℕ → Option Datum
-cell t at = paired at (pairs t)
+cell t at = paired_value at (pairs t)
 
 -- the place of an index in row-major order
 abbrev pub offset : List ℕ → List ℕ → ℕ

@@ -10,5 +10,5 @@ abbrev pub most_budget : ℕ
 most_budget = 50000000
 
 -- a number, or 2^128-1 where it is larger
-abbrev pub saturated : ℕ → ℕ
-saturated n = min n (2 ^ 128 - 1)
+abbrev pub saturate : ℕ → ℕ
+saturate n = min n (2 ^ 128 - 1)

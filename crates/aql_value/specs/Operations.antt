@@ -118,9 +118,9 @@ index_value (n ∷ []) = natural n
 index_value (m ∷ n ∷ ns) = tuple (data_of (map natural (m ∷ n ∷ ns)))
 
 -- the numbers of an index before other values, the last number the innermost
-abbrev pub walked : List ℕ → List Datum → List Datum
-walked [] l = l
-walked (i ∷ is) l = walked is (natural i ∷ l)
+abbrev pub push_index : List ℕ → List Datum → List Datum
+push_index [] l = l
+push_index (i ∷ is) l = push_index is (natural i ∷ l)
 
 -- the dimensions of an array of that rank
 abbrev pub dims_of : (rank : ℕ) → Datum → Option (List ℕ)
@@ -164,9 +164,9 @@ all_in_range [] = true
 all_in_range (n ∷ ns) = nat_lt n (2 ^ 128) && all_in_range ns
 
 -- the array of these dimensions whose cell at an index is the set of the values paired with it
-abbrev pub indexed : List ℕ → List (List ℕ × Datum) → Option Datum
-indexed ds ps = if all_in_range ds then array_of ds (map (λ at. set_of (values_at at ps)) (indices ds)) else None
+abbrev pub index_array : List ℕ → List (List ℕ × Datum) → Option Datum
+index_array ds ps = if all_in_range ds then array_of ds (map (λ at. set_of (values_at at ps)) (indices ds)) else None
 
 -- the array of the sets of values that a set of pairs has at each index
 abbrev pub index_of : (rank : ℕ) → Datum → Option Datum
-index_of rank v = as_set v >>= each (as_indexed rank) >>= λ ps. indexed (dims_above rank (map (λ p. p.0) ps)) ps
+index_of rank v = as_set v >>= each (as_indexed rank) >>= λ ps. index_array (dims_above rank (map (λ p. p.0) ps)) ps

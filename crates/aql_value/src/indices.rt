@@ -35,7 +35,7 @@ pub fn is_below(at: &[u128], dims: &[u128]) -> bool
 }
 
 /// The place of an index in row-major order.
-pub fn place(at: &[u128], dims: &[u128]) -> u128
+pub fn offset_at(at: &[u128], dims: &[u128]) -> u128
     requires below { pointwise nat_lt at.now dims.now ≡ true }
     requires fits { product dims.now < 2 ^ 128 }
     ensures { result ≡ offset dims.now at.now }

@@ -22,11 +22,11 @@ mod validity;
 mod value;
 
 pub use arith::{add, monus, mul, quotient, remainder};
-pub use indices::{Index, is_below, place, saturating_product};
+pub use indices::{Index, is_below, offset_at, saturating_product};
 pub use limits::{MOST_BUDGET, MOST_WORKERS};
 pub use memory::Memory;
 pub use ops::{ArithOp, CompareOp};
 pub use order::compare;
 pub use sets::{canon, merge};
-pub use validity::{all_valid, valid};
+pub use validity::{all_valid, bytes_fit, numbers_fit, valid};
 pub use value::{Ascending, Cells, Dims, Items, Parts, Str, Value};

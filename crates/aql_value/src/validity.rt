@@ -38,14 +38,15 @@ pub fn all_valid(items: &Items)
     }
 }
 
-// What the types of the parts of a slice say of it.
-pub(crate) fn bytes_fit(bytes: &[u8])
+/// Shows that each byte of a slice is below 256, as its type says.
+pub fn bytes_fit(bytes: &[u8])
     ensures { All (λ b. b < 256) bytes.now }
 {
     let _len = bytes.len();
 }
 
-pub(crate) fn numbers_fit(numbers: &[u128])
+/// Shows that each number of a slice is below 2^128, as its type says.
+pub fn numbers_fit(numbers: &[u128])
     ensures { All (λ n. n < 2 ^ 128) numbers.now }
 {
     let _len = numbers.len();

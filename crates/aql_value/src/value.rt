@@ -7,7 +7,7 @@ ghost use Rattle.aql_value.specs.Canon.{IsAscending};
 ghost use Rattle.aql_value.specs.Meaning.{datum};
 ghost use Rattle.aql_value.specs.Order.{kind};
 
-use crate::indices::{Index, is_below, place, saturating_product};
+use crate::indices::{Index, is_below, offset_at, saturating_product};
 use crate::memory::Memory;
 use std::alloc::Global;
 use std::marker::Model;
@@ -291,7 +291,7 @@ impl Cells {
         let dims = kept.dims.as_slice();
         let at = at.as_slice();
         if is_below(at, dims) {
-            let place = place(at, dims);
+            let place = offset_at(at, dims);
             cells.items.get(place as usize)
         } else {
             None

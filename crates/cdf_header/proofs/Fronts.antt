@@ -2,7 +2,7 @@
 use Rattle.std.proofs.Common.{◌≡◌, ℕ, ◌+◌, ◌-◌, ◌≤◌, min, List, ◌++◌, length, take, drop, Result, Err, sym, ap, subst, ◌∙◌, arith, length-take}
 use Rattle.std.proofs.Math.Seq.{take-add, take-append-add}
 use Rattle.std.proofs.lemmas.List.{take-append-drop, take_min}
-use Rattle.cdf_header.specs.File.{IsFront, IsOutside, IsAnswered}
+use Rattle.cdf_header.specs.File.{IsFront, IsOutside, AnswersIfAble}
 use Rattle.cdf_header.specs.Limits.{most_header_bytes}
 use Rattle.cdf_header.specs.declared.fault.CdfFault.{CdfFault}
 use Rattle.cdf_header.specs.declared.fault.CdfFault.TheVariants as faults
@@ -55,7 +55,7 @@ whole f bytes front k r is all e =
     ap (λ x. parse f x k) (sym same) ∙ e
 
 -- a fault of the device or want of memory is answered whatever is meant
-pub outside_answers : (read : Result Head CdfFault) (e : CdfFault) → IsOutside e → IsAnswered read (Err e)
+pub outside_answers : (read : Result Head CdfFault) (e : CdfFault) → IsOutside e → AnswersIfAble read (Err e)
 outside_answers read faults.Absent h = absurd h
 outside_answers read faults.NotClassic h = absurd h
 outside_answers read (faults.Version v) h = absurd h

@@ -8,7 +8,7 @@ use Rattle.std.proofs.lemmas.List.{drop_all}
 use Rattle.std.proofs.Math.Nat.{div-eq_of_lt}
 use Rattle.cdf_header.specs.Header.{Var, Head, var}
 use Rattle.std.specs.List.{position_from}
-use Rattle.cdf_header.specs.Places.{find_from, find_in, nearer, least, streamed, recsize, all_bits, records}
+use Rattle.cdf_header.specs.Places.{find_from, find_in, nearer, least, whole_records, recsize, all_bits, records}
 
 -- the begins found so far, and those of the rest
 abbrev pub merged : Option ℕ → Option ℕ → Option ℕ
@@ -33,16 +33,16 @@ quotient_sat x r m lt =
     ]
 
 -- a record size that stopped past the file's size gives the same number of records
-streamed_sat : (bytes r m : ℕ) (begin : Option ℕ) → bytes < m → streamed bytes (min r m) begin ≡ streamed bytes r begin
+streamed_sat : (bytes r m : ℕ) (begin : Option ℕ) → bytes < m → whole_records bytes (min r m) begin ≡ whole_records bytes r begin
 streamed_sat bytes r m None lt = refl
 streamed_sat bytes r m (Some begin) lt = quotient_sat (bytes - begin) r m (omega (arith, lt))
 
 pub records_streamed : (h : Head) (size : ℕ) (begin : Option ℕ) (m result : ℕ) → nat_eq h.numrecs (all_bits h.version) ≡ true → h.bytes < m
-    → size ≡ min (recsize h.dims h.vars) m → begin ≡ least h.dims h.vars → result ≡ streamed h.bytes size begin → result ≡ records h
+    → size ≡ min (recsize h.dims h.vars) m → begin ≡ least h.dims h.vars → result ≡ whole_records h.bytes size begin → result ≡ records h
 records_streamed h size begin m result all small size-is begin-is result-is =
-    result-is ∙ ap (λ s. streamed h.bytes s begin) size-is ∙ ap (λ b. streamed h.bytes (min (recsize h.dims h.vars) m) b) begin-is
+    result-is ∙ ap (λ s. whole_records h.bytes s begin) size-is ∙ ap (λ b. whole_records h.bytes (min (recsize h.dims h.vars) m) b) begin-is
     ∙ streamed_sat h.bytes (recsize h.dims h.vars) m (least h.dims h.vars) small
-    ∙ sym (ap (λ t. cond t (streamed h.bytes (recsize h.dims h.vars) (least h.dims h.vars)) h.numrecs) all)
+    ∙ sym (ap (λ t. cond t (whole_records h.bytes (recsize h.dims h.vars) (least h.dims h.vars)) h.numrecs) all)
 
 -- the search from the variable at i on: this one, or the search behind it
 from_here : (P : Var → Bool) (vs : List Variable) (i : ℕ) (v : Variable) → i < length vs → v ≡ get_or vs i v

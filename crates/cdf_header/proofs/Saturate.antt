@@ -1,41 +1,21 @@
 -- Sums and products that stop at a greatest number.
-use Rattle.std.proofs.Common.{◌≡◌, ℕ, zero, suc, ◌+◌, ◌*◌, ◌<◌, ◌≤◌, ◌-◌, ◌^◌, min, List, [], ◌∷◌, length, refl, sym, ap, subst, ◌∙◌, arith, eq-eqb, cond, eqb, true, false, inl, inr}
-use Rattle.std.proofs.lemmas.Bool.{cases_lt, ne_eqb}
+use Rattle.std.proofs.Common.{◌≡◌, ℕ, ◌+◌, ◌*◌, ◌<◌, ◌≤◌, ◌-◌, ◌^◌, min, List, [], ◌∷◌, length, refl, sym, ap, subst, ◌∙◌, arith, eq-eqb, cond, eqb, true, false}
+use Rattle.std.proofs.lemmas.Bool.{ne_eqb}
 use Rattle.std.proofs.Math.Nat.{mul_comm, add-mul}
 use Rattle.std.proofs.Common.{take, length-drop, drop, get_or, add-one, drop-cons}
 use Rattle.std.proofs.Math.Nat.{mul_assoc}
 use Rattle.std.proofs.lemmas.List.{drop_all, length-map, take_all}
 use Rattle.cdf_header.specs.Header.{Var}
 use Rattle.aql_value.specs.Indices.{product, offset}
+use Rattle.aql_value.specs.Laws.Saturation.{saturating_step, saturating_product, horner}
 use Rattle.cdf_header.specs.Places.{len_at, lens, record_count, plain_sum, padded_sum, recsize, inner, is_record, place_of}
 use Rattle.cdf_header.specs.Format.{type_size}
-
-grows : (a m d : ℕ) → m ≤ a → m ≤ a * suc d
-grows a m d le = let e : a * suc d ≡ a * d + a = omega arith in omega arith
-
-pub sat : (a d i m : ℕ) → min (min a m * d + i) m ≡ min (a * d + i) m
-sat a zero i m = omega arith
-sat a (suc d) i m =
-    elim (cases_lt a m) [
-      | inl lt ↦ let e : min a m ≡ a = omega arith in ap (λ x. min (x * suc d + i) m) e
-      | inr le ↦
-          let e : min a m ≡ m = omega arith in
-          let p = grows m m d (omega arith) in
-          let q = grows a m d le in
-          ap (λ x. min (x * suc d + i) m) e ∙ omega arith
-    ]
-
--- the offset from the left
-abbrev pub horner : ℕ → List ℕ → List ℕ → ℕ
-horner a [] at = a
-horner a (d ∷ ds) [] = a
-horner a (d ∷ ds) (i ∷ at) = horner (a * d + i) ds at
 
 pub horner-sat : (a : ℕ) (ds at : List ℕ) (m : ℕ) → min (horner (min a m) ds at) m ≡ min (horner a ds at) m
 horner-sat a [] at m = omega arith
 horner-sat a (d ∷ ds) [] m = omega arith
 horner-sat a (d ∷ ds) (i ∷ at) m =
-    sym (horner-sat (min a m * d + i) ds at m) ∙ ap (λ x. min (horner x ds at) m) (sat a d i m) ∙ horner-sat (a * d + i) ds at m
+    sym (horner-sat (min a m * d + i) ds at m) ∙ ap (λ x. min (horner x ds at) m) (saturating_step a d i m) ∙ horner-sat (a * d + i) ds at m
 
 pub horner-is : (a : ℕ) (ds at : List ℕ) → length ds ≡ length at → horner a ds at ≡ a * product ds + offset ds at
 horner-is a [] at e = omega arith
@@ -45,15 +25,7 @@ horner-is a (d ∷ ds) (i ∷ at) e =
     ∙ ap (λ x. x + offset ds at) (add-mul (a * d) i (product ds))
     ∙ grind arith
 
-pub sat_mul : (a d m : ℕ) → min (min a m * d) m ≡ min (a * d) m
-sat_mul a d m = let e = sat a d 0 m in omega (arith, e)
-
 -- ---- the lengths of a shape
-
-pub len_past : (ds : List ℕ) (i : ℕ) → length ds ≤ i → 0 ≡ len_at ds i
-len_past [] i le = refl
-len_past (x ∷ ds) zero le = absurd (omega (arith, le))
-len_past (x ∷ ds) (suc i) le = len_past ds i (omega (arith, le))
 
 lens_from : (ds : List ℕ) (ids : List ℕ) (k : ℕ) → k < length ids → lens ds (drop k ids) ≡ len_at ds (get_or ids k 0) ∷ lens ds (drop (k + 1) ids)
 lens_from ds ids k lt = let e : drop k ids ≡ get_or ids k 0 ∷ drop (k + 1) ids = rw (add-one, drop-cons ids k 0 lt) refl in ap (lens ds) e
@@ -62,7 +34,7 @@ pub product_goes : (ds : List ℕ) (ids : List ℕ) (k all len next m total : �
     → min (all * product (lens ds (drop k ids))) m ≡ total → min (next * product (lens ds (drop (k + 1) ids))) m ≡ total
 product_goes ds ids k all len next m total lt is next-is so_far =
     let rest : ℕ = product (lens ds (drop (k + 1) ids)) in
-    ap (λ x. min (x * rest) m) next-is ∙ sat_mul (all * len) rest m
+    ap (λ x. min (x * rest) m) next-is ∙ saturating_product (all * len) rest m
     ∙ ap (λ x. min x m) (mul_assoc all len rest ∙ ap (λ x. all * (x * rest)) is ∙ ap (λ x. all * product x) (sym (lens_from ds ids k lt)))
     ∙ so_far
 
@@ -114,8 +86,8 @@ more_records ds vs rest count all m none isnt small counted summed =
 pub place_sat : (r size bytes begin off bytes' here here' off' scaled result m : ℕ) → bytes' ≡ min bytes m → off' ≡ min off m → here ≡ min (r * bytes') m → here' ≡ min (here + begin) m
     → scaled ≡ min (off' * size) m → result ≡ min (here' + scaled) m → result ≡ min (r * bytes + begin + off * size) m
 place_sat r size bytes begin off bytes' here here' off' scaled result m b o h h' s e =
-    let one : min (off' * size) m ≡ min (off * size) m = ap (λ x. min (x * size) m) o ∙ sat_mul off size m in
-    let two : min (r * bytes') m ≡ min (r * bytes) m = ap (λ x. min x m) (mul_comm r bytes' ∙ ap (λ x. x * r) b) ∙ sat_mul bytes r m ∙ ap (λ x. min x m) (mul_comm bytes r) in
+    let one : min (off' * size) m ≡ min (off * size) m = ap (λ x. min (x * size) m) o ∙ saturating_product off size m in
+    let two : min (r * bytes') m ≡ min (r * bytes) m = ap (λ x. min x m) (mul_comm r bytes' ∙ ap (λ x. x * r) b) ∙ saturating_product bytes r m ∙ ap (λ x. min x m) (mul_comm bytes r) in
     omega (arith, one, two, h, h', s, e)
 
 inner_is : (is : List ℕ) → inner is ≡ drop 1 is

@@ -73,11 +73,11 @@ header_of bytes =
     else Err faults.NotClassic
 
 -- this is answered, unless the device fails or memory is wanting
-abbrev pub IsAnswered : (meant : Result Head CdfFault) → Result Head CdfFault → Type 0
-IsAnswered meant (Ok h) = meant ≡ Ok h
-IsAnswered meant (Err faults.Device) = Unit {0}
-IsAnswered meant (Err faults.Memory) = Unit {0}
-IsAnswered meant (Err e) = meant ≡ Err e
+abbrev pub AnswersIfAble : (meant : Result Head CdfFault) → Result Head CdfFault → Type 0
+AnswersIfAble meant (Ok h) = meant ≡ Ok h
+AnswersIfAble meant (Err faults.Device) = Unit {0}
+AnswersIfAble meant (Err faults.Memory) = Unit {0}
+AnswersIfAble meant (Err e) = meant ≡ Err e
 
 -- ---- the relation between a file and its header
 
@@ -133,3 +133,11 @@ IsOfHeader (faults.TooMany l) = Unit {0}
 IsOfHeader faults.Device = Unit {0}
 IsOfHeader faults.Memory = Unit {0}
 IsOfHeader e = ⊥
+
+-- what good fields spell, or the fault of the first that fails, is answered
+abbrev pub FieldsAreAnswered : Type 0
+FieldsAreAnswered = (bytes : List ℕ) (r : Result Head CdfFault) → HeaderAnswer bytes r → AnswersIfAble (header_of bytes) r
+
+-- what is answered, the device and memory apart, is what good fields spell or the fault of the first that fails
+abbrev pub AnswersAreOfFields : Type 0
+AnswersAreOfFields = (bytes : List ℕ) (r : Result Head CdfFault) → AnswersIfAble (header_of bytes) r → HeaderAnswer bytes r

@@ -19,8 +19,8 @@ pub data Format : Type 0 where
   ask : Kind → (List ℕ → Format) → Format
 
 -- so many bytes with padding to a multiple of four
-abbrev pub padded : ℕ → ℕ
-padded n = (n + 3) / 4 * 4
+abbrev pub padded_size : ℕ → ℕ
+padded_size n = (n + 3) / 4 * 4
 
 -- the bytes of a field's content
 abbrev pub own : Kind → ℕ
@@ -30,7 +30,7 @@ own (text n) = n
 -- those that it takes
 abbrev pub room : Kind → ℕ
 room (number w t) = w
-room (text n) = padded n
+room (text n) = padded_size n
 
 -- the content of a field of a kind that stands at k
 abbrev pub content : Kind → List ℕ → ℕ → List ℕ

@@ -4,7 +4,7 @@ use Rattle.std.specs.List.{position_from}
 use Rattle.std.specs.Prelude.{ℕ, ◌+◌, ◌-◌, ◌*◌, ◌/◌, ◌^◌, min, Bool, cond, nat_eq, false, List, [], ◌∷◌, map, get_or, Option, Some, None}
 use Rattle.aql_value.specs.Indices.{product, offset}
 use Rattle.cdf_header.specs.Header.{Var, Head}
-use Rattle.cdf_header.specs.Format.{padded, type_size, wide}
+use Rattle.cdf_header.specs.Format.{padded_size, type_size, wide}
 
 -- the length in the header of the dimension with this number
 abbrev pub len_at : List ℕ → ℕ → ℕ
@@ -45,7 +45,7 @@ plain_sum ds (v ∷ vs) = cond (is_record ds v) (slab_size ds v) 0 + plain_sum d
 -- the same, each slab padded to a multiple of 4
 abbrev pub padded_sum : List ℕ → List Var → ℕ
 padded_sum ds [] = 0
-padded_sum ds (v ∷ vs) = cond (is_record ds v) (padded (slab_size ds v)) 0 + padded_sum ds vs
+padded_sum ds (v ∷ vs) = cond (is_record ds v) (padded_size (slab_size ds v)) 0 + padded_sum ds vs
 
 -- the bytes of a record: each slab padded, but not that of a single record variable
 abbrev pub recsize : List ℕ → List Var → ℕ
@@ -70,13 +70,13 @@ abbrev pub all_bits : ℕ → ℕ
 all_bits version = 2 ^ (8 * wide version) - 1
 
 -- how many whole records of so many bytes stand between the least begin and the end of the file
-abbrev pub streamed : ℕ → ℕ → Option ℕ → ℕ
-streamed bytes size None = 0
-streamed bytes size (Some begin) = cond (nat_eq size 0) 0 ((bytes - begin) / size)
+abbrev pub whole_records : ℕ → ℕ → Option ℕ → ℕ
+whole_records bytes size None = 0
+whole_records bytes size (Some begin) = cond (nat_eq size 0) 0 ((bytes - begin) / size)
 
 -- the number of records: that of the header, or where it gives none, the whole records that the file has room for
 abbrev pub records : Head → ℕ
-records h = cond (nat_eq h.numrecs (all_bits h.version)) (streamed h.bytes (recsize h.dims h.vars) (least h.dims h.vars)) h.numrecs
+records h = cond (nat_eq h.numrecs (all_bits h.version)) (whole_records h.bytes (recsize h.dims h.vars) (least h.dims h.vars)) h.numrecs
 
 -- the variable with this number
 abbrev pub var_in : List Var → ℕ → Var

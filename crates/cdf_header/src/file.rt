@@ -3,7 +3,7 @@ ghost use Rattle.std.specs.Prelude.{◌≡◌, ◌+◌, ◌≤◌, ◌<◌, min,
 ghost use Rattle.std.specs.Str.{IsUtf8};
 ghost use Rattle.aql_outside.specs.Contents.{WhereTold, IsAbsent};
 ghost use Rattle.aql_outside.specs.Frames.{Leaves};
-ghost use Rattle.cdf_header.specs.File.{IsFront, StaysFront, IsReadBehind, IsOutside, IsDevice, IsAnswered, IsClassic, IsVersion, IsLost, IsOfHeader, fields_of, header_of};
+ghost use Rattle.cdf_header.specs.File.{IsFront, StaysFront, IsReadBehind, IsOutside, IsDevice, AnswersIfAble, IsClassic, IsVersion, IsLost, IsOfHeader, fields_of, header_of};
 ghost use Rattle.cdf_header.specs.Limits.{most_header_bytes};
 
 use crate::fault::{CdfFault, FieldFault, ReadError};
@@ -113,7 +113,7 @@ fn read_fields<F: Files>(
     ensures causes { IfErr result IsOfHeader }
     ensures told { WhereTold (F.holds files.old) name.now
         (λ bytes. size ≡ length bytes → whole ≡ true → IsFront bytes start.items
-        → IsAnswered (fields_of size v bytes) result) }
+        → AnswersIfAble (fields_of size v bytes) result) }
 {
     let most = size.min(MOST_HEADER_BYTES) as usize;
     let mut front = start;
@@ -167,7 +167,7 @@ fn header_or_fault<F: Files>(alloc: Global, files: &mut F, name: &str) -> Result
     ensures causes { IfErr result IsOfHeader }
     // Where the file is told and there.
     ensures told { WhereTold (F.holds files.old) name.now
-        (λ bytes. IsAnswered (header_of bytes) result) }
+        (λ bytes. AnswersIfAble (header_of bytes) result) }
     // Where it is told that the file isn't there.
     ensures absent { IsAbsent (F.holds files.old) name.now → IfErr result IsLost × IsErr result }
 {
@@ -201,7 +201,7 @@ pub fn read_header<F: Files>(alloc: Global, files: &mut F, name: &Str) -> Result
     ensures causes { IfErr result IsOfHeader }
     // Where the file is told and there, the header of its bytes is answered, or the first fault.
     ensures told { IsUtf8 name.now
-        → WhereTold (F.holds files.old) name.now (λ bytes. IsAnswered (header_of bytes) result) }
+        → WhereTold (F.holds files.old) name.now (λ bytes. AnswersIfAble (header_of bytes) result) }
     // Where it is told that no file has the name.
     ensures absent { IsAbsent (F.holds files.old) name.now → IfErr result IsLost × IsErr result }
     // A name that is not UTF-8 names no file, and no call is made on the files.

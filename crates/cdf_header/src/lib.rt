@@ -16,6 +16,7 @@ mod fields;
 mod file;
 mod front;
 mod header;
+pub mod laws;
 mod limits;
 mod lists;
 mod places;

@@ -1,10 +1,10 @@
 // Where a cell stands, with the greatest number for every larger place.
 ghost use Rattle.std.specs.Prelude.{◌+◌, drop, ◌≡◌, ◌≤◌, ◌<◌, ◌*◌, ◌^◌, ◌-◌, ℕ, List, length, map, min, get_or, nat_eq, IfSome, IsTrue};
-ghost use Rattle.cdf_header.specs.Places.{len_at, lens, is_record, inner, slab_size, recsize, place_of, place, var_in, variable_at, shape, nearer, with_begin, least, streamed, all_bits, records, extent, pitches, find_in};
+ghost use Rattle.cdf_header.specs.Places.{len_at, lens, is_record, inner, slab_size, recsize, place_of, place, var_in, variable_at, shape, nearer, with_begin, least, whole_records, all_bits, records, extent, pitches, find_in};
 ghost use Rattle.aql_value.specs.Indices.{product, offset};
-ghost use Rattle.aql_value.specs.Limits.{saturated};
+ghost use Rattle.aql_value.specs.Limits.{saturate};
 ghost use Rattle.cdf_header.specs.Header.{var};
-ghost use Rattle.cdf_header.specs.Format.{type_size, padded};
+ghost use Rattle.cdf_header.specs.Format.{type_size, padded_size};
 
 use crate::header::{Header, Variable};
 use crate::lists::size_of;
@@ -18,7 +18,7 @@ fn len_of(dims: &[u64], i: u64) -> u64
 }
 
 fn product_of(dims: &[u64], ids: &[u64]) -> u128
-    ensures { result ≡ saturated (product (lens dims.now ids.now)) }
+    ensures { result ≡ saturate (product (lens dims.now ids.now)) }
 {
     let mut all = 1u128;
     'ids: for k in 0..ids.len() {
@@ -30,7 +30,7 @@ fn product_of(dims: &[u64], ids: &[u64]) -> u128
 
 fn offset_of(dims: &[u64], ids: &[u64], at: &[u128]) -> u128
     requires { length ids.now ≡ length at.now }
-    ensures { result ≡ saturated (offset (lens dims.now ids.now) at.now) }
+    ensures { result ≡ saturate (offset (lens dims.now ids.now) at.now) }
 {
     let mut all = 0u128;
     'ids: for k in 0..ids.len() {
@@ -50,7 +50,7 @@ fn over_records(dims: &[u64], v: &Variable) -> bool
 }
 
 fn padded_to(n: u128) -> u128
-    ensures { result ≡ saturated (padded n) }
+    ensures { result ≡ saturate (padded_size n) }
 {
     if n > u128::MAX - 3 {
         u128::MAX
@@ -60,7 +60,7 @@ fn padded_to(n: u128) -> u128
 }
 
 fn slab_of(dims: &[u64], v: &Variable) -> u128
-    ensures { result ≡ saturated (slab_size dims.now (var v.now)) }
+    ensures { result ≡ saturate (slab_size dims.now (var v.now)) }
 {
     let all = match v.ids.as_slice() {
         [] => 1,
@@ -70,7 +70,7 @@ fn slab_of(dims: &[u64], v: &Variable) -> u128
 }
 
 fn record_bytes(dims: &[u64], vars: &[Variable]) -> u128
-    ensures { result ≡ saturated (recsize dims.now (map var vars.now)) }
+    ensures { result ≡ saturate (recsize dims.now (map var vars.now)) }
 {
     let mut count = 0usize;
     let mut plain = 0u128;
@@ -89,7 +89,7 @@ fn record_bytes(dims: &[u64], vars: &[Variable]) -> u128
 // The offset of the first byte of a cell.
 pub(crate) fn place_in(dims: &[u64], vars: &[Variable], v: &Variable, at: &[u128]) -> u128
     requires { length v.now.ids.items ≡ length at.now }
-    ensures { result ≡ saturated
+    ensures { result ≡ saturate
         (place_of dims.now (map var vars.now) (var v.now) at.now) }
 {
     let begin = u128::from(v.begin);
@@ -153,7 +153,7 @@ fn least_begin(dims: &[u64], vars: &[Variable]) -> Option<u64>
 
 // The whole records of so many bytes between the least begin and the end of the file.
 fn streamed_in(bytes: u64, size: u128, begin: Option<u64>) -> u64
-    ensures { result ≡ streamed bytes size begin }
+    ensures { result ≡ whole_records bytes size begin }
 {
     match begin {
         None => 0,
@@ -211,7 +211,7 @@ fn first_named(vars: &[Variable], name: &[u8]) -> Option<u64>
 // The bytes from one index of a dimension to the next, where the cells stand in row-major order.
 fn row_pitch(dims: &[u64], v: &Variable, j: usize) -> u128
     requires { j < length v.now.ids.items }
-    ensures { result ≡ saturated
+    ensures { result ≡ saturate
         (product (lens dims.now (drop (j + 1) v.now.ids.items)) * type_size v.now.kind) }
 {
     product_of(dims, &v.ids[j + 1..]).saturating_mul(u128::from(size_of(v.kind)))
@@ -220,7 +220,7 @@ fn row_pitch(dims: &[u64], v: &Variable, j: usize) -> u128
 // The bytes from one index of a dimension to the next.
 fn pitch_in(dims: &[u64], vars: &[Variable], v: &Variable, j: usize) -> u128
     requires { j < length v.now.ids.items }
-    ensures { result ≡ saturated
+    ensures { result ≡ saturate
         (get_or (pitches dims.now (map var vars.now) (var v.now)) j 0) }
 {
     if j > 0 {
@@ -280,7 +280,7 @@ impl Header {
     pub fn place(&self, v: u64, at: &Index) -> u128
         requires variable { v < length self.now.vars }
         requires rank { length (variable_at self.now v).ids ≡ length at.now.items }
-        ensures { result ≡ saturated (place self.now (variable_at self.now v) at.now.items) }
+        ensures { result ≡ saturate (place self.now (variable_at self.now v) at.now.items) }
     {
         place_in(&self.dims, &self.vars, variable_in(&self.vars, v), at)
     }
@@ -307,7 +307,7 @@ impl Header {
     pub fn pitch(&self, v: u64, j: u64) -> u128
         requires variable { v < length self.now.vars }
         requires dimension { j < length (variable_at self.now v).ids }
-        ensures { result ≡ saturated
+        ensures { result ≡ saturate
             (get_or (pitches self.now.dims self.now.vars (variable_at self.now v)) j 0) }
     {
         pitch_in(

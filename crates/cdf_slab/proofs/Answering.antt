@@ -14,8 +14,8 @@ use Rattle.cdf_header.specs.Header.{Head, Var}
 use Rattle.cdf_header.specs.Places.{place, pitches}
 use Rattle.cdf_slab.specs.declared.axes.Axis.{Axis}
 use Rattle.cdf_slab.specs.Numbers.{Number, number_at, cell_of}
-use Rattle.cdf_slab.specs.Slab.{point, cell_places, slab_numbers, slab, first_cut, index_fault, cut_fault, early_fault, negative_fault, slab_fault, IsSlabAnswer, AnswersEarly}
-use Rattle.cdf_slab.specs.Walk.{steps_of, steps, walk, capped, first_past, HaveRoom}
+use Rattle.cdf_slab.specs.Slab.{point, cell_offsets, slab_numbers, slab, first_cut, index_fault, cut_fault, early_fault, negative_fault, slab_fault, IsSlabAnswer, AnswersEarly}
+use Rattle.cdf_slab.specs.Walk.{steps_of, steps, walk, saturate_all, first_past, HaveRoom}
 use Rattle.cdf_slab.specs.Going.{AppendsCells}
 use Rattle.cdf_slab.proofs.Walking.{walk_places, capped-pitches}
 use Rattle.cdf_slab.proofs.Cuts.{cut_capped, uncut_within, same_within}
@@ -24,28 +24,28 @@ use Rattle.cdf_slab.proofs.Goings.{none_negative}
 
 -- the dimensions of a hyperslab of a variable lead to its places, as far as 2^128-1
 pub record Leads (h : Head) (v : Var) (ss cs ts : List ℕ) (axes : List Axis) : Type 0 where
-  pub same : capped (walk (steps_of axes) v.begin) ≡ capped (cell_places h v ss cs ts)
+  pub same : saturate_all (walk (steps_of axes) v.begin) ≡ saturate_all (cell_offsets h v ss cs ts)
 
-pub leads : (h : Head) (v : Var) (ss cs ts : List ℕ) (axes : List Axis) → steps_of axes ≡ steps ss cs ts (capped (pitches h.dims h.vars v)) →
+pub leads : (h : Head) (v : Var) (ss cs ts : List ℕ) (axes : List Axis) → steps_of axes ≡ steps ss cs ts (saturate_all (pitches h.dims h.vars v)) →
     length cs ≡ length ss → length ts ≡ length ss → length v.ids ≡ length ss → Leads h v ss cs ts axes
 leads h v ss cs ts axes e a b c =
     let ws : List ℕ = pitches h.dims h.vars v in
     record {
       same =
-          ap (λ l. capped (walk l v.begin)) e
+          ap (λ l. saturate_all (walk l v.begin)) e
           ∙ capped-pitches ss cs ts ws v.begin v.begin refl
-          ∙ ap capped (walk_places h v ss cs ts a b (length-pitches h.dims h.vars v ∙ c));
+          ∙ ap saturate_all (walk_places h v ss cs ts a b (length-pitches h.dims h.vars v ∙ c));
     }
 
 pub cut_is : (h : Head) (v : Var) (ss cs ts : List ℕ) (axes : List Axis) (size end : ℕ) → Leads h v ss cs ts axes → end < 2 ^ 64 →
-    first_past size end (capped (walk (steps_of axes) v.begin)) ≡ first_cut size end (cell_places h v ss cs ts)
-cut_is h v ss cs ts axes size end l lt = ap (first_past size end) l.same ∙ sym (cut_capped size end (cell_places h v ss cs ts) (omega (arith, lt)))
+    first_past size end (saturate_all (walk (steps_of axes) v.begin)) ≡ first_cut size end (cell_offsets h v ss cs ts)
+cut_is h v ss cs ts axes size end l lt = ap (first_past size end) l.same ∙ sym (cut_capped size end (cell_offsets h v ss cs ts) (omega (arith, lt)))
 
 -- without a cut the walk visits the places themselves, and each has room
 pub walk_is_places : (h : Head) (v : Var) (ss cs ts : List ℕ) (axes : List Axis) (size end : ℕ) → Leads h v ss cs ts axes → end < 2 ^ 64 →
-    first_cut size end (cell_places h v ss cs ts) ≡ None → walk (steps_of axes) v.begin ≡ cell_places h v ss cs ts
+    first_cut size end (cell_offsets h v ss cs ts) ≡ None → walk (steps_of axes) v.begin ≡ cell_offsets h v ss cs ts
 walk_is_places h v ss cs ts axes size end l lt e =
-    same_within size end (walk (steps_of axes) v.begin) (cell_places h v ss cs ts) (omega (arith, lt)) l.same (uncut_within size end (cell_places h v ss cs ts) e)
+    same_within size end (walk (steps_of axes) v.begin) (cell_offsets h v ss cs ts) (omega (arith, lt)) l.same (uncut_within size end (cell_offsets h v ss cs ts) e)
 
 abbrev pub tabled : List ℕ → Option (List Datum) → Option Table
 tabled cs o = o >>= λ xs. Some (record { dims = cs; cells = xs })
@@ -105,31 +105,31 @@ counts_small (c ∷ cs) m le full lt =
 
 -- what `cut_from` finds is the first cut
 pub cut_found : (h : Head) (v : Var) (ss cs ts : List ℕ) (items axes : List Axis) (size end base : ℕ) (found : Option ℕ) → Leads h v ss cs ts items →
-    axes ≡ items → size ≡ type_size v.kind → end ≡ h.bytes → base ≡ v.begin → end < 2 ^ 64 → found ≡ first_past size end (capped (walk (steps_of axes) base)) →
-    found ≡ first_cut (type_size v.kind) h.bytes (cell_places h v ss cs ts)
+    axes ≡ items → size ≡ type_size v.kind → end ≡ h.bytes → base ≡ v.begin → end < 2 ^ 64 → found ≡ first_past size end (saturate_all (walk (steps_of axes) base)) →
+    found ≡ first_cut (type_size v.kind) h.bytes (cell_offsets h v ss cs ts)
 cut_found h v ss cs ts items axes size end base found l a b c d lt e =
     e
-    ∙ ap (λ n. first_past n end (capped (walk (steps_of axes) base))) b
-    ∙ ap (λ xs. first_past (type_size v.kind) end (capped (walk (steps_of xs) base))) a
-    ∙ ap (λ n. first_past (type_size v.kind) end (capped (walk (steps_of items) n))) d
+    ∙ ap (λ n. first_past n end (saturate_all (walk (steps_of axes) base))) b
+    ∙ ap (λ xs. first_past (type_size v.kind) end (saturate_all (walk (steps_of xs) base))) a
+    ∙ ap (λ n. first_past (type_size v.kind) end (saturate_all (walk (steps_of items) n))) d
     ∙ cut_is h v ss cs ts items (type_size v.kind) end l lt
-    ∙ ap (λ n. first_cut (type_size v.kind) n (cell_places h v ss cs ts)) c
+    ∙ ap (λ n. first_cut (type_size v.kind) n (cell_offsets h v ss cs ts)) c
 
 pub walk_found : (h : Head) (v : Var) (ss cs ts : List ℕ) (items axes : List Axis) (end base : ℕ) → Leads h v ss cs ts items →
-    axes ≡ items → end ≡ h.bytes → base ≡ v.begin → end < 2 ^ 64 → first_cut (type_size v.kind) h.bytes (cell_places h v ss cs ts) ≡ None → walk (steps_of axes) base ≡ cell_places h v ss cs ts
+    axes ≡ items → end ≡ h.bytes → base ≡ v.begin → end < 2 ^ 64 → first_cut (type_size v.kind) h.bytes (cell_offsets h v ss cs ts) ≡ None → walk (steps_of axes) base ≡ cell_offsets h v ss cs ts
 walk_found h v ss cs ts items axes end base l a c d lt none =
     ap (λ xs. walk (steps_of xs) base) a
     ∙ ap (walk (steps_of items)) d
     ∙ walk_is_places h v ss cs ts items (type_size v.kind) h.bytes l (omega (arith, lt, c)) none
 
 pub room_found : (h : Head) (v : Var) (ss cs ts : List ℕ) (items axes : List Axis) (size end base : ℕ) → Leads h v ss cs ts items →
-    axes ≡ items → size ≡ type_size v.kind → end ≡ h.bytes → base ≡ v.begin → end < 2 ^ 64 → first_cut (type_size v.kind) h.bytes (cell_places h v ss cs ts) ≡ None → HaveRoom size end (walk (steps_of axes) base)
+    axes ≡ items → size ≡ type_size v.kind → end ≡ h.bytes → base ≡ v.begin → end < 2 ^ 64 → first_cut (type_size v.kind) h.bytes (cell_offsets h v ss cs ts) ≡ None → HaveRoom size end (walk (steps_of axes) base)
 room_found h v ss cs ts items axes size end base l a b c d lt none =
     subst (HaveRoom size end) (sym (walk_found h v ss cs ts items axes end base l a c d lt none))
-    (subst (λ n. HaveRoom n end (cell_places h v ss cs ts)) (sym b)
-    (subst (λ n. HaveRoom (type_size v.kind) n (cell_places h v ss cs ts)) (sym c) (uncut_within (type_size v.kind) h.bytes (cell_places h v ss cs ts) none)))
+    (subst (λ n. HaveRoom n end (cell_offsets h v ss cs ts)) (sym b)
+    (subst (λ n. HaveRoom (type_size v.kind) n (cell_offsets h v ss cs ts)) (sym c) (uncut_within (type_size v.kind) h.bytes (cell_offsets h v ss cs ts) none)))
 
-pub places_many : (h : Head) (v : Var) (ss cs ts : List ℕ) → length (cell_places h v ss cs ts) ≡ product cs
+pub places_many : (h : Head) (v : Var) (ss cs ts : List ℕ) → length (cell_offsets h v ss cs ts) ≡ product cs
 places_many h v ss cs ts = length-map (indices cs) (λ i. place h v (point ss ts i)) ∙ length_indices cs
 
 pub cut_early : (o : Option ℕ) (at : ℕ) → Some at ≡ o → AnswersEarly (option_map faults.Cut o) (Err (faults.Cut at))
@@ -147,8 +147,8 @@ none_empty : {X : Type 0} (xs : List X) → length xs ≡ 0 → xs ≡ []
 none_empty [] e = refl
 none_empty (x ∷ xs) e = absurd (omega (arith, e))
 
-pub no_places : (h : Head) (v : Var) (ss cs ts : List ℕ) → product cs ≡ 0 → cell_places h v ss cs ts ≡ []
-no_places h v ss cs ts e = none_empty (cell_places h v ss cs ts) (places_many h v ss cs ts ∙ e)
+pub no_places : (h : Head) (v : Var) (ss cs ts : List ℕ) → product cs ≡ 0 → cell_offsets h v ss cs ts ≡ []
+no_places h v ss cs ts e = none_empty (cell_offsets h v ss cs ts) (places_many h v ss cs ts ∙ e)
 
 pub empty_early : (h : Head) (v : Var) (ss cs ts : List ℕ) → product cs ≡ 0 → index_fault h v ss cs ts ≡ None → early_fault h v ss cs ts ≡ None
 empty_early h v ss cs ts e i =

@@ -3,7 +3,7 @@ use Rattle.std.proofs.Common.{◌≡◌, ℕ, ◌+◌, ◌*◌, ◌-◌, ◌^◌
 use Rattle.aql_value.specs.Datum.{Datum}
 use Rattle.cdf_header.specs.declared.fault.CdfFault.{CdfFault}
 use Rattle.cdf_slab.specs.Numbers.{Number, number_at}
-use Rattle.cdf_slab.specs.Walk.{DimensionStep, along, walk, HaveRoom, places_left, RoomSoFar, Turn}
+use Rattle.cdf_slab.specs.Walk.{DimensionStep, along, walk, HaveRoom, offsets_left, RoomSoFar, Turn}
 use Rattle.cdf_slab.specs.Going.{AppendsCells}
 use Rattle.cdf_slab.specs.Slab.{IsLate}
 use Rattle.cdf_slab.proofs.Walking.{map-append, capped-walk}
@@ -14,13 +14,13 @@ pub AreWithin-append : (size end : ℕ) (ps qs : List ℕ) → HaveRoom size end
 AreWithin-append size end [] qs h = (tt, h)
 AreWithin-append size end (p ∷ ps) qs h = let r = AreWithin-append size end ps qs h.1 in ((h.0, r.0), r.1)
 
-pub left_within : (rest : List DimensionStep) (a : DimensionStep) (base i size end : ℕ) → i < a.count → HaveRoom size end (places_left rest a base i) →
-    HaveRoom size end (walk rest (along a base i)) × HaveRoom size end (places_left rest a base (i + 1))
+pub left_within : (rest : List DimensionStep) (a : DimensionStep) (base i size end : ℕ) → i < a.count → HaveRoom size end (offsets_left rest a base i) →
+    HaveRoom size end (walk rest (along a base i)) × HaveRoom size end (offsets_left rest a base (i + 1))
 left_within rest a base i size end lt w =
-    AreWithin-append size end (walk rest (along a base i)) (places_left rest a base (i + 1)) (subst (HaveRoom size end) (blocks_next (λ j. walk rest (along a base j)) i a.count lt) w)
+    AreWithin-append size end (walk rest (along a base i)) (offsets_left rest a base (i + 1)) (subst (HaveRoom size end) (blocks_next (λ j. walk rest (along a base j)) i a.count lt) w)
 
 -- where the places have room, sums and products stopped nowhere
-pub here_walk : (rest : List DimensionStep) (a : DimensionStep) (base i size end index here : ℕ) → i < a.count → end < 2 ^ 64 → HaveRoom size end (places_left rest a base i) →
+pub here_walk : (rest : List DimensionStep) (a : DimensionStep) (base i size end index here : ℕ) → i < a.count → end < 2 ^ 64 → HaveRoom size end (offsets_left rest a base i) →
     index ≡ min (min (i * a.stride) (2 ^ 128 - 1) + a.start) (2 ^ 128 - 1) → here ≡ min (min (index * a.pitch) (2 ^ 128 - 1) + base) (2 ^ 128 - 1) →
     walk rest here ≡ walk rest (along a base i)
 here_walk rest a base i size end index here lt small w e h =
@@ -29,9 +29,9 @@ here_walk rest a base i size end index here lt small w e h =
     (left_within rest a base i size end lt w).0
 
 numbers-next : (bytes : List ℕ) (kind : ℕ) (rest : List DimensionStep) (a : DimensionStep) (base i : ℕ) → i < a.count →
-    map (number_at bytes kind) (walk rest (along a base i)) ++ map (number_at bytes kind) (places_left rest a base (i + 1)) ≡ map (number_at bytes kind) (places_left rest a base i)
+    map (number_at bytes kind) (walk rest (along a base i)) ++ map (number_at bytes kind) (offsets_left rest a base (i + 1)) ≡ map (number_at bytes kind) (offsets_left rest a base i)
 numbers-next bytes kind rest a base i lt =
-    sym (map-append (number_at bytes kind) (walk rest (along a base i)) (places_left rest a base (i + 1)))
+    sym (map-append (number_at bytes kind) (walk rest (along a base i)) (offsets_left rest a base (i + 1)))
     ∙ ap (map (number_at bytes kind)) (sym (blocks_next (λ j. walk rest (along a base j)) i a.count lt))
 
 -- what is made of the places left makes the whole
@@ -40,7 +40,7 @@ Whole signed left total now before = (r : Result (List Datum) CdfFault) → Appe
 
 -- the blocks before i are read: what is made of the others makes the whole
 pub record ReadSoFar (signed : Bool) (bytes : List ℕ) (kind : ℕ) (rest : List DimensionStep) (a : DimensionStep) (base i : ℕ) (total : List Number) (now before : List Datum) : Type 0 where
-  pub whole : Whole signed (map (number_at bytes kind) (places_left rest a base i)) total now before
+  pub whole : Whole signed (map (number_at bytes kind) (offsets_left rest a base i)) total now before
 
 pub turn : (rest : List DimensionStep) (a : DimensionStep) (base i size end index here : ℕ) → RoomSoFar rest a base i size end → i < a.count → end < 2 ^ 64 →
     index ≡ min (min (i * a.stride) (2 ^ 128 - 1) + a.start) (2 ^ 128 - 1) → here ≡ min (min (index * a.pitch) (2 ^ 128 - 1) + base) (2 ^ 128 - 1) → Turn rest a base i size end here
@@ -59,7 +59,7 @@ pub read_next : (signed : Bool) (bytes : List ℕ) (kind : ℕ) (rest : List Dim
 read_next signed bytes kind rest a base i size end here total now more before s t lt g = record {
   whole = λ r k.
       s.whole r (subst (λ l. AppendsCells signed l now r) (numbers-next bytes kind rest a base i lt)
-      (goes-then signed (map (number_at bytes kind) (walk rest (along a base i))) (map (number_at bytes kind) (places_left rest a base (i + 1))) now more r
+      (goes-then signed (map (number_at bytes kind) (walk rest (along a base i))) (map (number_at bytes kind) (offsets_left rest a base (i + 1))) now more r
       (subst (λ l. AppendsCells signed (map (number_at bytes kind) l) now (Ok more)) t.same g) k));
 }
 
@@ -68,7 +68,7 @@ pub read_fails : (signed : Bool) (bytes : List ℕ) (kind : ℕ) (rest : List Di
     AppendsCells signed total before (Err e)
 read_fails signed bytes kind rest a base i size end here total now before e s t lt g =
     s.whole (Err e) (subst (λ l. AppendsCells signed l now (Err e)) (numbers-next bytes kind rest a base i lt)
-    (goes-fails signed (map (number_at bytes kind) (walk rest (along a base i))) (map (number_at bytes kind) (places_left rest a base (i + 1))) now e
+    (goes-fails signed (map (number_at bytes kind) (walk rest (along a base i))) (map (number_at bytes kind) (offsets_left rest a base (i + 1))) now e
     (subst (λ l. AppendsCells signed (map (number_at bytes kind) l) now (Err e)) t.same g)))
 
 pub read_done : (signed : Bool) (bytes : List ℕ) (kind : ℕ) (rest : List DimensionStep) (a : DimensionStep) (base i : ℕ) (total : List Number) (now before : List Datum) →
@@ -78,7 +78,7 @@ read_done signed bytes kind rest a base i total now before s le =
 
 -- the cells so far, and those of the places left
 pub record CountSoFar (rest : List DimensionStep) (a : DimensionStep) (base i now before total : ℕ) : Type 0 where
-  pub many : now + length (places_left rest a base i) ≡ before + total
+  pub many : now + length (offsets_left rest a base i) ≡ before + total
 
 pub count_next : (rest : List DimensionStep) (a : DimensionStep) (base i size end here now more before total : ℕ) → CountSoFar rest a base i now before total → Turn rest a base i size end here → i < a.count →
     more ≡ now + length (walk rest here) → CountSoFar rest a base (i + 1) more before total
@@ -89,7 +89,7 @@ count_next rest a base i size end here now more before total s t lt e = record {
     e,
     ap length t.same,
     ap length (blocks_next (λ j. walk rest (along a base j)) i a.count lt),
-    length-append (walk rest (along a base i)) (places_left rest a base (i + 1)),
+    length-append (walk rest (along a base i)) (offsets_left rest a base (i + 1)),
   );
 }
 
@@ -103,7 +103,7 @@ count_late signed rest a base i size end here now before total e s t lt late =
       s.many,
       ap length t.same,
       ap length (blocks_next (λ j. walk rest (along a base j)) i a.count lt),
-      length-append (walk rest (along a base i)) (places_left rest a base (i + 1)),
+      length-append (walk rest (along a base i)) (offsets_left rest a base (i + 1)),
     )) late
 
 pub count_done : (rest : List DimensionStep) (a : DimensionStep) (base i now before total : ℕ) → CountSoFar rest a base i now before total → a.count ≤ i → now ≡ before + total

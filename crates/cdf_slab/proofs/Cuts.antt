@@ -5,7 +5,8 @@ use Rattle.std.proofs.lemmas.Bool.{cases_lt, lt-ltb, ltb-false}
 use Rattle.aql_value.specs.Laws.Saturation.{saturating_product}
 use Rattle.cdf_slab.specs.Slab.{first_cut}
 use Rattle.aql_value.specs.Partial.{or_else}
-use Rattle.cdf_slab.specs.Walk.{DimensionStep, along, walk, capped, first_past, HaveRoom}
+use Rattle.aql_value.specs.Laws.Partial.{or_cond}
+use Rattle.cdf_slab.specs.Walk.{DimensionStep, along, walk, saturate_all, first_past, HaveRoom}
 use Rattle.cdf_slab.proofs.Walking.{map-append, capped-walk}
 
 -- the first block, and the others
@@ -15,10 +16,6 @@ blocks_next f i count lt = let n : count - i ≡ suc (count - (i + 1)) = omega a
 pub blocks_done : (f : ℕ → List ℕ) (i count : ℕ) → count ≤ i → flat_map f (range_with_len i (count - i)) ≡ []
 blocks_done f i count le = let n : count - i ≡ 0 = omega arith in ap (λ k. flat_map f (range_with_len i k)) n
 
-or_cond : (b : Bool) (p : ℕ) (x y : Option ℕ) → or_else (cond b (Some p) x) y ≡ cond b (Some p) (or_else x y)
-or_cond true p x y = refl
-or_cond false p x y = refl
-
 first_past-append : (size end : ℕ) (ps qs : List ℕ) → first_past size end (ps ++ qs) ≡ or_else (first_past size end ps) (first_past size end qs)
 first_past-append size end [] qs = refl
 first_past-append size end (p ∷ ps) qs =
@@ -26,7 +23,7 @@ first_past-append size end (p ∷ ps) qs =
 
 -- the blocks before i pass no end: the first place of the others is the first of all
 pub record CutSoFar (rest : List DimensionStep) (a : DimensionStep) (base i size end : ℕ) (total : Option ℕ) : Type 0 where
-  pub same : first_past size end (capped (flat_map (λ j. walk rest (along a base j)) (range_with_len i (a.count - i)))) ≡ total
+  pub same : first_past size end (saturate_all (flat_map (λ j. walk rest (along a base j)) (range_with_len i (a.count - i)))) ≡ total
 
 -- the place of an index, where sums and products stop at m
 pub stopped : (start i stride pitch base here index m : ℕ) → index ≡ min (min (i * stride) m + start) m → here ≡ min (min (index * pitch) m + base) m →
@@ -39,20 +36,16 @@ stopped start i stride pitch base here index m e h =
 -- one block of places, and the others
 pub cut_next : (rest : List DimensionStep) (a : DimensionStep) (base i size end here index : ℕ) (found total : Option ℕ) → CutSoFar rest a base i size end total → i < a.count
     → index ≡ min (min (i * a.stride) (2 ^ 128 - 1) + a.start) (2 ^ 128 - 1) → here ≡ min (min (index * a.pitch) (2 ^ 128 - 1) + base) (2 ^ 128 - 1)
-    → found ≡ first_past size end (capped (walk rest here))
-    → or_else found (first_past size end (capped (flat_map (λ j. walk rest (along a base j)) (range_with_len (i + 1) (a.count - (i + 1)))))) ≡ total
+    → found ≡ first_past size end (saturate_all (walk rest here))
+    → or_else found (first_past size end (saturate_all (flat_map (λ j. walk rest (along a base j)) (range_with_len (i + 1) (a.count - (i + 1)))))) ≡ total
 cut_next rest a base i size end here index found total so_far lt e h is =
     let f : ℕ → List ℕ = λ j. walk rest (along a base j) in
     let others : List ℕ = flat_map f (range_with_len (i + 1) (a.count - (i + 1))) in
-    let same : capped (walk rest here) ≡ capped (f i) = capped-walk rest here (along a base i) (stopped a.start i a.stride a.pitch base here index (2 ^ 128 - 1) e h) in
-    ap (λ o. or_else o (first_past size end (capped others))) (is ∙ ap (first_past size end) same)
-    ∙ sym (first_past-append size end (capped (f i)) (capped others))
-    ∙ ap (first_past size end) (sym (map-append (λ p. min p (2 ^ 128 - 1)) (f i) others) ∙ ap capped (sym (blocks_next f i a.count lt)))
+    let same : saturate_all (walk rest here) ≡ saturate_all (f i) = capped-walk rest here (along a base i) (stopped a.start i a.stride a.pitch base here index (2 ^ 128 - 1) e h) in
+    ap (λ o. or_else o (first_past size end (saturate_all others))) (is ∙ ap (first_past size end) same)
+    ∙ sym (first_past-append size end (saturate_all (f i)) (saturate_all others))
+    ∙ ap (first_past size end) (sym (map-append (λ p. min p (2 ^ 128 - 1)) (f i) others) ∙ ap saturate_all (sym (blocks_next f i a.count lt)))
     ∙ so_far.same
-
-pub cut_done : (rest : List DimensionStep) (a : DimensionStep) (base i size end : ℕ) (total : Option ℕ) → CutSoFar rest a base i size end total → a.count ≤ i → None ≡ total
-cut_done rest a base i size end total so_far le =
-    sym (ap (λ ps. first_past size end (capped ps)) (blocks_done (λ j. walk rest (along a base j)) i a.count le)) ∙ so_far.same
 
 past_same : (end p size m : ℕ) → end < m → nat_lt end (p + size) ≡ nat_lt end (min p m + size)
 past_same end p size m lt = elim (cases_lt p m) as (λ _. nat_lt end (p + size) ≡ nat_lt end (min p m + size)) [
@@ -65,7 +58,7 @@ if_cond true x y = refl
 if_cond false x y = refl
 
 -- the first cut is the first capped place past the end
-pub cut_capped : (size end : ℕ) (ps : List ℕ) → end < 2 ^ 128 - 1 → first_cut size end ps ≡ first_past size end (capped ps)
+pub cut_capped : (size end : ℕ) (ps : List ℕ) → end < 2 ^ 128 - 1 → first_cut size end ps ≡ first_past size end (saturate_all ps)
 cut_capped size end [] lt = refl
 cut_capped size end (p ∷ ps) lt =
     if_cond (nat_lt end (p + size)) (Some (min p (2 ^ 128 - 1))) (first_cut size end ps)
@@ -83,12 +76,12 @@ uncut_within size end (p ∷ ps) e =
     let r = uncut_first (nat_lt end (p + size)) (min p (2 ^ 128 - 1)) (first_cut size end ps) e in (ltb-false end (p + size) r.0, uncut_within size end ps r.1)
 
 -- places of two lists that are the same as far as 2^128-1, of which one has room below it, are the same
-pub same_within : (size end : ℕ) (ps qs : List ℕ) → end < 2 ^ 128 - 1 → capped ps ≡ capped qs → HaveRoom size end qs → ps ≡ qs
+pub same_within : (size end : ℕ) (ps qs : List ℕ) → end < 2 ^ 128 - 1 → saturate_all ps ≡ saturate_all qs → HaveRoom size end qs → ps ≡ qs
 same_within size end [] [] lt e w = refl
 same_within size end [] (q ∷ qs) lt e w = absurd cc
 same_within size end (p ∷ ps) [] lt e w = absurd cc
 same_within size end (p ∷ ps) (q ∷ qs) lt e w =
     let h : min p (2 ^ 128 - 1) ≡ min q (2 ^ 128 - 1) = cc in
-    let t : capped ps ≡ capped qs = cc in
+    let t : saturate_all ps ≡ saturate_all qs = cc in
     let z : p ≡ q = omega (arith, h, w.0, lt) in
     ap (λ x. x ∷ ps) z ∙ ap (λ xs. q ∷ xs) (same_within size end ps qs lt t w.1)

@@ -118,7 +118,7 @@ first_negative-below k (n ∷ ns) c e = go n.0 (λ h. first_negative-below (k + 
     go true h e = let z : k ≡ c = cc in omega (arith, z)
     go false h e = omega (arith, h e)
 
--- a fault of reading numbers
+-- a fault of format numbers
 pub goes_late : (signed : Bool) (ns : List Number) (before : List Datum) (r : Result (List Datum) CdfFault) → AppendsCells signed ns before r → IfErr r (IsLate signed (length before + length ns))
 goes_late signed ns before (Ok all) g = tt
 goes_late signed ns before (Err (faults.Negative c)) g = (g.0, first_negative-below (length before) ns c g.1)
@@ -130,12 +130,12 @@ pub late_more : (signed : Bool) (m n : ℕ) (e : CdfFault) → m ≤ n → IsLat
 late_more signed m n (faults.Negative c) le late = (late.0, omega (arith, le, late.1))
 late_more signed m n e le late = late
 
--- a fault of the device is one of reading a piece
+-- a fault of the device is one of format a piece
 pub outside_piece : (e : CdfFault) → IsOutside e → IsOfPiece e
 outside_piece (faults.Cut at) out = tt
 outside_piece e out = out
 
--- a fault of reading a piece, whatever the cells
+-- a fault of format a piece, whatever the cells
 pub piece_late : (signed : Bool) (many : ℕ) (e : CdfFault) → IsOfPiece e → IsLate signed many e
 piece_late signed many (faults.Negative c) piece = absurd piece
 piece_late signed many e piece = piece

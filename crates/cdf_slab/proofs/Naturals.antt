@@ -1,8 +1,6 @@
 -- The cells of a run of numbers.
 use Rattle.std.proofs.Common.{◌≡◌, ℕ, suc, ◌+◌, ◌-◌, ◌*◌, ◌^◌, ◌<◌, ◌≤◌, Bool, true, false, if◌then◌else◌, List, [], ◌∷◌, ◌++◌, length, map, take, drop, get_or, Option, Some, None, Ok, Err, length-append, refl, sym, ap, subst, ◌∙◌, arith}
 use Rattle.std.proofs.lemmas.List.{take-append-drop, drop_more, take_all, take_more, length-take-le, length-map, get_or-take}
-use Rattle.std.proofs.lemmas.List.FromFn.{length-map-range_with_len}
-use Rattle.byteorder.specs.Endian.{big_number}
 use Rattle.aql_value.specs.Datum.{Datum, natural}
 use Rattle.aql_value.specs.Partial.{◌>>=◌, each}
 use Rattle.cdf_header.specs.Format.{type_size}
@@ -10,7 +8,7 @@ use Rattle.cdf_header.specs.declared.fault.CdfFault.{CdfFault}
 use Rattle.cdf_header.specs.declared.fault.CdfFault.TheVariants as faults
 use Rattle.cdf_slab.specs.Numbers.{Number, has_sign, twos, number_of, cell_of}
 use Rattle.cdf_slab.specs.Run.{lowest, IsNatural}
-use Rattle.nrca_array.specs.Runs.{run, AreBelow, IsFirstFrom}
+use Rattle.nrca_array.specs.Runs.{AreBelow, IsFirstFrom}
 use Rattle.cdf_slab.specs.Slab.{first_negative}
 use Rattle.cdf_slab.specs.Going.{AppendsCells}
 use Rattle.std.proofs.lemmas.Bool.{lt-ltb, le-ltb}
@@ -122,6 +120,3 @@ run_reached kind (Some l) ns at before e first =
     subst (λ c. AppendsCells false (map (number_of kind) ns) before (Err (faults.Negative c)))
     (omega (arith, length-append before (map natural (take at ns)), length-map (take at ns) natural, length-take-le at ns (omega (arith, first.0))))
     (negative_go kind ns at before front first.0 goes (negative_from kind l (get_or ns at 0) (sym e) first.1))
-
-pub length-run : (size step n : ℕ) (bytes : List ℕ) → length (run size step n bytes) ≡ n
-length-run size step n bytes = length-map-range_with_len (λ j. big_number size (drop (j * step) bytes)) 0 n

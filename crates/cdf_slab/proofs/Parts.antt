@@ -2,14 +2,14 @@
 use Rattle.std.proofs.Common.{ℕ, List, map, Result, subst, arith}
 use Rattle.aql_value.specs.Datum.{Datum}
 use Rattle.cdf_header.specs.declared.fault.CdfFault.{CdfFault}
-use Rattle.cdf_slab.specs.declared.reading.CellFormat.{CellFormat}
+use Rattle.cdf_slab.specs.declared.format.CellFormat.{CellFormat}
 use Rattle.cdf_slab.specs.declared.window.Window.{Window}
-use Rattle.cdf_slab.specs.Going.{AppendsCells, IsPartOf, StaysKind, ReadsPlaces}
+use Rattle.cdf_slab.specs.Going.{AppendsCells, IsPartOf, StaysKind, ReadsOffsets}
 use Rattle.cdf_slab.specs.Numbers.{number_at}
 use Rattle.cdf_slab.specs.Slab.{IsLate}
 
 pub part_reads : (bytes : List ℕ) (whole part : CellFormat) (before now : Window) (places : List ℕ) (cells : List Datum) (r : Result (List Datum) CdfFault) → IsPartOf whole part →
-    ReadsPlaces bytes part before now places cells r → ReadsPlaces bytes whole before now places cells r
+    ReadsOffsets bytes part before now places cells r → ReadsOffsets bytes whole before now places cells r
 part_reads bytes whole part before now places cells r p h = λ le is.
     let x = h (omega (arith, p.end, le)) is in (
       subst (λ b. AppendsCells b (map (number_at bytes whole.kind) places) cells r) p.signed

@@ -4,7 +4,7 @@ use Rattle.std.proofs.lemmas.List.{drop-drop}
 use Rattle.byteorder.specs.Endian.{big_number}
 use Rattle.byteorder.specs.Numbers.{big_from-take}
 use Rattle.cdf_slab.specs.declared.window.Window.{Window}
-use Rattle.cdf_slab.specs.Window.{IsPiece, HasBytes, held}
+use Rattle.cdf_slab.specs.Window.{IsPiece, HasBytes, window_bytes}
 
 nil_take : (m : ℕ) → take {A = ℕ} m [] ≡ []
 nil_take zero = refl
@@ -21,12 +21,12 @@ number_first : (size k room : ℕ) (xs : List ℕ) → k + size ≤ room → big
 number_first size k room xs le = ap (big_number size) (drop_take k room xs) ∙ big_from-take 0 size (room - k) (drop k xs) (omega (arith, le))
 
 -- how many bytes a piece has
-pub length-held : (w : Window) → length (held w) ≡ w.count
+pub length-held : (w : Window) → length (window_bytes w) ≡ w.count
 length-held w = omega (arith, length-take w.count w.memory.items, w.filled)
 
 -- a number in a piece is that of the file
 pub piece_number : (bytes : List ℕ) (w : Window) (place size : ℕ) → HasBytes w place size → IsPiece bytes w →
-    big_number size (drop (place - w.at) (held w)) ≡ big_number size (drop place bytes)
+    big_number size (drop (place - w.at) (window_bytes w)) ≡ big_number size (drop place bytes)
 piece_number bytes w place size h p =
     let k : (place - w.at) + size ≤ w.count = omega (arith, h.behind, h.before) in
     let e : w.at + (place - w.at) ≡ place = omega (arith, h.behind) in

@@ -13,9 +13,9 @@ use Rattle.cdf_slab.specs.declared.window.Window.{Window}
 use Rattle.cdf_slab.specs.Numbers.{Number, number_of, number_at}
 use Rattle.cdf_slab.specs.Run.{apart, HoldsRun}
 use Rattle.nrca_array.specs.Runs.{run, HasAllBytes}
-use Rattle.cdf_slab.specs.Walk.{DimensionStep, along, walk, HaveRoom, places_left, RoomSoFar, Turn}
+use Rattle.cdf_slab.specs.Walk.{DimensionStep, along, walk, HaveRoom, offsets_left, RoomSoFar, Turn}
 use Rattle.cdf_slab.specs.Slab.{IsLate}
-use Rattle.cdf_slab.specs.Window.{IsPiece, held}
+use Rattle.cdf_slab.specs.Window.{IsPiece, window_bytes}
 use Rattle.cdf_slab.specs.Going.{AppendsCells}
 use Rattle.cdf_slab.proofs.Blocks.{AreWithin-append, ReadSoFar, CountSoFar}
 use Rattle.cdf_slab.proofs.Goings.{goes-then, goes-fails, goes_late, late_more}
@@ -63,7 +63,7 @@ row_apart a base i n here step h e =
 
 -- the places of n indices from i on, and then those behind them, which have room
 pub record RowTurn (a : DimensionStep) (base i n size end here step : ℕ) : Type 0 where
-  pub places : places_left [] a base i ≡ apart here step n ++ places_left [] a base (i + n)
+  pub places : offsets_left [] a base i ≡ apart here step n ++ offsets_left [] a base (i + n)
   pub next : RoomSoFar [] a base (i + n) size end
 
 pub here_is : (a : DimensionStep) (base i size end here : ℕ) → Turn [] a base i size end here → here ≡ along a base i
@@ -76,40 +76,40 @@ pub row_turn : (a : DimensionStep) (base i n size end here step m : ℕ) → Roo
     step ≡ min (a.stride * a.pitch) m → (2 ≤ n → step < m) → RowTurn a base i n size end here step
 row_turn a base i n size end here step m room t le s near =
     let c : a.count - i ≡ n + (a.count - (i + n)) = omega arith in
-    let places : places_left [] a base i ≡ apart here step n ++ places_left [] a base (i + n) =
+    let places : offsets_left [] a base i ≡ apart here step n ++ offsets_left [] a base (i + n) =
     ap (λ k. flat_map (λ j. walk [] (along a base j)) (range_with_len i k)) c
     ∙ ap (flat_map (λ j. walk [] (along a base j))) (range-append i n (a.count - (i + n)))
     ∙ flat_map-append (λ j. walk [] (along a base j)) (range_with_len i n) (range_with_len (i + n) (a.count - (i + n)))
-    ∙ ap (λ l. l ++ places_left [] a base (i + n)) (row_apart a base i n here step (here_is a base i size end here t) (exact a.stride a.pitch step m n s near)) in
+    ∙ ap (λ l. l ++ offsets_left [] a base (i + n)) (row_apart a base i n here step (here_is a base i size end here t) (exact a.stride a.pitch step m n s near)) in
     record {
       places = places;
-      next = record { within = (AreWithin-append size end (apart here step n) (places_left [] a base (i + n)) (subst (HaveRoom size end) places room.within)).1 };
+      next = record { within = (AreWithin-append size end (apart here step n) (offsets_left [] a base (i + n)) (subst (HaveRoom size end) places room.within)).1 };
     }
 
 -- the numbers of a run in a piece are those of the file
 pub run_numbers : (bytes : List ℕ) (w : Window) (kind size place step n : ℕ) → size ≡ type_size kind → HoldsRun w place size step n → IsPiece bytes w →
-    map (number_of kind) (run size step n (drop (place - w.at) (held w))) ≡ map (number_at bytes kind) (apart place step n)
+    map (number_of kind) (run size step n (drop (place - w.at) (window_bytes w))) ≡ map (number_at bytes kind) (apart place step n)
 run_numbers bytes w kind size place step n is h p =
-    map-twice (number_of kind) (λ k. big_number size (drop (k * step) (drop (place - w.at) (held w)))) (range_with_len 0 n)
-    ∙ same_ranges (λ k. number_of kind (big_number size (drop (k * step) (drop (place - w.at) (held w))))) (λ k. number_at bytes kind (place + k * step)) 0 0 n
+    map-twice (number_of kind) (λ k. big_number size (drop (k * step) (drop (place - w.at) (window_bytes w)))) (range_with_len 0 n)
+    ∙ same_ranges (λ k. number_of kind (big_number size (drop (k * step) (drop (place - w.at) (window_bytes w))))) (λ k. number_at bytes kind (place + k * step)) 0 0 n
     (λ k lt.
     let z : 0 + k ≡ k = omega arith in
     let o : (place - w.at) + k * step ≡ place + k * step - w.at = omega (arith, h.behind) in
-    ap (λ k. number_of kind (big_number size (drop (k * step) (drop (place - w.at) (held w))))) z
-    ∙ ap (λ l. number_of kind (big_number size l)) (drop-drop (k * step) (place - w.at) (held w) ∙ ap (λ m. drop m (held w)) o)
+    ap (λ k. number_of kind (big_number size (drop (k * step) (drop (place - w.at) (window_bytes w))))) z
+    ∙ ap (λ l. number_of kind (big_number size l)) (drop-drop (k * step) (place - w.at) (window_bytes w) ∙ ap (λ m. drop m (window_bytes w)) o)
     ∙ ap (number_of kind) (piece_number bytes w (place + k * step) size (record { behind = omega (arith, h.behind); before = h.before k lt }) p)
     ∙ ap (λ s. number_of kind (big_number s (drop (place + k * step) bytes))) is
     ∙ ap (λ k. number_at bytes kind (place + k * step)) (sym z))
     ∙ sym (map-twice (number_at bytes kind) (λ k. place + k * step) (range_with_len 0 n))
 
 -- a run in a piece is one of its bytes from the first on
-pub has_run : (w : Window) (place size step n : ℕ) → HoldsRun w place size step n → HasAllBytes (drop (place - w.at) (held w)) size step n
-has_run w place size step n h = record { room = λ k lt. omega (arith, h.behind, h.before k lt, length-drop (place - w.at) (held w), length-held w) }
+pub has_run : (w : Window) (place size step n : ℕ) → HoldsRun w place size step n → HasAllBytes (drop (place - w.at) (window_bytes w)) size step n
+has_run w place size step n h = record { room = λ k lt. omega (arith, h.behind, h.before k lt, length-drop (place - w.at) (window_bytes w), length-held w) }
 
 numbers-on : (bytes : List ℕ) (kind : ℕ) (a : DimensionStep) (base i n size end here step : ℕ) → RowTurn a base i n size end here step →
-    map (number_at bytes kind) (apart here step n) ++ map (number_at bytes kind) (places_left [] a base (i + n)) ≡ map (number_at bytes kind) (places_left [] a base i)
+    map (number_at bytes kind) (apart here step n) ++ map (number_at bytes kind) (offsets_left [] a base (i + n)) ≡ map (number_at bytes kind) (offsets_left [] a base i)
 numbers-on bytes kind a base i n size end here step t =
-    sym (map-append (number_at bytes kind) (apart here step n) (places_left [] a base (i + n))) ∙ ap (map (number_at bytes kind)) (sym t.places)
+    sym (map-append (number_at bytes kind) (apart here step n) (offsets_left [] a base (i + n))) ∙ ap (map (number_at bytes kind)) (sym t.places)
 
 pub row_next : (signed : Bool) (bytes : List ℕ) (kind : ℕ) (a : DimensionStep) (base i n size end here step : ℕ) (total : List Number) (now more before : List Datum) →
     ReadSoFar signed bytes kind [] a base i total now before → RowTurn a base i n size end here step → AppendsCells signed (map (number_at bytes kind) (apart here step n)) now (Ok more) →
@@ -117,7 +117,7 @@ pub row_next : (signed : Bool) (bytes : List ℕ) (kind : ℕ) (a : DimensionSte
 row_next signed bytes kind a base i n size end here step total now more before s t g = record {
   whole = λ r k.
       s.whole r (subst (λ l. AppendsCells signed l now r) (numbers-on bytes kind a base i n size end here step t)
-      (goes-then signed (map (number_at bytes kind) (apart here step n)) (map (number_at bytes kind) (places_left [] a base (i + n))) now more r g k));
+      (goes-then signed (map (number_at bytes kind) (apart here step n)) (map (number_at bytes kind) (offsets_left [] a base (i + n))) now more r g k));
 }
 
 pub row_fails : (signed : Bool) (bytes : List ℕ) (kind : ℕ) (a : DimensionStep) (base i n size end here step : ℕ) (total : List Number) (now before : List Datum) (e : CdfFault) →
@@ -125,7 +125,7 @@ pub row_fails : (signed : Bool) (bytes : List ℕ) (kind : ℕ) (a : DimensionSt
     AppendsCells signed total before (Err e)
 row_fails signed bytes kind a base i n size end here step total now before e s t g =
     s.whole (Err e) (subst (λ l. AppendsCells signed l now (Err e)) (numbers-on bytes kind a base i n size end here step t)
-    (goes-fails signed (map (number_at bytes kind) (apart here step n)) (map (number_at bytes kind) (places_left [] a base (i + n))) now e g))
+    (goes-fails signed (map (number_at bytes kind) (apart here step n)) (map (number_at bytes kind) (offsets_left [] a base (i + n))) now e g))
 
 pub row_counts : (a : DimensionStep) (base i n size end here step now more before total : ℕ) → CountSoFar [] a base i now before total → RowTurn a base i n size end here step → more ≡ now + n →
     CountSoFar [] a base (i + n) more before total
@@ -135,7 +135,7 @@ row_counts a base i n size end here step now more before total s t e = record {
     s.many,
     e,
     ap length t.places,
-    length-append (apart here step n) (places_left [] a base (i + n)),
+    length-append (apart here step n) (offsets_left [] a base (i + n)),
     length-map (range_with_len 0 n) (λ k. here + k * step),
     length-range_with_len 0 n,
   );
@@ -150,7 +150,7 @@ row_late signed kind size a base i n end here step from now before total e s t g
       arith,
       s.many,
       ap length t.places,
-      length-append (apart here step n) (places_left [] a base (i + n)),
+      length-append (apart here step n) (offsets_left [] a base (i + n)),
       length-map (range_with_len 0 n) (λ k. here + k * step),
       length-map (run size step n from) (number_of kind),
       length-map (range_with_len 0 n) (λ k. big_number size (drop (k * step) from)),
@@ -160,7 +160,7 @@ row_late signed kind size a base i n end here step from now before total e s t g
 
 -- what is made of a run in a piece is made of the file's numbers there
 pub run_told : (signed : Bool) (bytes : List ℕ) (w : Window) (kind size place step n : ℕ) (from : List ℕ) (now : List Datum) (r : Result (List Datum) CdfFault) →
-    size ≡ type_size kind → HoldsRun w place size step n → IsPiece bytes w → from ≡ drop (place - w.at) (held w) →
+    size ≡ type_size kind → HoldsRun w place size step n → IsPiece bytes w → from ≡ drop (place - w.at) (window_bytes w) →
     AppendsCells signed (map (number_of kind) (run size step n from)) now r → AppendsCells signed (map (number_at bytes kind) (apart place step n)) now r
 run_told signed bytes w kind size place step n from now r is h p e g =
     subst (λ l. AppendsCells signed l now r) (ap (λ l. map (number_of kind) (run size step n l)) e ∙ run_numbers bytes w kind size place step n is h p) g

@@ -5,7 +5,7 @@ use Rattle.cdf_header.specs.Header.{Var}
 use Rattle.cdf_header.specs.Format.{type_size}
 use Rattle.cdf_header.specs.Places.{len_at, lens, inner, is_over_records, recsize, pitches_in, pitches}
 use Rattle.cdf_slab.specs.declared.axes.Axis.{Axis}
-use Rattle.cdf_slab.specs.Walk.{DimensionStep, step_of, steps_of, steps, capped}
+use Rattle.cdf_slab.specs.Walk.{DimensionStep, step_of, steps_of, steps, saturate_all}
 use Rattle.cdf_slab.proofs.Walking.{map-append}
 
 pub steps_more : (ss cs ts ws : List ℕ) (j a b d e : ℕ) → j < length ss → length cs ≡ length ss → length ts ≡ length ss → length ws ≡ length ss →
@@ -42,13 +42,13 @@ length-pitches_of ds vs size (i ∷ ids) =
 pub length-pitches : (ds : List ℕ) (vs : List Var) (v : Var) → length (pitches ds vs v) ≡ length v.ids
 length-pitches ds vs v = length-pitches_of ds vs (type_size v.kind) v.ids
 
-pub capped_get : (ws : List ℕ) (j : ℕ) → get_or (capped ws) j 0 ≡ min (get_or ws j 0) (2 ^ 128 - 1)
+pub capped_get : (ws : List ℕ) (j : ℕ) → get_or (saturate_all ws) j 0 ≡ min (get_or ws j 0) (2 ^ 128 - 1)
 capped_get [] zero = refl
 capped_get [] (suc j) = refl
 capped_get (w ∷ ws) zero = refl
 capped_get (w ∷ ws) (suc j) = capped_get ws j
 
-pub length-capped : (ws : List ℕ) → length (capped ws) ≡ length ws
+pub length-capped : (ws : List ℕ) → length (saturate_all ws) ≡ length ws
 length-capped ws = length-map ws (λ w. min w (2 ^ 128 - 1))
 
 same_step : (s s' n n' t t' w w' : ℕ) → s ≡ s' → n ≡ n' → t ≡ t' → w ≡ w' →
@@ -61,17 +61,17 @@ same_step s s' n n' t t' w w' a b c d =
 
 -- one dimension more
 pub axis_more : (axes new : List Axis) (x : Axis) (ss cs ts ws : List ℕ) (j a b d : ℕ) → new ≡ axes ++ x ∷ [] →
-    steps_of axes ≡ steps (take j ss) (take j cs) (take j ts) (take j (capped ws)) →
+    steps_of axes ≡ steps (take j ss) (take j cs) (take j ts) (take j (saturate_all ws)) →
     x.start ≡ get_or ss j a → x.count ≡ get_or cs j b → x.stride ≡ get_or ts j d → x.pitch ≡ min (get_or ws j 0) (2 ^ 128 - 1) →
     j < length ss → length cs ≡ length ss → length ts ≡ length ss → length ws ≡ length ss →
-    steps_of new ≡ steps (take (j + 1) ss) (take (j + 1) cs) (take (j + 1) ts) (take (j + 1) (capped ws))
+    steps_of new ≡ steps (take (j + 1) ss) (take (j + 1) cs) (take (j + 1) ts) (take (j + 1) (saturate_all ws))
 axis_more axes new x ss cs ts ws j a b d e inv p q r w lt l m n =
     ap steps_of e
     ∙ map-append step_of axes (x ∷ [])
     ∙ ap (λ l. l ++ step_of x ∷ []) inv
-    ∙ ap (λ y. steps (take j ss) (take j cs) (take j ts) (take j (capped ws)) ++ y ∷ []) (same_step _ _ _ _ _ _ _ _ p q r (w ∙ sym (capped_get ws j)))
-    ∙ sym (steps_more ss cs ts (capped ws) j a b d 0 lt l m (length-capped ws ∙ n))
-    ∙ (let z : suc j ≡ j + 1 = omega arith in ap (λ i. steps (take i ss) (take i cs) (take i ts) (take i (capped ws))) z)
+    ∙ ap (λ y. steps (take j ss) (take j cs) (take j ts) (take j (saturate_all ws)) ++ y ∷ []) (same_step _ _ _ _ _ _ _ _ p q r (w ∙ sym (capped_get ws j)))
+    ∙ sym (steps_more ss cs ts (saturate_all ws) j a b d 0 lt l m (length-capped ws ∙ n))
+    ∙ (let z : suc j ≡ j + 1 = omega arith in ap (λ i. steps (take i ss) (take i cs) (take i ts) (take i (saturate_all ws))) z)
 
 some_steps : (ss cs ts ws : List ℕ) → 1 ≤ length ss → length cs ≡ length ss → length ts ≡ length ss → length ws ≡ length ss → 1 ≤ length (steps ss cs ts ws)
 some_steps [] cs ts ws some a b c = absurd (omega (arith, some))

@@ -7,8 +7,8 @@ use Rattle.aql_value.specs.Laws.Saturation.{saturating_product}
 use Rattle.cdf_header.specs.Header.{Var, Head}
 use Rattle.cdf_header.specs.Format.{type_size}
 use Rattle.cdf_header.specs.Places.{lens, inner, is_record, recsize, place_of, pitches_in, pitches}
-use Rattle.cdf_slab.specs.Slab.{point, cell_places}
-use Rattle.cdf_slab.specs.Walk.{DimensionStep, steps, along, walk, capped}
+use Rattle.cdf_slab.specs.Slab.{point, cell_offsets}
+use Rattle.cdf_slab.specs.Walk.{DimensionStep, steps, along, walk, saturate_all}
 
 -- lists by a function that is the same at each element
 pub same_map : {X Y : Type 0} (f g : X → Y) (xs : List X) → ((x : X) → f x ≡ g x) → map f xs ≡ map g xs
@@ -100,23 +100,23 @@ counts_of (s ∷ ss) (n ∷ cs) (t ∷ ts) [] a b c = absurd (omega (arith, c))
 
 -- the walk with the variable's pitches visits the cells' places
 pub walk_places : (h : Head) (v : Var) (ss cs ts : List ℕ) → length cs ≡ length ss → length ts ≡ length ss → length (pitches h.dims h.vars v) ≡ length ss
-    → walk (steps ss cs ts (pitches h.dims h.vars v)) v.begin ≡ cell_places h v ss cs ts
+    → walk (steps ss cs ts (pitches h.dims h.vars v)) v.begin ≡ cell_offsets h v ss cs ts
 walk_places h v ss cs ts a b c =
     walk_is (steps ss cs ts (pitches h.dims h.vars v)) v.begin
     ∙ ap (λ ns. map (λ i. v.begin + dot (steps ss cs ts (pitches h.dims h.vars v)) i) (indices ns)) (counts_of ss cs ts (pitches h.dims h.vars v) a b c)
     ∙ same_map (λ i. v.begin + dot (steps ss cs ts (pitches h.dims h.vars v)) i) (λ i. place_of h.dims h.vars v (point ss ts i)) (indices cs)
     (λ i. ap (λ x. v.begin + x) (dot_point ss cs ts (pitches h.dims h.vars v) i a b c) ∙ sym (place_by_pitches h.dims h.vars v (point ss ts i)))
 
-same_capped : (f g : ℕ → List ℕ) (xs : List ℕ) → ((i : ℕ) → capped (f i) ≡ capped (g i)) → capped (flat_map f xs) ≡ capped (flat_map g xs)
+same_capped : (f g : ℕ → List ℕ) (xs : List ℕ) → ((i : ℕ) → saturate_all (f i) ≡ saturate_all (g i)) → saturate_all (flat_map f xs) ≡ saturate_all (flat_map g xs)
 same_capped f g [] h = refl
 same_capped f g (i ∷ xs) h =
     map-append (λ p. min p (2 ^ 128 - 1)) (f i) (flat_map f xs)
-    ∙ ap (λ ps. ps ++ capped (flat_map f xs)) (h i)
-    ∙ ap (λ ps. capped (g i) ++ ps) (same_capped f g xs h)
+    ∙ ap (λ ps. ps ++ saturate_all (flat_map f xs)) (h i)
+    ∙ ap (λ ps. saturate_all (g i) ++ ps) (same_capped f g xs h)
     ∙ sym (map-append (λ p. min p (2 ^ 128 - 1)) (g i) (flat_map g xs))
 
 -- a base that has stopped leads to the same capped places
-pub capped-walk : (axes : List DimensionStep) (b c : ℕ) → min b (2 ^ 128 - 1) ≡ min c (2 ^ 128 - 1) → capped (walk axes b) ≡ capped (walk axes c)
+pub capped-walk : (axes : List DimensionStep) (b c : ℕ) → min b (2 ^ 128 - 1) ≡ min c (2 ^ 128 - 1) → saturate_all (walk axes b) ≡ saturate_all (walk axes c)
 capped-walk [] b c e = ap (λ p. p ∷ []) e
 capped-walk (a ∷ axes) b c e = same_capped (λ i. walk axes (along a b i)) (λ i. walk axes (along a c i)) (range_with_len 0 a.count)
     (λ i. capped-walk axes (along a b i) (along a c i) (omega (arith, e)))
@@ -127,11 +127,11 @@ pitch_stops x w b c m e =
     omega (arith, e, p)
 
 -- so do pitches that have stopped
-pub capped-pitches : (ss cs ts ws : List ℕ) (b c : ℕ) → min b (2 ^ 128 - 1) ≡ min c (2 ^ 128 - 1) → capped (walk (steps ss cs ts (capped ws)) b) ≡ capped (walk (steps ss cs ts ws) c)
+pub capped-pitches : (ss cs ts ws : List ℕ) (b c : ℕ) → min b (2 ^ 128 - 1) ≡ min c (2 ^ 128 - 1) → saturate_all (walk (steps ss cs ts (saturate_all ws)) b) ≡ saturate_all (walk (steps ss cs ts ws) c)
 capped-pitches [] cs ts ws b c e = ap (λ p. p ∷ []) e
 capped-pitches (s ∷ ss) [] ts ws b c e = ap (λ p. p ∷ []) e
 capped-pitches (s ∷ ss) (n ∷ cs) [] ws b c e = ap (λ p. p ∷ []) e
 capped-pitches (s ∷ ss) (n ∷ cs) (t ∷ ts) [] b c e = ap (λ p. p ∷ []) e
 capped-pitches (s ∷ ss) (n ∷ cs) (t ∷ ts) (w ∷ ws) b c e =
-    same_capped (λ i. walk (steps ss cs ts (capped ws)) (b + (s + i * t) * min w (2 ^ 128 - 1))) (λ i. walk (steps ss cs ts ws) (c + (s + i * t) * w)) (range_with_len 0 n)
+    same_capped (λ i. walk (steps ss cs ts (saturate_all ws)) (b + (s + i * t) * min w (2 ^ 128 - 1))) (λ i. walk (steps ss cs ts ws) (c + (s + i * t) * w)) (range_with_len 0 n)
     (λ i. capped-pitches ss cs ts ws (b + (s + i * t) * min w (2 ^ 128 - 1)) (c + (s + i * t) * w) (pitch_stops (s + i * t) w b c (2 ^ 128 - 1) e))

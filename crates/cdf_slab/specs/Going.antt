@@ -1,4 +1,4 @@
--- What reading numbers one after another makes of the cells so far.
+-- What format numbers one after another makes of the cells so far.
 use Rattle.std.specs.Prelude.{◌≡◌, ℕ, ◌+◌, ◌≤◌, Bool, false, List, ◌++◌, length, map, Some, Result, Ok, Err, IfOk}
 use Rattle.aql_value.specs.Datum.{Datum}
 use Rattle.aql_value.specs.Lists.{Every}
@@ -8,7 +8,7 @@ use Rattle.cdf_header.specs.declared.fault.CdfFault.TheVariants as faults
 use Rattle.cdf_slab.specs.Numbers.{Number, IsCell, cell_of, number_at}
 use Rattle.cdf_slab.specs.Slab.{first_negative}
 use Rattle.cdf_slab.specs.Window.{IsPiece}
-use Rattle.cdf_slab.specs.declared.reading.CellFormat.{CellFormat}
+use Rattle.cdf_slab.specs.declared.format.CellFormat.{CellFormat}
 use Rattle.cdf_slab.specs.declared.window.Window.{Window}
 
 -- a cell more for each number, up to the first that gives none
@@ -35,7 +35,7 @@ pub record IsPartOf (whole part : CellFormat) : Type 0 where
   pub end : part.end ≤ whole.end
 
 -- where the bytes reach to the end of what is read and the piece is one of them: a cell more for each number at these places, and the piece stays one
-abbrev pub ReadsPlaces : (bytes : List ℕ) → CellFormat → (before now : Window) → (places : List ℕ) → (cells : List Datum) → Result (List Datum) CdfFault → Type 0
-ReadsPlaces bytes reading before now places cells result =
-    reading.end ≤ length bytes → IsPiece bytes before
-    → AppendsCells reading.signed (map (number_at bytes reading.kind) places) cells result × IfOk result (λ _. IsPiece bytes now)
+abbrev pub ReadsOffsets : (bytes : List ℕ) → CellFormat → (before now : Window) → (places : List ℕ) → (cells : List Datum) → Result (List Datum) CdfFault → Type 0
+ReadsOffsets bytes format before now places cells result =
+    format.end ≤ length bytes → IsPiece bytes before
+    → AppendsCells format.signed (map (number_at bytes format.kind) places) cells result × IfOk result (λ _. IsPiece bytes now)

@@ -5,7 +5,7 @@ use Rattle.aql_value.specs.Datum.{Table}
 use Rattle.aql_value.specs.Indices.{indices, product}
 use Rattle.aql_value.specs.Lists.{Every}
 use Rattle.aql_value.specs.Partial.{◌>>=◌, each, or_else}
-use Rattle.aql_value.specs.Limits.{saturated}
+use Rattle.aql_value.specs.Limits.{saturate}
 use Rattle.cdf_header.specs.declared.fault.CdfFault.{CdfFault}
 use Rattle.cdf_header.specs.declared.fault.CdfFault.TheVariants as faults
 use Rattle.cdf_header.specs.Format.{type_size}
@@ -23,12 +23,12 @@ point (s ∷ ss) (t ∷ ts) (i ∷ at) = (s + i * t) ∷ point ss ts at
 point ss ts at = []
 
 -- the offsets of the cells, in row-major order
-abbrev pub cell_places : Head → Var → (start count stride : List ℕ) → List ℕ
-cell_places h v start count stride = map (λ i. place h v (point start stride i)) (indices count)
+abbrev pub cell_offsets : Head → Var → (start count stride : List ℕ) → List ℕ
+cell_offsets h v start count stride = map (λ i. place h v (point start stride i)) (indices count)
 
 -- the numbers that stand there
 abbrev pub slab_numbers : (bytes : List ℕ) → Head → Var → (start count stride : List ℕ) → List Number
-slab_numbers bytes h v start count stride = map (number_at bytes v.kind) (cell_places h v start count stride)
+slab_numbers bytes h v start count stride = map (number_at bytes v.kind) (cell_offsets h v start count stride)
 
 -- the array whose dimensions are the counts and whose cell at i is the number spelled at the place of start + i * stride
 abbrev pub slab : (bytes : List ℕ) → Head → Var → (start count stride : List ℕ) → (signed : Bool) → Option Table
@@ -56,7 +56,7 @@ first_outside k ns ss cs ts = None
 -- the first offset where a number of so many bytes passes the end, or 2^128-1 where it is larger
 abbrev pub first_cut : (size end : ℕ) → List ℕ → Option ℕ
 first_cut size end [] = None
-first_cut size end (p ∷ ps) = if nat_lt end (p + size) then Some (saturated p) else first_cut size end ps
+first_cut size end (p ∷ ps) = if nat_lt end (p + size) then Some (saturate p) else first_cut size end ps
 
 -- the first number below 0, counted from k
 abbrev pub first_negative : ℕ → List Number → Option ℕ
@@ -76,7 +76,7 @@ index_fault h v start count stride =
 
 -- the first cell whose bytes pass the end of the file
 abbrev pub cut_fault : Head → Var → (start count stride : List ℕ) → Option CdfFault
-cut_fault h v start count stride = option_map faults.Cut (first_cut (type_size v.kind) h.bytes (cell_places h v start count stride))
+cut_fault h v start count stride = option_map faults.Cut (first_cut (type_size v.kind) h.bytes (cell_offsets h v start count stride))
 
 -- the first fault that the header tells: these, and then Cut
 abbrev pub early_fault : Head → Var → (start count stride : List ℕ) → Option CdfFault

@@ -1,7 +1,7 @@
 -- The offsets of the cells, dimension after dimension.
 use Rattle.std.specs.Prelude.{◌≡◌, ℕ, ◌+◌, ◌-◌, ◌*◌, ◌≤◌, cond, nat_lt, List, [], ◌∷◌, map, Option, Some, None}
 use Rattle.std.specs.List.{flat_map, range_with_len}
-use Rattle.aql_value.specs.Limits.{saturated}
+use Rattle.aql_value.specs.Limits.{saturate}
 use Rattle.cdf_slab.specs.declared.axes.Axis.{Axis}
 
 -- one dimension of a hyperslab: where it starts, how many, how far apart, and the bytes from one index to the next
@@ -34,9 +34,9 @@ walk [] base = base ∷ []
 walk (a ∷ axes) base = flat_map (λ i. walk axes (along a base i)) (range_with_len 0 a.count)
 
 -- the offset of the last index of each dimension
-abbrev pub last_place : List DimensionStep → ℕ → ℕ
-last_place [] base = base
-last_place (a ∷ axes) base = last_place axes (along a base (a.count - 1))
+abbrev pub last_offset : List DimensionStep → ℕ → ℕ
+last_offset [] base = base
+last_offset (a ∷ axes) base = last_offset axes (along a base (a.count - 1))
 
 -- each has room for a number of so many bytes before the end
 abbrev pub HaveRoom : (size end : ℕ) → List ℕ → Type 0
@@ -44,8 +44,8 @@ HaveRoom size end [] = Unit {0}
 HaveRoom size end (p ∷ ps) = (p + size ≤ end) × HaveRoom size end ps
 
 -- each that is larger than 2^128-1 as that number
-abbrev pub capped : List ℕ → List ℕ
-capped ps = map saturated ps
+abbrev pub saturate_all : List ℕ → List ℕ
+saturate_all ps = map saturate ps
 
 -- the first place whose number passes the end
 abbrev pub first_past : (size end : ℕ) → List ℕ → Option ℕ
@@ -53,12 +53,12 @@ first_past size end [] = None
 first_past size end (p ∷ ps) = cond (nat_lt end (p + size)) (Some p) (first_past size end ps)
 
 -- the places at the index i of the first dimension and behind it
-abbrev pub places_left : (rest : List DimensionStep) (a : DimensionStep) (base i : ℕ) → List ℕ
-places_left rest a base i = flat_map (λ j. walk rest (along a base j)) (range_with_len i (a.count - i))
+abbrev pub offsets_left : (rest : List DimensionStep) (a : DimensionStep) (base i : ℕ) → List ℕ
+offsets_left rest a base i = flat_map (λ j. walk rest (along a base j)) (range_with_len i (a.count - i))
 
 -- these have room
 pub record RoomSoFar (rest : List DimensionStep) (a : DimensionStep) (base i size end : ℕ) : Type 0 where
-  pub within : HaveRoom size end (places_left rest a base i)
+  pub within : HaveRoom size end (offsets_left rest a base i)
 
 -- `here` is the place of index i, and those behind it have room
 pub record Turn (rest : List DimensionStep) (a : DimensionStep) (base i size end here : ℕ) : Type 0 where

@@ -6,12 +6,12 @@ use Rattle.cdf_header.specs.declared.fault.CdfFault.TheVariants as faults
 use Rattle.cdf_slab.specs.declared.window.Window.{Window}
 
 -- the bytes of the piece
-abbrev pub held : Window → List ℕ
-held w = take w.count w.memory.items
+abbrev pub window_bytes : Window → List ℕ
+window_bytes w = take w.count w.memory.items
 
 -- the piece is what stands at its offset in these bytes, and all that was asked for
 pub record IsPiece (bytes : List ℕ) (w : Window) : Type 0 where
-  pub spelled : held w ≡ take w.count (drop w.at bytes)
+  pub spelled : window_bytes w ≡ take w.count (drop w.at bytes)
   pub whole : w.short ≡ false
 
 -- so many bytes at an offset stand in the piece
@@ -34,7 +34,7 @@ abbrev pub StaysPiece : {T : Type 0} → (bytes : List ℕ) → (end : ℕ) → 
 StaysPiece bytes end before now result =
     end ≤ length bytes → IsPiece bytes before → IfErr result IsOutside × IfOk result (λ _. IsPiece bytes now)
 
--- a fault of reading a piece: fewer bytes came than were asked, the device failed, or memory was wanting
+-- a fault of format a piece: fewer bytes came than were asked, the device failed, or memory was wanting
 abbrev pub IsOfPiece : CdfFault → Type 0
 IsOfPiece (faults.Cut at) = Unit {0}
 IsOfPiece faults.Device = Unit {0}

@@ -3,7 +3,7 @@
 ghost use Rattle.std.specs.Prelude.{◌≡◌, ◌<◌, ◌^◌, IfOk, length};
 ghost use Rattle.std.specs.List.{All};
 ghost use Rattle.cdf_header.specs.Places.{variable_at, pitches};
-ghost use Rattle.cdf_slab.specs.Walk.{steps_of, steps, capped};
+ghost use Rattle.cdf_slab.specs.Walk.{steps_of, steps, saturate_all};
 
 use aql_value::Memory;
 use cdf_header::Header;
@@ -34,7 +34,7 @@ pub(crate) fn axes_of(
     requires strides { length stride.now ≡ length start.now }
     requires fit { All (λ c. c < 2 ^ 64) count.now }
     ensures { IfOk result (λ axes. steps_of axes.items ≡ steps start.now count.now stride.now
-        (capped (pitches header.now.dims header.now.vars (variable_at header.now v)))) }
+        (saturate_all (pitches header.now.dims header.now.vars (variable_at header.now v)))) }
 {
     let mut axes = Vec::new(alloc);
     'axes: for j in 0..start.len() {

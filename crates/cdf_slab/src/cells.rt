@@ -4,15 +4,15 @@ ghost use Rattle.std.specs.Prelude.{◌≡◌, ◌+◌, ◌-◌, ◌*◌, ◌^�
 ghost use Rattle.aql_outside.specs.Contents.{WhereTold};
 ghost use Rattle.aql_outside.specs.Frames.{Leaves};
 ghost use Rattle.cdf_header.specs.File.{IsDevice};
-ghost use Rattle.cdf_slab.specs.Going.{count_with, IsPartOf, StaysKind, ReadsPlaces};
+ghost use Rattle.cdf_slab.specs.Going.{count_with, IsPartOf, StaysKind, ReadsOffsets};
 ghost use Rattle.cdf_slab.specs.Slab.{IsLate};
 ghost use Rattle.cdf_slab.specs.Walk.{step_of, steps_of, walk, HaveRoom, RoomSoFar, Turn};
 ghost use Rattle.nrca_array.specs.Runs.{IsWidth};
 
 use crate::axes::Axis;
 use crate::faults::last_end;
+use crate::format::CellFormat;
 use crate::loading::{REACH, run_in};
-use crate::reading::CellFormat;
 use crate::runs::push_run;
 use crate::window::Window;
 use aql_outside::Files;
@@ -23,11 +23,11 @@ use nrca_array::{Builder, Run};
 const RUN: u64 = 8192;
 
 // The place of an index of a dimension, where those behind it have room.
-fn place_along(a: Axis, rest: &[Axis], base: u128, i: u64, reading: CellFormat) -> u128
-    requires room { RoomSoFar (steps_of rest.now) (step_of a) base i reading.size reading.end }
+fn offset_along(a: Axis, rest: &[Axis], base: u128, i: u64, format: CellFormat) -> u128
+    requires room { RoomSoFar (steps_of rest.now) (step_of a) base i format.size format.end }
     requires below { i < a.count }
-    ensures turn { Turn (steps_of rest.now) (step_of a) base i reading.size reading.end result }
-    ensures within { HaveRoom reading.size reading.end (walk (steps_of rest.now) result) }
+    ensures turn { Turn (steps_of rest.now) (step_of a) base i format.size format.end result }
+    ensures within { HaveRoom format.size format.end (walk (steps_of rest.now) result) }
 {
     let index = u128::from(i)
         .saturating_mul(a.stride)
@@ -61,15 +61,15 @@ fn is_scattered(a: Axis, rest: &[Axis], size: u64) -> bool {
 }
 
 // What is read of the cells of one index: where they are read apart, nothing behind the last.
-fn block(reading: CellFormat, apart: bool, rest: &[Axis], base: u128) -> CellFormat
-    requires { HaveRoom reading.size reading.end (walk (steps_of rest.now) base) }
-    ensures part { IsPartOf reading result }
+fn block(format: CellFormat, apart: bool, rest: &[Axis], base: u128) -> CellFormat
+    requires { HaveRoom format.size format.end (walk (steps_of rest.now) base) }
+    ensures part { IsPartOf format result }
     ensures within { HaveRoom result.size result.end (walk (steps_of rest.now) base) }
 {
     if apart {
-        reading.with_end(last_end(reading.end, reading.size, rest, base))
+        format.with_end(last_end(format.end, format.size, rest, base))
     } else {
-        reading
+        format
     }
 }
 
@@ -78,21 +78,21 @@ fn read_row<F: Files>(
     files: &mut F,
     name: &str,
     window: &mut Window,
-    reading: CellFormat,
+    format: CellFormat,
     a: Axis,
     base: u128,
     cells: Builder,
 ) -> Result<Builder, CdfFault>
-    requires size { IsWidth reading.size }
-    requires within { HaveRoom reading.size reading.end (walk (step_of a ∷ []) base) }
+    requires size { IsWidth format.size }
+    requires within { HaveRoom format.size format.end (walk (step_of a ∷ []) base) }
     ensures frame { Leaves F.holds F.faults F.quiet (IsDevice result) files.old files.new }
     ensures late { IfErr result
-        (IsLate reading.signed (count_with cells (walk (step_of a ∷ []) base))) }
+        (IsLate format.signed (count_with cells (walk (step_of a ∷ []) base))) }
     ensures many { IfOk result
         (λ all. length all ≡ count_with cells (walk (step_of a ∷ []) base)) }
-    ensures kinds { StaysKind reading.signed cells result }
+    ensures kinds { StaysKind format.signed cells result }
     ensures told { WhereTold (F.holds files.old) name.now
-        (λ bytes. ReadsPlaces bytes reading window.old window.new
+        (λ bytes. ReadsOffsets bytes format window.old window.new
         (walk (step_of a ∷ []) base) cells result) }
 {
     let alloc = *window.memory.allocator();
@@ -100,17 +100,17 @@ fn read_row<F: Files>(
     let mut all = cells;
     let mut i = 0;
     'row: while i < a.count {
-        let here = place_along(a, &[], base, i, reading) as u64;
+        let here = offset_along(a, &[], base, i, format) as u64;
         let most = (a.count - i).min(RUN);
-        match run_in(files, name, window, reading, here, step, most) {
+        match run_in(files, name, window, format, here, step, most) {
             Ok(count) => {
                 let run = Run {
                     bytes: window.bytes_from(here),
-                    size: reading.size as usize,
+                    size: format.size as usize,
                     step: step as usize,
                     count: count as usize,
                 };
-                match push_run(alloc, reading, run, all) {
+                match push_run(alloc, format, run, all) {
                     Ok(more) => {
                         all = more;
                         i += count;
@@ -130,33 +130,33 @@ pub(crate) fn read_cells<F: Files>(
     files: &mut F,
     name: &str,
     window: &mut Window,
-    reading: CellFormat,
+    format: CellFormat,
     axes: &[Axis],
     base: u128,
     cells: Builder,
 ) -> Result<Builder, CdfFault>
-    requires size { IsWidth reading.size }
+    requires size { IsWidth format.size }
     requires some { 1 ≤ length axes.now }
-    requires within { HaveRoom reading.size reading.end (walk (steps_of axes.now) base) }
+    requires within { HaveRoom format.size format.end (walk (steps_of axes.now) base) }
     ensures frame { Leaves F.holds F.faults F.quiet (IsDevice result) files.old files.new }
     ensures late { IfErr result
-        (IsLate reading.signed (count_with cells (walk (steps_of axes.now) base))) }
+        (IsLate format.signed (count_with cells (walk (steps_of axes.now) base))) }
     ensures many { IfOk result
         (λ all. length all ≡ count_with cells (walk (steps_of axes.now) base)) }
-    ensures kinds { StaysKind reading.signed cells result }
+    ensures kinds { StaysKind format.signed cells result }
     ensures told { WhereTold (F.holds files.old) name.now
-        (λ bytes. ReadsPlaces bytes reading window.old window.new
+        (λ bytes. ReadsOffsets bytes format window.old window.new
         (walk (steps_of axes.now) base) cells result) }
 {
     match axes {
         [] => unreachable!(),
-        [a] => read_row(files, name, window, reading, *a, base, cells),
+        [a] => read_row(files, name, window, format, *a, base, cells),
         [a, rest @ ..] => {
-            let apart = is_scattered(*a, rest, reading.size);
+            let apart = is_scattered(*a, rest, format.size);
             let mut all = cells;
             'cells: for i in 0..a.count {
-                let here = place_along(*a, rest, base, i, reading);
-                let part = block(reading, apart, rest, here);
+                let here = offset_along(*a, rest, base, i, format);
+                let part = block(format, apart, rest, here);
                 match read_cells(files, name, window, part, rest, here, all) {
                     Ok(more) => all = more,
                     Err(fault) => return Err(fault),

@@ -1,10 +1,10 @@
 //! The faults of a hyperslab that the header tells.
 
 ghost use Rattle.std.specs.Prelude.{◌≡◌, ◌+◌, ◌<◌, ◌≤◌, min, length};
-ghost use Rattle.aql_value.specs.Limits.{saturated};
+ghost use Rattle.aql_value.specs.Limits.{saturate};
 ghost use Rattle.cdf_header.specs.Places.{variable_at, shape};
 ghost use Rattle.cdf_slab.specs.Slab.{first_zero, first_outside, passes, wrong_variable, is_floating};
-ghost use Rattle.cdf_slab.specs.Walk.{steps_of, walk, last_place, first_past, capped, HaveRoom};
+ghost use Rattle.cdf_slab.specs.Walk.{steps_of, walk, last_offset, first_past, saturate_all, HaveRoom};
 
 use crate::axes::Axis;
 use cdf_header::{CdfFault, Header};
@@ -84,7 +84,7 @@ pub(crate) fn outside_dimension(
 /// Where the last number does not, none does.
 pub(crate) fn cut_from(end: u64, size: u64, axes: &[Axis], base: u128) -> Option<u128>
     requires size { size ≤ 8 }
-    ensures { result ≡ first_past size end (capped (walk (steps_of axes.now) base)) }
+    ensures { result ≡ first_past size end (saturate_all (walk (steps_of axes.now) base)) }
 {
     let last = last_from(axes, base);
     let to = last.saturating_add(u128::from(size));
@@ -97,7 +97,7 @@ pub(crate) fn cut_from(end: u64, size: u64, axes: &[Axis], base: u128) -> Option
 /// The end of the last number, past which no other stands.
 pub(crate) fn last_end(end: u64, size: u64, axes: &[Axis], base: u128) -> u64
     requires { HaveRoom size end (walk (steps_of axes.now) base) }
-    ensures is { result ≡ min (last_place (steps_of axes.now) base + size) end }
+    ensures is { result ≡ min (last_offset (steps_of axes.now) base + size) end }
     ensures within { HaveRoom size result (walk (steps_of axes.now) base) }
 {
     let last = last_from(axes, base);
@@ -107,7 +107,7 @@ pub(crate) fn last_end(end: u64, size: u64, axes: &[Axis], base: u128) -> u64
 
 // The place of the last index of each dimension, or 2^128-1 where it is larger.
 fn last_from(axes: &[Axis], base: u128) -> u128
-    ensures { result ≡ saturated (last_place (steps_of axes.now) base) }
+    ensures { result ≡ saturate (last_offset (steps_of axes.now) base) }
 {
     match axes {
         [] => base,
@@ -124,7 +124,7 @@ fn last_from(axes: &[Axis], base: u128) -> u128
 // The same as `cut_from`, place after place.
 fn cut_in_order(end: u64, size: u64, axes: &[Axis], base: u128) -> Option<u128>
     requires size { size ≤ 8 }
-    ensures { result ≡ first_past size end (capped (walk (steps_of axes.now) base)) }
+    ensures { result ≡ first_past size end (saturate_all (walk (steps_of axes.now) base)) }
 {
     match axes {
         [] => {

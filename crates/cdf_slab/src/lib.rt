@@ -7,15 +7,15 @@
 //! faults is greater only where `Device` is answered.
 //!
 //! Read `specs/Numbers` and `specs/Slab`; then `slab`, `request`, `faults`, `axes`, `cells`,
-//! `reading`, `loading`, `window`, `runs`, `numbers`.
+//! `format`, `loading`, `window`, `runs`, `numbers`.
 #![tactic(auto)]
 
 mod axes;
 mod cells;
 mod faults;
+mod format;
 mod loading;
 mod numbers;
-mod reading;
 mod request;
 mod runs;
 mod slab;

@@ -8,7 +8,7 @@ ghost use Rattle.cdf_slab.specs.Run.{HoldsRun};
 ghost use Rattle.cdf_slab.specs.Window.{HasBytes, IsRead, IsLoaded, StaysPiece, IsOfPiece};
 ghost use Rattle.nrca_array.specs.Runs.{IsWidth};
 
-use crate::reading::CellFormat;
+use crate::format::CellFormat;
 use crate::window::Window;
 use aql_outside::Files;
 use cdf_header::CdfFault;
@@ -103,15 +103,15 @@ fn hold<F: Files>(
 
 // How far a piece from an offset on may reach: where the next number is far away, to the end of the
 // first.
-fn reach(reading: CellFormat, place: u64, step: u64, most: u64) -> u64
-    requires { place + reading.size ≤ reading.end }
-    ensures some { place + reading.size ≤ result }
-    ensures within { result ≤ reading.end }
+fn reach(format: CellFormat, place: u64, step: u64, most: u64) -> u64
+    requires { place + format.size ≤ format.end }
+    ensures some { place + format.size ≤ result }
+    ensures within { result ≤ format.end }
 {
     if most > 1 && step > REACH {
-        place + reading.size
+        place + format.size
     } else {
-        reading.end
+        format.end
     }
 }
 
@@ -121,26 +121,26 @@ pub(crate) fn run_in<F: Files>(
     files: &mut F,
     name: &str,
     window: &mut Window,
-    reading: CellFormat,
+    format: CellFormat,
     place: u64,
     step: u64,
     most: u64,
 ) -> Result<u64, CdfFault>
-    requires size { IsWidth reading.size }
-    requires within { place + reading.size ≤ reading.end }
+    requires size { IsWidth format.size }
+    requires within { place + format.size ≤ format.end }
     requires some { 1 ≤ most }
     ensures frame { Leaves F.holds F.faults F.quiet (IsDevice result) files.old files.new }
     ensures late { IfErr result IsOfPiece }
     ensures some { IfOk result (λ n. 1 ≤ n) }
     ensures most { IfOk result (λ n. n ≤ most) }
     ensures near { IfOk result (λ n. 2 ≤ n → step < 2 ^ 64 - 1) }
-    ensures run { IfOk result (HoldsRun window.new place reading.size step) }
+    ensures run { IfOk result (HoldsRun window.new place format.size step) }
     ensures told { WhereTold (F.holds files.old) name.now
-        (λ bytes. StaysPiece bytes reading.end window.old window.new result) }
+        (λ bytes. StaysPiece bytes format.end window.old window.new result) }
 {
-    let end = reach(reading, place, step, most);
-    match hold(files, name, window, end, place, reading.size) {
-        Ok(()) => Ok(window.many(place, reading.size, step, most)),
+    let end = reach(format, place, step, most);
+    match hold(files, name, window, end, place, format.size) {
+        Ok(()) => Ok(window.many(place, format.size, step, most)),
         Err(fault) => Err(fault),
     }
 }

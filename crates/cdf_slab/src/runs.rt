@@ -6,8 +6,8 @@ ghost use Rattle.cdf_slab.specs.Going.{AppendsCells};
 ghost use Rattle.cdf_slab.specs.Numbers.{number_of};
 ghost use Rattle.nrca_array.specs.Runs.{IsWidth, IsWhole, run_numbers};
 
+use crate::format::CellFormat;
 use crate::numbers::{lowest_below, number};
-use crate::reading::CellFormat;
 use cdf_header::CdfFault;
 use nrca_array::{Builder, Run, RunError};
 use std::alloc::Global;
@@ -15,16 +15,16 @@ use std::alloc::Global;
 /// One cell more, of a number as its bytes spell it.
 pub(crate) fn push_number(
     alloc: Global,
-    reading: CellFormat,
+    format: CellFormat,
     x: u64,
     cells: Builder,
 ) -> Result<Builder, CdfFault>
-    ensures goes { AppendsCells reading.signed (number_of reading.kind x ∷ []) cells result }
+    ensures goes { AppendsCells format.signed (number_of format.kind x ∷ []) cells result }
     ensures many { IfOk result (λ all. length all ≡ length cells + 1) }
     ensures own { IsDevice result → ⊥ }
 {
-    let (below, far) = number(reading.kind, x);
-    if reading.signed {
+    let (below, far) = number(format.kind, x);
+    if format.signed {
         return Ok(cells.push_pair(alloc, below, u128::from(far))?);
     }
     if below {
@@ -38,41 +38,41 @@ pub(crate) fn push_number(
 /// The cells of a run of numbers more.
 pub(crate) fn push_run(
     alloc: Global,
-    reading: CellFormat,
+    format: CellFormat,
     run: Run,
     cells: Builder,
 ) -> Result<Builder, CdfFault>
     requires size { IsWidth run.size }
     requires whole { IsWhole run }
-    ensures goes { AppendsCells reading.signed
-        (map (number_of reading.kind) (run_numbers run.entry)) cells result }
+    ensures goes { AppendsCells format.signed
+        (map (number_of format.kind) (run_numbers run.entry)) cells result }
     ensures many { IfOk result (λ all. length all ≡ length cells + run.entry.count) }
     ensures own { IsDevice result → ⊥ }
 {
-    if reading.signed {
-        push_each(alloc, reading, run, cells)
+    if format.signed {
+        push_each(alloc, format, run, cells)
     } else {
-        push_naturals(alloc, reading.kind, run, cells)
+        push_naturals(alloc, format.kind, run, cells)
     }
 }
 
 // A cell more for each number.
 fn push_each(
     alloc: Global,
-    reading: CellFormat,
+    format: CellFormat,
     run: Run,
     cells: Builder,
 ) -> Result<Builder, CdfFault>
     requires size { IsWidth run.size }
     requires whole { IsWhole run }
-    ensures goes { AppendsCells reading.signed
-        (map (number_of reading.kind) (run_numbers run.entry)) cells result }
+    ensures goes { AppendsCells format.signed
+        (map (number_of format.kind) (run_numbers run.entry)) cells result }
     ensures many { IfOk result (λ all. length all ≡ length cells + run.entry.count) }
     ensures own { IsDevice result → ⊥ }
 {
     let mut all = cells;
     'numbers: for k in 0..run.count {
-        match push_number(alloc, reading, run.get(k), all) {
+        match push_number(alloc, format, run.get(k), all) {
             Ok(more) => all = more,
             Err(fault) => return Err(fault),
         }

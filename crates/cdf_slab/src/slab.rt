@@ -15,7 +15,7 @@ ghost use Rattle.cdf_slab.specs.Slab.{most_cells, index_fault, early_fault, firs
 use crate::axes::axes_of;
 use crate::cells::read_cells;
 use crate::faults::{cut_from, last_end, outside_dimension, variable_fault, zero_stride};
-use crate::reading::CellFormat;
+use crate::format::CellFormat;
 use crate::request::Request;
 use crate::window::Window;
 use aql_outside::Files;
@@ -150,7 +150,7 @@ fn read_some<F: Files>(
     if let Some(at) = cut_from(end, size, &axes, base) {
         return Err(CdfFault::Cut { at });
     }
-    let reading = CellFormat {
+    let format = CellFormat {
         kind: header.kind(v),
         size,
         signed: asked.signed,
@@ -158,7 +158,7 @@ fn read_some<F: Files>(
     };
     let mut window = Window::new(alloc);
     let none = Builder::new(alloc);
-    match read_cells(files, name, &mut window, reading, &axes, base, none) {
+    match read_cells(files, name, &mut window, format, &axes, base, none) {
         Ok(cells) => Ok(array_of(alloc, cells, asked.count)?),
         Err(fault) => Err(fault),
     }

@@ -19,7 +19,7 @@ pub(crate) struct Window {
 impl Window {
     ghost use Rattle.std.specs.Prelude.{List, ℕ, drop};
     ghost use Rattle.cdf_slab.specs.Run.{HoldsRun};
-    ghost use Rattle.cdf_slab.specs.Window.{held, IsPiece, HasBytes};
+    ghost use Rattle.cdf_slab.specs.Window.{window_bytes, IsPiece, HasBytes};
 
     /// No bytes.
     pub fn new(alloc: Global) -> Window
@@ -51,7 +51,7 @@ impl Window {
     pub fn bytes_from(&self, place: u64) -> &[u8]
         requires behind { self.now.at ≤ place }
         requires within { place ≤ self.now.at + self.now.count }
-        ensures { result.now ≡ drop (place - self.now.at) (held self.now) }
+        ensures { result.now ≡ drop (place - self.now.at) (window_bytes self.now) }
     {
         &self.memory[(place - self.at) as usize..self.count]
     }

@@ -11,8 +11,8 @@ use Rattle.aql_value.specs.Laws.Operations.{each-naturals}
 use Rattle.aql_value.specs.Partial.{◌>>=◌, each, or_else}
 use Rattle.aql_value.specs.Laws.Partial.{then-none, each-append_none}
 use Rattle.nrca_array.specs.Groups.{numbers_set}
-use Rattle.nrca_array.specs.Places.{natural_of}
-use Rattle.nrca_array.specs.Packing.{width_for, spelled, truth_byte, naturals_packing, truths_packing, pairs_packing, packing, as_pair, parts_pair, pair_datum}
+use Rattle.nrca_array.specs.CellNumbers.{natural_of}
+use Rattle.nrca_array.specs.Packing.{width_for, spell_numbers, truth_byte, naturals_packing, truths_packing, pairs_packing, packing, as_pair, parts_pair, pair_datum}
 
 each-truths : (bs : List Bool) → each as_truth (map truth bs) ≡ Some bs
 each-truths [] = refl
@@ -124,7 +124,7 @@ pair_is (array ds n) p e = cc
 pair_is (tuple vs) p e = ap tuple (sym (data_of-list_of vs) ∙ ap data_of (parts-pair (list_of vs) p e))
 
 -- what is lent of packed cells
-pub naturals-lent : (ns bytes : List ℕ) (w : ℕ) → 1 ≤ length ns → w ≡ 8 * width_for ns → bytes ≡ spelled (width_for ns) ns → Some (w, bytes) ≡ packing (map natural ns)
+pub naturals-lent : (ns bytes : List ℕ) (w : ℕ) → 1 ≤ length ns → w ≡ 8 * width_for ns → bytes ≡ spell_numbers (width_for ns) ns → Some (w, bytes) ≡ packing (map natural ns)
 naturals-lent ns bytes w h e f = (λ i. Some (e i, f i)) ∙ sym (naturals-pack ns h)
 
 pub truths-lent : (bs : List Bool) (bytes : List ℕ) → 1 ≤ length bs → bytes ≡ map truth_byte bs → Some (8, bytes) ≡ packing (map truth bs)

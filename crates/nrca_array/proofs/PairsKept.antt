@@ -6,7 +6,7 @@ use Rattle.std.proofs.Math.Seq.{drop-append_seam}
 use Rattle.std.proofs.lemmas.List.{length-map, get_or-drop, map-append}
 use Rattle.std.proofs.lemmas.Option.{slice_get-map, slice_get-get_or}
 use Rattle.byteorder.specs.Endian.{little_number}
-use Rattle.nrca_array.specs.Packing.{greatest, width_for, spelled, truth_byte, pairs_packing, pair_datum}
+use Rattle.nrca_array.specs.Packing.{greatest, width_for, spell_numbers, truth_byte, pairs_packing, pair_datum}
 use Rattle.nrca_array.specs.Kept.{numbers_at, pairs_at, paired_up, byte_truth, ArePairs}
 use Rattle.nrca_array.proofs.Spelling.{length-numbers_at, length-spelled, numbers_at-spelled, numbers_at-get, width_fits}
 
@@ -43,7 +43,7 @@ bytes-of (b ∷ bs) [] e = absurd (omega (arith, e))
 bytes-of (b ∷ bs) (n ∷ ns) e = ap (λ l. truth_byte b ∷ l) (bytes-of bs ns (omega (arith, e)))
 
 -- pairs that are put together
-module _ (w n : ℕ) (bytes tail ns : List ℕ) (bs : List Bool) (least : w ≡ width_for ns) (small : greatest ns < 2 ^ 128) (many : length ns ≡ n) (t : tail ≡ map truth_byte bs) (same : length bs ≡ n) (e : bytes ≡ spelled w ns ++ tail) where
+module _ (w n : ℕ) (bytes tail ns : List ℕ) (bs : List Bool) (least : w ≡ width_for ns) (small : greatest ns < 2 ^ 128) (many : length ns ≡ n) (t : tail ≡ map truth_byte bs) (same : length bs ≡ n) (e : bytes ≡ spell_numbers w ns ++ tail) where
   numbers : numbers_at w n bytes ≡ ns
   numbers =
       (λ i. numbers_at w (sym many i) (e i))
@@ -52,8 +52,8 @@ module _ (w n : ℕ) (bytes tail ns : List ℕ) (bs : List Bool) (least : w ≡ 
   behind : drop (n * w) bytes ≡ tail
   behind =
       (λ i. drop (n * w) (e i))
-      ∙ ap (λ k. drop k (spelled w ns ++ tail)) (ap (λ k. k * w) (sym many) ∙ sym (length-spelled w ns))
-      ∙ drop-append_seam (spelled w ns) tail
+      ∙ ap (λ k. drop k (spell_numbers w ns ++ tail)) (ap (λ k. k * w) (sym many) ∙ sym (length-spelled w ns))
+      ∙ drop-append_seam (spell_numbers w ns) tail
 
   truths : map byte_truth (drop (n * w) bytes) ≡ bs
   truths = ap (map byte_truth) (behind ∙ t) ∙ truths-read bs
@@ -67,7 +67,7 @@ module _ (w n : ℕ) (bytes tail ns : List ℕ) (bs : List Bool) (least : w ≡ 
     small = subst (λ l. greatest l < 2 ^ 128) (sym numbers) small;
     truths = ap (map truth_byte) truths ∙ sym t ∙ sym behind;
     many = ap length (behind ∙ t) ∙ length-map bs truth_byte ∙ same;
-    spells = e ∙ (λ i. spelled w (sym numbers i) ++ sym behind i);
+    spells = e ∙ (λ i. spell_numbers w (sym numbers i) ++ sym behind i);
   }
 
 -- pairs that are kept
@@ -88,7 +88,7 @@ module _ (w n : ℕ) (bytes : List ℕ) (s : ArePairs w n bytes) where
 
   pub pairs-fill : n * w + n ≡ length bytes
   pairs-fill =
-      omega (arith, ap length s.spells, length-append (spelled w (numbers_at w n bytes)) (drop (n * w) bytes), length-spelled w (numbers_at w n bytes), ap (λ k. k * w) (length-numbers_at w n bytes), s.many)
+      omega (arith, ap length s.spells, length-append (spell_numbers w (numbers_at w n bytes)) (drop (n * w) bytes), length-spelled w (numbers_at w n bytes), ap (λ k. k * w) (length-numbers_at w n bytes), s.many)
 
   pub pairs-width : w ≡ width_for (map (λ p. p.1) (pairs_at w n bytes))
   unfolding own tail
@@ -98,8 +98,8 @@ module _ (w n : ℕ) (bytes : List ℕ) (s : ArePairs w n bytes) where
   unfolding own tail
   pairs-bytes =
       s.spells
-      ∙ (let back = sym (numbers-of (map byte_truth (drop (n * w) bytes)) (numbers_at w n bytes) same) in λ i. spelled (pairs-width i) (back i) ++ drop (n * w) bytes)
-      ∙ ap (λ l. spelled (width_for (map (λ p. p.1) (pairs_at w n bytes))) (map (λ p. p.1) (pairs_at w n bytes)) ++ l) (sym s.truths ∙ sym (bytes-of (map byte_truth (drop (n * w) bytes)) (numbers_at w n bytes) same))
+      ∙ (let back = sym (numbers-of (map byte_truth (drop (n * w) bytes)) (numbers_at w n bytes) same) in λ i. spell_numbers (pairs-width i) (back i) ++ drop (n * w) bytes)
+      ∙ ap (λ l. spell_numbers (width_for (map (λ p. p.1) (pairs_at w n bytes))) (map (λ p. p.1) (pairs_at w n bytes)) ++ l) (sym s.truths ∙ sym (bytes-of (map byte_truth (drop (n * w) bytes)) (numbers_at w n bytes) same))
 
   pub pairs-get : (i x : ℕ) → i < n → x ≡ get_or bytes (n * w + i) x → slice_get (pairs_at w n bytes) i ≡ Some (nat_eq x 1, little_number w (drop (i * w) bytes))
   pairs-get i x h e =

@@ -3,7 +3,7 @@ use Rattle.std.proofs.Common.{◌≡◌, ℕ, ◌+◌, ◌*◌, ◌<◌, ◌≤�
 use Rattle.std.specs.Prelude.{slice_index}
 use Rattle.std.specs.Int.Bits.{bit_or}
 use Rattle.std.proofs.lemmas.List.{take_all, take_rest}
-use Rattle.std.proofs.lemmas.List.FromFn.{get_or-map-range_with_len, length-map-range_with_len}
+use Rattle.std.proofs.lemmas.List.FromFn.{get_or-map-range_with_len}
 use Rattle.std.proofs.lemmas.Nat.{or_lt, le_or_l, le_or_r}
 use Rattle.std.proofs.lemmas.Bool.Decides.{nat_tests}
 use Rattle.byteorder.specs.Endian.{big_number}
@@ -14,9 +14,6 @@ use Rattle.nrca_array.proofs.Writing.{greatest_more}
 -- a number of a run by its place
 pub run_get : (size step n : ℕ) (bytes : List ℕ) (k : ℕ) → k < n → slice_index (run size step n bytes) k ≡ big_number size (drop (k * step) bytes)
 run_get size step n bytes k lt = get_or-map-range_with_len (λ j. big_number size (drop (j * step) bytes)) 0 n k k 0 lt (omega arith)
-
-pub length-run : (size step n : ℕ) (bytes : List ℕ) → length (run size step n bytes) ≡ n
-length-run size step n bytes = length-map-range_with_len (λ j. big_number size (drop (j * step) bytes)) 0 n
 
 -- the bits of one number more
 pub bits_more : (ns : List ℕ) (k x bits : ℕ) → k < length ns → x ≡ slice_index ns k → HaveBits (take k ns) bits → HaveBits (take (k + 1) ns) (bit_or bits x)

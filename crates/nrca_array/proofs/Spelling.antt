@@ -8,7 +8,7 @@ use Rattle.std.proofs.lemmas.List.Concat.{flat_map-append}
 use Rattle.std.proofs.lemmas.Bool.Decides.{nat_tests}
 use Rattle.byteorder.specs.Endian.{little_number, little_bytes}
 use Rattle.byteorder.specs.Numbers.{little_number-reads_back, length-bytes_low_first}
-use Rattle.nrca_array.specs.Packing.{bytes_for, greatest, width_for, spelled}
+use Rattle.nrca_array.specs.Packing.{bytes_for, greatest, width_for, spell_numbers}
 use Rattle.nrca_array.specs.Kept.{width_bytes, numbers_at, IsSpelled}
 use Rattle.nrca_array.specs.declared.width.Width.{Width}
 use Rattle.nrca_array.specs.declared.width.Width.TheVariants.{One, Two, Four, Eight, Sixteen}
@@ -17,23 +17,23 @@ pub length-numbers_at : (w n : ℕ) (bytes : List ℕ) → length (numbers_at w 
 length-numbers_at w zero bytes = refl
 length-numbers_at w (suc n) bytes = ap suc (length-numbers_at w n (drop w bytes))
 
-pub length-spelled : (w : ℕ) (ns : List ℕ) → length (spelled w ns) ≡ length ns * w
+pub length-spelled : (w : ℕ) (ns : List ℕ) → length (spell_numbers w ns) ≡ length ns * w
 length-spelled w [] = sym (zero-mul w)
-length-spelled w (n ∷ ns) = omega (arith, length-append (little_bytes w n) (spelled w ns), length-bytes_low_first 0 w n, length-spelled w ns, add-mul 1 (length ns) w, one-mul w)
+length-spelled w (n ∷ ns) = omega (arith, length-append (little_bytes w n) (spell_numbers w ns), length-bytes_low_first 0 w n, length-spelled w ns, add-mul 1 (length ns) w, one-mul w)
 
-pub spelled-push : (w : ℕ) (ns : List ℕ) (x : ℕ) → spelled w (ns ++ x ∷ []) ≡ spelled w ns ++ little_bytes w x
-spelled-push w ns x = flat_map-append (little_bytes w) ns (x ∷ []) ∙ ap (λ l. spelled w ns ++ l) (append-nil (little_bytes w x))
+pub spelled-push : (w : ℕ) (ns : List ℕ) (x : ℕ) → spell_numbers w (ns ++ x ∷ []) ≡ spell_numbers w ns ++ little_bytes w x
+spelled-push w ns x = flat_map-append (little_bytes w) ns (x ∷ []) ∙ ap (λ l. spell_numbers w ns ++ l) (append-nil (little_bytes w x))
 
 drop-little_bytes : (w n : ℕ) (rest : List ℕ) → drop w (little_bytes w n ++ rest) ≡ rest
 drop-little_bytes w n rest = ap (λ k. drop k (little_bytes w n ++ rest)) (sym (length-bytes_low_first 0 w n)) ∙ drop-append_seam (little_bytes w n) rest
 
 -- what is spelled is read back
-pub numbers_at-spelled : (w : ℕ) (ns rest : List ℕ) → greatest ns < 256 ^ w → numbers_at w (length ns) (spelled w ns ++ rest) ≡ ns
+pub numbers_at-spelled : (w : ℕ) (ns rest : List ℕ) → greatest ns < 256 ^ w → numbers_at w (length ns) (spell_numbers w ns ++ rest) ≡ ns
 numbers_at-spelled w [] rest h = refl
 numbers_at-spelled w (n ∷ ns) rest h =
-    ap (λ l. little_number w l ∷ numbers_at w (length ns) (drop w l)) (append_assoc (little_bytes w n) (spelled w ns) rest)
-    ∙ ap (λ k. k ∷ numbers_at w (length ns) (drop w (little_bytes w n ++ (spelled w ns ++ rest)))) (little_number-reads_back w n (spelled w ns ++ rest) (omega (arith, h)))
-    ∙ ap (λ l. n ∷ numbers_at w (length ns) l) (drop-little_bytes w n (spelled w ns ++ rest))
+    ap (λ l. little_number w l ∷ numbers_at w (length ns) (drop w l)) (append_assoc (little_bytes w n) (spell_numbers w ns) rest)
+    ∙ ap (λ k. k ∷ numbers_at w (length ns) (drop w (little_bytes w n ++ (spell_numbers w ns ++ rest)))) (little_number-reads_back w n (spell_numbers w ns ++ rest) (omega (arith, h)))
+    ∙ ap (λ l. n ∷ numbers_at w (length ns) l) (drop-little_bytes w n (spell_numbers w ns ++ rest))
     ∙ ap (λ l. n ∷ l) (numbers_at-spelled w ns rest (omega (arith, h)))
 
 -- the number at a place
@@ -75,12 +75,12 @@ pub width_fits : (ns : List ℕ) → greatest ns < 2 ^ 128 → greatest ns < 256
 width_fits ns h = bytes_for-fits (greatest ns) h
 
 -- how the bytes of a list are read
-pub spelled-reads : (w n : ℕ) (bytes ns : List ℕ) → w ≡ width_for ns → greatest ns < 2 ^ 128 → bytes ≡ spelled w ns → length ns ≡ n → numbers_at w n bytes ≡ ns
+pub spelled-reads : (w n : ℕ) (bytes ns : List ℕ) → w ≡ width_for ns → greatest ns < 2 ^ 128 → bytes ≡ spell_numbers w ns → length ns ≡ n → numbers_at w n bytes ≡ ns
 spelled-reads w n bytes ns l s e k =
-    (λ i. numbers_at w (sym k i) (e i)) ∙ ap (λ b. numbers_at w (length ns) b) (sym (append-nil (spelled w ns)))
+    (λ i. numbers_at w (sym k i) (e i)) ∙ ap (λ b. numbers_at w (length ns) b) (sym (append-nil (spell_numbers w ns)))
     ∙ numbers_at-spelled w ns [] (subst (λ v. greatest ns < 256 ^ v) (sym l) (width_fits ns s))
 
-pub spelled-is : (w n : ℕ) (bytes ns : List ℕ) → w ≡ width_for ns → greatest ns < 2 ^ 128 → bytes ≡ spelled w ns → length ns ≡ n → IsSpelled w bytes (numbers_at w n bytes)
+pub spelled-is : (w n : ℕ) (bytes ns : List ℕ) → w ≡ width_for ns → greatest ns < 2 ^ 128 → bytes ≡ spell_numbers w ns → length ns ≡ n → IsSpelled w bytes (numbers_at w n bytes)
 spelled-is w n bytes ns l s e k =
     let P : List ℕ → Type 0 = λ l. IsSpelled w bytes l in
     subst P (sym (spelled-reads w n bytes ns l s e k)) (record { least = l; small = s; spells = e })
@@ -116,7 +116,7 @@ width_some Sixteen = omega arith
 pub count_within : (w : Width) (n m : ℕ) → n * width_bytes w ≤ m → n ≤ m
 count_within w n m h = omega (arith, le-mul_of_pos_right n (width_some w), h)
 
-pub spelled-append : (w : ℕ) (ns ms : List ℕ) → spelled w (ns ++ ms) ≡ spelled w ns ++ spelled w ms
+pub spelled-append : (w : ℕ) (ns ms : List ℕ) → spell_numbers w (ns ++ ms) ≡ spell_numbers w ns ++ spell_numbers w ms
 spelled-append w ns ms = flat_map-append (little_bytes w) ns ms
 
 -- two lists of one width, one after the other
@@ -127,7 +127,7 @@ module _ (w n m : ℕ) (bytes more all ns ms : List ℕ) (s : IsSpelled w bytes 
   small : greatest (ns ++ ms) < 2 ^ 128
   small = omega (arith, greatest-append ns ms, s.small, t.small)
 
-  spells : all ≡ spelled w (ns ++ ms)
+  spells : all ≡ spell_numbers w (ns ++ ms)
   spells = e ∙ (λ i. s.spells i ++ t.spells i) ∙ sym (spelled-append w ns ms)
 
   many : length (ns ++ ms) ≡ n + m

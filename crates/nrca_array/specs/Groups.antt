@@ -12,18 +12,18 @@ abbrev pub numbers_set : List ℕ → Datum
 numbers_set ns = set (data_of (map natural ns))
 
 -- where the list of that number begins; it ends where the next begins
-abbrev pub start_of : List ℕ → ℕ → ℕ
-start_of starts i = get_or starts i 0
+abbrev pub group_begin : List ℕ → ℕ → ℕ
+group_begin starts i = get_or starts i 0
 
 -- the first n lists that stand one after the other in the members
 abbrev pub groups_at : (n : ℕ) → (starts members : List ℕ) → List (List ℕ)
-groups_at n starts members = map (λ i. slice_range members (start_of starts i) (start_of starts (suc i))) (below n)
+groups_at n starts members = map (λ i. slice_range members (group_begin starts i) (group_begin starts (suc i))) (below n)
 
 -- n lists that each ascend, from the place under its number up to the next place
 pub record AreGroups (n : ℕ) (starts members : List ℕ) : Type 0 where
   pub many : length starts ≡ n + 1
-  pub rise : (i : ℕ) → i < n → start_of starts i ≤ start_of starts (suc i)
-  pub within : (i : ℕ) → i < n → start_of starts (suc i) ≤ length members
+  pub rise : (i : ℕ) → i < n → group_begin starts i ≤ group_begin starts (suc i)
+  pub within : (i : ℕ) → i < n → group_begin starts (suc i) ≤ length members
   pub ascend : Every (IsStrictlySortedBy nat_cmp) (groups_at n starts members)
 
 -- the second numbers of the pairs with that first number

@@ -3,7 +3,7 @@ use Rattle.std.specs.Prelude.{◌≡◌, ℕ, zero, suc, ◌*◌, ◌^◌, ◌<�
 use Rattle.std.specs.declared.vec.Vec.{Vec}
 use Rattle.std.proofs.Common.{Global}
 use Rattle.byteorder.specs.Endian.{little_number, little_bytes}
-use Rattle.nrca_array.specs.Packing.{greatest, width_for, spelled, truth_byte}
+use Rattle.nrca_array.specs.Packing.{greatest, width_for, spell_numbers, truth_byte}
 use Rattle.nrca_array.specs.declared.width.Width.{Width}
 use Rattle.nrca_array.specs.declared.width.Width.TheVariants.{One, Two, Four, Eight, Sixteen}
 
@@ -30,7 +30,7 @@ little_in w x = little_bytes (width_bytes w) x
 
 -- the number that is spelled in so many bytes
 abbrev pub spelled_in : Width → List ℕ → List ℕ
-spelled_in w ns = spelled (width_bytes w) ns
+spelled_in w ns = spell_numbers (width_bytes w) ns
 
 -- the first n numbers of the bytes, written in another width
 abbrev pub Respells : Width → ℕ → Vec ℕ Global → Width × Vec ℕ Global → Type 0
@@ -54,7 +54,7 @@ paired_up (b ∷ bs) (n ∷ ns) = (b, n) ∷ paired_up bs ns
 pub record IsSpelled (w : ℕ) (bytes ns : List ℕ) : Type 0 where
   pub least : w ≡ width_for ns
   pub small : greatest ns < 2 ^ 128
-  pub spells : bytes ≡ spelled w ns
+  pub spells : bytes ≡ spell_numbers w ns
 
 -- the first n numbers of these bytes, in the least of the widths, and nothing else
 abbrev pub AreNumbers : Width → ℕ → List ℕ → Type 0
@@ -74,7 +74,7 @@ pub record ArePairs (w n : ℕ) (bytes : List ℕ) : Type 0 where
   pub small : greatest (numbers_at w n bytes) < 2 ^ 128
   pub truths : AreTruths (drop (n * w) bytes)
   pub many : length (drop (n * w) bytes) ≡ n
-  pub spells : bytes ≡ spelled w (numbers_at w n bytes) ++ drop (n * w) bytes
+  pub spells : bytes ≡ spell_numbers w (numbers_at w n bytes) ++ drop (n * w) bytes
 
 -- pairs whose numbers each fit 128 bits
 abbrev pub AreSmallPairs : List (Bool × ℕ) → Type 0

@@ -2,7 +2,7 @@ pub mod Packing
 pub mod Kept
 pub mod Stored
 pub mod Held
-pub mod Places
+pub mod CellNumbers
 pub mod Runs
 pub mod Groups
 pub mod Laws

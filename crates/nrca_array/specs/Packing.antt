@@ -21,8 +21,8 @@ abbrev pub width_for : List ℕ → ℕ
 width_for ns = bytes_for (greatest ns)
 
 -- each number in w bytes, its lowest byte first
-abbrev pub spelled : ℕ → List ℕ → List ℕ
-spelled w ns = flat_map (little_bytes w) ns
+abbrev pub spell_numbers : ℕ → List ℕ → List ℕ
+spell_numbers w ns = flat_map (little_bytes w) ns
 
 -- a truth value as a byte
 abbrev pub truth_byte : Bool → ℕ
@@ -45,7 +45,7 @@ as_pair v = as_tuple v >>= parts_pair
 
 -- naturals: the width in bits, and the numbers one after the other
 abbrev pub naturals_packing : List ℕ → ℕ × List ℕ
-naturals_packing ns = (8 * width_for ns, spelled (width_for ns) ns)
+naturals_packing ns = (8 * width_for ns, spell_numbers (width_for ns) ns)
 
 -- truth values: a byte for each
 abbrev pub truths_packing : List Bool → ℕ × List ℕ
@@ -55,7 +55,7 @@ truths_packing bs = (8, map truth_byte bs)
 abbrev pub pairs_packing : List (Bool × ℕ) → ℕ × List ℕ
 pairs_packing ps =
     let ns = map (λ p. p.1) ps in
-    (8 * width_for ns, spelled (width_for ns) ns ++ map (λ p. truth_byte p.0) ps)
+    (8 * width_for ns, spell_numbers (width_for ns) ns ++ map (λ p. truth_byte p.0) ps)
 
 -- the width in bits and the bytes of cells that are packed: one cell or more, all of them naturals, or all truth values, or all pairs of a truth value and a natural
 unfoldable pub packing : List Datum → Option (ℕ × List ℕ)

@@ -14,11 +14,11 @@ abbrev pub pair_cells : List Bool → List ℕ → List Datum
 pair_cells bs ns = map pair_datum (paired_up bs ns)
 
 -- the cells of a builder
-abbrev pub stored : Store → List Datum
-stored (store.Plain items) = items
-stored (store.Naturals ns) = map natural ns
-stored (store.Truths bs) = map truth bs
-stored (store.Pairs ns bs) = pair_cells bs ns
+abbrev pub store_cells : Store → List Datum
+store_cells (store.Plain items) = items
+store_cells (store.Naturals ns) = map natural ns
+store_cells (store.Truths bs) = map truth bs
+store_cells (store.Pairs ns bs) = pair_cells bs ns
 
 -- cells that are packed where they can be
 abbrev pub IsStored : Store → Type 0

@@ -6,7 +6,7 @@ ghost use Rattle.aql_value.specs.Indices.{table, IsTable};
 ghost use Rattle.nrca_array.specs.Packing.{as_pair, pair_datum, packing};
 ghost use Rattle.nrca_array.specs.Kept.{paired_up};
 ghost use Rattle.nrca_array.specs.Runs.{IsWidth, IsWhole, AppendsRun, run_numbers};
-ghost use Rattle.nrca_array.specs.Stored.{stored, IsStored, kept_cells, IsKept, pair_cells};
+ghost use Rattle.nrca_array.specs.Stored.{store_cells, IsStored, kept_cells, IsKept, pair_cells};
 
 use crate::flat::{Flat, FlatCells};
 use crate::numbers::Numbers;
@@ -44,9 +44,9 @@ impl Model for Builder {
 
     ghost coded = { coded_data };
 
-    ghost use Rattle.nrca_array.specs.Stored.{stored, IsStored};
+    ghost use Rattle.nrca_array.specs.Stored.{store_cells, IsStored};
 
-    ghost view = { λ a. stored a.cells };
+    ghost view = { λ a. store_cells a.cells };
 
     ghost invariant = { λ a. IsStored a.cells };
 }
@@ -283,7 +283,7 @@ impl Builder {
 // Cells, and then naturals, taken one at a time.
 fn each_pushed(cells: Store, alloc: Global, numbers: &[u64]) -> Result<Builder, Memory>
     requires { IsStored cells }
-    ensures { IfOk result (λ all. all ≡ stored cells ++ map natural numbers.now) }
+    ensures { IfOk result (λ all. all ≡ store_cells cells ++ map natural numbers.now) }
 {
     let mut all = Builder { cells };
     for n in numbers {
@@ -320,10 +320,10 @@ fn run_pushed(
     run: Run,
     limit: Option<u64>,
 ) -> Result<Builder, RunError>
-    requires stored { IsStored cells }
+    requires store_cells { IsStored cells }
     requires size { IsWidth run.size }
     requires whole { IsWhole run }
-    ensures { AppendsRun limit (run_numbers run.entry) (stored cells) result }
+    ensures { AppendsRun limit (run_numbers run.entry) (store_cells cells) result }
 {
     match run.first_reached(limit) {
         None => Ok(each_of_run(cells, alloc, run)?),
@@ -333,10 +333,10 @@ fn run_pushed(
 
 // Cells, and then the numbers of a run, taken one at a time.
 fn each_of_run(cells: Store, alloc: Global, run: Run) -> Result<Builder, Memory>
-    requires stored { IsStored cells }
+    requires store_cells { IsStored cells }
     requires size { IsWidth run.size }
     requires whole { IsWhole run }
-    ensures { IfOk result (λ all. all ≡ stored cells ++ map natural (run_numbers run.entry)) }
+    ensures { IfOk result (λ all. all ≡ store_cells cells ++ map natural (run_numbers run.entry)) }
 {
     let mut all = Builder { cells };
     for k in 0..run.count {
@@ -389,7 +389,7 @@ fn pairs_appended(
 #[tactic(auto, using(crate::proofs::PairsKept::pair_lengths))]
 fn pack_cells(cells: Store) -> Result<FlatCells, Memory>
     requires { IsStored cells }
-    ensures cells { IfOk result (λ kept. kept_cells kept ≡ stored cells) }
+    ensures cells { IfOk result (λ kept. kept_cells kept ≡ store_cells cells) }
     ensures packed { IfOk result (λ kept. IsKept kept) }
 {
     match cells {
@@ -402,9 +402,9 @@ fn pack_cells(cells: Store) -> Result<FlatCells, Memory>
 
 // Cells and one more that is not packed with them.
 fn plain_with(cells: Store, alloc: Global, value: Value) -> Result<Builder, Memory>
-    requires stored { IsStored cells }
-    requires mixed { packing (stored cells ++ datum value ∷ []) ≡ None }
-    ensures { IfOk result (λ all. all ≡ stored cells ++ datum value ∷ []) }
+    requires store_cells { IsStored cells }
+    requires mixed { packing (store_cells cells ++ datum value ∷ []) ≡ None }
+    ensures { IfOk result (λ all. all ≡ store_cells cells ++ datum value ∷ []) }
 {
     let mut values = values_of(cells, alloc)?;
     values.items.push(value)?;
@@ -416,7 +416,7 @@ fn plain_with(cells: Store, alloc: Global, value: Value) -> Result<Builder, Memo
 // The cells as values.
 fn values_of(cells: Store, alloc: Global) -> Result<Items, Memory>
     requires { IsStored cells }
-    ensures { IfOk result (λ items. items ≡ stored cells) }
+    ensures { IfOk result (λ items. items ≡ store_cells cells) }
 {
     match cells {
         Store::Plain(items) => Ok(items),

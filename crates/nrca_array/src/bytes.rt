@@ -2,7 +2,7 @@
 
 ghost use Rattle.std.specs.Prelude.{◌≡◌, ◌+◌, ◌*◌, ◌^◌, ◌<◌, ◌≤◌, ◌++◌, length, drop, IfSome, OnOk, OnErr};
 ghost use Rattle.byteorder.specs.Endian.{little_number, big_number};
-ghost use Rattle.nrca_array.specs.Packing.{greatest, spelled};
+ghost use Rattle.nrca_array.specs.Packing.{greatest, spell_numbers};
 ghost use Rattle.nrca_array.specs.Kept.{width_bytes, little_in, spelled_in};
 ghost use Rattle.nrca_array.specs.Runs.{IsWidth};
 
@@ -96,7 +96,7 @@ pub(crate) fn end_of(from: usize, width: Width, count: usize) -> Option<usize>
 fn write_all(buffer: &mut [u8], width: Width, xs: &[u64])
     requires room { length buffer.old ≡ length xs.now * width_bytes width }
     requires fits { greatest xs.now < 256 ^ width_bytes width }
-    ensures { buffer.new ≡ spelled (width_bytes width) xs.now }
+    ensures { buffer.new ≡ spell_numbers (width_bytes width) xs.now }
 {
     match width {
         Width::One => write_in_one(buffer, xs),
@@ -111,7 +111,7 @@ fn write_all(buffer: &mut [u8], width: Width, xs: &[u64])
 fn write_in_one(buffer: &mut [u8], xs: &[u64])
     requires room { length buffer.old ≡ length xs.now }
     requires fits { greatest xs.now < 2 ^ 8 }
-    ensures { buffer.new ≡ spelled 1 xs.now }
+    ensures { buffer.new ≡ spell_numbers 1 xs.now }
 {
     for i in 0..xs.len() {
         buffer[i] = xs[i] as u8;
@@ -122,7 +122,7 @@ fn write_in_one(buffer: &mut [u8], xs: &[u64])
 fn write_in_two(buffer: &mut [u8], xs: &[u64])
     requires room { length buffer.old ≡ 2 * length xs.now }
     requires fits { greatest xs.now < 2 ^ 16 }
-    ensures { buffer.new ≡ spelled 2 xs.now }
+    ensures { buffer.new ≡ spell_numbers 2 xs.now }
 {
     for i in 0..xs.len() {
         LittleEndian::write_u16(&mut buffer[2 * i..], xs[i] as u16);
@@ -133,7 +133,7 @@ fn write_in_two(buffer: &mut [u8], xs: &[u64])
 fn write_in_four(buffer: &mut [u8], xs: &[u64])
     requires room { length buffer.old ≡ 4 * length xs.now }
     requires fits { greatest xs.now < 2 ^ 32 }
-    ensures { buffer.new ≡ spelled 4 xs.now }
+    ensures { buffer.new ≡ spell_numbers 4 xs.now }
 {
     for i in 0..xs.len() {
         LittleEndian::write_u32(&mut buffer[4 * i..], xs[i] as u32);
@@ -142,7 +142,7 @@ fn write_in_four(buffer: &mut [u8], xs: &[u64])
 
 fn write_in_eight(buffer: &mut [u8], xs: &[u64])
     requires room { length buffer.old ≡ 8 * length xs.now }
-    ensures { buffer.new ≡ spelled 8 xs.now }
+    ensures { buffer.new ≡ spell_numbers 8 xs.now }
 {
     for i in 0..xs.len() {
         LittleEndian::write_u64(&mut buffer[8 * i..], xs[i]);
@@ -151,7 +151,7 @@ fn write_in_eight(buffer: &mut [u8], xs: &[u64])
 
 fn write_in_sixteen(buffer: &mut [u8], xs: &[u64])
     requires room { length buffer.old ≡ 16 * length xs.now }
-    ensures { buffer.new ≡ spelled 16 xs.now }
+    ensures { buffer.new ≡ spell_numbers 16 xs.now }
 {
     for i in 0..xs.len() {
         LittleEndian::write_u128(&mut buffer[16 * i..], u128::from(xs[i]));

@@ -7,7 +7,7 @@ ghost use Rattle.aql_value.specs.Valid.{AreValues};
 ghost use Rattle.nrca_sets.specs.Pairs.{pair_cmp};
 ghost use Rattle.nrca_array.specs.Groups.{seconds_table};
 ghost use Rattle.nrca_array.specs.Packing.{packing};
-ghost use Rattle.nrca_array.specs.Places.{IsPlaceOf, natural_cell, natural_of};
+ghost use Rattle.nrca_array.specs.CellNumbers.{IsCellNumber, natural_cell, natural_of};
 ghost use Rattle.nrca_array.specs.Stored.{kept_cells, IsKept};
 
 use crate::builder::Builder;
@@ -16,7 +16,7 @@ use crate::numbers::Numbers;
 use crate::pairs::Pairs;
 use crate::truths::Truths;
 use crate::values::pair_value;
-use aql_value::{Cells, Dims, Index, Items, Memory, Value, all_valid, is_below, place};
+use aql_value::{Cells, Dims, Index, Items, Memory, Value, all_valid, is_below, offset_at};
 use std::alloc::Global;
 use std::marker::Model;
 
@@ -118,7 +118,7 @@ impl Flat {
     pub fn cell(&self, alloc: Global, at: &Index) -> Result<Option<Value>, Memory>
         ensures { IfOk result (λ v. option_map datum v ≡ cell self.now at.now.items) }
     {
-        match self.place_of(at.as_slice()) {
+        match self.cell_number(at.as_slice()) {
             Some(place) => Ok(Some(self.cells.get(alloc, place)?)),
             None => Ok(None),
         }
@@ -129,21 +129,21 @@ impl Flat {
     pub fn natural_at(&self, at: &[u128]) -> Option<u128>
         ensures { option_map natural result ≡ natural_cell self.now at.now }
     {
-        match self.place_of(at) {
+        match self.cell_number(at) {
             Some(place) => self.cells.natural_at(place),
             None => None,
         }
     }
 
     // The row-major number of an index: none where there is no such cell.
-    fn place_of(&self, at: &[u128]) -> Option<usize>
-        ensures { IsPlaceOf self.now at.now result }
+    fn cell_number(&self, at: &[u128]) -> Option<usize>
+        ensures { IsCellNumber self.now at.now result }
     {
         let _count = self.cells.len();
         let kept = &self.dims;
         let dims = kept.dims.as_slice();
         if is_below(at, dims) {
-            let place = place(at, dims);
+            let place = offset_at(at, dims);
             Some(place as usize)
         } else {
             None

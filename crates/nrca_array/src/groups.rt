@@ -1,16 +1,15 @@
-ghost use Rattle.std.specs.Prelude.{◌≡◌, ◌<◌, ◌≤◌, ◌^◌, length, map, IfOk, slice_get, slice_range, Some};
-ghost use Rattle.std.specs.List.{All};
+ghost use Rattle.std.specs.Prelude.{◌≡◌, ◌<◌, ◌≤◌, length, map, IfOk, slice_get, slice_range, Some};
 ghost use Rattle.std.specs.List.Sorted.{IsStrictlySortedBy};
 ghost use Rattle.std.specs.Ordering.{nat_cmp};
-ghost use Rattle.aql_value.specs.Datum.{data_of, natural};
+ghost use Rattle.aql_value.specs.Datum.{data_of};
 ghost use Rattle.aql_value.specs.Meaning.{datum};
 ghost use Rattle.aql_value.specs.Valid.{AreValues};
 ghost use Rattle.nrca_sets.specs.Pairs.{pair_cmp};
 ghost use Rattle.nrca_array.specs.Groups.{numbers_set, second_numbers, seconds_below};
 
-use aql_value::{Items, Memory, Value};
-use nrca_sets::ascending;
+use aql_value::{Memory, Value};
 use nrca_sets::runs::starts;
+use nrca_sets::{ascending, number_items, numbers_fit};
 use std::alloc::Global;
 use std::marker::Model;
 
@@ -128,21 +127,4 @@ fn numbers_value(alloc: Global, numbers: &[u64]) -> Result<Value, Memory>
 {
     let items = number_items(alloc, numbers)?;
     Ok(Value::Members(ascending(items)))
-}
-
-fn number_items(alloc: Global, numbers: &[u64]) -> Result<Items, Memory>
-    ensures { IfOk result (λ items. items ≡ map natural numbers.now) }
-{
-    let mut items = Vec::with_capacity(alloc, numbers.len())?;
-    for n in numbers {
-        items.push(Value::Nat(u128::from(*n)))?;
-    }
-    Ok(Items { items })
-}
-
-// What the type of the members says of them.
-fn numbers_fit(numbers: &[u64])
-    ensures { All (λ n. n < 2 ^ 64) numbers.now }
-{
-    let _len = numbers.len();
 }

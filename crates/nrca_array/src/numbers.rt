@@ -1,5 +1,5 @@
 ghost use Rattle.std.specs.Prelude.{◌≡◌, ◌+◌, ◌*◌, ◌^◌, ◌<◌, [], ◌∷◌, ◌++◌, max, length, slice_index, IfOk};
-ghost use Rattle.nrca_array.specs.Packing.{greatest, spelled, width_for};
+ghost use Rattle.nrca_array.specs.Packing.{greatest, spell_numbers, width_for};
 ghost use Rattle.nrca_array.specs.Kept.{width_bytes, numbers_at, IsWider, Respells, numbers_in, spelled_in};
 ghost use Rattle.nrca_array.specs.Runs.{IsWidth, IsWhole, HaveBits, run_numbers, RespellsWith};
 
@@ -143,7 +143,7 @@ impl Numbers {
     pub(crate) fn into_parts(self) -> (Width, usize, Vec<u8>)
         ensures width { width_bytes result.0 ≡ width_for self }
         ensures count { result.1 ≡ length self }
-        ensures bytes { result.2.items ≡ spelled (width_for self) self }
+        ensures bytes { result.2.items ≡ spell_numbers (width_for self) self }
         ensures small { greatest self < 2 ^ 128 }
     {
         (self.width, self.count, self.bytes)
@@ -152,7 +152,7 @@ impl Numbers {
     /// The width in bits, and the bytes.
     pub(crate) fn lend(&self) -> (u64, &[u8])
         ensures width { result.0 ≡ 8 * width_for self.now }
-        ensures bytes { result.1.now ≡ spelled (width_for self.now) self.now }
+        ensures bytes { result.1.now ≡ spell_numbers (width_for self.now) self.now }
     {
         (8 * self.width.bytes() as u64, &self.bytes)
     }

@@ -2,7 +2,7 @@
 
 ghost use Rattle.std.specs.Prelude.{◌≡◌, ◌+◌, ◌*◌, ◌≤◌, ◌++◌, length, drop, IfOk};
 ghost use Rattle.byteorder.specs.Endian.{big_number};
-ghost use Rattle.nrca_array.specs.Packing.{spelled};
+ghost use Rattle.nrca_array.specs.Packing.{spell_numbers};
 ghost use Rattle.nrca_array.specs.Kept.{width_bytes, little_in, spelled_in};
 ghost use Rattle.nrca_array.specs.Runs.{IsWidth, IsWhole, HasAllBytes, HaveBits, run, run_numbers};
 
@@ -33,7 +33,7 @@ fn write_run(buffer: &mut [u8], width: Width, run: Run) -> u64
     requires size { IsWidth run.size }
     requires whole { IsWhole run }
     requires enough { length buffer.old ≡ run.count * width_bytes width }
-    ensures bytes { buffer.new ≡ spelled (width_bytes width) (run_numbers run.entry) }
+    ensures bytes { buffer.new ≡ spell_numbers (width_bytes width) (run_numbers run.entry) }
     ensures bits { HaveBits (run_numbers run.entry) result }
 {
     match (run.size, run.step, width) {
@@ -53,7 +53,7 @@ fn write_run(buffer: &mut [u8], width: Width, run: Run) -> u64
 fn write_bytes(buffer: &mut [u8], bytes: &[u8], step: usize, count: usize) -> u64
     requires room { HasAllBytes bytes.now 1 step count }
     requires enough { length buffer.old ≡ count }
-    ensures bytes { buffer.new ≡ spelled 1 (run 1 step count bytes.now) }
+    ensures bytes { buffer.new ≡ spell_numbers 1 (run 1 step count bytes.now) }
     ensures bits { HaveBits (run 1 step count bytes.now) result }
 {
     let mut bits = 0u8;
@@ -69,7 +69,7 @@ fn write_bytes(buffer: &mut [u8], bytes: &[u8], step: usize, count: usize) -> u6
 fn write_shorts(buffer: &mut [u8], bytes: &[u8], step: usize, count: usize) -> u64
     requires room { HasAllBytes bytes.now 2 step count }
     requires enough { length buffer.old ≡ 2 * count }
-    ensures bytes { buffer.new ≡ spelled 2 (run 2 step count bytes.now) }
+    ensures bytes { buffer.new ≡ spell_numbers 2 (run 2 step count bytes.now) }
     ensures bits { HaveBits (run 2 step count bytes.now) result }
 {
     let mut bits = 0u16;
@@ -85,7 +85,7 @@ fn write_shorts(buffer: &mut [u8], bytes: &[u8], step: usize, count: usize) -> u
 fn write_ints(buffer: &mut [u8], bytes: &[u8], step: usize, count: usize) -> u64
     requires room { HasAllBytes bytes.now 4 step count }
     requires enough { length buffer.old ≡ 4 * count }
-    ensures bytes { buffer.new ≡ spelled 4 (run 4 step count bytes.now) }
+    ensures bytes { buffer.new ≡ spell_numbers 4 (run 4 step count bytes.now) }
     ensures bits { HaveBits (run 4 step count bytes.now) result }
 {
     let mut bits = 0u32;
@@ -101,7 +101,7 @@ fn write_ints(buffer: &mut [u8], bytes: &[u8], step: usize, count: usize) -> u64
 fn write_longs(buffer: &mut [u8], bytes: &[u8], step: usize, count: usize) -> u64
     requires room { HasAllBytes bytes.now 8 step count }
     requires enough { length buffer.old ≡ 8 * count }
-    ensures bytes { buffer.new ≡ spelled 8 (run 8 step count bytes.now) }
+    ensures bytes { buffer.new ≡ spell_numbers 8 (run 8 step count bytes.now) }
     ensures bits { HaveBits (run 8 step count bytes.now) result }
 {
     let mut bits = 0u64;
@@ -118,7 +118,7 @@ fn write_others(buffer: &mut [u8], width: Width, run: Run) -> u64
     requires size { IsWidth run.size }
     requires whole { IsWhole run }
     requires enough { length buffer.old ≡ run.count * width_bytes width }
-    ensures bytes { buffer.new ≡ spelled (width_bytes width) (run_numbers run.entry) }
+    ensures bytes { buffer.new ≡ spell_numbers (width_bytes width) (run_numbers run.entry) }
     ensures bits { HaveBits (run_numbers run.entry) result }
 {
     let w = width.bytes();

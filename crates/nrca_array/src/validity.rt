@@ -7,7 +7,7 @@ ghost use Rattle.nrca_array.specs.Held.{held_datum, table_datum};
 
 use crate::flat::Flat;
 use crate::held::Held;
-use aql_value::{Dims, valid};
+use aql_value::{Dims, numbers_fit, valid};
 
 /// Shows that what is held obeys the rules of its kind, at every level: anything that is held does.
 /// Packed cells and members are not visited. It takes no memory.
@@ -24,19 +24,13 @@ pub fn valid_held(held: &Held)
 fn valid_flat(flat: &Flat)
     ensures { IsValue (table_datum flat.now) }
 {
-    numbers_fit(flat.dims());
+    dims_fit(flat.dims());
     flat.valid_cells();
 }
 
-// What the types of the numbers say of them.
-fn numbers_fit(dims: &Dims)
+// What the types of the dimensions say of them.
+fn dims_fit(dims: &Dims)
     ensures { All (λ d. d < 2 ^ 128) dims.now }
 {
-    numbers_small(dims.dims.as_slice());
-}
-
-fn numbers_small(numbers: &[u128])
-    ensures { All (λ n. n < 2 ^ 128) numbers.now }
-{
-    let _len = numbers.len();
+    numbers_fit(dims.dims.as_slice());
 }

@@ -3,6 +3,8 @@ use Rattle.std.proofs.Common.{◌≡◌, ℕ, zero, suc, ◌+◌, ◌<◌, ◌�
 use Rattle.aql_value.specs.Strict.{Strict}
 use Rattle.nrca_term.specs.Term.{Term, Parts, node, none, part, Form, parts_of, child_of, binders_of, count}
 use Rattle.nrca_term.specs.Rules.{is_dim_of, dims_of_var, parts_dims_of_var}
+use Rattle.nrca_term.specs.Laws.Entering.{child-counted}
+use Rattle.nrca_laws.specs.Laws.Firms.{part-there}
 use Rattle.nrca_arrayrules.proofs.Sides.{false-true}
 use Rattle.nrca_arrayrules.specs.Replacing.{AsksUnder, AsksInPart, IsNoDim}
 
@@ -26,31 +28,19 @@ parts_dims-some n none j u e = cc
 parts_dims-some n (part k t ps) zero u e = let z : t ≡ u = cc in omega (arith, ap (dims_of_var (n + k)) z)
 parts_dims-some n (part k t ps) (suc j) u e = omega (arith, parts_dims-some n ps j u e)
 
--- a place that has a part is among the parts
-before-count : (ps : Parts) (i : ℕ) (r : Term) → child_of ps i ≡ Some r → i < count ps
-before-count none i r e = cc
-before-count (part k t ps) zero r e = omega arith
-before-count (part k t ps) (suc i) r e = omega (arith, before-count ps i r e)
-
 -- a node of which no part asks
 pub asks-none : (at m : ℕ) (t : Term) → IsNoDim t → m ≡ count (parts_of t) → ((j : ℕ) → j < m → AsksInPart at j t false) → AsksUnder at t false
 asks-none at m t h e none_of n d =
-    let z : dims_of_var n t ≡ 0 = dims-other n t h ∙ parts_dims-none n (parts_of t) (λ j u c. zero-of (dims_of_var (n + binders_of (parts_of t) j) u) (λ q. false-true ((none_of j (omega (arith, e, before-count (parts_of t) j u c)) n d u c).1 q))) in
+    let z : dims_of_var n t ≡ 0 = dims-other n t h ∙ parts_dims-none n (parts_of t) (λ j u c. zero-of (dims_of_var (n + binders_of (parts_of t) j) u) (λ q. false-true ((none_of j (omega (arith, e, child-counted (parts_of t) j u c)) n d u c).1 q))) in
     ((λ q. absurd (false-true q)), (λ q. absurd (omega (arith, z, q))))
   where
     zero-of : (x : ℕ) → (1 ≤ x → ⊥) → x ≡ 0
     zero-of zero f = refl
     zero-of (suc x) f = absurd (f (omega arith))
 
--- a place among the parts has a part
-has-part : (ps : Parts) (i : ℕ) → i < count ps → (u : Term) × (child_of ps i ≡ Some u)
-has-part none i l = absurd (omega (arith, l))
-has-part (part k t ps) zero l = (t, refl)
-has-part (part k t ps) (suc i) l = has-part ps i (omega (arith, l))
-
 -- a node of which a part asks
 pub asks-some : (at i : ℕ) (t : Term) → IsNoDim t → i < count (parts_of t) → AsksInPart at i t true → AsksUnder at t true
 asks-some at i t h l s n d =
-    let c = has-part (parts_of t) i l in
+    let c = part-there (parts_of t) i l in
     let z = (s n d c.0 c.1).0 refl in
     ((λ q. omega (arith, z, dims-other n t h, parts_dims-some n (parts_of t) i c.0 c.1)), (λ q. refl))

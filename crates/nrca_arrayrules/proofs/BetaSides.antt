@@ -6,7 +6,7 @@ use Rattle.nrca_term.specs.Term.{Term, none, part, plain, WellFormed, Closed, we
 use Rattle.nrca_term.specs.Nodes.{sub_term, tab_term, tuple_term}
 use Rattle.nrca_term.specs.Subst.{top_var, parts_top}
 use Rattle.nrca_term.specs.Laws.TypedForm.{top_var-closed}
-use Rattle.nrca_term.specs.Rules.{beta, guarded, lets, in_first}
+use Rattle.nrca_term.specs.Rules.{beta, guard, lets, in_first}
 use Rattle.nrca_laws.specs.Fitting.{RuleFits, IsSmallPart, IsRight}
 use Rattle.nrca_laws.specs.Laws.Fitting.{right-side}
 use Rattle.nrca_arrayrules.proofs.TabulationSides.{tab-same, sub-same}
@@ -30,7 +30,7 @@ a1_tells m n t o b ds is h k e l = at (nat_eq m n) refl
     at false q = λ r ws y. eqb-false m n q (sym e ∙ a1_lengths t o b ds is h k (r, ws, y) ∙ l)
 
 -- the lets around the tests are the right side of A1
-pub a1_right : (t o b r u : Term) (ds is : List Term) → t ≡ sub_term o is → o ≡ tab_term ds b → RuleFits A1 true t → u ≡ guarded (length ds) ds b → r ≡ lets 0 is u → IsRight A1 t r
+pub a1_right : (t o b r u : Term) (ds is : List Term) → t ≡ sub_term o is → o ≡ tab_term ds b → RuleFits A1 true t → u ≡ guard (length ds) ds b → r ≡ lets 0 is u → IsRight A1 t r
 a1_right t o b r u ds is h k f p q =
     right-side A1 t r (in_first (length ds ∷ [])) (ds, b, is, a1_lengths t o b ds is h k f, h ∙ ap (λ x. sub_term x is) k, q ∙ ap (lets 0 is) p, refl)
 
@@ -73,11 +73,3 @@ moved ts front rest d all e h = e ∙ ap (λ xs. xs ++ rest) h ∙ joined front
     joined : (xs : List Term) → (xs ++ d ∷ []) ++ rest ≡ xs ++ (d ∷ rest)
     joined [] = refl
     joined (x ∷ xs) = ap (λ ys. x ∷ ys) (joined xs)
-
--- the terms before one are fewer than all
-pub front-short : (all front rest : List Term) (d : Term) → all ≡ front ++ (d ∷ rest) → length front ≤ length all
-front-short all front rest d e = omega (arith, ap length e, long front)
-  where
-    long : (xs : List Term) → length xs ≤ length (xs ++ d ∷ rest)
-    long [] = omega arith
-    long (x ∷ xs) = omega (arith, long xs)

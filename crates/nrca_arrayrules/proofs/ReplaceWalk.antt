@@ -7,7 +7,7 @@ use Rattle.nrca_term.specs.Rules.{replace_dims, replace_dims_parts}
 use Rattle.nrca_term.specs.Subst.{shift_term, top_var}
 use Rattle.nrca_term.specs.Laws.Measure.{parts_weight-child}
 use Rattle.nrca_term.specs.Laws.Shift.{shift_term-twice, top_var-shift_le}
-use Rattle.nrca_subst.proofs.Walking.{first_parts, with_first_parts}
+use Rattle.nrca_subst.specs.Laws.Walking.{first_parts, with_first_parts}
 use Rattle.nrca_arrayrules.proofs.Asking.{is_dim_of-no}
 use Rattle.nrca_arrayrules.specs.Replacing.{IsNoDim, IsDimOfVariable, HasRoom}
 

@@ -1,4 +1,4 @@
--- Where A5 fits, its right side, and the place of an index in row-major order.
+-- Where A5 fits, its right side, and the offset of an index in row-major order.
 use Rattle.std.proofs.Common.{◌≡◌, ℕ, zero, suc, ◌+◌, ◌-◌, ◌*◌, ◌<◌, ◌≤◌, ◌^◌, min, Bool, true, false, List, [], ◌∷◌, ◌++◌, length, map, take, get_or, Option, Some, None, cond, nat_lt, refl, sym, ap, subst, ◌∙◌, arith}
 use Rattle.std.specs.List.{slice_get}
 use Rattle.std.specs.Option.{option_map}
@@ -16,7 +16,7 @@ use Rattle.nrca_laws.specs.Laws.Fitting.{right-side}
 use Rattle.nrca_setrules.specs.Constants.{CountsCells}
 use Rattle.nrca_setrules.specs.Laws.Lists.{plain-same, literal-parts, numbers-same, product-more, numbers-more, number-at, whole-list}
 use Rattle.nrca_arrayrules.proofs.Sides.{false-true}
-use Rattle.nrca_arrayrules.specs.Constants.{IsConstantArray, IsConstantSubscript, IsPlace, IsCell, AreBelow, cell_or_bottom}
+use Rattle.nrca_arrayrules.specs.Constants.{IsConstantArray, IsConstantSubscript, IsOffset, IsCell, AreBelow, cell_or_bottom}
 
 -- equal subscripts of literals have equal dimensions, cells and indices
 pub subscript-same : (ds es cs xs at ys : List Term) → sub_term (literal_term ds cs) at ≡ sub_term (literal_term es xs) ys → (ds ≡ es) × (cs ≡ xs) × (at ≡ ys)
@@ -26,7 +26,7 @@ subscript-same ds es cs xs at ys e =
     let r = literal-parts ds es cs xs h in
     (r.0, r.1, plain-same at ys p)
 
--- the place of an index has as many numbers as there are dimensions
+-- the offset of an index has as many numbers as there are dimensions
 offset_of-length : (ns is : List ℕ) (q : ℕ) → offset_of ns is ≡ Some q → length ns ≡ length is
 offset_of-length [] [] q e = refl
 offset_of-length [] (i ∷ is) q e = cc
@@ -47,7 +47,7 @@ a5_reading t r ws ds cs at h (outside ns xs is e f l g k w) =
     let z = subscript-same ds (map number ns) cs xs at (map number is) (sym h ∙ e) in
     (ns, is, z.0, z.2, l, f ∙ ap length (sym z.1))
 
--- a place within a list has an item
+-- a number within a list has an item
 pub item_at : (ts : List Term) (j : ℕ) → j < length ts → slice_get ts j ≡ Some (get_or ts j bottom_term)
 item_at [] j h = absurd (omega (arith, h))
 item_at (t ∷ ts) zero h = refl
@@ -93,7 +93,7 @@ subscript-yes k o ds cs at e t h = (h.0, t.0, h.1, t.1, sym h.2 ∙ e ∙ ap len
 pub subscript-back : (k : ℕ) (ds cs at : List Term) → k ≡ length at → IsConstantSubscript ds cs at → IsConstantArray k ds cs
 subscript-back k ds cs at e h = (h.0, h.2, e ∙ ap length h.3 ∙ length-map h.1 number ∙ sym h.4, h.5)
 
--- the place of an index with one number more
+-- the offset of an index with one number more
 offset_of-more : (ns is : List ℕ) (q d i : ℕ) → offset_of ns is ≡ Some q → i < d → offset_of (ns ++ d ∷ []) (is ++ i ∷ []) ≡ Some (q * d + i)
 offset_of-more [] [] q d i e l =
     let z : 0 ≡ q = cc in
@@ -113,7 +113,7 @@ offset_of-more (n ∷ ns) (k ∷ is) q d i e l = at (λ p h. offset_of-more ns i
         spread : (a b c e f : ℕ) → a * (b * e) + (c * e + f) ≡ (a * b + c) * e + f
         spread a b c e f = omega arith
 
--- an index that is not below a dimension has no place
+-- an index that is not below a dimension has no offset
 offset_of-out : (ns is : List ℕ) (j : ℕ) → j < length ns → j < length is → get_or ns j 0 ≤ get_or is j 0 → offset_of ns is ≡ None
 offset_of-out [] is j l m h = absurd (omega (arith, l))
 offset_of-out (n ∷ ns) [] j l m h = absurd (omega (arith, m))
@@ -124,10 +124,10 @@ offset_of-out (n ∷ ns) (i ∷ is) (suc j) l m h = ap (λ o. cond (nat_lt i n) 
     none true = refl
     none false = refl
 
--- the place with one dimension and one number of the index more
-pub place-step : (ds at : List Term) (j p d i : ℕ) (u v : Term) → j < length ds → j < length at → u ≡ get_or ds j u → v ≡ get_or at j v → AreBelow u v (Some (d, i)) → IsPlace (take j ds) (take j at) (Some p) →
-    IsPlace (take (j + 1) ds) (take (j + 1) at) (Some (min (min (p * d) (2 ^ 128 - 1) + i) (2 ^ 128 - 1)))
-place-step ds at j p d i u v l m e f b t = (
+-- the offset with one dimension and one number of the index more
+pub offset-step : (ds at : List Term) (j p d i : ℕ) (u v : Term) → j < length ds → j < length at → u ≡ get_or ds j u → v ≡ get_or at j v → AreBelow u v (Some (d, i)) → IsOffset (take j ds) (take j at) (Some p) →
+    IsOffset (take (j + 1) ds) (take (j + 1) at) (Some (min (min (p * d) (2 ^ 128 - 1) + i) (2 ^ 128 - 1)))
+offset-step ds at j p d i u v l m e f b t = (
   t.0 ++ d ∷ [],
   t.1 ++ i ∷ [],
   t.2 * d + i,
@@ -140,35 +140,35 @@ place-step ds at j p d i u v l m e f b t = (
     both : (a b m : ℕ) → min (min a m + b) m ≡ min (a + b) m
     both a b m = omega arith
 
--- no place where one number is not below its dimension
-pub place-out : (ds at : List Term) (j : ℕ) (u v : Term) → j < length ds → j < length at → u ≡ get_or ds j u → v ≡ get_or at j v → AreBelow u v None → IsPlace ds at None
-place-out ds at j u v l m e f b = λ ns is g k.
+-- no offset where one number is not below its dimension
+pub offset-out : (ds at : List Term) (j : ℕ) (u v : Term) → j < length ds → j < length at → u ≡ get_or ds j u → v ≡ get_or at j v → AreBelow u v None → IsOffset ds at None
+offset-out ds at j u v l m e f b = λ ns is g k.
     let x : j < length ns = omega (arith, l, ap length g, length-map ns number) in
     let y : j < length is = omega (arith, m, ap length k, length-map is number) in
     offset_of-out ns is j x y (b (get_or ns j 0) (get_or is j 0) (e ∙ ap (λ xs. get_or xs j u) g ∙ number-at ns j u x) (f ∙ ap (λ xs. get_or xs j v) k ∙ number-at is j v y))
 
--- the place after all dimensions
-pub place-whole : (ds at : List Term) (j p : ℕ) → length ds ≤ j → length ds ≡ length at → IsPlace (take j ds) (take j at) (Some p) → IsPlace ds at (Some p)
-place-whole ds at j p l e t = subst (λ xs. IsPlace xs at (Some p)) (whole-list ds j l) (subst (λ xs. IsPlace (take j ds) xs (Some p)) (whole-list at j (omega (arith, l, e))) t)
+-- the offset after all dimensions
+pub offset-whole : (ds at : List Term) (j p : ℕ) → length ds ≤ j → length ds ≡ length at → IsOffset (take j ds) (take j at) (Some p) → IsOffset ds at (Some p)
+offset-whole ds at j p l e t = subst (λ xs. IsOffset xs at (Some p)) (whole-list ds j l) (subst (λ xs. IsOffset (take j ds) xs (Some p)) (whole-list at j (omega (arith, l, e))) t)
 
--- the place of a constant subscript is its place in row-major order, and within the cells
-pub place-is : (ds cs at : List Term) (p : ℕ) → IsConstantSubscript ds cs at → length cs < 2 ^ 64 → (t : IsPlace ds at (Some p)) → (p ≡ t.2) × (p < length cs)
-place-is ds cs at p w l t =
+-- the offset of a constant subscript is its number in row-major order, and within the cells
+pub offset-is : (ds cs at : List Term) (p : ℕ) → IsConstantSubscript ds cs at → length cs < 2 ^ 64 → (t : IsOffset ds at (Some p)) → (p ≡ t.2) × (p < length cs)
+offset-is ds cs at p w l t =
     let z = numbers-same w.0 t.0 (sym w.2 ∙ t.3) in
     let q = offset_of_within t.0 t.1 t.2 t.5 in
     let y = ap product z in
     (omega (arith, q, y, w.5, l, t.6), omega (arith, q, y, w.5, l, t.6))
 
--- the place of a constant subscript is within the cells
-pub place-within : (ds cs at : List Term) (p : ℕ) → IsConstantSubscript ds cs at → length cs < 2 ^ 64 → IsPlace ds at (Some p) → p < length cs
-place-within ds cs at p w l t = (place-is ds cs at p w l t).1
+-- the offset of a constant subscript is within the cells
+pub offset-within : (ds cs at : List Term) (p : ℕ) → IsConstantSubscript ds cs at → length cs < 2 ^ 64 → IsOffset ds at (Some p) → p < length cs
+offset-within ds cs at p w l t = (offset-is ds cs at p w l t).1
 
--- the item at the place is the cell
-pub cell-here : (ds cs at : List Term) (p : ℕ) (r : Term) → IsConstantSubscript ds cs at → length cs < 2 ^ 64 → IsPlace ds at (Some p) → r ≡ get_or cs p bottom_term → IsCell ds cs at r
+-- the item at the offset is the cell
+pub cell-here : (ds cs at : List Term) (p : ℕ) (r : Term) → IsConstantSubscript ds cs at → length cs < 2 ^ 64 → IsOffset ds at (Some p) → r ≡ get_or cs p bottom_term → IsCell ds cs at r
 cell-here ds cs at p r w l t e = λ ns is g k.
     let x = numbers-same t.0 ns (sym t.3 ∙ g) in
     let y = numbers-same t.1 is (sym t.4 ∙ k) in
-    let o : offset_of ns is ≡ Some p = ap (λ a. offset_of a is) (sym x) ∙ ap (offset_of t.0) (sym y) ∙ t.5 ∙ ap Some (sym (place-is ds cs at p w l t).0) in
+    let o : offset_of ns is ≡ Some p = ap (λ a. offset_of a is) (sym x) ∙ ap (offset_of t.0) (sym y) ∙ t.5 ∙ ap Some (sym (offset-is ds cs at p w l t).0) in
     e ∙ sym (ap (cell_or_bottom cs) o)
 
 -- an item within a list is the same whatever stands for one past its end

@@ -4,7 +4,7 @@ use Rattle.nrca_term.specs.declared.term.Core.{Core}
 use Rattle.nrca_term.specs.declared.term.Terms.{Terms}
 use Rattle.nrca_term.specs.Term.{Term}
 use Rattle.nrca_term.specs.Nodes.{if_term, less_term, let_term, tuple_term, variable, bottom_term}
-use Rattle.nrca_term.specs.Rules.{guarded}
+use Rattle.nrca_term.specs.Rules.{guard}
 use Rattle.nrca_term.specs.Subst.{shift_term, top_var}
 use Rattle.nrca_term.specs.View.{term_of, terms_of}
 
@@ -26,4 +26,4 @@ MayShift ts = top_var (tuple_term ts) + length ts < 2 ^ 64
 -- the term is the body behind tests that each of the innermost variables is below its bound
 abbrev pub IsGuarded : Terms → Core → Core → Type 0
 IsGuarded bounds body t =
-    term_of t ≡ guarded (length (terms_of bounds)) (terms_of bounds) (term_of body)
+    term_of t ≡ guard (length (terms_of bounds)) (terms_of bounds) (term_of body)

@@ -22,11 +22,11 @@ AreConstant dims cells at = IsConstantSubscript (terms_of dims) (terms_of cells)
 
 -- the place of the index in row-major order, or 2^128-1 where it is larger; none where the index is
 -- not below the dimensions, and where one of them is no number
-abbrev pub IsPlace : (ds at : List Term) → Option ℕ → Type 0
-IsPlace ds at (Some p) =
+abbrev pub IsOffset : (ds at : List Term) → Option ℕ → Type 0
+IsOffset ds at (Some p) =
     (ns is : List ℕ) × (q : ℕ) × (ds ≡ map number ns) × (at ≡ map number is)
     × (offset_of ns is ≡ Some q) × (p ≡ min q (2 ^ 128 - 1))
-IsPlace ds at None =
+IsOffset ds at None =
     (ns is : List ℕ) → ds ≡ map number ns → at ≡ map number is → offset_of ns is ≡ None
 
 -- the cell at a place, or Bottom where there is none

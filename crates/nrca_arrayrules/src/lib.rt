@@ -19,5 +19,5 @@ pub use beta::{a1, fits_a1};
 pub use dimensions::{a3, a6, fits_a3, fits_a6};
 pub use lets::{a7, fits_a7};
 pub use sizes::{a4, fits_a4};
-pub use subscripts::{a5, fits_a5, place};
+pub use subscripts::{a5, fits_a5, literal_offset};
 pub use tabulations::{a2, fits_a2};

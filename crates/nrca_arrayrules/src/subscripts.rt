@@ -4,7 +4,7 @@ ghost use Rattle.std.specs.Prelude.{true, ◌≡◌, ◌↔◌, IsTrue, length};
 ghost use Rattle.nrca_term.specs.View.{term_of, terms_of};
 ghost use Rattle.nrca_term.specs.declared.trace.Rule.TheVariants.{A5};
 ghost use Rattle.nrca_laws.specs.Fitting.{RuleFits, IsRight};
-ghost use Rattle.nrca_arrayrules.specs.Constants.{AreConstant, IsPlace, IsCell, AreBelow};
+ghost use Rattle.nrca_arrayrules.specs.Constants.{AreConstant, IsOffset, IsCell, AreBelow};
 
 use crate::dimensions::is_constant;
 use nrca_setrules::cell_count;
@@ -66,7 +66,7 @@ fn cell_at(dims: &Terms, cells: Terms, at: &Terms) -> Core
     ensures { IsCell (terms_of dims.now) (terms_of cells) (terms_of at.now) (term_of result) }
 {
     let mut cells = cells;
-    match place(dims, at) {
+    match literal_offset(dims, at) {
         Some(p) => {
             let cell = mem::replace(&mut cells.0[p as usize], Core::Bottom);
             cell
@@ -75,20 +75,20 @@ fn cell_at(dims: &Terms, cells: Terms, at: &Terms) -> Core
     }
 }
 
-/// The place of the index in row-major order, or 2^128-1 where it is larger. None where it is not
+/// The offset of the index in row-major order, or 2^128-1 where it is larger. None where it is not
 /// below the dimensions, or where one of them is no number.
-pub fn place(dims: &Terms, at: &Terms) -> Option<u128>
+pub fn literal_offset(dims: &Terms, at: &Terms) -> Option<u128>
     requires { length (terms_of dims.now) ≡ length (terms_of at.now) }
-    ensures { IsPlace (terms_of dims.now) (terms_of at.now) result }
+    ensures { IsOffset (terms_of dims.now) (terms_of at.now) result }
 {
-    let mut place: u128 = 0;
+    let mut offset: u128 = 0;
     for j in 0..dims.0.len() {
         match index_below(&dims.0[j], &at.0[j]) {
-            Some((d, i)) => place = place.saturating_mul(d).saturating_add(i),
+            Some((d, i)) => offset = offset.saturating_mul(d).saturating_add(i),
             None => return None,
         }
     }
-    Some(place)
+    Some(offset)
 }
 
 // Both numbers, where the second is below the first.

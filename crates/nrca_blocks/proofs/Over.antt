@@ -8,7 +8,7 @@ use Rattle.aql_value.specs.Indices.{indices}
 use Rattle.aql_value.specs.Laws.Lists.{length-below}
 use Rattle.aql_value.specs.Laws.Partial.{each-map, total-map}
 use Rattle.aql_value.specs.Lists.{below}
-use Rattle.aql_value.specs.Operations.{walked}
+use Rattle.aql_value.specs.Operations.{push_index}
 use Rattle.aql_value.specs.Partial.{each, total}
 use Rattle.nrca_term.specs.Meaning.{Outcomes, cden}
 use Rattle.nrca_term.specs.Term.{Term}
@@ -16,7 +16,7 @@ use Rattle.nrca_term.specs.Turns.{settle}
 use Rattle.nrca_term.specs.View.{term_of}
 use Rattle.nrca_term.specs.declared.term.Core.{Core}
 use Rattle.nrca_loops.specs.Runs.{member_list}
-use Rattle.nrca_loops.specs.Scope.{values}
+use Rattle.nrca_loops.specs.Values.{values}
 use Rattle.nrca_loops.specs.declared.env.Env.{Env}
 use Rattle.nrca_loops.specs.declared.members.Members.{Members}
 use Rattle.nrca_loops.specs.declared.members.Members.TheVariants.{Below, Listed}
@@ -51,16 +51,16 @@ listed_column h members set a b col is e = ap (λ m. slice_range (member_list m)
 
 -- the body at the indices of a row
 pub row_column : (V : Outcomes) (env : Env) (body : Core) (outer col xs : List ℕ) →
-    (each (λ m. cden V (m ∷ walked outer [] ++ values env) (term_of body)) (map natural col) ≡ Some (map natural xs)) → (total (λ m. settle V (m ∷ walked outer [] ++ values env) (term_of body)) (map natural col) ≡ 0) →
+    (each (λ m. cden V (m ∷ push_index outer [] ++ values env) (term_of body)) (map natural col) ≡ Some (map natural xs)) → (total (λ m. settle V (m ∷ push_index outer [] ++ values env) (term_of body)) (map natural col) ≡ 0) →
     AreAt V env body (map (λ i. outer ++ i ∷ []) col) xs
 row_column V env body outer col xs value turns = (
-  each-map (λ at. cden V (walked at [] ++ values env) (term_of body)) (λ i. outer ++ i ∷ []) col
+  each-map (λ at. cden V (push_index at [] ++ values env) (term_of body)) (λ i. outer ++ i ∷ []) col
       ∙ (λ k. each (λ i. cden V (walked_last outer i [] k ++ values env) (term_of body)) col)
-      ∙ sym (each-map (λ m. cden V (m ∷ walked outer [] ++ values env) (term_of body)) natural col)
+      ∙ sym (each-map (λ m. cden V (m ∷ push_index outer [] ++ values env) (term_of body)) natural col)
       ∙ value,
-  total-map (λ at. settle V (walked at [] ++ values env) (term_of body)) (λ i. outer ++ i ∷ []) col
+  total-map (λ at. settle V (push_index at [] ++ values env) (term_of body)) (λ i. outer ++ i ∷ []) col
       ∙ (λ k. total (λ i. settle V (walked_last outer i [] k ++ values env) (term_of body)) col)
-      ∙ sym (total-map (λ m. settle V (m ∷ walked outer [] ++ values env) (term_of body)) natural col)
+      ∙ sym (total-map (λ m. settle V (m ∷ push_index outer [] ++ values env) (term_of body)) natural col)
       ∙ turns,
 )
 

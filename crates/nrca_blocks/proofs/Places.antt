@@ -1,7 +1,7 @@
 -- What is known at each place of a list, told of the list.
-use Rattle.std.proofs.Common.{◌≡◌, ℕ, zero, suc, ◌+◌, ◌-◌, ◌*◌, ◌<◌, ◌≤◌, List, [], ◌∷◌, ◌++◌, length, map, take, drop, get_or, Option, Some, None, cond, true, false, refl, sym, ◌∙◌, ap, subst, arith}
-use Rattle.std.specs.List.{slice_get, slice_range, range_with_len}
-use Rattle.std.proofs.lemmas.List.{take_more, map-append}
+use Rattle.std.proofs.Common.{◌≡◌, ℕ, zero, suc, ◌+◌, ◌-◌, ◌<◌, ◌≤◌, List, [], ◌∷◌, ◌++◌, length, map, take, drop, get_or, Option, Some, refl, ◌∙◌, ap, arith}
+use Rattle.std.specs.List.{slice_range, range_with_len}
+use Rattle.std.proofs.lemmas.List.{take_more, map-append, take-map, drop-map}
 use Rattle.aql_value.specs.Lists.{below}
 use Rattle.aql_value.specs.Partial.{◌>>=◌, each, total}
 
@@ -20,19 +20,9 @@ pub total_column : {B D : Type 0} (f : D → ℕ) (h : B → D) (e : B) (col : L
 total_column f h e [] p = refl
 total_column f h e (c ∷ col) p = omega (arith, p 0 (omega arith), total_column f h e col (λ j k. p (suc j) (omega (arith, k))))
 
-drop_map : {A B : Type 0} (f : A → B) (n : ℕ) (ys : List A) → drop n (map f ys) ≡ map f (drop n ys)
-drop_map f zero ys = refl
-drop_map f (suc n) [] = refl
-drop_map f (suc n) (y ∷ ys) = drop_map f n ys
-
-take_map : {A B : Type 0} (f : A → B) (n : ℕ) (ys : List A) → take n (map f ys) ≡ map f (take n ys)
-take_map f zero ys = refl
-take_map f (suc n) [] = refl
-take_map f (suc n) (y ∷ ys) = ap (λ l. f y ∷ l) (take_map f n ys)
-
 -- a range of a list that is made element by element
 pub range_of_map : {A B : Type 0} (f : A → B) (xs : List A) (a b : ℕ) → slice_range (map f xs) a b ≡ map f (slice_range xs a b)
-range_of_map f xs a b = ap (take (b - a)) (drop_map f a xs) ∙ take_map f (b - a) (drop a xs)
+range_of_map f xs a b = ap (take (b - a)) (drop-map f a xs) ∙ take-map f (b - a) (drop a xs)
 
 -- a range of the numbers below n
 pub range_of_below : (n a b : ℕ) → a ≤ b → b ≤ n → slice_range (below n) a b ≡ range_with_len a (b - a)

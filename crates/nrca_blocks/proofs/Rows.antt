@@ -3,13 +3,14 @@ use Rattle.std.proofs.Common.{◌≡◌, ℕ, zero, suc, ◌+◌, ◌-◌, ◌*�
 use Rattle.std.specs.List.{slice_get, slice_range, range_with_len}
 use Rattle.std.specs.Option.{option_map}
 use Rattle.std.proofs.lemmas.Bool.{lt-ltb}
+use Rattle.std.proofs.lemmas.Option.{same_Some}
 use Rattle.aql_value.specs.Datum.{Datum, natural}
 use Rattle.aql_value.specs.Indices.{indices, offset_of, product}
 use Rattle.aql_value.specs.Laws.RowMajor.{place_of_index, row_major}
-use Rattle.aql_value.specs.Operations.{walked}
+use Rattle.aql_value.specs.Operations.{push_index}
 
 -- the last number of an index is the innermost variable
-pub walked_last : (outer : List ℕ) (i : ℕ) (l : List Datum) → walked (outer ++ i ∷ []) l ≡ natural i ∷ walked outer l
+pub walked_last : (outer : List ℕ) (i : ℕ) (l : List Datum) → push_index (outer ++ i ∷ []) l ≡ natural i ∷ push_index outer l
 walked_last [] i l = refl
 walked_last (x ∷ outer) i l = walked_last outer i (natural x ∷ l)
 
@@ -34,13 +35,10 @@ range_from xs g p i (suc n) h =
     ap (take (suc n)) (drop_at xs p (g i) first)
     ∙ ap (λ l. g i ∷ l) (range_from xs g (p + 1) (i + 1) n (λ j l. ap (slice_get xs) (let z : p + 1 + j ≡ p + suc j = omega arith in z) ∙ h (suc j) (omega (arith, l)) ∙ ap (λ k. Some (g k)) (let z : i + suc j ≡ i + 1 + j = omega arith in z)))
 
-some_is : {X : Type 0} (x y : X) → Some x ≡ Some y → x ≡ y
-some_is x y e = cc
-
 step : (b : Bool) (m p j : ℕ) (o r : Option ℕ) → cond b (option_map (λ q. m + q) o) None ≡ Some p → ((q : ℕ) → o ≡ Some q → r ≡ Some (q + j)) → cond b (option_map (λ q. m + q) r) None ≡ Some (p + j)
 step false m p j o r f h = cc
 step true m p j None r f h = cc
-step true m p j (Some q) r f h = let k : m + q ≡ p = some_is (m + q) p f in ap (option_map (λ q. m + q)) (h q refl) ∙ ap Some (omega (arith, k))
+step true m p j (Some q) r f h = let k : m + q ≡ p = same_Some (m + q) p f in ap (option_map (λ q. m + q)) (h q refl) ∙ ap Some (omega (arith, k))
 
 nowhere : {X : Type 0} (b : Bool) (x : X) → cond b None None ≡ Some x → ⊥
 nowhere true x f = cc
@@ -53,7 +51,7 @@ in_row [] (x ∷ outer) i j p e h = cc
 in_row (d ∷ []) [] i j p e h =
     let low : nat_lt i d ≡ true = lt-ltb i d (omega (arith, h)) in
     let high : nat_lt (i + j) d ≡ true = lt-ltb (i + j) d h in
-    let q : i * 1 + 0 ≡ p = some_is (i * 1 + 0) p (ap (λ b. cond b (Some (i * 1 + 0)) None) (sym low) ∙ e) in
+    let q : i * 1 + 0 ≡ p = same_Some (i * 1 + 0) p (ap (λ b. cond b (Some (i * 1 + 0)) None) (sym low) ∙ e) in
     ap (λ b. cond b (Some ((i + j) * 1 + 0)) None) high ∙ ap Some (omega (arith, q))
 in_row (d ∷ c ∷ ds) [] i j p e h = absurd (nowhere (nat_lt i d) p e)
 in_row (d ∷ ds) (x ∷ outer) i j p e h = step (nat_lt x d) (x * product ds) p j (offset_of ds (outer ++ i ∷ [])) (offset_of ds (outer ++ (i + j) ∷ [])) e (λ q s. in_row ds outer i j q s h)

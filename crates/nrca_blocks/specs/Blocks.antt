@@ -16,7 +16,7 @@ use Rattle.nrca_term.specs.View.{term_of, terms_of}
 use Rattle.nrca_term.specs.declared.term.Core.{Core}
 use Rattle.nrca_term.specs.declared.term.Terms.{Terms}
 use Rattle.nrca_loops.specs.Parts.{cell_in, numbers_in}
-use Rattle.nrca_loops.specs.Scope.{values}
+use Rattle.nrca_loops.specs.Values.{values}
 use Rattle.nrca_quick.specs.Few.{few_set}
 use Rattle.nrca_quick.specs.declared.sets.AtMostOne.{AtMostOne}
 use Rattle.nrca_quick.specs.declared.sets.AtMostOne.TheVariants as at_most

@@ -5,14 +5,14 @@ use Rattle.aql_value.specs.Canon.{canon}
 use Rattle.std.specs.List.{slice_get, slice_range}
 use Rattle.aql_value.specs.Datum.{Datum, natural}
 use Rattle.aql_value.specs.Indices.{indices}
-use Rattle.aql_value.specs.Operations.{walked}
+use Rattle.aql_value.specs.Operations.{push_index}
 use Rattle.aql_value.specs.Partial.{each, total}
 use Rattle.nrca_term.specs.Meaning.{Outcomes, cden}
 use Rattle.nrca_term.specs.Turns.{settle}
 use Rattle.nrca_term.specs.View.{term_of}
 use Rattle.nrca_term.specs.declared.term.Core.{Core}
 use Rattle.nrca_loops.specs.Runs.{member_list, sets_join, union_value}
-use Rattle.nrca_loops.specs.Scope.{values}
+use Rattle.nrca_loops.specs.Values.{values}
 use Rattle.nrca_loops.specs.declared.env.Env.{Env}
 use Rattle.nrca_loops.specs.declared.members.Members.{Members}
 
@@ -26,7 +26,7 @@ AreRun f V env body ms a b xs = AreOver f V env body (slice_range (member_list m
 
 -- the body is worth the numbers at these indices, without turns
 abbrev pub AreAt : Outcomes → Env → Core → List (List ℕ) → List ℕ → Type 0
-AreAt V env body ats ns = (each (λ at. cden V (walked at [] ++ values env) (term_of body)) ats ≡ Some (map natural ns)) × (total (λ at. settle V (walked at [] ++ values env) (term_of body)) ats ≡ 0)
+AreAt V env body ats ns = (each (λ at. cden V (push_index at [] ++ values env) (term_of body)) ats ≡ Some (map natural ns)) × (total (λ at. settle V (push_index at [] ++ values env) (term_of body)) ats ≡ 0)
 
 -- the same at the indices a up to b below the dimensions
 abbrev pub AreCells : Outcomes → Env → Core → List ℕ → ℕ → ℕ → List ℕ → Type 0

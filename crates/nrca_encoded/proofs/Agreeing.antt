@@ -5,7 +5,7 @@ use Rattle.aql_value.specs.Datum.{Datum}
 use Rattle.aql_value.specs.Partial.{total}
 use Rattle.nrca_term.specs.Laws.Shifting.{at_length-ext}
 use Rattle.nrca_term.specs.Meaning.{Outcomes, Part, outcome, form_value, at_length, cden, part_values}
-use Rattle.nrca_term.specs.Places.{entered}
+use Rattle.nrca_term.specs.Places.{entry_values}
 use Rattle.nrca_term.specs.Term.{Term, Parts, node, none, part, Form, child_of}
 use Rattle.nrca_term.specs.Turns.{own_turns, settle, parts_settle}
 use Rattle.nrca_encoded.specs.Positions.{IfPosition, EachPosition, EachPositionIn}
@@ -46,8 +46,8 @@ mutual
       parts_settle V vals f worths i ps ≡ parts_settle W vals f worths i ps
   parts_settle-agrees V W vals f worths i none h = refl
   parts_settle-agrees V W vals f worths i (part k t ps) h =
-      ap (λ (g : List Datum → ℕ). total g (entered f worths i) + parts_settle V vals f worths (suc i) ps) (fun_ext (λ new. settle-agrees V W (new ++ vals) t h.0))
-      ∙ ap (λ n. total (λ new. settle W (new ++ vals) t) (entered f worths i) + n) (parts_settle-agrees V W vals f worths (suc i) ps h.1)
+      ap (λ (g : List Datum → ℕ). total g (entry_values f worths i) + parts_settle V vals f worths (suc i) ps) (fun_ext (λ new. settle-agrees V W (new ++ vals) t h.0))
+      ∙ ap (λ n. total (λ new. settle W (new ++ vals) t) (entry_values f worths i) + n) (parts_settle-agrees V W vals f worths (suc i) ps h.1)
 
 if-weaker : (P Q : ℕ → Type 0) → ((n : ℕ) → P n → Q n) → (f : Form) → IfPosition P f → IfPosition Q f
 if-weaker P Q w (Form.var i) h = tt

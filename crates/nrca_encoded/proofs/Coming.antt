@@ -10,12 +10,12 @@ use Rattle.nrca_term.specs.Turns.{settle}
 use Rattle.nrca_term.specs.Typing.{instances}
 use Rattle.nrca_term.specs.View.{term_of}
 use Rattle.nrca_graph.specs.ArrayFree.{array_free}
-use Rattle.nrca_graph.specs.Encoding.{encoded}
+use Rattle.nrca_graph.specs.Encoding.{encode_outcome}
 use Rattle.nrca_graph.specs.GraphTurns.{graph_turns}
 use Rattle.nrca_graph.specs.Kept.{MeansEncoded, TurnsWithin}
 use Rattle.nrca_graph.specs.Laws.KeptForms.{outcome-encoded}
 use Rattle.nrca_encoded.specs.Encodings.{IsKept}
-use Rattle.nrca_encoded.specs.Graphs.{IsTypedOver, IsGraph, HasRun, HasValue, RunsEncoded, encoded_turns}
+use Rattle.nrca_encoded.specs.Graphs.{IsTypedOver, IsGraph, HasEvaluated, HasValue, RunsEncoded, encoded_turns}
 use Rattle.nrca_encoded.specs.Positions.{EachPosition}
 use Rattle.nrca_encoded.specs.declared.ran.Graph.{Graph}
 use Rattle.nrca_encoded.specs.declared.ran.GraphRan.{GraphRan}
@@ -29,14 +29,14 @@ variables-fit V t q =
     omega (arith, l, q.small)
 
 module _ (V E : Outcomes) (t : Term) (used : EachPosition (IsKept V E) t) where
-  agree : EachPosition (Same E (map encoded V)) t
-  agree = each-weaker (IsKept V E) (Same E (map encoded V)) (λ n e. e ∙ sym (outcome-encoded V n)) t used
+  agree : EachPosition (Same E (map encode_outcome V)) t
+  agree = each-weaker (IsKept V E) (Same E (map encode_outcome V)) (λ n e. e ∙ sym (outcome-encoded V n)) t used
 
-  pub same-value : cden E [] t ≡ cden (map encoded V) [] t
-  same-value = cden-agrees E (map encoded V) [] t agree
+  pub same-value : cden E [] t ≡ cden (map encode_outcome V) [] t
+  same-value = cden-agrees E (map encode_outcome V) [] t agree
 
   pub same-turns : settle E [] t ≡ encoded_turns V t
-  same-turns = settle-agrees E (map encoded V) [] t agree
+  same-turns = settle-agrees E (map encode_outcome V) [] t agree
 
   -- the turns over what is kept pass the budget
   pub spent-is : (budget : ℕ) → budget < settle E [] t → RunsEncoded V budget t ran.Spent
@@ -48,13 +48,13 @@ module _ (V E : Outcomes) (t : Term) (used : EachPosition (IsKept V E) t) where
   value-is budget o ran.Undefined e l h = (subst (λ n. n ≤ budget) same-turns l, sym (e ∙ same-value) ∙ h)
   value-is budget o (ran.Value w) e l h = (subst (λ n. n ≤ budget) same-turns l, sym (e ∙ same-value) ∙ h)
 
-encoded-none : (o : Option Datum) → encoded o ≡ None → o ≡ None
+encoded-none : (o : Option Datum) → encode_outcome o ≡ None → o ≡ None
 encoded-none None e = refl
 encoded-none (Some v) e = cc
 
 module _ (V : Outcomes) (budget : ℕ) (plan : Term) (g : Graph) (q : IsTypedOver V plan) (free : term_of g.term ≡ array_free plan) where
-  ran-is : (r : GraphRan) → cden (map encoded V) [] (term_of g.term) ≡ encoded (cden V [] plan) → RunsEncoded V budget (term_of g.term) r →
-      HasRun budget (encoded_turns V (array_free plan)) (cden V [] plan) r
+  ran-is : (r : GraphRan) → cden (map encode_outcome V) [] (term_of g.term) ≡ encode_outcome (cden V [] plan) → RunsEncoded V budget (term_of g.term) r →
+      HasEvaluated budget (encoded_turns V (array_free plan)) (cden V [] plan) r
   ran-is ran.Spent m h = subst (λ t. budget < encoded_turns V t) free h
   ran-is ran.Undefined m h = (subst (λ t. encoded_turns V t ≤ budget) free h.0, encoded-none (cden V [] plan) (sym m ∙ h.1))
   ran-is (ran.Value w) m h = (subst (λ t. encoded_turns V t ≤ budget) free h.0, sym m ∙ h.1)

@@ -1,9 +1,10 @@
 -- The encodings of positions that are kept, and those that a term uses.
-use Rattle.std.proofs.Common.{◌≡◌, ℕ, zero, suc, ◌+◌, ◌-◌, ◌<◌, List, ◌++◌, Some, sym, ap, ◌∙◌, subst, arith, inl, inr}
+use Rattle.std.proofs.Common.{◌≡◌, ℕ, ◌+◌, ◌<◌, Some, sym, ap, ◌∙◌, subst, arith, inl, inr}
 use Rattle.std.proofs.lemmas.Bool.{cases_lt}
 use Rattle.nrca_term.specs.Meaning.{Outcomes}
 use Rattle.nrca_term.specs.Term.{Term, Parts, child_of, count}
-use Rattle.nrca_encoded.specs.Encodings.{AreEncodings, IsKept, KeepsEncodings, ReachesTo}
+use Rattle.nrca_term.specs.Laws.Entering.{child-counted}
+use Rattle.nrca_encoded.specs.Encodings.{AreEncodings, IsKept, KeepsEncodings}
 use Rattle.nrca_encoded.specs.Positions.{EachPosition, EachPositionIn}
 use Rattle.nrca_encoded.proofs.Agreeing.{each-part, each-weaker}
 
@@ -27,11 +28,6 @@ one-more V old now new i ps t h there kept still used = record {
   ];
 }
 
-below : (ps : Parts) (j : ℕ) (u : Term) → child_of ps j ≡ Some u → j < count ps
-below Parts.none j u e = cc
-below (Parts.part k t ps) zero u e = omega arith
-below (Parts.part k t ps) (suc j) u e = omega (arith, below ps j u e)
-
 -- all parts
 pub all-kept : (V old now : Outcomes) (i : ℕ) (ps : Parts) → i ≡ count ps → FirstKept V old now i ps → EachPositionIn (IsKept V now) ps
-all-kept V old now i ps l h = each-part (IsKept V now) ps (λ j u e. h.used j u (omega (arith, below ps j u e, l)) e)
+all-kept V old now i ps l h = each-part (IsKept V now) ps (λ j u e. h.used j u (omega (arith, child-counted ps j u e, l)) e)

@@ -8,7 +8,7 @@ use Rattle.aql_value.specs.Datum.{Datum}
 use Rattle.aql_value.specs.Partial.{◌>>=◌}
 use Rattle.nrca_array.specs.Held.{held_datum}
 use Rattle.nrca_array.specs.declared.held.Held.{Held}
-use Rattle.nrca_loops.specs.Scope.{held_value}
+use Rattle.nrca_loops.specs.Values.{held_value}
 use Rattle.nrca_term.specs.Meaning.{Outcomes, outcome}
 use Rattle.nrca_encoded.specs.Encodings.{outcomes_in, PutsValue, ReachesTo, SameOutcomes}
 

@@ -2,14 +2,14 @@
 use Rattle.std.specs.Prelude.{◌≡◌, ℕ, ◌≤◌, List, length, map, Option, Some, None}
 use Rattle.aql_value.specs.Datum.{Datum}
 use Rattle.nrca_array.specs.declared.held.Held.{Held}
-use Rattle.nrca_loops.specs.Scope.{held_value}
+use Rattle.nrca_loops.specs.Values.{held_value}
 use Rattle.nrca_term.specs.Meaning.{Outcomes, outcome}
-use Rattle.nrca_graph.specs.Encoding.{encoded}
+use Rattle.nrca_graph.specs.Encoding.{encode_outcome}
 
 -- of a position with this outcome nothing is kept, or its encoding
 abbrev pub MayBeKept : (outcome kept : Option Datum) → Type 0
 MayBeKept o None = Unit {0}
-MayBeKept o (Some w) = encoded o ≡ Some w
+MayBeKept o (Some w) = encode_outcome o ≡ Some w
 
 -- What is kept of the positions with these outcomes: of each nothing yet, or the encoding of its outcome.
 pub record AreEncodings (V E : Outcomes) : Type 0 where
@@ -18,7 +18,7 @@ pub record AreEncodings (V E : Outcomes) : Type 0 where
 
 -- what is kept of a position is its encoded outcome: its encoding, or nothing where it has no value
 abbrev pub IsKept : (V E : Outcomes) → (n : ℕ) → Type 0
-IsKept V E n = outcome E n ≡ encoded (outcome V n)
+IsKept V E n = outcome E n ≡ encode_outcome (outcome V n)
 
 -- each position whose encoded outcome was kept still has it there
 abbrev pub KeepsEncodings : (V old new : Outcomes) → Type 0

@@ -4,8 +4,8 @@ ghost use Rattle.std.specs.Prelude.{◌≡◌, ◌≤◌, ◌-◌, ◌<◌, IfOk
 ghost use Rattle.std.specs.Option.{option_map};
 ghost use Rattle.aql_value.specs.Meaning.{datum};
 ghost use Rattle.nrca_array.specs.Held.{held_datum};
-ghost use Rattle.nrca_loops.specs.Scope.{held_value};
-ghost use Rattle.nrca_graph.specs.Encoding.{encoded, encoding};
+ghost use Rattle.nrca_loops.specs.Values.{held_value};
+ghost use Rattle.nrca_graph.specs.Encoding.{encode_outcome, encoding};
 ghost use Rattle.nrca_term.specs.Meaning.{outcome};
 ghost use Rattle.nrca_term.specs.Term.{form_of, parts_of};
 ghost use Rattle.nrca_term.specs.View.{term_of};

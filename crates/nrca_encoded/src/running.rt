@@ -2,8 +2,8 @@
 
 ghost use Rattle.std.specs.Prelude.{◌≡◌, ◌≤◌, [], map, IfOk};
 ghost use Rattle.aql_value.specs.Limits.{most_budget, most_workers};
-ghost use Rattle.nrca_graph.specs.Encoding.{encoded};
-ghost use Rattle.nrca_loops.specs.Scope.{held_value};
+ghost use Rattle.nrca_graph.specs.Encoding.{encode_outcome};
+ghost use Rattle.nrca_loops.specs.Values.{held_value};
 ghost use Rattle.nrca_term.specs.Meaning.{cden};
 ghost use Rattle.nrca_term.specs.View.{term_of};
 ghost use Rattle.nrca_encoded.specs.Encodings.{AreEncodings, KeepsEncodings};

@@ -1,11 +1,12 @@
 -- Steps of the evaluation: weights, parts and runs over plain variables.
-use Rattle.std.proofs.Common.{◌≡◌, ℕ, zero, suc, ◌+◌, ◌-◌, ◌*◌, ◌<◌, ◌≤◌, true, List, [], ◌∷◌, ◌++◌, length, map, take, get_or, Some, refl, sym, ◌∙◌, ap, arith}
+use Rattle.std.proofs.Common.{◌≡◌, ℕ, ◌+◌, ◌-◌, ◌*◌, ◌<◌, ◌≤◌, true, List, ◌++◌, length, map, take, get_or, Some, refl, sym, ◌∙◌, ap, arith}
 use Rattle.std.specs.Prelude.{slice_get, Result, Ok, Err, IsOkAnd, IsErrAnd}
 use Rattle.std.specs.List.{slice_range}
 use Rattle.std.proofs.Math.Seq.{take-append_seam}
 use Rattle.aql_value.specs.Partial.{total}
 use Rattle.nrca_term.specs.Term.{Term, none, part, Form, weight_of, list_weight}
 use Rattle.nrca_term.specs.Nodes.{sub_term, tab_term}
+use Rattle.nrca_term.specs.Laws.Measure.{list_weight-get}
 use Rattle.nrca_term.specs.Laws.Variants.{parts_weight-plain}
 use Rattle.nrca_term.specs.View.{term_of}
 use Rattle.nrca_term.specs.declared.term.Core.{Core}
@@ -18,14 +19,8 @@ use Rattle.nrca_loops.specs.Laws.Run.{range_whole, total-range_within}
 use Rattle.nrca_quick.specs.Laws.Lent.{term_at}
 use Rattle.nrca_eval.specs.Parts.{is_strict_form}
 
--- a term of a list is no heavier than the list
-list_weight-member : (ts : List Term) (i : ℕ) (t : Term) → slice_get ts i ≡ Some t → weight_of t ≤ list_weight ts
-list_weight-member [] i t e = cc
-list_weight-member (u ∷ ts) zero t e = let z : u ≡ t = cc in omega (arith, ap weight_of z)
-list_weight-member (u ∷ ts) (suc i) t e = omega (arith, list_weight-member ts i t e)
-
 pub member_weight : (cs ds : List Core) (i : ℕ) (x : Core) → cs ≡ ds → i < length cs → x ≡ get_or cs i x → weight_of (term_of x) ≤ list_weight (map term_of ds)
-member_weight cs ds i x s h e = list_weight-member (map term_of ds) i (term_of x) (term_at cs ds i x s h e)
+member_weight cs ds i x s h e = list_weight-get (map term_of ds) i (term_of x) (term_at cs ds i x s h e)
 
 pub sub_weight : (a : Term) (ts : List Term) → weight_of (sub_term a ts) ≡ 1 + (weight_of a + list_weight ts)
 sub_weight a ts = omega (arith, parts_weight-plain ts none)

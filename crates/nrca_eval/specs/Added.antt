@@ -9,7 +9,7 @@ use Rattle.nrca_term.specs.Term.{Term}
 use Rattle.nrca_term.specs.Turns.{settle}
 use Rattle.nrca_loops.specs.declared.done.Counted.{Counted}
 use Rattle.nrca_loops.specs.declared.env.Env.{Env}
-use Rattle.nrca_loops.specs.Scope.{values, set_in}
+use Rattle.nrca_loops.specs.Values.{values, set_in}
 use Rattle.nrca_loops.specs.Within.{Within}
 use Rattle.nrca_eval.specs.declared.members.Added.{Added}
 use Rattle.nrca_eval.specs.declared.members.Added.TheVariants as added

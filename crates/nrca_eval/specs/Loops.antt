@@ -17,7 +17,7 @@ use Rattle.nrca_loops.specs.declared.env.Env.{Env}
 use Rattle.nrca_loops.specs.declared.members.Members.{Members}
 use Rattle.nrca_loops.specs.Runs.{lists_join, member_list, sets_join, sum_value, union_value}
 use Rattle.nrca_loops.specs.Parts.{cell_in, numbers_in}
-use Rattle.nrca_loops.specs.Scope.{values, boxed_value}
+use Rattle.nrca_loops.specs.Values.{values, boxed_value}
 use Rattle.nrca_loops.specs.Within.{Within, itself}
 use Rattle.nrca_eval.specs.declared.blocks.Span.{Span}
 use Rattle.nrca_eval.specs.Runs.{run_values, run_turns, cell_values, cell_turns}

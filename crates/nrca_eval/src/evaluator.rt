@@ -12,7 +12,7 @@ ghost use Rattle.nrca_eval.specs.Loops.{EvaluatesCell};
 use crate::index::strict_kept;
 use crate::lending::{cell_of_lent, dim_of_lent};
 use crate::loops::{fill_cells, sum_members, union_members};
-use crate::scope::Scope;
+use crate::machine::Machine;
 use aql_outside::Gate;
 use aql_value::saturating_product;
 use nrca_array::Held;
@@ -33,35 +33,35 @@ use std::thread::Threads;
 #[cycle(eval)]
 #[inline(never)]
 pub(crate) fn node<R: Threads + Sync, G: Gate>(
-    scope: &Scope<R, G>,
+    machine: &Machine<R, G>,
     term: &Core,
     env: &Env,
     budget: u64,
 ) -> Result<Counted<Option<Box<Held>>>, EvalFault>
-    ensures { Evaluates budget scope.now.globals.now env.now (term_of term.now) result }
+    ensures { Evaluates budget machine.now.globals.now env.now (term_of term.now) result }
 {
     match term {
-        Core::Var(at) => variable(scope.alloc, env, *at, budget),
-        Core::Global(n) => position(scope.alloc, scope.globals, *n, budget),
-        Core::Let(bound, body) => eval_let(scope, bound, body, env, budget),
-        Core::If(test, yes, no) => eval_if(scope, test, yes, no, env, budget),
-        Core::Default(first, second) => eval_default(scope, first, second, env, budget),
-        Core::BigUnion { over, body } => eval_union(scope, over, body, env, budget),
-        Core::Sum { over, body } => eval_sum(scope, over, body, env, budget),
-        Core::Tab { bounds, body } => eval_tab(scope, bounds, body, env, budget),
-        Core::Sub { array, at } => match lent_part(array, scope.globals, &*env) {
-            Some(array) => eval_cell(scope, array, at, env, budget),
-            None => eval_strict(scope, term, env, budget),
+        Core::Var(at) => variable(machine.alloc, env, *at, budget),
+        Core::Global(n) => position(machine.alloc, machine.globals, *n, budget),
+        Core::Let(bound, body) => eval_let(machine, bound, body, env, budget),
+        Core::If(test, yes, no) => eval_if(machine, test, yes, no, env, budget),
+        Core::Default(first, second) => eval_default(machine, first, second, env, budget),
+        Core::BigUnion { over, body } => eval_union(machine, over, body, env, budget),
+        Core::Sum { over, body } => eval_sum(machine, over, body, env, budget),
+        Core::Tab { bounds, body } => eval_tab(machine, bounds, body, env, budget),
+        Core::Sub { array, at } => match lent_part(array, machine.globals, &*env) {
+            Some(array) => eval_cell(machine, array, at, env, budget),
+            None => eval_strict(machine, term, env, budget),
         },
-        Core::Dim { rank, array } => match lent_part(array, scope.globals, &*env) {
-            Some(array) => dim_of_lent(scope.alloc, array, *rank, budget),
-            None => eval_strict(scope, term, env, budget),
+        Core::Dim { rank, array } => match lent_part(array, machine.globals, &*env) {
+            Some(array) => dim_of_lent(machine.alloc, array, *rank, budget),
+            None => eval_strict(machine, term, env, budget),
         },
-        Core::Proj { .. } => match lent_value(term, scope.globals, &*env) {
-            Some(part) => copy_boxed(scope.alloc, part, budget),
-            None => eval_strict(scope, term, env, budget),
+        Core::Proj { .. } => match lent_value(term, machine.globals, &*env) {
+            Some(part) => copy_boxed(machine.alloc, part, budget),
+            None => eval_strict(machine, term, env, budget),
         },
-        _ => eval_strict(scope, term, env, budget),
+        _ => eval_strict(machine, term, env, budget),
     }
 }
 
@@ -69,18 +69,18 @@ pub(crate) fn node<R: Threads + Sync, G: Gate>(
 #[cycle(eval)]
 #[inline(never)]
 fn eval_cell<R: Threads + Sync, G: Gate>(
-    scope: &Scope<R, G>,
+    machine: &Machine<R, G>,
     array: Lent,
     at: &Terms,
     env: &Env,
     budget: u64,
 ) -> Result<Counted<Option<Box<Held>>>, EvalFault>
-    ensures { EvaluatesCell budget scope.now.globals.now env.now (lent_datum array.entry) at.now
+    ensures { EvaluatesCell budget machine.now.globals.now env.now (lent_datum array.entry) at.now
         result }
 {
-    let at = eval_all(scope, at, env, budget)?;
+    let at = eval_all(machine, at, env, budget)?;
     Ok(Counted {
-        answer: cell_of_lent(scope.alloc, array, at.answer)?,
+        answer: cell_of_lent(machine.alloc, array, at.answer)?,
         turns: at.turns,
     })
 }
@@ -89,16 +89,16 @@ fn eval_cell<R: Threads + Sync, G: Gate>(
 #[cycle(eval)]
 #[inline(never)]
 fn eval_strict<R: Threads + Sync, G: Gate>(
-    scope: &Scope<R, G>,
+    machine: &Machine<R, G>,
     term: &Core,
     env: &Env,
     budget: u64,
 ) -> Result<Counted<Option<Box<Held>>>, EvalFault>
     requires { is_strict_form (form_of (term_of term.now)) ≡ true }
-    ensures { Evaluates budget scope.now.globals.now env.now (term_of term.now) result }
+    ensures { Evaluates budget machine.now.globals.now env.now (term_of term.now) result }
 {
-    let parts = eval_parts(scope, term, env, budget)?;
-    let whole = strict_kept(scope, term, parts.answer, budget - parts.turns)?;
+    let parts = eval_parts(machine, term, env, budget)?;
+    let whole = strict_kept(machine, term, parts.answer, budget - parts.turns)?;
     Ok(Counted {
         answer: whole.answer,
         turns: parts.turns + whole.turns,
@@ -109,19 +109,19 @@ fn eval_strict<R: Threads + Sync, G: Gate>(
 #[cycle(eval)]
 #[inline(never)]
 fn eval_parts<R: Threads + Sync, G: Gate>(
-    scope: &Scope<R, G>,
+    machine: &Machine<R, G>,
     term: &Core,
     env: &Env,
     budget: u64,
 ) -> Result<Counted<Option<Vec<Held>>>, EvalFault>
-    ensures { EvaluatesAll budget scope.now.globals.now env.now (part_terms term.now) result }
+    ensures { EvaluatesAll budget machine.now.globals.now env.now (part_terms term.now) result }
 {
-    let mut parts = Some(Vec::new(scope.alloc));
+    let mut parts = Some(Vec::new(machine.alloc));
     let mut turns = 0;
     for i in 0..term.parts() {
         match term.part(i) {
             Some(part) => {
-                let done = node(scope, part, env, budget - turns)?;
+                let done = node(machine, part, env, budget - turns)?;
                 keep_part(&mut parts, done.answer)?;
                 turns += done.turns;
             }
@@ -138,17 +138,17 @@ fn eval_parts<R: Threads + Sync, G: Gate>(
 #[cycle(eval)]
 #[inline(never)]
 fn eval_all<R: Threads + Sync, G: Gate>(
-    scope: &Scope<R, G>,
+    machine: &Machine<R, G>,
     terms: &Terms,
     env: &Env,
     budget: u64,
 ) -> Result<Counted<Option<Vec<Held>>>, EvalFault>
-    ensures { EvaluatesAll budget scope.now.globals.now env.now (terms_of terms.now) result }
+    ensures { EvaluatesAll budget machine.now.globals.now env.now (terms_of terms.now) result }
 {
-    let mut parts = Some(Vec::new(scope.alloc));
+    let mut parts = Some(Vec::new(machine.alloc));
     let mut turns = 0;
     for term in &terms.0 {
-        let done = node(scope, term, env, budget - turns)?;
+        let done = node(machine, term, env, budget - turns)?;
         parts = parts_kept(parts, done.answer)?;
         turns += done.turns;
     }
@@ -161,19 +161,19 @@ fn eval_all<R: Threads + Sync, G: Gate>(
 #[cycle(eval)]
 #[inline(never)]
 fn eval_let<R: Threads + Sync, G: Gate>(
-    scope: &Scope<R, G>,
+    machine: &Machine<R, G>,
     bound: &Core,
     body: &Core,
     env: &Env,
     budget: u64,
 ) -> Result<Counted<Option<Box<Held>>>, EvalFault>
-    ensures { Evaluates budget scope.now.globals.now env.now (let_of bound.now body.now) result }
+    ensures { Evaluates budget machine.now.globals.now env.now (let_of bound.now body.now) result }
 {
-    let Counted { answer, turns } = node(scope, bound, env, budget)?;
+    let Counted { answer, turns } = node(machine, bound, env, budget)?;
     match answer {
         Some(value) => {
             let inner = Env::Bound(&value, &*env);
-            let done = node(scope, body, &inner, budget - turns)?;
+            let done = node(machine, body, &inner, budget - turns)?;
             Ok(Counted {
                 answer: done.answer,
                 turns: turns + done.turns,
@@ -190,20 +190,20 @@ fn eval_let<R: Threads + Sync, G: Gate>(
 #[cycle(eval)]
 #[inline(never)]
 fn eval_if<R: Threads + Sync, G: Gate>(
-    scope: &Scope<R, G>,
+    machine: &Machine<R, G>,
     test: &Core,
     yes: &Core,
     no: &Core,
     env: &Env,
     budget: u64,
 ) -> Result<Counted<Option<Box<Held>>>, EvalFault>
-    ensures { Evaluates budget scope.now.globals.now env.now (if_of test.now yes.now no.now)
+    ensures { Evaluates budget machine.now.globals.now env.now (if_of test.now yes.now no.now)
         result }
 {
-    match quick_test(test, scope.globals, &*env) {
-        Some(true) => node(scope, yes, env, budget),
-        Some(false) => node(scope, no, env, budget),
-        None => eval_choice(scope, test, yes, no, env, budget),
+    match quick_test(test, machine.globals, &*env) {
+        Some(true) => node(machine, yes, env, budget),
+        Some(false) => node(machine, no, env, budget),
+        None => eval_choice(machine, test, yes, no, env, budget),
     }
 }
 
@@ -211,28 +211,28 @@ fn eval_if<R: Threads + Sync, G: Gate>(
 #[cycle(eval)]
 #[inline(never)]
 fn eval_choice<R: Threads + Sync, G: Gate>(
-    scope: &Scope<R, G>,
+    machine: &Machine<R, G>,
     test: &Core,
     yes: &Core,
     no: &Core,
     env: &Env,
     budget: u64,
 ) -> Result<Counted<Option<Box<Held>>>, EvalFault>
-    ensures { Evaluates budget scope.now.globals.now env.now (if_of test.now yes.now no.now)
+    ensures { Evaluates budget machine.now.globals.now env.now (if_of test.now yes.now no.now)
         result }
 {
-    let Counted { answer, turns } = node(scope, test, env, budget)?;
+    let Counted { answer, turns } = node(machine, test, env, budget)?;
     let left = budget - turns;
     match truth_kept(answer) {
         Some(true) => {
-            let done = node(scope, yes, env, left)?;
+            let done = node(machine, yes, env, left)?;
             Ok(Counted {
                 answer: done.answer,
                 turns: turns + done.turns,
             })
         }
         Some(false) => {
-            let done = node(scope, no, env, left)?;
+            let done = node(machine, no, env, left)?;
             Ok(Counted {
                 answer: done.answer,
                 turns: turns + done.turns,
@@ -248,23 +248,23 @@ fn eval_choice<R: Threads + Sync, G: Gate>(
 #[cycle(eval)]
 #[inline(never)]
 fn eval_default<R: Threads + Sync, G: Gate>(
-    scope: &Scope<R, G>,
+    machine: &Machine<R, G>,
     first: &Core,
     second: &Core,
     env: &Env,
     budget: u64,
 ) -> Result<Counted<Option<Box<Held>>>, EvalFault>
-    ensures { Evaluates budget scope.now.globals.now env.now (default_of first.now second.now)
+    ensures { Evaluates budget machine.now.globals.now env.now (default_of first.now second.now)
         result }
 {
-    let Counted { answer, turns } = node(scope, first, env, budget)?;
+    let Counted { answer, turns } = node(machine, first, env, budget)?;
     match answer {
         Some(value) => Ok(Counted {
             answer: Some(value),
             turns,
         }),
         None => {
-            let done = node(scope, second, env, budget - turns)?;
+            let done = node(machine, second, env, budget - turns)?;
             Ok(Counted {
                 answer: done.answer,
                 turns: turns + done.turns,
@@ -277,16 +277,16 @@ fn eval_default<R: Threads + Sync, G: Gate>(
 #[cycle(eval)]
 #[inline(never)]
 fn eval_members<R: Threads + Sync, G: Gate>(
-    scope: &Scope<R, G>,
+    machine: &Machine<R, G>,
     over: &Core,
     env: &Env,
     budget: u64,
 ) -> Result<Counted<Option<Members>>, EvalFault>
-    ensures { EvaluatesSet budget scope.now.globals.now env.now (term_of over.now) result }
+    ensures { EvaluatesSet budget machine.now.globals.now env.now (term_of over.now) result }
 {
     match over {
         Core::Gen(number) => {
-            let Counted { answer, turns } = node(scope, number, env, budget)?;
+            let Counted { answer, turns } = node(machine, number, env, budget)?;
             let members = members_below(from_box(answer), budget - turns)?;
             Ok(Counted {
                 answer: members.answer,
@@ -294,15 +294,15 @@ fn eval_members<R: Threads + Sync, G: Gate>(
             })
         }
         Core::Union(first, second) => {
-            let Counted { answer, turns } = node(scope, first, env, budget)?;
-            let other = node(scope, second, env, budget - turns)?;
+            let Counted { answer, turns } = node(machine, first, env, budget)?;
+            let other = node(machine, second, env, budget - turns)?;
             Ok(Counted {
                 answer: members_of_both(from_box(answer), from_box(other.answer)),
                 turns: turns + other.turns,
             })
         }
         _ => {
-            let set = node(scope, over, env, budget)?;
+            let set = node(machine, over, env, budget)?;
             Ok(Counted {
                 answer: as_members(from_box(set.answer)),
                 turns: set.turns,
@@ -314,15 +314,15 @@ fn eval_members<R: Threads + Sync, G: Gate>(
 #[cycle(eval)]
 #[inline(never)]
 fn eval_sum<R: Threads + Sync, G: Gate>(
-    scope: &Scope<R, G>,
+    machine: &Machine<R, G>,
     over: &Core,
     body: &Core,
     env: &Env,
     budget: u64,
 ) -> Result<Counted<Option<Box<Held>>>, EvalFault>
-    ensures { Evaluates budget scope.now.globals.now env.now (sum_loop over.now body.now) result }
+    ensures { Evaluates budget machine.now.globals.now env.now (sum_loop over.now body.now) result }
 {
-    let Counted { answer, turns } = eval_members(scope, over, env, budget)?;
+    let Counted { answer, turns } = eval_members(machine, over, env, budget)?;
     let left = budget - turns;
     let Some(members) = answer else {
         return Ok(Counted {
@@ -336,11 +336,11 @@ fn eval_sum<R: Threads + Sync, G: Gate>(
         return Err(EvalFault::Spent);
     }
     let count = count as u64;
-    let run = sum_members(scope, body, env, &members, count, left - count);
+    let run = sum_members(machine, body, env, &members, count, left - count);
     drop(members);
     let run = run?;
     Ok(Counted {
-        answer: to_box(scope.alloc, sum_of(run.answer))?,
+        answer: to_box(machine.alloc, sum_of(run.answer))?,
         turns: turns + count + run.turns,
     })
 }
@@ -348,15 +348,16 @@ fn eval_sum<R: Threads + Sync, G: Gate>(
 #[cycle(eval)]
 #[inline(never)]
 fn eval_union<R: Threads + Sync, G: Gate>(
-    scope: &Scope<R, G>,
+    machine: &Machine<R, G>,
     over: &Core,
     body: &Core,
     env: &Env,
     budget: u64,
 ) -> Result<Counted<Option<Box<Held>>>, EvalFault>
-    ensures { Evaluates budget scope.now.globals.now env.now (union_loop over.now body.now) result }
+    ensures { Evaluates budget machine.now.globals.now env.now
+        (union_loop over.now body.now) result }
 {
-    let Counted { answer, turns } = eval_members(scope, over, env, budget)?;
+    let Counted { answer, turns } = eval_members(machine, over, env, budget)?;
     let left = budget - turns;
     let Some(members) = answer else {
         return Ok(Counted {
@@ -370,11 +371,11 @@ fn eval_union<R: Threads + Sync, G: Gate>(
         return Err(EvalFault::Spent);
     }
     let count = count as u64;
-    let run = union_members(scope, body, env, &members, count, left - count);
+    let run = union_members(machine, body, env, &members, count, left - count);
     drop(members);
     let run = run?;
     Ok(Counted {
-        answer: to_box(scope.alloc, union_of(run.answer))?,
+        answer: to_box(machine.alloc, union_of(run.answer))?,
         turns: turns + count + run.turns,
     })
 }
@@ -382,17 +383,17 @@ fn eval_union<R: Threads + Sync, G: Gate>(
 #[cycle(eval)]
 #[inline(never)]
 fn eval_tab<R: Threads + Sync, G: Gate>(
-    scope: &Scope<R, G>,
+    machine: &Machine<R, G>,
     bounds: &Terms,
     body: &Core,
     env: &Env,
     budget: u64,
 ) -> Result<Counted<Option<Box<Held>>>, EvalFault>
-    ensures { Evaluates budget scope.now.globals.now env.now (tab_of bounds.now body.now) result }
+    ensures { Evaluates budget machine.now.globals.now env.now (tab_of bounds.now body.now) result }
 {
-    let Counted { answer, turns } = eval_all(scope, bounds, env, budget)?;
+    let Counted { answer, turns } = eval_all(machine, bounds, env, budget)?;
     let left = budget - turns;
-    let Some(dims) = numbers(scope.alloc, answer)? else {
+    let Some(dims) = numbers(machine.alloc, answer)? else {
         return Ok(Counted {
             answer: None,
             turns,
@@ -403,9 +404,9 @@ fn eval_tab<R: Threads + Sync, G: Gate>(
         return Err(EvalFault::Spent);
     }
     let count = count as u64;
-    let run = fill_cells(scope, body, env, &dims, count, left - count)?;
+    let run = fill_cells(machine, body, env, &dims, count, left - count)?;
     Ok(Counted {
-        answer: to_box(scope.alloc, table_of(dims, run.answer)?)?,
+        answer: to_box(machine.alloc, table_of(dims, run.answer)?)?,
         turns: turns + count + run.turns,
     })
 }

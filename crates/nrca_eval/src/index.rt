@@ -5,7 +5,7 @@ ghost use Rattle.std.specs.Prelude.{◌≡◌, ◌≤◌, ◌∷◌, [], None, S
 ghost use Rattle.std.specs.List.Sorted.{IsStrictlySortedBy};
 ghost use Rattle.nrca_array.specs.Held.{held_datum};
 ghost use Rattle.nrca_loops.specs.Parts.{held_values, parts_value};
-ghost use Rattle.nrca_loops.specs.Scope.{boxed_value, held_value};
+ghost use Rattle.nrca_loops.specs.Values.{boxed_value, held_value};
 ghost use Rattle.aql_value.specs.Strict.{Strict};
 ghost use Rattle.nrca_loops.specs.Evaluates.{Applies, strict_form};
 ghost use Rattle.nrca_sets.specs.Pairs.{pair_cmp};
@@ -13,8 +13,8 @@ ghost use Rattle.nrca_forms.specs.Indexing.{pairs_of, pairs_run, MakesArray};
 ghost use Rattle.nrca_forms.specs.Packed.{indexed_numbers};
 ghost use Rattle.nrca_eval.specs.Gathered.{ReadsPairs, gathered_pairs};
 
+use crate::machine::{Machine, Mode, Pool};
 use crate::pieces::in_pieces;
-use crate::scope::{Mode, Pool, Scope};
 use aql_outside::Gate;
 use aql_value::Memory;
 use nrca_array::Held;
@@ -32,19 +32,19 @@ use std::thread::Threads;
 /// What a form that evaluates all its parts and binds nothing makes of their values, on the heap.
 #[inline(never)]
 pub(crate) fn strict_kept<R: Threads + Sync, G: Gate>(
-    scope: &Scope<R, G>,
+    machine: &Machine<R, G>,
     term: &Core,
     parts: Option<Vec<Held>>,
     budget: u64,
 ) -> Result<Counted<Option<Box<Held>>>, EvalFault>
     ensures { Applies boxed_value budget (strict_form term.now) (parts_value parts) result }
 {
-    match &scope.mode {
-        Mode::Here => strict_boxed(scope.alloc, term, parts, budget),
+    match &machine.mode {
+        Mode::Here => strict_boxed(machine.alloc, term, parts, budget),
         Mode::Pieces(pool) => {
-            let made = strict_pieces(pool, scope.alloc, term, parts, budget)?;
+            let made = strict_pieces(pool, machine.alloc, term, parts, budget)?;
             Ok(Counted {
-                answer: to_box(scope.alloc, made.answer)?,
+                answer: to_box(machine.alloc, made.answer)?,
                 turns: made.turns,
             })
         }

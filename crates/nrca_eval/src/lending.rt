@@ -3,7 +3,7 @@
 ghost use Rattle.std.specs.Prelude.{◌≡◌, IfOk};
 ghost use Rattle.aql_value.specs.Operations.{dim_of};
 ghost use Rattle.nrca_forms.specs.Made.{kept_cell};
-ghost use Rattle.nrca_loops.specs.Scope.{boxed_value};
+ghost use Rattle.nrca_loops.specs.Values.{boxed_value};
 ghost use Rattle.nrca_loops.specs.Within.{Within};
 ghost use Rattle.nrca_quick.specs.Lending.{lent_datum};
 

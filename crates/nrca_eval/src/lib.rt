@@ -5,7 +5,7 @@
 //! not inside a piece is cut into pieces, each of which runs in a thread of its own; a loop inside
 //! a piece runs there. `eval` runs every loop where it stands.
 //!
-//! Read `specs/Parts`, `Runs` and `Loops` with `scope`; then the one recursion of `evaluator`, one
+//! Read `specs/Parts`, `Runs` and `Loops` with `machine`; then the one recursion of `evaluator`, one
 //! function a form, whose laws stand in `specs/Laws/Form`, and of `loops`, with `members`; and last
 //! `specs/Gathered` with `pieces` and `index`.
 #![tactic(auto)]
@@ -15,9 +15,9 @@ mod evaluator;
 mod index;
 mod lending;
 mod loops;
+mod machine;
 mod members;
 mod pieces;
-mod scope;
 
 ghost use Rattle.std.specs.Prelude.{◌≤◌};
 ghost use Rattle.aql_value.specs.Limits.{most_budget, most_workers};
@@ -25,7 +25,7 @@ ghost use Rattle.nrca_term.specs.View.{term_of};
 ghost use Rattle.nrca_loops.specs.Evaluates.{EvaluatesClosed, EvaluatesHeld};
 
 use crate::evaluator::node;
-use crate::scope::{Mode, Pool, Scope};
+use crate::machine::{Machine, Mode, Pool};
 use aql_outside::{FreeGate, Gate};
 use nrca_array::Held;
 use nrca_loops::{Counted, Env, from_box};
@@ -50,12 +50,12 @@ pub fn evaluate<R: Threads + Sync, G: Gate>(
     requires workers { (1 ≤ workers) × (workers ≤ most_workers) }
     ensures { EvaluatesClosed budget globals.now (term_of term.now) result }
 {
-    let scope = Scope {
+    let machine = Machine {
         alloc,
         globals,
         mode: Mode::Pieces(Pool { rt, workers, gate }),
     };
-    let found = node(&scope, term, &Env::Empty, budget)?;
+    let found = node(&machine, term, &Env::Empty, budget)?;
     Ok(Done {
         value: from_box(found.answer),
         turns: u128::from(found.turns),
@@ -75,12 +75,12 @@ pub fn eval<R: Threads + Sync>(
 ) -> Result<Counted<Option<Held>>, EvalFault>
     ensures { EvaluatesHeld budget globals.now env.now (term_of term.now) result }
 {
-    let scope: Scope<R, FreeGate> = Scope {
+    let machine: Machine<R, FreeGate> = Machine {
         alloc,
         globals,
         mode: Mode::Here,
     };
-    let done = node(&scope, term, &*env, budget)?;
+    let done = node(&machine, term, &*env, budget)?;
     Ok(Counted {
         answer: from_box(done.answer),
         turns: done.turns,

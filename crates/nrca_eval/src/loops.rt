@@ -10,9 +10,9 @@ ghost use Rattle.nrca_eval.specs.Loops.{Adds, Collects, Extends, Fills, Sums, Un
 
 use crate::blocks::{Span, block_cells, block_end, block_sets, block_sum, in_rows, row_end};
 use crate::evaluator::node;
+use crate::machine::{Machine, Mode};
 use crate::members::{Added, all_members, finish_members, members_and, one_member};
 use crate::pieces::in_pieces;
-use crate::scope::{Mode, Scope};
 use aql_outside::Gate;
 use aql_value::{Dims, Value};
 use nrca_array::{Builder, Held};
@@ -31,7 +31,7 @@ use std::thread::Threads;
 #[cycle(eval)]
 #[inline(never)]
 pub(crate) fn sum_members<R: Threads + Sync, G: Gate>(
-    scope: &Scope<R, G>,
+    machine: &Machine<R, G>,
     body: &Core,
     env: &Env,
     members: &Members,
@@ -39,18 +39,18 @@ pub(crate) fn sum_members<R: Threads + Sync, G: Gate>(
     budget: u64,
 ) -> Result<Counted<Option<u128>>, EvalFault>
     requires { count ≤ length (member_list members.now) }
-    ensures { Sums budget scope.now.globals.now env.now body.now members.now 0 count result }
+    ensures { Sums budget machine.now.globals.now env.now body.now members.now 0 count result }
 {
-    let Mode::Pieces(pool) = &scope.mode else {
-        return sum_run(scope, body, env, members, 0, count, budget);
+    let Mode::Pieces(pool) = &machine.mode else {
+        return sum_run(machine, body, env, members, 0, count, budget);
     };
-    let (alloc, globals) = (scope.alloc, scope.globals);
+    let (alloc, globals) = (machine.alloc, machine.globals);
     let run = move |from: u64, to: u64| -> Result<Counted<Option<u128>>, EvalFault>
         requires { (from ≤ to) × (to ≤ length (member_list members.now)) }
         ensures { Sums budget globals.entry.now env.entry.now body.entry.now members.entry.now from
             to result }
     {
-        let here: Scope<R, G> = Scope {
+        let here: Machine<R, G> = Machine {
             alloc,
             globals,
             mode: Mode::Here,
@@ -66,7 +66,7 @@ pub(crate) fn sum_members<R: Threads + Sync, G: Gate>(
 #[cycle(eval)]
 #[inline(never)]
 pub(crate) fn union_members<R: Threads + Sync, G: Gate>(
-    scope: &Scope<R, G>,
+    machine: &Machine<R, G>,
     body: &Core,
     env: &Env,
     members: &Members,
@@ -74,22 +74,22 @@ pub(crate) fn union_members<R: Threads + Sync, G: Gate>(
     budget: u64,
 ) -> Result<Counted<Option<Set>>, EvalFault>
     requires { count ≤ length (member_list members.now) }
-    ensures { Unites budget scope.now.globals.now env.now body.now members.now 0 count result }
+    ensures { Unites budget machine.now.globals.now env.now body.now members.now 0 count result }
 {
-    let Mode::Pieces(pool) = &scope.mode else {
-        let run = members_run(scope, body, env, members, 0, count, budget)?;
+    let Mode::Pieces(pool) = &machine.mode else {
+        let run = members_run(machine, body, env, members, 0, count, budget)?;
         return Ok(Counted {
             answer: finish_members(run.answer),
             turns: run.turns,
         });
     };
-    let (alloc, globals) = (scope.alloc, scope.globals);
+    let (alloc, globals) = (machine.alloc, machine.globals);
     let run = move |from: u64, to: u64| -> Result<Counted<Option<Set>>, EvalFault>
         requires { (from ≤ to) × (to ≤ length (member_list members.now)) }
         ensures { Unites budget globals.entry.now env.entry.now body.entry.now members.entry.now
             from to result }
     {
-        let here: Scope<R, G> = Scope {
+        let here: Machine<R, G> = Machine {
             alloc,
             globals,
             mode: Mode::Here,
@@ -109,7 +109,7 @@ pub(crate) fn union_members<R: Threads + Sync, G: Gate>(
 #[cycle(eval)]
 #[inline(never)]
 pub(crate) fn fill_cells<R: Threads + Sync, G: Gate>(
-    scope: &Scope<R, G>,
+    machine: &Machine<R, G>,
     body: &Core,
     env: &Env,
     dims: &Dims,
@@ -117,18 +117,18 @@ pub(crate) fn fill_cells<R: Threads + Sync, G: Gate>(
     budget: u64,
 ) -> Result<Counted<Option<Builder>>, EvalFault>
     requires { count ≤ product dims.now }
-    ensures { Fills budget scope.now.globals.now env.now body.now dims.now 0 count result }
+    ensures { Fills budget machine.now.globals.now env.now body.now dims.now 0 count result }
 {
-    let Mode::Pieces(pool) = &scope.mode else {
-        return cells_run(scope, body, env, dims, 0, count, budget);
+    let Mode::Pieces(pool) = &machine.mode else {
+        return cells_run(machine, body, env, dims, 0, count, budget);
     };
-    let (alloc, globals) = (scope.alloc, scope.globals);
+    let (alloc, globals) = (machine.alloc, machine.globals);
     let run = move |from: u64, to: u64| -> Result<Counted<Option<Builder>>, EvalFault>
         requires { (from ≤ to) × (to ≤ product dims.now) }
         ensures { Fills budget globals.entry.now env.entry.now body.entry.now dims.entry.now from to
             result }
     {
-        let here: Scope<R, G> = Scope {
+        let here: Machine<R, G> = Machine {
             alloc,
             globals,
             mode: Mode::Here,
@@ -144,20 +144,20 @@ pub(crate) fn fill_cells<R: Threads + Sync, G: Gate>(
 #[cycle(eval)]
 #[inline(never)]
 fn body_value<R: Threads + Sync, G: Gate>(
-    scope: &Scope<R, G>,
+    machine: &Machine<R, G>,
     body: &Core,
     env: &Env,
     budget: u64,
 ) -> Result<Counted<Option<Held>>, EvalFault>
-    ensures { EvaluatesHeld budget scope.now.globals.now env.now (term_of body.now) result }
+    ensures { EvaluatesHeld budget machine.now.globals.now env.now (term_of body.now) result }
 {
-    match quick(body, scope.globals, &*env) {
+    match quick(body, machine.globals, &*env) {
         Some(number) => Ok(Counted {
             answer: Some(Held::Value(Value::Nat(number))),
             turns: 0,
         }),
         None => {
-            let done = node(scope, body, env, budget)?;
+            let done = node(machine, body, env, budget)?;
             Ok(Counted {
                 answer: from_box(done.answer),
                 turns: done.turns,
@@ -170,23 +170,23 @@ fn body_value<R: Threads + Sync, G: Gate>(
 #[cycle(eval)]
 #[inline(never)]
 fn body_members<R: Threads + Sync, G: Gate>(
-    scope: &Scope<R, G>,
+    machine: &Machine<R, G>,
     body: &Core,
     env: &Env,
     budget: u64,
 ) -> Result<Counted<Option<Added>>, EvalFault>
-    ensures { EvaluatesAdded budget scope.now.globals.now env.now (term_of body.now) result }
+    ensures { EvaluatesAdded budget machine.now.globals.now env.now (term_of body.now) result }
 {
     match body {
         Core::Single(of) => {
-            let done = node(scope, of, env, budget)?;
+            let done = node(machine, of, env, budget)?;
             Ok(Counted {
-                answer: one_member(scope.alloc, from_box(done.answer))?,
+                answer: one_member(machine.alloc, from_box(done.answer))?,
                 turns: done.turns,
             })
         }
         _ => {
-            let done = node(scope, body, env, budget)?;
+            let done = node(machine, body, env, budget)?;
             Ok(Counted {
                 answer: all_members(from_box(done.answer)),
                 turns: done.turns,
@@ -199,7 +199,7 @@ fn body_members<R: Threads + Sync, G: Gate>(
 // there. The members themselves are not counted. Packed members are looked at in blocks.
 #[cycle(eval)]
 fn sum_run<R: Threads + Sync, G: Gate>(
-    scope: &Scope<R, G>,
+    machine: &Machine<R, G>,
     body: &Core,
     env: &Env,
     members: &Members,
@@ -209,17 +209,17 @@ fn sum_run<R: Threads + Sync, G: Gate>(
 ) -> Result<Counted<Option<u128>>, EvalFault>
     requires order { from ≤ to }
     requires within { to ≤ length (member_list members.now) }
-    ensures { Sums budget scope.now.globals.now env.now body.now members.now from to result }
+    ensures { Sums budget machine.now.globals.now env.now body.now members.now from to result }
 {
     if !in_blocks(members) {
-        return sum_each(scope, body, env, members, from, to, budget);
+        return sum_each(machine, body, env, members, from, to, budget);
     }
     let mut sum = Some(0);
     let mut turns = 0;
     let mut at = from;
     'by_blocks: while at < to {
         let end = block_end(at, to);
-        let done = sum_block(scope, body, env, members, at, end, budget - turns)?;
+        let done = sum_block(machine, body, env, members, at, end, budget - turns)?;
         sum = join_sums(sum, done.answer);
         turns += done.turns;
         at = end;
@@ -230,7 +230,7 @@ fn sum_run<R: Threads + Sync, G: Gate>(
 // The same over a block of members, all at once where its body is a number for each of them.
 #[cycle(eval)]
 fn sum_block<R: Threads + Sync, G: Gate>(
-    scope: &Scope<R, G>,
+    machine: &Machine<R, G>,
     body: &Core,
     env: &Env,
     members: &Members,
@@ -240,21 +240,21 @@ fn sum_block<R: Threads + Sync, G: Gate>(
 ) -> Result<Counted<Option<u128>>, EvalFault>
     requires order { from ≤ to }
     requires within { to ≤ length (member_list members.now) }
-    ensures { Sums budget scope.now.globals.now env.now body.now members.now from to result }
+    ensures { Sums budget machine.now.globals.now env.now body.now members.now from to result }
 {
-    match block_sum(scope.alloc, body, scope.globals, env, members, from, to)? {
+    match block_sum(machine.alloc, body, machine.globals, env, members, from, to)? {
         Some(sum) => Ok(Counted {
             answer: Some(sum),
             turns: 0,
         }),
-        None => sum_each(scope, body, env, members, from, to, budget),
+        None => sum_each(machine, body, env, members, from, to, budget),
     }
 }
 
 // The same, one member after another.
 #[cycle(eval)]
 fn sum_each<R: Threads + Sync, G: Gate>(
-    scope: &Scope<R, G>,
+    machine: &Machine<R, G>,
     body: &Core,
     env: &Env,
     members: &Members,
@@ -264,7 +264,7 @@ fn sum_each<R: Threads + Sync, G: Gate>(
 ) -> Result<Counted<Option<u128>>, EvalFault>
     requires order { from ≤ to }
     requires within { to ≤ length (member_list members.now) }
-    ensures { Sums budget scope.now.globals.now env.now body.now members.now from to result }
+    ensures { Sums budget machine.now.globals.now env.now body.now members.now from to result }
 {
     let mut sum = Some(0);
     let mut turns = 0;
@@ -273,10 +273,10 @@ fn sum_each<R: Threads + Sync, G: Gate>(
         let Next {
             member,
             sides: after,
-        } = members.get(scope.alloc, i, sides)?;
+        } = members.get(machine.alloc, i, sides)?;
         sides = after;
         let inner = Env::Bound(&member, &*env);
-        let done = body_value(scope, body, &inner, budget - turns);
+        let done = body_value(machine, body, &inner, budget - turns);
         drop(member);
         let done = done?;
         sum = sum_and(sum, done.answer);
@@ -290,7 +290,7 @@ fn sum_each<R: Threads + Sync, G: Gate>(
 // looked at in blocks.
 #[cycle(eval)]
 fn members_run<R: Threads + Sync, G: Gate>(
-    scope: &Scope<R, G>,
+    machine: &Machine<R, G>,
     body: &Core,
     env: &Env,
     members: &Members,
@@ -300,11 +300,11 @@ fn members_run<R: Threads + Sync, G: Gate>(
 ) -> Result<Counted<Option<Gather>>, EvalFault>
     requires order { from ≤ to }
     requires within { to ≤ length (member_list members.now) }
-    ensures { Collects budget scope.now.globals.now env.now body.now members.now from to result }
+    ensures { Collects budget machine.now.globals.now env.now body.now members.now from to result }
 {
-    let mut all = Some(Gather::new(scope.alloc));
+    let mut all = Some(Gather::new(machine.alloc));
     if !in_blocks(members) {
-        return members_each(scope, body, env, members, Span { from, to }, all, budget);
+        return members_each(machine, body, env, members, Span { from, to }, all, budget);
     }
     let mut turns = 0;
     let mut at = from;
@@ -313,7 +313,7 @@ fn members_run<R: Threads + Sync, G: Gate>(
             from: at,
             to: block_end(at, to),
         };
-        let done = members_block(scope, body, env, members, span, all, budget - turns)?;
+        let done = members_block(machine, body, env, members, span, all, budget - turns)?;
         all = done.answer;
         turns += done.turns;
         at = span.to;
@@ -325,7 +325,7 @@ fn members_run<R: Threads + Sync, G: Gate>(
 // body is a small set for each of them.
 #[cycle(eval)]
 fn members_block<R: Threads + Sync, G: Gate>(
-    scope: &Scope<R, G>,
+    machine: &Machine<R, G>,
     body: &Core,
     env: &Env,
     members: &Members,
@@ -335,18 +335,18 @@ fn members_block<R: Threads + Sync, G: Gate>(
 ) -> Result<Counted<Option<Gather>>, EvalFault>
     requires order { span.from ≤ span.to }
     requires within { span.to ≤ length (member_list members.now) }
-    ensures { Adds budget scope.now.globals.now env.now body.now members.now span all result }
+    ensures { Adds budget machine.now.globals.now env.now body.now members.now span all result }
 {
-    match block_sets(scope.alloc, body, scope.globals, env, members, span) {
+    match block_sets(machine.alloc, body, machine.globals, env, members, span) {
         Ok(Some(sets)) => {
-            let all = add_sets(scope.alloc, all, sets.as_slice());
+            let all = add_sets(machine.alloc, all, sets.as_slice());
             drop(sets);
             Ok(Counted {
                 answer: all?,
                 turns: 0,
             })
         }
-        Ok(None) => members_each(scope, body, env, members, span, all, budget),
+        Ok(None) => members_each(machine, body, env, members, span, all, budget),
         Err(fault) => {
             drop(all);
             Err(EvalFault::from(fault))
@@ -357,7 +357,7 @@ fn members_block<R: Threads + Sync, G: Gate>(
 // The same, one member after another.
 #[cycle(eval)]
 fn members_each<R: Threads + Sync, G: Gate>(
-    scope: &Scope<R, G>,
+    machine: &Machine<R, G>,
     body: &Core,
     env: &Env,
     members: &Members,
@@ -367,7 +367,7 @@ fn members_each<R: Threads + Sync, G: Gate>(
 ) -> Result<Counted<Option<Gather>>, EvalFault>
     requires order { span.from ≤ span.to }
     requires within { span.to ≤ length (member_list members.now) }
-    ensures { Adds budget scope.now.globals.now env.now body.now members.now span all result }
+    ensures { Adds budget machine.now.globals.now env.now body.now members.now span all result }
 {
     let mut all = all;
     let mut turns = 0;
@@ -376,19 +376,19 @@ fn members_each<R: Threads + Sync, G: Gate>(
         let Next {
             member,
             sides: after,
-        } = members.get(scope.alloc, i, sides)?;
+        } = members.get(machine.alloc, i, sides)?;
         sides = after;
         let inner = Env::Bound(&member, &*env);
-        let branch = chosen_branch(body, scope.globals, &inner);
-        if let Some(set) = few(branch, scope.globals, &inner) {
+        let branch = chosen_branch(body, machine.globals, &inner);
+        if let Some(set) = few(branch, machine.globals, &inner) {
             drop(member);
-            all = members_and_few(scope.alloc, all, set)?;
+            all = members_and_few(machine.alloc, all, set)?;
             continue;
         }
-        let done = body_members(scope, branch, &inner, budget - turns);
+        let done = body_members(machine, branch, &inner, budget - turns);
         drop(member);
         let done = done?;
-        all = members_and(scope.alloc, all, done.answer)?;
+        all = members_and(machine.alloc, all, done.answer)?;
         turns += done.turns;
     }
     Ok(Counted { answer: all, turns })
@@ -399,7 +399,7 @@ fn members_each<R: Threads + Sync, G: Gate>(
 // come, and looked at in blocks where the rows are not short.
 #[cycle(eval)]
 fn cells_run<R: Threads + Sync, G: Gate>(
-    scope: &Scope<R, G>,
+    machine: &Machine<R, G>,
     body: &Core,
     env: &Env,
     dims: &Dims,
@@ -409,11 +409,11 @@ fn cells_run<R: Threads + Sync, G: Gate>(
 ) -> Result<Counted<Option<Builder>>, EvalFault>
     requires order { from ≤ to }
     requires within { to ≤ product dims.now }
-    ensures { Fills budget scope.now.globals.now env.now body.now dims.now from to result }
+    ensures { Fills budget machine.now.globals.now env.now body.now dims.now from to result }
 {
-    let mut cells = Some(Builder::new(scope.alloc));
+    let mut cells = Some(Builder::new(machine.alloc));
     if !in_rows(dims) {
-        return cells_each(scope, body, env, dims, Span { from, to }, cells, budget);
+        return cells_each(machine, body, env, dims, Span { from, to }, cells, budget);
     }
     let mut turns = 0;
     let mut at = from;
@@ -422,7 +422,7 @@ fn cells_run<R: Threads + Sync, G: Gate>(
             from: at,
             to: row_end(dims, at, to),
         };
-        let done = cells_block(scope, body, env, dims, span, cells, budget - turns)?;
+        let done = cells_block(machine, body, env, dims, span, cells, budget - turns)?;
         cells = done.answer;
         turns += done.turns;
         at = span.to;
@@ -437,7 +437,7 @@ fn cells_run<R: Threads + Sync, G: Gate>(
 // number for each of them.
 #[cycle(eval)]
 fn cells_block<R: Threads + Sync, G: Gate>(
-    scope: &Scope<R, G>,
+    machine: &Machine<R, G>,
     body: &Core,
     env: &Env,
     dims: &Dims,
@@ -447,18 +447,18 @@ fn cells_block<R: Threads + Sync, G: Gate>(
 ) -> Result<Counted<Option<Builder>>, EvalFault>
     requires order { span.from ≤ span.to }
     requires within { span.to ≤ product dims.now }
-    ensures { Extends budget scope.now.globals.now env.now body.now dims.now span cells result }
+    ensures { Extends budget machine.now.globals.now env.now body.now dims.now span cells result }
 {
-    match block_cells(scope.alloc, body, scope.globals, env, dims, span) {
+    match block_cells(machine.alloc, body, machine.globals, env, dims, span) {
         Ok(Some(numbers)) => {
-            let cells = add_cells(scope.alloc, cells, numbers.as_slice());
+            let cells = add_cells(machine.alloc, cells, numbers.as_slice());
             drop(numbers);
             Ok(Counted {
                 answer: cells?,
                 turns: 0,
             })
         }
-        Ok(None) => cells_each(scope, body, env, dims, span, cells, budget),
+        Ok(None) => cells_each(machine, body, env, dims, span, cells, budget),
         Err(fault) => {
             drop(cells);
             Err(EvalFault::from(fault))
@@ -469,7 +469,7 @@ fn cells_block<R: Threads + Sync, G: Gate>(
 // The same, one cell after another.
 #[cycle(eval)]
 fn cells_each<R: Threads + Sync, G: Gate>(
-    scope: &Scope<R, G>,
+    machine: &Machine<R, G>,
     body: &Core,
     env: &Env,
     dims: &Dims,
@@ -479,17 +479,17 @@ fn cells_each<R: Threads + Sync, G: Gate>(
 ) -> Result<Counted<Option<Builder>>, EvalFault>
     requires order { span.from ≤ span.to }
     requires within { span.to ≤ product dims.now }
-    ensures { Extends budget scope.now.globals.now env.now body.now dims.now span cells result }
+    ensures { Extends budget machine.now.globals.now env.now body.now dims.now span cells result }
 {
-    let mut at = zeros(scope.alloc, dims.dims.len())?;
+    let mut at = zeros(machine.alloc, dims.dims.len())?;
     let mut cells = cells;
     let mut turns = 0;
     for place in span.from..span.to {
         set_index(dims.dims.as_slice(), u128::from(place), at.as_mut_slice());
         let inner = Env::Indices(at.as_slice(), &*env);
-        let done = body_value(scope, body, &inner, budget - turns);
+        let done = body_value(machine, body, &inner, budget - turns);
         let (kept, done) = join_done(cells, done)?;
-        cells = cells_and(scope.alloc, kept, done.answer)?;
+        cells = cells_and(machine.alloc, kept, done.answer)?;
         turns += done.turns;
     }
     Ok(Counted {

@@ -4,7 +4,7 @@ ghost use Rattle.std.specs.Prelude.{◌≡◌, ◌∷◌, [], ◌++◌, IfOk};
 ghost use Rattle.std.specs.Option.{option_map};
 ghost use Rattle.aql_value.specs.Canon.{canon};
 ghost use Rattle.aql_value.specs.Meaning.{datum};
-ghost use Rattle.nrca_loops.specs.Scope.{held_value, set_in};
+ghost use Rattle.nrca_loops.specs.Values.{held_value, set_in};
 ghost use Rattle.nrca_eval.specs.Added.{added_in, added_list, single_list};
 ghost use Rattle.nrca_quick.specs.Few.{AddsSet};
 

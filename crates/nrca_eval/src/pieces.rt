@@ -4,7 +4,7 @@ ghost use Rattle.std.specs.Prelude.{◌≡◌, ℕ, ◌<◌, ◌≤◌, IfOk, If
 ghost use Rattle.nrca_par.specs.declared.fault.EvalFault.TheVariants.{Spent};
 ghost use Rattle.nrca_par.specs.Pieces.{IsPieceAnswer, Joins, SpentOnRun};
 
-use crate::scope::Pool;
+use crate::machine::Pool;
 use aql_outside::Gate;
 use aql_value::MOST_WORKERS;
 use nrca_par::{EvalFault, map_pieces};

@@ -20,7 +20,7 @@ use Rattle.nrca_term.specs.declared.term.Terms.{Terms}
 use Rattle.nrca_term.specs.declared.term.Core.TheVariants as core
 use Rattle.nrca_loops.specs.declared.done.Counted.{Counted}
 use Rattle.nrca_loops.specs.Parts.{pair_in, strict_of}
-use Rattle.nrca_loops.specs.Scope.{held_value}
+use Rattle.nrca_loops.specs.Values.{held_value}
 use Rattle.nrca_loops.specs.Within.{Within}
 
 pub tuple_form : (ts : Terms) → strict_of (form_of (term_of (core.Tuple ts))) ≡ Strict.tuple

@@ -1,7 +1,7 @@
 -- The array that packed pairs of naturals make: its cells are the sets of the second numbers.
-use Rattle.std.proofs.Common.{◌≡◌, ℕ, ◌-◌, ◌*◌, ◌<◌, ◌^◌, Bool, true, false, List, [], ◌∷◌, length, map, take, Some, refl, sym, ◌∙◌, ap, arith}
+use Rattle.std.proofs.Common.{◌≡◌, ℕ, ◌*◌, ◌<◌, ◌^◌, Bool, true, false, List, [], ◌∷◌, length, map, Some, refl, sym, ◌∙◌, ap, arith}
 use Rattle.std.specs.Prelude.{nat_lt, nat_eq, ◌&&◌, cond}
-use Rattle.std.specs.List.{filter, slice_range, flat_map, range_with_len}
+use Rattle.std.specs.List.{filter, flat_map, range_with_len}
 use Rattle.std.specs.List.Sorted.{IsStrictlySortedBy}
 use Rattle.std.specs.Cmp.Lexicographic.{pointwise}
 use Rattle.std.specs.Ordering.{nat_cmp}
@@ -17,24 +17,18 @@ use Rattle.nrca_array.specs.Laws.Groups.{map-below, seconds_ascend, seconds_full
 use Rattle.nrca_sets.specs.Laws.Packed.{ascending_kept}
 use Rattle.nrca_sets.specs.Pairs.{pair_cmp, pair_value}
 use Rattle.nrca_sets.specs.Runs.{first_index}
+use Rattle.nrca_loops.specs.Laws.Run.{range_whole}
 use Rattle.nrca_forms.specs.Indexing.{pairs_run, pairs_value, pairs_turns, AreRanked, set_cells}
 use Rattle.nrca_forms.specs.Packed.{indexed_number, indexed_numbers}
 use Rattle.nrca_forms.proofs.Arrays.{dims_of, cells_of, value_made, turns_made}
-
-take-all : {A : Type 0} (xs : List A) → take (length xs) xs ≡ xs
-take-all [] = refl
-take-all (x ∷ xs) = ap (λ l. x ∷ l) (take-all xs)
 
 each-indexed : (ps : List (ℕ × ℕ)) → each (as_indexed 1) (map pair_value ps) ≡ Some (indexed_numbers ps)
 each-indexed [] = refl
 each-indexed (p ∷ ps) = ap (λ o. o >>= λ l. Some (indexed_number p ∷ l)) (each-indexed ps)
 
-range-all : {A : Type 0} (xs : List A) → slice_range xs 0 (length xs) ≡ xs
-range-all xs = (let e : length xs - 0 ≡ length xs = omega arith in ap (λ n. take n xs) e) ∙ take-all xs
-
 -- the pairs that packed members are
 pub packed_members : (ms : List Datum) (ps : List (ℕ × ℕ)) → ms ≡ map pair_value ps → pairs_run 1 ms 0 (length ms) ≡ Some (indexed_numbers ps)
-packed_members ms ps e = ap (each (as_indexed 1)) (range-all ms ∙ e) ∙ each-indexed ps
+packed_members ms ps e = ap (each (as_indexed 1)) (range_whole ms (length ms) refl ∙ e) ∙ each-indexed ps
 
 pub first_indices : (ps : List (ℕ × ℕ)) → map (λ p. p.0) (indexed_numbers ps) ≡ map first_index ps
 first_indices [] = refl

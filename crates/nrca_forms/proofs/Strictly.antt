@@ -1,5 +1,5 @@
 -- What the strict forms make of values, step by step.
-use Rattle.std.proofs.Common.{◌≡◌, ℕ, zero, suc, ◌-◌, ◌<◌, ◌≤◌, List, [], ◌∷◌, ◌++◌, length, map, take, drop, Option, Some, None, refl, sym, ◌∙◌, ap, arith, eq-eqb}
+use Rattle.std.proofs.Common.{◌≡◌, ℕ, zero, suc, ◌<◌, ◌≤◌, List, [], ◌∷◌, ◌++◌, length, map, take, drop, Option, Some, None, refl, sym, ◌∙◌, ap, arith, eq-eqb}
 use Rattle.std.specs.Prelude.{slice_get, nat_eq, if◌then◌else◌}
 use Rattle.std.specs.Option.{option_map}
 use Rattle.std.proofs.lemmas.List.{length-map, map-append, length-take, take-map, drop-map}
@@ -9,11 +9,13 @@ use Rattle.aql_value.specs.Laws.Operations.{index_one, index_more, length_indexe
 use Rattle.aql_value.specs.Operations.{as_natural, only, nth, array_of, literal_of}
 use Rattle.aql_value.specs.Laws.Operations.{tuple_of-if}
 use Rattle.aql_value.specs.Partial.{◌>>=◌, each}
-use Rattle.aql_value.specs.Laws.Partial.{each-append, each-length}
+use Rattle.aql_value.specs.Laws.Partial.{each-length}
 use Rattle.aql_value.specs.Strict.{Strict, strict_turns}
 use Rattle.nrca_array.specs.declared.held.Held.{Held}
 use Rattle.nrca_array.specs.Held.{held_datum}
 use Rattle.nrca_loops.specs.Parts.{numbers_with}
+use Rattle.nrca_loops.specs.Laws.Parts.{nth_there}
+use Rattle.nrca_loops.specs.Laws.Run.{each-more}
 
 pub then_map : {A B : Type 0} (f : A → B) (o : Option A) → (o >>= λ x. Some (f x)) ≡ option_map f o
 then_map f None = refl
@@ -29,10 +31,6 @@ only_else [] h = refl
 only_else (v ∷ []) h = absurd (h refl)
 only_else (v ∷ w ∷ vs) h = refl
 
-pub nth_there : (n i : ℕ) (vs : List Datum) (x : Datum) → i ≡ n - 1 → (n ≡ 0 → ⊥) → slice_get vs i ≡ Some x → nth n vs ≡ Some x
-nth_there zero i vs x e h g = absurd (h refl)
-nth_there (suc n) i vs x e h g = ap (slice_get vs) (let k : n ≡ i = omega (arith, e) in k) ∙ g
-
 pub nth_past : (n : ℕ) (vs : List Datum) → length vs < n → nth n vs ≡ None
 nth_past zero vs h = refl
 nth_past (suc n) vs h = slice_get_past vs n (omega (arith, h))
@@ -45,12 +43,7 @@ pub ruleset tuples = tuple_of-if
 
 -- the numbers of one value more
 pub numbers_push : (hs : List Held) (h : Held) → each as_natural (map held_datum (hs ++ h ∷ [])) ≡ numbers_with (each as_natural (map held_datum hs)) (held_datum h)
-numbers_push hs h = ap (each as_natural) (map-append held_datum hs (h ∷ [])) ∙ each-append as_natural (map held_datum hs) (held_datum h ∷ []) ∙ go (each as_natural (map held_datum hs)) (as_natural (held_datum h))
-  where
-    go : (o : Option (List ℕ)) (p : Option ℕ) → (o >>= λ ys. (p >>= λ y. Some (y ∷ [])) >>= λ zs. Some (ys ++ zs)) ≡ (o >>= λ ys. p >>= λ y. Some (ys ++ y ∷ []))
-    go None p = refl
-    go (Some ys) None = refl
-    go (Some ys) (Some y) = refl
+numbers_push hs h = ap (each as_natural) (map-append held_datum hs (h ∷ [])) ∙ each-more as_natural (map held_datum hs) (held_datum h)
 
 -- no values take no turns
 pub no_turns : (s : Strict) → strict_turns s None ≡ 0

@@ -11,13 +11,14 @@ use Rattle.aql_value.specs.Datum.{Datum}
 use Rattle.aql_value.specs.Indices.{indices, offset}
 use Rattle.aql_value.specs.Lists.{Every}
 use Rattle.aql_value.specs.Meaning.{datum}
-use Rattle.aql_value.specs.Operations.{as_array, as_indexed, dims_above, indexed, index_numbers, set_of, values_at, all_in_range, greater_each}
+use Rattle.aql_value.specs.Operations.{as_array, as_indexed, dims_above, index_array, index_numbers, set_of, values_at, all_in_range, greater_each}
 use Rattle.aql_value.specs.Partial.{◌>>=◌, each, if_some}
 use Rattle.aql_value.specs.declared.value.Value.{Value}
 use Rattle.nrca_array.specs.declared.held.Held.{Held}
 use Rattle.nrca_par.specs.declared.fault.EvalFault.{EvalFault}
 use Rattle.nrca_loops.specs.declared.done.Counted.{Counted}
-use Rattle.nrca_loops.specs.Scope.{held_value}
+use Rattle.nrca_loops.specs.Runs.{list_with}
+use Rattle.nrca_loops.specs.Values.{held_value}
 use Rattle.nrca_loops.specs.Within.{Within}
 use Rattle.nrca_forms.specs.declared.index.Indexed.{Indexed}
 
@@ -33,13 +34,9 @@ pairs_in ps = map pair_of ps.items
 abbrev pub pairs_of : Option (Vec Indexed Global) → Option (List (List ℕ × Datum))
 pairs_of o = option_map (λ ps. map pair_of ps.items) o
 
--- pairs and one more
-abbrev pub pairs_with : Option (List (List ℕ × Datum)) → Option (List ℕ × Datum) → Option (List (List ℕ × Datum))
-pairs_with ps p = ps >>= λ xs. p >>= λ y. Some (xs ++ y ∷ [])
-
 -- the pairs so far and one more
 abbrev pub AddsPair : Option (Vec Indexed Global) → Option Indexed → Option (Vec Indexed Global) → Type 0
-AddsPair ps p r = pairs_of r ≡ pairs_with (pairs_of ps) (option_map pair_of p)
+AddsPair ps p r = pairs_of r ≡ list_with (pairs_of ps) (option_map pair_of p)
 
 -- the indices of pairs
 abbrev pub index_lists : List Indexed → List (List ℕ)
@@ -71,7 +68,7 @@ AreRanked rank (Some ps) = Every (λ p. length p.0 ≡ rank) ps
 
 -- the array of the sets of values that pairs have at each index
 abbrev pub pairs_value : (rank : ℕ) → Option (List (List ℕ × Datum)) → Option Datum
-pairs_value rank o = o >>= λ ps. indexed (dims_above rank (map (λ p. p.0) ps)) ps
+pairs_value rank o = o >>= λ ps. index_array (dims_above rank (map (λ p. p.0) ps)) ps
 
 -- its cells, where there is one
 abbrev pub pairs_turns : (rank : ℕ) → Option (List (List ℕ × Datum)) → ℕ

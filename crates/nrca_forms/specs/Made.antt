@@ -13,7 +13,7 @@ use Rattle.nrca_par.specs.declared.fault.EvalFault.{EvalFault}
 use Rattle.nrca_par.specs.declared.fault.EvalFault.TheVariants as fault
 use Rattle.nrca_loops.specs.declared.done.Counted.{Counted}
 use Rattle.nrca_loops.specs.Parts.{held_values, parts_value, cell_in, numbers_in}
-use Rattle.nrca_loops.specs.Scope.{held_value}
+use Rattle.nrca_loops.specs.Values.{held_value}
 
 -- it is what the form makes of the values of its parts
 abbrev pub Makes : Strict → Vec Held Global → Option Held → Type 0

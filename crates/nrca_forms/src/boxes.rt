@@ -5,7 +5,7 @@ ghost use Rattle.aql_value.specs.Meaning.{datum};
 ghost use Rattle.aql_value.specs.Operations.{dim_of};
 ghost use Rattle.nrca_array.specs.Held.{held_datum};
 ghost use Rattle.nrca_loops.specs.Parts.{parts_value};
-ghost use Rattle.nrca_loops.specs.Scope.{boxed_value};
+ghost use Rattle.nrca_loops.specs.Values.{boxed_value};
 ghost use Rattle.nrca_loops.specs.Within.{Within};
 ghost use Rattle.nrca_forms.specs.Made.{kept_cell};
 ghost use Rattle.nrca_loops.specs.Evaluates.{Applies, strict_form};

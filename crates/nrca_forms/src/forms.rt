@@ -5,7 +5,7 @@ ghost use Rattle.aql_value.specs.Datum.{text, set, nil};
 ghost use Rattle.aql_value.specs.Meaning.{datum};
 ghost use Rattle.aql_value.specs.Operations.{part_of, get_of, dim_of, arith_of, compare_of, union_of as union_datum, literal_of, only};
 ghost use Rattle.aql_value.specs.Strict.{nullary, unary, binary, sub_value, Strict};
-ghost use Rattle.nrca_loops.specs.Scope.{held_value};
+ghost use Rattle.nrca_loops.specs.Values.{held_value};
 ghost use Rattle.nrca_loops.specs.Parts.{held_values, parts_value, pair_in};
 ghost use Rattle.nrca_forms.specs.Made.{IsFreed, Makes, held_pair};
 ghost use Rattle.nrca_loops.specs.Evaluates.{Applies, strict_form};

@@ -11,13 +11,13 @@ ghost use Rattle.aql_value.specs.Partial.{each};
 ghost use Rattle.nrca_array.specs.Held.{held_datum};
 ghost use Rattle.nrca_forms.specs.Indexing.{pair_of, pairs_of, pairs_run, indexed_at, extent, indexed_pair, AreRanked, push_group, ranked_numbers, values_of, AddsPair, MakesArray, groups_in, index_lists, ranged_dims, set_cells, values_by_index, PutsAt, greater_dims, pairs_in};
 ghost use Rattle.nrca_loops.specs.Runs.{lists_join};
-ghost use Rattle.nrca_loops.specs.Scope.{held_value};
+ghost use Rattle.nrca_loops.specs.Values.{held_value};
 ghost use Rattle.aql_value.specs.Strict.{Strict};
 ghost use Rattle.nrca_loops.specs.Evaluates.{Applies};
 
 use crate::operations::{free, table_of};
 use crate::runs::{index_packed, packed_pairs};
-use aql_value::{Dims, Items, Memory, Value, canon, is_below, place, saturating_product};
+use aql_value::{Dims, Items, Memory, Value, canon, is_below, offset_at, saturating_product};
 use nrca_array::{Builder, Held};
 use nrca_loops::{Counted, set_of, with_cell};
 use nrca_par::EvalFault;
@@ -394,13 +394,13 @@ fn group_values(
     let mut groups = empty_groups(alloc, count)?;
     for pair in pairs {
         let Indexed { at, value } = pair;
-        groups = place_value(groups, dims, &at, value)?;
+        groups = group_value(groups, dims, &at, value)?;
     }
     Ok(groups)
 }
 
 // The values paired with each index, with one more pair.
-fn place_value(
+fn group_value(
     groups: Vec<Vec<Value>>,
     dims: &Dims,
     at: &Dims,
@@ -412,16 +412,16 @@ fn place_value(
     if !is_below(at.dims.as_slice(), dims.dims.as_slice()) {
         return Ok(groups);
     }
-    let place = place(at.dims.as_slice(), dims.dims.as_slice());
-    push_at(groups, place as usize, value)
+    let number = offset_at(at.dims.as_slice(), dims.dims.as_slice());
+    push_at(groups, number as usize, value)
 }
 
-fn push_at(groups: Vec<Vec<Value>>, place: usize, value: Value) -> Result<Vec<Vec<Value>>, Memory>
-    requires { place < length groups.items }
-    ensures { IfOk result (λ r. groups_in r ≡ push_group place (datum value) (groups_in groups)) }
+fn push_at(groups: Vec<Vec<Value>>, number: usize, value: Value) -> Result<Vec<Vec<Value>>, Memory>
+    requires { number < length groups.items }
+    ensures { IfOk result (λ r. groups_in r ≡ push_group number (datum value) (groups_in groups)) }
 {
     let mut groups = groups;
-    groups[place].push(value)?;
+    groups[number].push(value)?;
     Ok(groups)
 }
 

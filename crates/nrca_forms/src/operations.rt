@@ -10,7 +10,7 @@ ghost use Rattle.aql_value.specs.Ops.{compare_by};
 ghost use Rattle.aql_value.specs.Order.{datum_cmp};
 ghost use Rattle.aql_value.specs.Strict.{sub_value, Strict};
 ghost use Rattle.nrca_array.specs.Held.{held_datum};
-ghost use Rattle.nrca_loops.specs.Scope.{held_value};
+ghost use Rattle.nrca_loops.specs.Values.{held_value};
 ghost use Rattle.nrca_loops.specs.Parts.{held_values, parts_value, numbers_in, numbers_with, table_in};
 ghost use Rattle.nrca_forms.specs.Made.{dims_datum, items_in, kept_cell};
 ghost use Rattle.nrca_loops.specs.Evaluates.{Applies};

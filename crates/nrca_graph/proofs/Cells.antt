@@ -4,7 +4,7 @@ use Rattle.aql_value.specs.declared.ops.ArithOp.TheVariants.{Mul, Quotient}
 use Rattle.nrca_term.specs.Term.{Term}
 use Rattle.nrca_term.specs.Nodes.{variable, number, arith_term, empty_term}
 use Rattle.nrca_term.specs.Rules.{index_variables}
-use Rattle.nrca_graph.specs.ArrayFree.{times, product_term, over_rest, further_numbers, cell_pairs, united_neighbours, united}
+use Rattle.nrca_graph.specs.ArrayFree.{times, product_term, over_rest, further_numbers, cell_pairs, united_neighbours, union_tree}
 use Rattle.nrca_graph.specs.Made.{further_number}
 
 -- one factor more
@@ -51,25 +51,25 @@ neighbours_fewer (s ∷ t ∷ ts) h = omega (arith, neighbours_few ts)
 
 -- the rounds that are left come to the same set
 abbrev pub RoundsLeft : List Term → Term → Type 0
-RoundsLeft ts all = (n : ℕ) × (length ts ≤ n) × (united n ts ≡ all)
+RoundsLeft ts all = (n : ℕ) × (length ts ≤ n) × (union_tree n ts ≡ all)
 
 -- one round less
 pub rounds_next : (ts us : List Term) (all : Term) → 1 < length ts → us ≡ united_neighbours ts → RoundsLeft ts all → RoundsLeft us all
 rounds_next ts us all h e k =
     let z : k.0 ≡ suc (k.0 - 1) = omega (arith, h, k.1) in
-    (k.0 - 1, omega (arith, h, k.1, ap length e, neighbours_fewer ts h), ap (united (k.0 - 1)) e ∙ ap (λ n. united n ts) (sym z) ∙ k.2)
+    (k.0 - 1, omega (arith, h, k.1, ap length e, neighbours_fewer ts h), ap (union_tree (k.0 - 1)) e ∙ ap (λ n. union_tree n ts) (sym z) ∙ k.2)
 
 -- rounds leave one set as it is, and no set
-one_round : (n : ℕ) (s : Term) → united n (s ∷ []) ≡ s
+one_round : (n : ℕ) (s : Term) → union_tree n (s ∷ []) ≡ s
 one_round zero s = refl
 one_round (suc n) s = one_round n s
 
-no_round : (n : ℕ) → united n [] ≡ empty_term
+no_round : (n : ℕ) → union_tree n [] ≡ empty_term
 no_round zero = refl
 no_round (suc n) = no_round n
 
 pub rounds_done : (ts : List Term) (s all : Term) → ts ≡ s ∷ [] → RoundsLeft ts all → s ≡ all
-rounds_done ts s all e k = sym (one_round k.0 s) ∙ ap (united k.0) (sym e) ∙ k.2
+rounds_done ts s all e k = sym (one_round k.0 s) ∙ ap (union_tree k.0) (sym e) ∙ k.2
 
 pub rounds_none : (ts : List Term) (all : Term) → ts ≡ [] → RoundsLeft ts all → empty_term ≡ all
-rounds_none ts all e k = sym (no_round k.0) ∙ ap (united k.0) (sym e) ∙ k.2
+rounds_none ts all e k = sym (no_round k.0) ∙ ap (union_tree k.0) (sym e) ∙ k.2

@@ -1,6 +1,6 @@
 -- Steps of the loops that make the terms of one node.
 use Rattle.std.proofs.Common.{◌≡◌, ℕ, zero, suc, ◌+◌, ◌-◌, ◌<◌, ◌≤◌, ◌^◌, false, nat_eq, nat_le, List, [], ◌∷◌, ◌++◌, length, map, Result, refl, sym, ap, subst, ◌∙◌, arith, append_assoc}
-use Rattle.std.proofs.lemmas.List.{length-map}
+use Rattle.std.proofs.lemmas.List.{length-map, map_push}
 use Rattle.aql_value.specs.declared.memory.Memory.{Memory}
 use Rattle.aql_value.specs.Lists.{Every, below}
 use Rattle.aql_value.specs.Laws.Lists.{below-last, length-below}
@@ -19,18 +19,13 @@ number_many zero j p h = refl
 number_many (suc zero) j p h = absurd (h refl)
 number_many (suc (suc rank)) j p h = refl
 
--- one more at the end
-map-last : {A : Type 0} {B : Type 0} (f : A → B) (xs : List A) (x : A) → map f (xs ++ x ∷ []) ≡ map f xs ++ f x ∷ []
-map-last f [] x = refl
-map-last f (y ∷ ys) x = ap (λ l. f y ∷ l) (map-last f ys x)
-
 -- one dimension more
 pub dimensions_next : (rank j : ℕ) (ts : List Term) (d : Term) → ts ≡ map (λ i. dimension_above rank (suc i)) (below j) → d ≡ dimension_above rank (j + 1) →
     ts ++ d ∷ [] ≡ map (λ i. dimension_above rank (suc i)) (below (j + 1))
 dimensions_next rank j ts d e h =
     let z : j + 1 ≡ suc j = omega arith in
     ap (λ l. l ++ d ∷ []) e ∙ ap (λ x. map (λ i. dimension_above rank (suc i)) (below j) ++ x ∷ []) (h ∙ ap (dimension_above rank) z)
-    ∙ sym (map-last (λ i. dimension_above rank (suc i)) (below j) j)
+    ∙ sym (map_push (λ i. dimension_above rank (suc i)) (below j) j)
     ∙ ap (map (λ i. dimension_above rank (suc i))) (sym (below-last j) ∙ ap below (sym z))
 
 -- one variable more
@@ -62,14 +57,6 @@ top-item (x ∷ front) rest d = omega (arith, top-item front rest d)
 -- each term may be shifted
 pub item_room : (ts front rest : List Term) (d : Term) (n : ℕ) → ts ≡ front ++ d ∷ rest → n ≤ length ts → MayShift ts → top_var d + n < 2 ^ 64
 item_room ts front rest d n e l h = omega (arith, h, l, ap list_top e, top-item front rest d)
-
--- the terms before one are fewer than all
-pub front_short : (all front rest : List Term) (d : Term) → all ≡ front ++ (d ∷ rest) → length front ≤ length all
-front_short all front rest d e = omega (arith, ap length e, long front)
-  where
-    long : (xs : List Term) → length xs ≤ length (xs ++ d ∷ rest)
-    long [] = omega arith
-    long (x ∷ xs) = omega (arith, long xs)
 
 -- terms of which none is high
 list_low : (n : ℕ) (ts : List Term) → Every (TopAtMost n) ts → list_top ts ≤ n

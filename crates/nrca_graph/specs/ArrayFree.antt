@@ -110,10 +110,10 @@ united_neighbours (s ∷ []) = s ∷ []
 united_neighbours (s ∷ t ∷ ts) = union_term s t ∷ united_neighbours ts
 
 -- The union of sets, in so many rounds of neighbours; a round leaves one set as it is.
-abbrev pub united : (rounds : ℕ) → List Term → Term
-united zero [] = empty_term
-united zero (t ∷ ts) = t
-united (suc n) ts = united n (united_neighbours ts)
+abbrev pub union_tree : (rounds : ℕ) → List Term → Term
+union_tree zero [] = empty_term
+union_tree zero (t ∷ ts) = t
+union_tree (suc n) ts = union_tree n (united_neighbours ts)
 
 -- A literal array: lets of the dimensions, and the cells in their places. As many rounds as cells are more than enough.
 abbrev pub literal_graph : List Term → List Term → Term
@@ -122,7 +122,7 @@ literal_graph ds cs =
     (if_term (is_filled (index_variables (length ds)) (length cs))
     (tuple_term
     (sizes_term (index_variables (length ds))
-    ∷ united (length cs) (cell_pairs 0 (index_variables (length ds)) (map (shift_term 0 (length ds)) cs)) ∷ []))
+    ∷ union_tree (length cs) (cell_pairs 0 (index_variables (length ds)) (map (shift_term 0 (length ds)) cs)) ∷ []))
     bottom_term)
 
 -- the array-free form of a node whose parts are translated

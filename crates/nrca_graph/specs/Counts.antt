@@ -2,16 +2,16 @@
 use Rattle.std.specs.Prelude.{ℕ, ◌+◌}
 use Rattle.nrca_term.specs.Term.{Term, Parts, node, none, part, Form}
 
--- the weight of a node, where each sum and each big union has a weight
-abbrev pub loop_weight : (sum big_union : ℕ) → Form → ℕ
-loop_weight a b Form.sum = a
-loop_weight a b Form.big_union = b
-loop_weight a b _ = 0
+-- what a node counts as a loop, where each sum and each big union counts so much
+abbrev pub loop_number : (sum big_union : ℕ) → Form → ℕ
+loop_number a b Form.sum = a
+loop_number a b Form.big_union = b
+loop_number a b _ = 0
 
 abbrev mutual
-  -- the weight of all loops of a term
+  -- what all loops of a term count
   pub loops_of : (sum big_union : ℕ) → Term → ℕ
-  loops_of a b (node f ps) = loop_weight a b f + parts_loops a b ps
+  loops_of a b (node f ps) = loop_number a b f + parts_loops a b ps
 
   -- those of the parts
   pub parts_loops : (sum big_union : ℕ) → Parts → ℕ

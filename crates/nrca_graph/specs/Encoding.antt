@@ -1,5 +1,5 @@
 -- Values and types without arrays: an array is the pair of its dimensions and its graph, the set of its pairs of an index and a cell.
-use Rattle.std.specs.Prelude.{◌≡◌, ℕ, List, [], ◌∷◌, replicate, Option, Some}
+use Rattle.std.specs.Prelude.{◌≡◌, ℕ, List, [], ◌∷◌, Option, Some}
 use Rattle.std.specs.List.{slice_get}
 use Rattle.aql_value.specs.Datum as datum
 use Rattle.aql_value.specs.Datum.{Datum, tuple, set, array, Data, nil, cons, data_of}
@@ -7,7 +7,7 @@ use Rattle.aql_value.specs.Indices.{indices}
 use Rattle.aql_value.specs.Operations.{index_value, set_of}
 use Rattle.aql_value.specs.Partial.{◌>>=◌}
 use Rattle.aql_types.specs.Types as types
-use Rattle.aql_types.specs.Types.{Ty, Tys, no_type, type, tys_of, index_type}
+use Rattle.aql_types.specs.Types.{Ty, Tys, no_type, type, index_type}
 
 -- two values as a tuple
 abbrev pub pair : Datum → Datum → Datum
@@ -39,8 +39,8 @@ abbrev mutual
   encodings (cons x xs) = encoding x ∷ encodings xs
 
 -- the encoded outcome
-abbrev pub encoded : Option Datum → Option Datum
-encoded o = o >>= λ v. Some (encoding v)
+abbrev pub encode_outcome : Option Datum → Option Datum
+encode_outcome o = o >>= λ v. Some (encoding v)
 
 -- the type of a tuple of two
 abbrev pub pair_type : Ty → Ty → Ty
@@ -49,10 +49,6 @@ pair_type S T = types.product (type S (type T no_type))
 -- the type of the pairs of dimensions and of a set of pairs of an index and a cell
 abbrev pub array_type : (rank : ℕ) → Ty → Ty
 array_type rank cell = pair_type (index_type rank) (types.set_of (pair_type (index_type rank) cell))
-
--- so many numbers
-abbrev pub natural_types : ℕ → Tys
-natural_types n = tys_of (replicate n types.natural)
 
 abbrev mutual
   -- the type of the encoded values of a type

@@ -7,7 +7,7 @@ use Rattle.aql_value.specs.Strict.{Strict}
 use Rattle.aql_value.specs.Indices.{prefix_products}
 use Rattle.nrca_term.specs.Term.{Term, Parts, node, none, part, Form}
 use Rattle.nrca_term.specs.Meaning.{Outcomes, Part, here, bounds_value, part_values}
-use Rattle.nrca_term.specs.Places.{entered}
+use Rattle.nrca_term.specs.Places.{entry_values}
 use Rattle.nrca_term.specs.Turns.{own_turns}
 
 -- of a subscript: the cells of the array
@@ -38,4 +38,4 @@ abbrev mutual
   -- the bound of the turns of the parts from number i on
   pub parts_graph_turns : Outcomes → List Datum → Form → List Part → ℕ → Parts → ℕ
   parts_graph_turns V vals f worths i none = 0
-  parts_graph_turns V vals f worths i (part k t ps) = total (λ new. graph_turns V (new ++ vals) t) (entered f worths i) + parts_graph_turns V vals f worths (suc i) ps
+  parts_graph_turns V vals f worths i (part k t ps) = total (λ new. graph_turns V (new ++ vals) t) (entry_values f worths i) + parts_graph_turns V vals f worths (suc i) ps

@@ -6,7 +6,7 @@ use Rattle.aql_types.specs.ValueTypes.{HaveTypes}
 use Rattle.nrca_term.specs.Term.{Term}
 use Rattle.nrca_term.specs.Meaning.{Outcomes, cden}
 use Rattle.nrca_term.specs.Typing.{ctyped, instances, OutcomesHave}
-use Rattle.nrca_graph.specs.Encoding.{encoding, encoded, encoding_type}
+use Rattle.nrca_graph.specs.Encoding.{encoding, encode_outcome, encoding_type}
 use Rattle.nrca_term.specs.Turns.{settle}
 use Rattle.nrca_graph.specs.GraphTurns.{graph_turns}
 use Rattle.nrca_graph.specs.Counts.{sums_of, big_unions_of, ranks_of}
@@ -14,7 +14,7 @@ use Rattle.nrca_graph.specs.Counts.{sums_of, big_unions_of, ranks_of}
 -- where the first term is typed, the other means its encoded value over encoded outcomes and variables, and is undefined exactly where it is
 abbrev pub MeansEncoded : Term → Term → Type 0
 MeansEncoded t g = (given : List Ty) (V : Outcomes) → OutcomesHave (instances given) V → (env : List Ty) (vals : List Datum) (T : Ty) → HaveTypes env vals →
-    ctyped (instances given) env t T → cden (map encoded V) (map encoding vals) g ≡ encoded (cden V vals t)
+    ctyped (instances given) env t T → cden (map encode_outcome V) (map encoding vals) g ≡ encode_outcome (cden V vals t)
 
 -- each type of the first term, encoded, is a type of the other, over encoded types of positions and variables
 abbrev pub HasEncodedTypes : Term → Term → Type 0
@@ -31,4 +31,4 @@ HasLoops t g = (given env : List Ty) (T : Ty) → ctyped (instances given) env t
 -- where it is typed, the other takes at most the turns of the bound, over encoded outcomes and variables
 abbrev pub TurnsWithin : Term → Term → Type 0
 TurnsWithin t g = (given : List Ty) (V : Outcomes) → OutcomesHave (instances given) V → (env : List Ty) (vals : List Datum) (T : Ty) → HaveTypes env vals →
-    ctyped (instances given) env t T → settle (map encoded V) (map encoding vals) g ≤ graph_turns V vals t
+    ctyped (instances given) env t T → settle (map encode_outcome V) (map encoding vals) g ≤ graph_turns V vals t

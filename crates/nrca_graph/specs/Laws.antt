@@ -37,7 +37,7 @@ use Rattle.aql_types.specs.ValueTypes.{HasType, HaveTypes}
 use Rattle.nrca_term.specs.Term.{Term, weight_of}
 use Rattle.nrca_term.specs.Meaning.{Outcomes, cden}
 use Rattle.nrca_term.specs.Typing.{ctyped, instances, OutcomesHave}
-use Rattle.nrca_graph.specs.Encoding.{encoding, encoded, encoding_type}
+use Rattle.nrca_graph.specs.Encoding.{encoding, encode_outcome, encoding_type}
 use Rattle.nrca_graph.specs.EncodingOrder.{KeepsOrder}
 use Rattle.nrca_graph.specs.ArrayFree.{array_free}
 use Rattle.nrca_graph.specs.Kept.{KeepsSums, HasLoops, TurnsWithin}
@@ -63,7 +63,7 @@ EncodingKeepsInstances = (u : Subst) (T : Ty) → encoding_type (apply u T) ≡ 
 -- the term is. The term weighs less than 2^128: so does every term that fits in memory.
 abbrev pub ArrayFreeMeans : Type 0
 ArrayFreeMeans = (Ts : List Ty) (V : Outcomes) → OutcomesHave (instances Ts) V → (t : Term) → weight_of t < 2 ^ 128 → (env : List Ty) (vals : List Datum) (T : Ty) →
-    HaveTypes env vals → ctyped (instances Ts) env t T → cden (map encoded V) (map encoding vals) (array_free t) ≡ encoded (cden V vals t)
+    HaveTypes env vals → ctyped (instances Ts) env t T → cden (map encode_outcome V) (map encoding vals) (array_free t) ≡ encode_outcome (cden V vals t)
 
 -- an array-free form has no tabulation, subscript, dimensions, index or literal
 abbrev pub ArrayFreeHasNone : Type 0

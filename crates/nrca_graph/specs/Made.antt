@@ -12,7 +12,7 @@ use Rattle.aql_value.specs.Lists.{below}
 use Rattle.aql_value.specs.Operations.{is_rank}
 use Rattle.nrca_term.specs.Rules.{lets, sizes_term, index_variables}
 use Rattle.nrca_graph.specs.Tabulation.{table_term}
-use Rattle.nrca_graph.specs.ArrayFree.{equal_term, paired_with, dimension_above, over_rest, index_of_cell, cell_pairs, united, array_free_node, array_free_parts}
+use Rattle.nrca_graph.specs.ArrayFree.{equal_term, paired_with, dimension_above, over_rest, index_of_cell, cell_pairs, union_tree, array_free_node, array_free_parts}
 
 -- the answer is the term, where there is one
 abbrev pub Makes : Result Core Memory → Term → Type 0
@@ -80,7 +80,7 @@ all_pairs rank cs = cell_pairs 0 (index_variables rank) (map (shift_term 0 rank)
 
 -- their union
 abbrev pub cells_graph : (rank : ℕ) → List Term → Term
-cells_graph rank cs = united (length cs) (all_pairs rank cs)
+cells_graph rank cs = union_tree (length cs) (all_pairs rank cs)
 
 -- each of the terms may be shifted by as many variables as there are terms
 abbrev pub MayShift : List Term → Type 0

@@ -6,7 +6,7 @@ ghost use Rattle.nrca_term.specs.Rules.{sizes_term, index_variables};
 ghost use Rattle.nrca_term.specs.Subst.{top_var, shift_term, list_top};
 ghost use Rattle.nrca_term.specs.View.{term_of, terms_of};
 ghost use Rattle.nrca_graph.specs.ArrayFree.{product_term, where_zero, is_filled, over_rest};
-ghost use Rattle.nrca_graph.specs.ArrayFree.{index_of_cell, cell_pairs, united_neighbours, united};
+ghost use Rattle.nrca_graph.specs.ArrayFree.{index_of_cell, cell_pairs, united_neighbours, union_tree};
 ghost use Rattle.nrca_graph.specs.ArrayFree.{literal_graph};
 ghost use Rattle.nrca_graph.specs.Made.{Makes, MakesAll, MakesOf, MayShift, joined_term};
 ghost use Rattle.nrca_graph.specs.Made.{further_number, cell_pair, zero_test, all_pairs};
@@ -159,7 +159,7 @@ fn remainder(alloc: Global, number: u128, last: u64) -> Result<Core, Memory>
 
 // The union of sets, in rounds of neighbours.
 fn unite(alloc: Global, sets: Terms) -> Result<Core, Memory>
-    ensures { Makes result (united (length (terms_of sets)) (terms_of sets)) }
+    ensures { Makes result (union_tree (length (terms_of sets)) (terms_of sets)) }
 {
     let mut sets = sets;
     while sets.0.len() > 1 {

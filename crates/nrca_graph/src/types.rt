@@ -3,9 +3,10 @@
 ghost use Rattle.std.specs.Prelude.{◌≡◌, IfOk, IsOkAnd};
 ghost use Rattle.aql_types.specs.Types as types;
 ghost use Rattle.aql_types.specs.View.{type_of, types_of};
-ghost use Rattle.nrca_graph.specs.Encoding.{encoding_type, encoding_types, array_type, natural_types};
+ghost use Rattle.nrca_graph.specs.Encoding.{encoding_type, encoding_types, array_type};
 ghost use Rattle.nrca_graph.specs.Coded.{IsPairType};
 
+use aql_types::index::index_type;
 use aql_types::ty::{Ty, row};
 use aql_value::Memory;
 use aql_value::made::{make_box, make_pair_list};
@@ -70,27 +71,4 @@ fn pair_type(alloc: Global, s: Result<Ty, Memory>, t: Result<Ty, Memory>) -> Res
 {
     let items = make_pair_list(alloc, s, t)?;
     Ok(row(items))
-}
-
-// The type of an index: a number, or a tuple of numbers.
-#[tactic(auto, using(crate::proofs::TypeSteps::index_type_many))]
-fn index_type(alloc: Global, rank: u64) -> Result<Ty, Memory>
-    ensures { IfOk result (λ made. type_of made ≡ types.index_type rank) }
-{
-    if rank == 1 {
-        return Ok(Ty::Nat);
-    }
-    let items = naturals(alloc, rank)?;
-    Ok(row(items))
-}
-
-#[tactic(auto, using(crate::proofs::TypeSteps::naturals))]
-fn naturals(alloc: Global, count: u64) -> Result<Vec<Ty>, Memory>
-    ensures { IfOk result (λ made. types_of made.items ≡ natural_types count) }
-{
-    let mut items = Vec::new(alloc);
-    for _i in 0..count {
-        items.push(Ty::Nat)?;
-    }
-    Ok(items)
 }

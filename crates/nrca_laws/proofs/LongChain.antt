@@ -1,13 +1,13 @@
 -- A chain of five steps over a tabulation too long to be evaluated: that its cells are defined follows from the law on firm terms.
 use Rattle.std.specs.Prelude.{◌≡◌, ℕ, zero, suc, true, [], ◌∷◌, List, Some, refl}
 use Rattle.std.proofs.Common.{subst, arith, ap, ◌∙◌}
+use Rattle.std.proofs.lemmas.Option.{same_Some}
 use Rattle.aql_value.specs.declared.ops.CompareOp.TheVariants as compare_op
 use Rattle.aql_value.specs.Datum.{natural, truth}
 use Rattle.aql_value.specs.Lists.{Every}
 use Rattle.aql_value.specs.Laws.Lists.{Every-impl}
 use Rattle.aql_value.specs.Strict.{Strict}
 use Rattle.aql_types.specs.Types as types
-use Rattle.aql_types.specs.Laws.Operation.{some-list}
 use Rattle.nrca_term.specs.declared.trace.Rule.TheVariants.{I1, L1, A1, C4}
 use Rattle.nrca_term.specs.declared.trace.Step as code
 use Rattle.nrca_term.specs.Term.{Term, none, part}
@@ -83,7 +83,7 @@ bodies_defined : (V : Outcomes) → Every (λ vals. Every (DefinedAt V vals cell
 bodies_defined V = firm-side (instances []) V (no_positions V) (over_three cell) types.natural sum_typed (1 ∷ []) cell refl ((0 ∷ 1 ∷ []) ∷ []) (body_firm, tt)
   where
     body_firm : FirmAt (is_defined V) (facts_at (over_three cell) (1 ∷ [])) cell (0 ∷ 1 ∷ [])
-    body_firm s e = subst (λ t. firm (is_defined V) (context_at enter_facts (facts_at (over_three cell) (1 ∷ [])) cell (0 ∷ 1 ∷ [])) t ≡ true) (some-list (variable 0) s e) refl
+    body_firm s e = subst (λ t. firm (is_defined V) (context_at enter_facts (facts_at (over_three cell) (1 ∷ [])) cell (0 ∷ 1 ∷ [])) t ≡ true) (same_Some (variable 0) s e) refl
 
 subscript_put_in : (V : Outcomes) → Step V A1 (1 ∷ []) (over_three cell) (over_three (let_term (variable 0) guarded_cell))
 subscript_put_in V = record {
@@ -118,8 +118,8 @@ below_bound : (V : Outcomes) (n : ℕ) → cden V (natural n ∷ []) (less_term 
     Side V C4 (natural n ∷ []) (less_term (variable 0) (number bound)) (truth_term true) ((0 ∷ []) ∷ (1 ∷ []) ∷ [])
 below_bound V n e = (
   (
-    (λ s q. subst (λ t. IsDefined V (natural n ∷ []) t × Unit {0}) (some-list (variable 0) s q) ((_, refl), tt)),
-    ((λ s q. subst (λ t. IsDefined V (natural n ∷ []) t × Unit {0}) (some-list (number bound) s q) ((_, refl), tt)), tt),
+    (λ s q. subst (λ t. IsDefined V (natural n ∷ []) t × Unit {0}) (same_Some (variable 0) s q) ((_, refl), tt)),
+    ((λ s q. subst (λ t. IsDefined V (natural n ∷ []) t × Unit {0}) (same_Some (number bound) s q) ((_, refl), tt)), tt),
   ),
   (λ b q. let z : true ≡ b = cc in e ∙ ap (λ c. Some (truth c)) z),
 )

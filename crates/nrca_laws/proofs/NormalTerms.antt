@@ -1,12 +1,12 @@
 -- Terms that are normal, shown at each of their places.
 use Rattle.std.specs.Prelude.{◌≡◌, ℕ, zero, suc, ◌<◌, Bool, true, false, [], ◌∷◌, List, Some, None}
 use Rattle.std.proofs.Common.{inl, inr, refl, ap, subst, arith, ◌∙◌}
+use Rattle.std.proofs.lemmas.Option.{same_Some}
 use Rattle.aql_value.specs.declared.ops.ArithOp.{ArithOp}
 use Rattle.aql_value.specs.declared.ops.ArithOp.TheVariants.{Add, Quotient}
 use Rattle.aql_value.specs.declared.ops.CompareOp.{CompareOp}
 use Rattle.aql_value.specs.Lists.{Every}
 use Rattle.aql_value.specs.Strict.{Strict}
-use Rattle.aql_types.specs.Laws.Operation.{some-list}
 use Rattle.nrca_term.specs.declared.trace.Rule.{Rule}
 use Rattle.nrca_term.specs.declared.trace.Rule.TheVariants.{B1, K1, L1, L2, L3, A2, A3, A4, A6, A7}
 use Rattle.nrca_term.specs.Term.{Term, Parts, node, none, part, plain, Form, child_of, parts_of, form_of}
@@ -35,7 +35,7 @@ one-part : (N : Context → Term → Type 0) (c : Context) (f : Form) (j : ℕ) 
 one-part N c f j a h x = all-node N c (node f (part j a none)) 1 h parts few
   where
     parts : FirstParts N c (node f (part j a none)) 1
-    parts zero u l e = subst (AllPlaces N (enter_facts c (node f (part j a none)) 0)) (some-list a u e) x
+    parts zero u l e = subst (AllPlaces N (enter_facts c (node f (part j a none)) 0)) (same_Some a u e) x
     parts (suc i) u l e = absurd (omega (arith, l))
 
     few : (i : ℕ) (u : Term) → child_of (part j a none) i ≡ Some u → i < 1
@@ -47,8 +47,8 @@ two-parts : (N : Context → Term → Type 0) (c : Context) (f : Form) (j k : �
 two-parts N c f j k a b h x y = all-node N c (node f (part j a (part k b none))) 2 h parts few
   where
     parts : FirstParts N c (node f (part j a (part k b none))) 2
-    parts zero u l e = subst (AllPlaces N (enter_facts c (node f (part j a (part k b none))) 0)) (some-list a u e) x
-    parts (suc zero) u l e = subst (AllPlaces N (enter_facts c (node f (part j a (part k b none))) 1)) (some-list b u e) y
+    parts zero u l e = subst (AllPlaces N (enter_facts c (node f (part j a (part k b none))) 0)) (same_Some a u e) x
+    parts (suc zero) u l e = subst (AllPlaces N (enter_facts c (node f (part j a (part k b none))) 1)) (same_Some b u e) y
     parts (suc (suc i)) u l e = absurd (omega (arith, l))
 
     few : (i : ℕ) (u : Term) → child_of (part j a (part k b none)) i ≡ Some u → i < 2
@@ -117,7 +117,7 @@ arith-normal D c op a i h apart =
     by B1 r ws k l x f = nothing x.0 x.2
       where
         nothing : (j : ℕ) → child_of (part 0 a (part 0 (variable i) none)) j ≡ Some bottom_term → ⊥
-        nothing zero e = apart (some-list a bottom_term e)
+        nothing zero e = apart (same_Some a bottom_term e)
         nothing (suc zero) e = cc
         nothing (suc (suc j)) e = cc
     by K1 r ws k l x f = fold x.0

@@ -2,11 +2,11 @@
 use Rattle.std.specs.Prelude.{◌≡◌, ℕ, zero, suc, Bool, true, false, [], ◌∷◌, Some, refl}
 use Rattle.std.specs.List.{slice_get}
 use Rattle.std.proofs.Common.{subst, inl, inr}
+use Rattle.std.proofs.lemmas.Option.{same_Some}
 use Rattle.aql_value.specs.declared.ops.ArithOp.TheVariants.{Add}
 use Rattle.aql_value.specs.declared.ops.CompareOp.TheVariants as compare_op
 use Rattle.aql_value.specs.Datum.{natural}
 use Rattle.aql_value.specs.Indices.{indices}
-use Rattle.aql_types.specs.Laws.Operation.{some-list}
 use Rattle.nrca_term.specs.declared.trace.Rule.TheVariants.{L1, A3, A5, A6, N2}
 use Rattle.nrca_term.specs.Term.{Term}
 use Rattle.nrca_term.specs.Nodes.{variable, position, number, bottom_term, let_term, if_term, default_term, arith_term, less_term, tab_term, sub_term, dim_term, literal_term}
@@ -45,7 +45,7 @@ used_twice = let_term (position 1) (arith_term Add (variable 0) (variable 0))
 position-reducible : IsNormal (Some (natural 7) ∷ []) used_twice → ⊥
 position-reducible n =
     (n [] used_twice refl).unfit L1 (subst_term 0 (position 1) (arith_term Add (variable 0) (variable 0))) ((0 ∷ []) ∷ []) refl
-    (position 1, arith_term Add (variable 0) (variable 0), (refl, refl), refl, refl) ((λ s e. subst (λ t. firm (is_defined (Some (natural 7) ∷ [])) no_facts t ≡ true) (some-list (position 1) s e) refl), tt)
+    (position 1, arith_term Add (variable 0) (variable 0), (refl, refl), refl, refl) ((λ s e. subst (λ t. firm (is_defined (Some (natural 7) ∷ [])) no_facts t ≡ true) (same_Some (position 1) s e) refl), tt)
 
 -- a default whose first part is firm
 abbrev defaulted : Term
@@ -53,14 +53,14 @@ defaulted = default_term (number 1) (position 1)
 
 default-reducible : (V : Outcomes) → IsNormal V defaulted → ⊥
 default-reducible V n =
-    (n [] defaulted refl).unfit N2 (number 1) ((0 ∷ []) ∷ []) refl (position 1, refl, refl) ((λ s e. subst (λ t. firm (is_defined V) no_facts t ≡ true) (some-list (number 1) s e) refl), tt)
+    (n [] defaulted refl).unfit N2 (number 1) ((0 ∷ []) ∷ []) refl (position 1, refl, refl) ((λ s e. subst (λ t. firm (is_defined V) no_facts t ≡ true) (same_Some (number 1) s e) refl), tt)
 
 -- below an index the sum of two is in range: so `dim_1([[i+i | \i<3]])` asks for nothing that is not firm
 abbrev doubles : Term
 doubles = dim_term 1 (tab_term (number 3 ∷ []) (arith_term Add (variable 0) (variable 0)))
 
 sum_firm_at : (D : ℕ → Bool) → FirmAt D no_facts doubles (0 ∷ 1 ∷ [])
-sum_firm_at D s e = subst (λ t. firm D (facts_at doubles (0 ∷ 1 ∷ [])) t ≡ true) (some-list (arith_term Add (variable 0) (variable 0)) s e) refl
+sum_firm_at D s e = subst (λ t. firm D (facts_at doubles (0 ∷ 1 ∷ [])) t ≡ true) (same_Some (arith_term Add (variable 0) (variable 0)) s e) refl
 
 tabulation-reducible : (V : Outcomes) → IsNormal V doubles → ⊥
 tabulation-reducible V n =

@@ -1,3 +1,4 @@
+pub mod Lets
 pub mod Laws
 pub mod Search
 pub mod Spans

@@ -9,7 +9,7 @@ use Rattle.aql_value.specs.Partial.{◌>>=◌}
 use Rattle.nrca_array.specs.declared.held.Held.{Held}
 use Rattle.nrca_array.specs.Held.{held_datum}
 use Rattle.nrca_term.specs.Meaning.{outcome}
-use Rattle.nrca_loops.specs.Scope.{held_value}
+use Rattle.nrca_loops.specs.Values.{held_value}
 
 pub outcome_at : (V : List (Option Datum)) (n i : ℕ) → n ≡ suc i → outcome V n ≡ (slice_get V i >>= λ o. o)
 outcome_at V n i e = ap (outcome V) e

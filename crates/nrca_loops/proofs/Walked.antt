@@ -10,24 +10,24 @@ use Rattle.std.proofs.lemmas.Nat.{div-add-mod'}
 use Rattle.std.proofs.lemmas.Bool.{lt-ltb}
 use Rattle.aql_value.specs.Datum.{Datum, natural}
 use Rattle.aql_value.specs.Indices.{product, indices, offset_of}
-use Rattle.aql_value.specs.Operations.{walked}
+use Rattle.aql_value.specs.Operations.{push_index}
 use Rattle.aql_value.specs.Laws.RowMajor.{row_major}
 use Rattle.nrca_term.specs.Laws.Lets.{walked-append, walked-past}
 
-walked_at : (at : List ℕ) (l : List Datum) (i k n : ℕ) → k + suc i ≡ length at → slice_get at k ≡ Some n → slice_get (walked at l) i ≡ Some (natural n)
+walked_at : (at : List ℕ) (l : List Datum) (i k n : ℕ) → k + suc i ≡ length at → slice_get at k ≡ Some n → slice_get (push_index at l) i ≡ Some (natural n)
 walked_at [] l i k n h e = absurd (omega (arith, h))
 walked_at (x ∷ at) l i zero n h e =
     let z : i ≡ length at + 0 = omega (arith, h) in
-    ap (slice_get (walked at (natural x ∷ l))) z ∙ walked-past at (natural x ∷ l) 0 ∙ (let y : x ≡ n = cc in ap (λ m. Some (natural m)) y)
+    ap (slice_get (push_index at (natural x ∷ l))) z ∙ walked-past at (natural x ∷ l) 0 ∙ (let y : x ≡ n = cc in ap (λ m. Some (natural m)) y)
 walked_at (x ∷ at) l i (suc k) n h e = walked_at at (natural x ∷ l) i k n (omega (arith, h)) e
 
 -- a variable that is a number of the index
-pub index_variable : (at : List ℕ) (vs : List Datum) (i k n : ℕ) → k + suc i ≡ length at → slice_get at k ≡ Some n → slice_get (walked at [] ++ vs) i ≡ Some (natural n)
+pub index_variable : (at : List ℕ) (vs : List Datum) (i k n : ℕ) → k + suc i ≡ length at → slice_get at k ≡ Some n → slice_get (push_index at [] ++ vs) i ≡ Some (natural n)
 index_variable at vs i k n h e = ap (λ l. slice_get l i) (walked-append at [] vs) ∙ walked_at at vs i k n h e
 
 -- a variable beyond the index
-pub beyond_index : (at : List ℕ) (vs : List Datum) (i j : ℕ) → i ≡ length at + j → slice_get (walked at [] ++ vs) i ≡ slice_get vs j
-beyond_index at vs i j h = ap (λ l. slice_get l i) (walked-append at [] vs) ∙ ap (slice_get (walked at vs)) h ∙ walked-past at vs j
+pub beyond_index : (at : List ℕ) (vs : List Datum) (i j : ℕ) → i ≡ length at + j → slice_get (push_index at [] ++ vs) i ≡ slice_get vs j
+beyond_index at vs i j h = ap (λ l. slice_get l i) (walked-append at [] vs) ∙ ap (slice_get (push_index at vs)) h ∙ walked-past at vs j
 
 -- each dimension is more than 0 where there is a place
 pub dimension_some : (ds : List ℕ) (j p : ℕ) → j < length ds → p < product ds → 0 < get_or ds j 0

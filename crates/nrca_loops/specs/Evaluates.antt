@@ -21,7 +21,7 @@ use Rattle.nrca_loops.specs.declared.env.Env.{Env}
 use Rattle.nrca_loops.specs.declared.members.Members.{Members}
 use Rattle.nrca_loops.specs.Parts.{parts_value, strict_in, strict_of}
 use Rattle.nrca_loops.specs.Runs.{members_value}
-use Rattle.nrca_loops.specs.Scope.{values, held_value, boxed_value, set_in, natural_in, generated}
+use Rattle.nrca_loops.specs.Values.{values, held_value, boxed_value, set_in, natural_in, gen_outcome}
 use Rattle.nrca_loops.specs.Within.{Within, AnswersWithin}
 
 -- the value of the term, on the heap, and its turns, which the budget holds; Spent comes only where they pass it
@@ -50,7 +50,7 @@ TakesNone V env t = settle V (values env) (term_of t) ≡ 0
 
 -- the naturals below the number that the value is, a turn for each
 abbrev pub Generates : ℕ → Option Datum → Result (Counted (Option Members)) EvalFault → Type 0
-Generates budget o r = Within members_value budget (set_in (generated o)) (if_some (natural_in o) (λ n. n)) r
+Generates budget o r = Within members_value budget (set_in (gen_outcome o)) (if_some (natural_in o) (λ n. n)) r
 
 -- what the evaluation of a closed term answers
 abbrev pub EvaluatesClosed : ℕ → Outcomes → Term → Result Done EvalFault → Type 0

@@ -1,4 +1,4 @@
-pub mod Scope
+pub mod Values
 pub mod Within
 pub mod Runs
 pub mod Walks

@@ -33,7 +33,7 @@ abbrev pub members_with : Option (List Datum) → Option Datum → Option (List 
 members_with ms v = ms >>= λ xs. v >>= as_set >>= λ ys. Some (xs ++ ys)
 
 -- a list with one value more
-abbrev pub list_with : Option (List Datum) → Option Datum → Option (List Datum)
+abbrev pub list_with : {A : Type 0} → Option (List A) → Option A → Option (List A)
 list_with vs v = vs >>= λ xs. v >>= λ y. Some (xs ++ y ∷ [])
 
 -- the members, where there are some

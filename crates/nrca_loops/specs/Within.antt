@@ -5,7 +5,7 @@ use Rattle.nrca_par.specs.declared.fault.EvalFault.{EvalFault}
 use Rattle.nrca_par.specs.declared.fault.EvalFault.TheVariants.{Spent}
 use Rattle.nrca_loops.specs.declared.done.Counted.{Counted}
 use Rattle.nrca_loops.specs.declared.done.Done.{Done}
-use Rattle.nrca_loops.specs.Scope.{held_value}
+use Rattle.nrca_loops.specs.Values.{held_value}
 
 -- an answer, seen by a view, is this and took these turns, which the budget holds; Spent comes only where the turns pass it
 abbrev pub Within : {T X : Type 0} → (T → X) → ℕ → X → ℕ → Result (Counted T) EvalFault → Type 0

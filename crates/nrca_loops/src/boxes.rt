@@ -2,7 +2,7 @@
 
 ghost use Rattle.std.specs.Prelude.{◌≡◌, IfOk, OnOk};
 ghost use Rattle.nrca_loops.specs.Parts.{AddsPart};
-ghost use Rattle.nrca_loops.specs.Scope.{held_value, boxed_value, truth_in};
+ghost use Rattle.nrca_loops.specs.Values.{held_value, boxed_value, truth_in};
 
 use crate::members::truth;
 use crate::runs::parts_and;

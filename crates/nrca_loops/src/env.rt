@@ -4,7 +4,7 @@ ghost use Rattle.std.specs.Prelude.{◌≡◌, List, Some, IfOk, IfSome, slice_g
 ghost use Rattle.aql_value.specs.Datum.{Datum};
 ghost use Rattle.nrca_array.specs.Held.{held_datum};
 ghost use Rattle.nrca_term.specs.Meaning.{outcome};
-ghost use Rattle.nrca_loops.specs.Scope.{values, held_value, boxed_value, FindsIndex};
+ghost use Rattle.nrca_loops.specs.Values.{values, held_value, boxed_value, FindsIndex};
 ghost use Rattle.nrca_loops.specs.Within.{Within};
 ghost use Rattle.nrca_loops.specs.Evaluates.{IsWorth, TakesNone};
 

@@ -6,7 +6,7 @@
 //! (`Within` in `specs/Within.antt`), and those of an evaluation are `Evaluates`, in
 //! `specs/Evaluates.antt`. No term within a term is evaluated here.
 //!
-//! Read `specs/Within.antt`, `Scope`, `Evaluates`, `Runs`, `Parts`; then `env.rt`, `members.rt`, `walk.rt`,
+//! Read `specs/Within.antt`, `Values`, `Evaluates`, `Runs`, `Parts`; then `env.rt`, `members.rt`, `walk.rt`,
 //! `runs.rt`, `joins.rt`, `boxes.rt` and `done.rt`.
 #![tactic(auto)]
 

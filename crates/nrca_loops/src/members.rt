@@ -3,7 +3,7 @@
 ghost use Rattle.std.specs.Prelude.{◌≡◌, ◌<◌, IfOk, Some, length, option_map};
 ghost use Rattle.aql_value.specs.Operations.{as_set, as_tuple};
 ghost use Rattle.nrca_array.specs.Held.{held_datum};
-ghost use Rattle.nrca_loops.specs.Scope.{held_value, set_in, natural_in, truth_in, united};
+ghost use Rattle.nrca_loops.specs.Values.{held_value, set_in, natural_in, truth_in, union_outcome};
 ghost use Rattle.nrca_loops.specs.Runs.{member_list, members_value};
 ghost use Rattle.nrca_loops.specs.Walks.{IsAt, IsNext};
 ghost use Rattle.nrca_loops.specs.Evaluates.{Generates};
@@ -122,7 +122,7 @@ pub fn members_below(
 /// The members of the two sets that values are.
 #[tactic(auto, using(aql_value::specs::Laws::Datum::data_lists))]
 pub fn members_of_both(first: Option<Held>, second: Option<Held>) -> Option<Members>
-    ensures { members_value result ≡ set_in (united (held_value first) (held_value second)) }
+    ensures { members_value result ≡ set_in (union_outcome (held_value first) (held_value second)) }
 {
     match set_from(first).zip(set_from(second)) {
         Some((first, second)) => Some(Members::Both(first, second)),

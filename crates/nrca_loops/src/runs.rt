@@ -4,7 +4,7 @@ ghost use Rattle.std.specs.Prelude.{◌≡◌, ◌<◌, ◌++◌, ◌∷◌, [],
 ghost use Rattle.aql_value.specs.Indices.{product, indices};
 ghost use Rattle.aql_value.specs.Meaning.{datum};
 ghost use Rattle.nrca_array.specs.Held.{held_datum};
-ghost use Rattle.nrca_loops.specs.Scope.{held_value};
+ghost use Rattle.nrca_loops.specs.Values.{held_value};
 ghost use Rattle.nrca_loops.specs.Runs.{sum_with, list_with};
 ghost use Rattle.nrca_loops.specs.Parts.{AddsPart};
 

@@ -1,13 +1,13 @@
 -- A move of a test out of a loop, computed; a term that is still and one that is not; why a loop's operand has to be defined; and turns
 -- that rise.
 use Rattle.std.specs.Prelude.{◌≡◌, false, ℕ, zero, suc, [], ◌∷◌, List, Some, None, refl}
+use Rattle.std.proofs.lemmas.Option.{same_Some}
 use Rattle.aql_value.specs.Datum as datum
 use Rattle.aql_value.specs.Datum.{nil}
 use Rattle.std.proofs.Common.{ap, sym, subst}
 use Rattle.aql_value.specs.Strict.{Strict}
 use Rattle.nrca_term.specs.Term.{Term, Parts, Form, node, form_of, parts_of, child_of, binders_of}
 use Rattle.nrca_term.specs.Rules.{LoopOf}
-use Rattle.aql_types.specs.Laws.Operation.{some-list}
 use Rattle.nrca_motion.specs.declared.moves.MoveRule.{MoveRule}
 use Rattle.nrca_term.specs.Nodes.{variable, number, truth_term, bottom_term, empty_term, single_term, big_union_term, sum_term, gen_term, if_term, let_term, less_term}
 use Rattle.nrca_term.specs.Meaning.{Outcomes, cden}
@@ -110,13 +110,13 @@ number-none = strict-none _ _ (λ i a b e. cc)
 
 -- so the term is still
 still : (V : Outcomes) → IsStill V members
-still V [] s e R r needs m f = members-none R r needs (subst (λ t. MoveRedex R t r needs) (sym (some-list members s e)) m)
-still V (zero ∷ []) s e R r needs m f = gen-none R r needs (subst (λ t. MoveRedex R t r needs) (sym (some-list (gen_term (number 3)) s e)) m)
-still V (zero ∷ zero ∷ []) s e R r needs m f = number-none R r needs (subst (λ t. MoveRedex R t r needs) (sym (some-list (number 3) s e)) m)
+still V [] s e R r needs m f = members-none R r needs (subst (λ t. MoveRedex R t r needs) (sym (same_Some members s e)) m)
+still V (zero ∷ []) s e R r needs m f = gen-none R r needs (subst (λ t. MoveRedex R t r needs) (sym (same_Some (gen_term (number 3)) s e)) m)
+still V (zero ∷ zero ∷ []) s e R r needs m f = number-none R r needs (subst (λ t. MoveRedex R t r needs) (sym (same_Some (number 3) s e)) m)
 still V (zero ∷ zero ∷ i ∷ path) s e R r needs m f = cc
 still V (zero ∷ suc i ∷ path) s e R r needs m f = cc
-still V (suc zero ∷ []) s e R r needs m f = single-none R r needs (subst (λ t. MoveRedex R t r needs) (sym (some-list (single_term (variable 0)) s e)) m)
-still V (suc zero ∷ zero ∷ []) s e R r needs m f = variable-none 0 R r needs (subst (λ t. MoveRedex R t r needs) (sym (some-list (variable 0) s e)) m)
+still V (suc zero ∷ []) s e R r needs m f = single-none R r needs (subst (λ t. MoveRedex R t r needs) (sym (same_Some (single_term (variable 0)) s e)) m)
+still V (suc zero ∷ zero ∷ []) s e R r needs m f = variable-none 0 R r needs (subst (λ t. MoveRedex R t r needs) (sym (same_Some (variable 0) s e)) m)
 still V (suc zero ∷ zero ∷ i ∷ path) s e R r needs m f = cc
 still V (suc zero ∷ suc i ∷ path) s e R r needs m f = cc
 still V (suc (suc i) ∷ path) s e R r needs m f = cc

@@ -51,8 +51,8 @@ next [] = 0
 next (j ∷ p) = j
 
 -- where a path goes on in part i, `first` being the part that it leads to
-abbrev pub GoesOn : List ℕ → (at i first : ℕ) → ℕ → Type 0
-GoesOn path at i first onward = ((i ≡ first) × (at < length path) × (onward ≡ at + 1)) ⊎ (onward ≡ length path)
+abbrev pub GoesOnward : List ℕ → (at i first : ℕ) → ℕ → Type 0
+GoesOnward path at i first onward = ((i ≡ first) × (at < length path) × (onward ≡ at + 1)) ⊎ (onward ≡ length path)
 
 -- the same site, its way one part longer
 abbrev pub IsAbove : Site → ℕ → Site → Type 0

@@ -36,7 +36,7 @@ use Rattle.nrca_term.specs.Typing.{instances, ctyped, OutcomesHave}
 use Rattle.nrca_term.specs.TypedPlaces.{Keeps}
 use Rattle.nrca_motion.specs.declared.moves.MoveRule.{MoveRule}
 use Rattle.nrca_motion.specs.declared.moves.Move as code
-use Rattle.nrca_motion.specs.Moves.{rotated, let_out, LetBelow, MoveRedex, MoveStep, MoveChain}
+use Rattle.nrca_motion.specs.Moves.{rotate_term, let_out, LetBelow, MoveRedex, MoveStep, MoveChain}
 use Rattle.nrca_motion.specs.Lowering.{measure_of}
 
 -- the right side of a move is worth what the left side is, at values of the types around it at which its terms are defined
@@ -103,7 +103,7 @@ TestsTurn = (V : Outcomes) (vals : List Datum) (f : Form) (e c b z : Term) (ms :
 -- M2 and M3: with the let's turns at each entry of the part put back, the right side takes the left side's turns and once those of the let
 abbrev pub LetsTurn : Type 0
 LetsTurn = (V : Outcomes) (vals : List Datum) (l : Term) (i : ℕ) (a b : Term) (v : Datum) → WellFormed l → LetBelow l i a b → cden V vals a ≡ Some v →
-    settle V vals (let_out a l i (rotated (binders_of (parts_of l) i) b)) + total (λ vs. settle V vals a) (entered_in V vals l i)
+    settle V vals (let_out a l i (rotate_term (binders_of (parts_of l) i) b)) + total (λ vs. settle V vals a) (entered_in V vals l i)
     ≡ settle V vals l + settle V vals a
 
 -- M4: the right side takes no more turns than the left side

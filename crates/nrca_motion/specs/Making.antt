@@ -4,7 +4,7 @@ use Rattle.nrca_term.specs.Term.{Term, Form, parts_of, child_of, binders_of, wit
 use Rattle.nrca_term.specs.Nodes.{let_term, if_term, loop_term}
 use Rattle.nrca_term.specs.Subst.{shift_term}
 use Rattle.nrca_term.specs.Rules.{LoopOf}
-use Rattle.nrca_motion.specs.Moves.{rotated, let_out, LetBelow}
+use Rattle.nrca_motion.specs.Moves.{rotate_term, let_out, LetBelow}
 
 -- part i is a let whose bound term uses none of the part's own variables
 abbrev pub HasLetBelow : Term → ℕ → Type 0
@@ -16,7 +16,7 @@ IsTestOut t r = (f : Form) × (z e c b : Term) × LoopOf f z × (t ≡ loop_term
 
 -- a let goes out of part i, past the part's own variables
 abbrev pub IsLetOut : Term → ℕ → Term → Type 0
-IsLetOut t i r = (a b : Term) × LetBelow t i a b × (r ≡ let_out a t i (rotated (binders_of (parts_of t) i) b))
+IsLetOut t i r = (a b : Term) × LetBelow t i a b × (r ≡ let_out a t i (rotate_term (binders_of (parts_of t) i) b))
 
 -- a let goes out of part i, which has no variables of its own
 abbrev pub IsStrictOut : Term → ℕ → Term → Type 0

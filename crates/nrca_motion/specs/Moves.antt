@@ -14,8 +14,8 @@ use Rattle.nrca_motion.specs.declared.moves.MoveRule.TheVariants.{M1, M2, M3, M4
 use Rattle.nrca_motion.specs.declared.moves.Move as code
 
 -- variable 0 becomes variable k, and variables 1 to k are lowered by one: a let's body whose let goes out past k variables
-abbrev pub rotated : ℕ → Term → Term
-rotated k b = subst_term 0 (variable k) (shift_term (suc k) 1 b)
+abbrev pub rotate_term : ℕ → Term → Term
+rotate_term k b = subst_term 0 (variable k) (shift_term (suc k) 1 b)
 
 -- a let around a term whose part i is another one
 abbrev pub let_out : Term → Term → ℕ → Term → Term
@@ -43,9 +43,9 @@ MoveRedex M1 l r needs =
     (f : Form) × (z e c b : Term) × LoopOf f z × (l ≡ loop_term f e (if_term (shift_term 0 1 c) b z)) × (r ≡ if_term c (loop_term f e b) z)
     × (needs ≡ e ∷ c ∷ [])
 MoveRedex M2 l r needs =
-    (i : ℕ) × (a b : Term) × LoopBody (form_of l) i × LetBelow l i a b × (r ≡ let_out a l i (rotated (binders_of (parts_of l) i) b)) × (needs ≡ a ∷ [])
+    (i : ℕ) × (a b : Term) × LoopBody (form_of l) i × LetBelow l i a b × (r ≡ let_out a l i (rotate_term (binders_of (parts_of l) i) b)) × (needs ≡ a ∷ [])
 MoveRedex M3 l r needs =
-    (i : ℕ) × (a b : Term) × TabBody (form_of l) i × LetBelow l i a b × (r ≡ let_out a l i (rotated (binders_of (parts_of l) i) b)) × (needs ≡ a ∷ [])
+    (i : ℕ) × (a b : Term) × TabBody (form_of l) i × LetBelow l i a b × (r ≡ let_out a l i (rotate_term (binders_of (parts_of l) i) b)) × (needs ≡ a ∷ [])
 MoveRedex M4 l r needs =
     (i : ℕ) × (a b : Term) × (form_of l ≡ Form.bind → ⊥) × (is_strict (form_of l) i ≡ true) × (child_of (parts_of l) i ≡ Some (let_term a b))
     × (r ≡ let_out a l i b) × (needs ≡ [])

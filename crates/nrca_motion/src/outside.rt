@@ -2,7 +2,7 @@
 
 ghost use Rattle.std.specs.Prelude.{◌≡◌, ◌≤◌, IfOk};
 ghost use Rattle.nrca_term.specs.View.{term_of};
-ghost use Rattle.nrca_motion.specs.Moves.{rotated};
+ghost use Rattle.nrca_motion.specs.Moves.{rotate_term};
 ghost use Rattle.nrca_motion.specs.Outside.{HasRoom, IsOutside};
 
 use aql_value::Memory;
@@ -29,7 +29,7 @@ pub fn strengthen(alloc: Global, term: Core, count: u64) -> Result<Option<Core>,
 pub fn rotate(alloc: Global, body: Core, count: u64) -> Result<Core, Memory>
     requires room { HasRoom (term_of body) }
     requires few { count ≤ 4000000 }
-    ensures { IfOk result (λ t. term_of t ≡ rotated count (term_of body)) }
+    ensures { IfOk result (λ t. term_of t ≡ rotate_term count (term_of body)) }
 {
     let wide = shift(body, count + 1, 1);
     let turned = subst(alloc, wide, 0, &Core::Var(count))?;

@@ -3,7 +3,7 @@
 ghost use Rattle.std.specs.Prelude.{◌≡◌, ◌≤◌, IfOk, OnOk, drop, length};
 ghost use Rattle.nrca_term.specs.View.{term_of};
 ghost use Rattle.nrca_ranges.specs.Context.{context_of, IsSmallTerm};
-ghost use Rattle.nrca_motion.specs.Found.{IsBehind, IsQuiet, IsAbove, GoesOn, TellsSite, next};
+ghost use Rattle.nrca_motion.specs.Found.{IsBehind, IsQuiet, IsAbove, GoesOnward, TellsSite, next};
 
 use crate::fitting::{Fit, fit_at};
 use aql_value::Memory;
@@ -102,7 +102,7 @@ fn first_part(from: &[u64], at: usize) -> u64
 fn rest(from: &[u64], at: usize, i: u64, first: u64) -> usize
     requires { at ≤ length from.now }
     ensures within { result ≤ length from.now }
-    ensures which { GoesOn from.now at i first result }
+    ensures which { GoesOnward from.now at i first result }
 {
     if at < from.len() && i == first {
         at + 1

@@ -10,8 +10,8 @@ use Rattle.nrca_term.specs.Rules.{inside, outside, in_first, others, constant_li
 use Rattle.nrca_laws.specs.Fitting.{RuleFits}
 use Rattle.nrca_laws.specs.Laws.Unique.{ways-fixed}
 use Rattle.nrca_setrules.specs.Laws.Lists.{numbers-same}
-use Rattle.nrca_arrayrules.specs.Constants.{IsConstantSubscript, IsPlace}
-use Rattle.nrca_arrayrules.proofs.SubscriptSides.{a5_parts, place-is, item_at}
+use Rattle.nrca_arrayrules.specs.Constants.{IsConstantSubscript, IsOffset}
+use Rattle.nrca_arrayrules.proofs.SubscriptSides.{a5_parts, offset-is, item_at}
 use Rattle.nrca_normal.specs.declared.ways.Ways.TheVariants.{Free, Others}
 use Rattle.nrca_normal.specs.Ways.{AreWays}
 
@@ -19,11 +19,11 @@ left-side : (t o : Term) (ds cs at : List Term) → t ≡ sub_term o at → o �
 left-side t o ds cs at h k w = h ∙ ap (λ x. sub_term x at) (k ∙ ap (λ xs. literal_term xs cs) w.2) ∙ ap (sub_term (constant_literal w.0 cs)) w.3
 
 -- in range: the other cells
-pub a5-inside : (t o : Term) (ds cs at : List Term) (p : ℕ) → t ≡ sub_term o at → o ≡ literal_term ds cs → RuleFits A5 true t → length cs < 2 ^ 64 → IsPlace ds at (Some p) → AreWays A5 t (Others (length ds) p (length cs))
+pub a5-inside : (t o : Term) (ds cs at : List Term) (p : ℕ) → t ≡ sub_term o at → o ≡ literal_term ds cs → RuleFits A5 true t → length cs < 2 ^ 64 → IsOffset ds at (Some p) → AreWays A5 t (Others (length ds) p (length cs))
 unfolding AreWays
 a5-inside t o ds cs at p h k f l x r ws d =
     let w = a5_parts t o ds cs at h k f in
-    let q = place-is ds cs at p w l x in
+    let q = offset-is ds cs at p w l x in
     let y = numbers-same w.0 x.0 (sym w.2 ∙ x.3) in
     let z = numbers-same w.1 x.1 (sym w.3 ∙ x.4) in
     let off : offset_of w.0 w.1 ≡ Some p = ap (λ a. offset_of a w.1) y ∙ ap (offset_of x.0) z ∙ x.5 ∙ ap Some (sym q.0) in
@@ -32,7 +32,7 @@ a5-inside t o ds cs at p h k f l x r ws d =
     ∙ ap (λ n. in_first (map (λ i. n + i) (others p (length cs)))) (sym (length-map w.0 number) ∙ ap length (sym w.2))
 
 -- out of range: none
-pub a5-outside : (t o : Term) (ds cs at : List Term) → t ≡ sub_term o at → o ≡ literal_term ds cs → RuleFits A5 true t → IsPlace ds at None → AreWays A5 t Free
+pub a5-outside : (t o : Term) (ds cs at : List Term) → t ≡ sub_term o at → o ≡ literal_term ds cs → RuleFits A5 true t → IsOffset ds at None → AreWays A5 t Free
 unfolding AreWays
 a5-outside t o ds cs at h k f x r ws d =
     let w = a5_parts t o ds cs at h k f in
@@ -47,5 +47,5 @@ a5-ranks t o ds cs at h k f =
     ap length w.2 ∙ length-map w.0 number ∙ w.4 ∙ sym (length-map w.1 number) ∙ sym (ap length w.3)
 
 -- a place is among the cells
-pub a5-below : (t o : Term) (ds cs at : List Term) (p : ℕ) → t ≡ sub_term o at → o ≡ literal_term ds cs → RuleFits A5 true t → length cs < 2 ^ 64 → IsPlace ds at (Some p) → p < length cs
-a5-below t o ds cs at p h k f l x = (place-is ds cs at p (a5_parts t o ds cs at h k f) l x).1
+pub a5-below : (t o : Term) (ds cs at : List Term) (p : ℕ) → t ≡ sub_term o at → o ≡ literal_term ds cs → RuleFits A5 true t → length cs < 2 ^ 64 → IsOffset ds at (Some p) → p < length cs
+a5-below t o ds cs at p h k f l x = (offset-is ds cs at p (a5_parts t o ds cs at h k f) l x).1

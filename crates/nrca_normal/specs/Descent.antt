@@ -112,5 +112,5 @@ pub record HasLeft (old : Descent) (m : Mark) (new : Descent) : Type 0 where
   pub steps : new.steps.items ≡ old.steps.items
 
 -- what is left to fall of a term that weighs at most 1,280,000
-unfoldable pub left : Term → ℕ
-left t = left_of (1280000 * 1280000) t
+unfoldable pub steps_left : Term → ℕ
+steps_left t = left_of (1280000 * 1280000) t

@@ -7,7 +7,7 @@ ghost use Rattle.nrca_term.specs.declared.trace.Rule.TheVariants.{L1, P1, A1, A3
 ghost use Rattle.nrca_laws.specs.Fitting.{RuleFits};
 ghost use Rattle.nrca_normal.specs.Ways.{AreWays, AreAtomWays, IsPosition, HasRoom};
 
-use nrca_arrayrules::place;
+use nrca_arrayrules::literal_offset;
 use nrca_term::{Core, Rule};
 
 /// Ways to terms that must have a value.
@@ -158,7 +158,7 @@ fn ways_of_subscript(term: &Core) -> Ways
 {
     match term {
         Core::Sub { array, at } => match &**array {
-            Core::Literal { dims, cells } => match place(dims, at) {
+            Core::Literal { dims, cells } => match literal_offset(dims, at) {
                 Some(p) => {
                     let but = p as u64;
                     Ways::Others {

@@ -6,7 +6,7 @@ use Rattle.nrca_term.specs.Term.{weight_of}
 use Rattle.nrca_term.specs.Turns.{settle}
 use Rattle.nrca_term.specs.View.{term_of}
 use Rattle.nrca_loops.specs.declared.env.Env.{Env}
-use Rattle.nrca_loops.specs.Scope.{values}
+use Rattle.nrca_loops.specs.Values.{values}
 
 -- both have the same value, or both are undefined
 abbrev pub AreWorthTheSame : Outcomes → Env → Core → Core → Type 0

@@ -9,7 +9,7 @@ use Rattle.nrca_term.specs.View.{term_of, terms_of}
 use Rattle.nrca_term.specs.declared.term.Terms.{Terms}
 use Rattle.nrca_loops.specs.declared.env.Env.{Env}
 use Rattle.nrca_loops.specs.Runs.{sets_join}
-use Rattle.nrca_loops.specs.Scope.{values}
+use Rattle.nrca_loops.specs.Values.{values}
 use Rattle.aql_value.specs.Partial.{each}
 use Rattle.nrca_sets.specs.Pairs.{pair_value}
 use Rattle.nrca_quick.specs.declared.sets.Small.{Small}

@@ -7,7 +7,7 @@ use Rattle.nrca_term.specs.declared.term.Core.{Core}
 use Rattle.nrca_term.specs.Meaning.{Outcomes, cden}
 use Rattle.nrca_term.specs.View.{term_of}
 use Rattle.nrca_loops.specs.declared.env.Env.{Env}
-use Rattle.nrca_loops.specs.Scope.{values}
+use Rattle.nrca_loops.specs.Values.{values}
 use Rattle.nrca_quick.specs.declared.lending.Lent.{Lent}
 use Rattle.nrca_quick.specs.declared.lending.Lent.TheVariants as lent
 

@@ -10,7 +10,7 @@ use Rattle.nrca_term.specs.Turns.{settle}
 use Rattle.nrca_term.specs.View.{term_of, terms_of}
 use Rattle.nrca_loops.specs.declared.env.Env.{Env}
 use Rattle.nrca_loops.specs.Parts.{cell_in, numbers_in}
-use Rattle.nrca_loops.specs.Scope.{values}
+use Rattle.nrca_loops.specs.Values.{values}
 
 -- the term is worth the number
 abbrev pub IsNumber : Outcomes → Env → Core → ℕ → Type 0

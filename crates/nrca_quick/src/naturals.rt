@@ -9,12 +9,12 @@ ghost use Rattle.aql_value.specs.Meaning.{datum};
 ghost use Rattle.aql_value.specs.Operations.{cell_of, dim_of, part_of};
 ghost use Rattle.aql_value.specs.Ops.{compare_by};
 ghost use Rattle.nrca_array.specs.Held.{held_datum};
-ghost use Rattle.nrca_array.specs.Places.{IsPlaceOf};
-ghost use Rattle.nrca_loops.specs.Scope.{values};
+ghost use Rattle.nrca_array.specs.CellNumbers.{IsCellNumber};
+ghost use Rattle.nrca_loops.specs.Values.{values};
 ghost use Rattle.nrca_quick.specs.Lending.{lent_datum};
 
 use crate::lending::{Lent, part_lent};
-use aql_value::{Cells, CompareOp, Dims, Items, Value, is_below, place};
+use aql_value::{Cells, CompareOp, Dims, Items, Value, is_below, offset_at};
 use nrca_array::{Flat, Held};
 use nrca_loops::{Env, index_variable};
 
@@ -113,20 +113,20 @@ fn value_cell(array: &Value, at: &[u128]) -> Option<u128>
 fn grid_cell(cells: &Cells, at: &[u128]) -> Option<u128>
     ensures { IfSome result (λ n. cell cells.now at.now ≡ Some (natural n)) }
 {
-    match grid_place(cells, at) {
+    match grid_offset(cells, at) {
         Some(place) => item_number(cells.items(), place),
         None => None,
     }
 }
 
 // The row-major number of an index: none where there is no such cell.
-fn grid_place(cells: &Cells, at: &[u128]) -> Option<usize>
-    ensures { IsPlaceOf cells.now at.now result }
+fn grid_offset(cells: &Cells, at: &[u128]) -> Option<usize>
+    ensures { IsCellNumber cells.now at.now result }
 {
     let _count = cell_count(cells);
     let dims = cells.dims().dims.as_slice();
     if is_below(at, dims) {
-        let place = place(at, dims);
+        let place = offset_at(at, dims);
         Some(place as usize)
     } else {
         None

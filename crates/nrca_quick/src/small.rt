@@ -7,7 +7,7 @@ ghost use Rattle.aql_value.specs.Datum.{natural};
 ghost use Rattle.aql_value.specs.Operations.{cell_of, dim_of, part_of};
 ghost use Rattle.aql_value.specs.Ops.{arith_by, compare_by};
 ghost use Rattle.nrca_array.specs.Held.{held_datum};
-ghost use Rattle.nrca_loops.specs.Scope.{values};
+ghost use Rattle.nrca_loops.specs.Values.{values};
 
 use crate::naturals::{
     cell_number, dim_number, held_number, number_compare, part_number, variable_number,

@@ -14,7 +14,7 @@ use Rattle.nrca_term.specs.Laws.TypedForm.{top_var-closed}
 use Rattle.nrca_term.specs.Laws.WellFormed.{well_formed-Core}
 use Rattle.nrca_term.specs.View.{term_of, terms_of}
 use Rattle.nrca_term.specs.Facts as facts
-use Rattle.nrca_term.specs.Facts.{Context, fact, bound_facts, tab_facts, added}
+use Rattle.nrca_term.specs.Facts.{Context, fact, bound_facts, tab_facts, part_facts}
 use Rattle.nrca_ranges.specs.declared.context.Fact.{Fact}
 use Rattle.nrca_ranges.specs.Context.{fact_of, facts_in, IsSmallTerm, HasRoom, HaveRoom, below_bounds}
 use Rattle.nrca_term.specs.Laws.Variants.{parts_weight-plain}
@@ -102,7 +102,7 @@ tab-room d t ts b e i =
     (omega (arith, n, p, k), closed-rooms d (vec_len ts.0) ts.0.items (part (length (terms_of ts)) b none) well_formed-Core c (omega (arith, n, p, k)))
 
 -- the body of a tabulation has the facts of its bounds
-pub tab-added : (d i : ℕ) (t : Term) (ts : Terms) (b : Term) → t ≡ tab_term (terms_of ts) b → vec_len ts.0 ≤ i → below_bounds (vec_len ts.0) (vec_len ts.0) (terms_of ts) d ≡ added d (form_of t) (parts_of t) i
+pub tab-added : (d i : ℕ) (t : Term) (ts : Terms) (b : Term) → t ≡ tab_term (terms_of ts) b → vec_len ts.0 ≤ i → below_bounds (vec_len ts.0) (vec_len ts.0) (terms_of ts) d ≡ part_facts d (form_of t) (parts_of t) i
 tab-added d i t ts b e l =
     let k = length-terms_of ts in
     let ps : Parts = plain (terms_of ts) (part (length (terms_of ts)) b none) in
@@ -110,16 +110,16 @@ tab-added d i t ts b e l =
     ap (λ n. below_bounds n n (terms_of ts) d) (sym k)
     ∙ sym (bounds-are (length (terms_of ts)) (length (terms_of ts)) d (terms_of ts) (part (length (terms_of ts)) b none) refl)
     ∙ ap (λ n. tab_facts n (length (terms_of ts)) ps d) (sym z)
-    ∙ ap (λ u. added d (form_of u) (parts_of u) i) (sym e)
+    ∙ ap (λ u. part_facts d (form_of u) (parts_of u) i) (sym e)
 
 -- a bound of a tabulation has no facts of its own
-pub tab-others : (d i : ℕ) (t : Term) (ts : Terms) (b : Term) → t ≡ tab_term (terms_of ts) b → i < vec_len ts.0 → [] ≡ added d (form_of t) (parts_of t) i
+pub tab-others : (d i : ℕ) (t : Term) (ts : Terms) (b : Term) → t ≡ tab_term (terms_of ts) b → i < vec_len ts.0 → [] ≡ part_facts d (form_of t) (parts_of t) i
 tab-others d i t ts b e l =
     let k = length-terms_of ts in
     let ps : Parts = plain (terms_of ts) (part (length (terms_of ts)) b none) in
     let z : length (terms_of ts) - i ≡ suc (length (terms_of ts) - i - 1) = omega (arith, k, l) in
     ap (λ n. tab_facts n (length (terms_of ts)) ps d) (sym z)
-    ∙ ap (λ u. added d (form_of u) (parts_of u) i) (sym e)
+    ∙ ap (λ u. part_facts d (form_of u) (parts_of u) i) (sym e)
 
 -- where nothing is added the facts stay
 pub nothing-added : (F G : List facts.Fact) → [] ≡ G → F ≡ F ++ G

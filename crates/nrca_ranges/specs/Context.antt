@@ -47,12 +47,12 @@ abbrev pub at_mark : Mark → Context → Context
 at_mark m c = record { facts = take m.facts c.facts; depth = m.depth }
 
 -- the context of a part of the term that stands at the place of a context
-abbrev pub entered : Ctx → Term → ℕ → Context
-entered c t i = facts.enter_facts (context_of c) t i
+abbrev pub enter_part : Ctx → Term → ℕ → Context
+enter_part c t i = facts.enter_facts (context_of c) t i
 
 -- the context in part i of a term
 abbrev pub IsEntered : Ctx → Core → ℕ → Ctx → Type 0
-IsEntered c t i r = context_of r ≡ entered c (term_of t) i
+IsEntered c t i r = context_of r ≡ enter_part c (term_of t) i
 
 -- a term whose variables are among n, and which with them weighs at most 1,280,000
 abbrev pub IsSmallTerm : ℕ → Term → Type 0
@@ -77,7 +77,7 @@ AddsTo old fs new = AddsFacts old.items new.items fs
 
 -- the facts that hold in a part of a term beside those that hold around the term
 abbrev pub facts_inside : ℕ → Term → ℕ → List facts.Fact
-facts_inside d t i = facts.added d (form_of t) (parts_of t) i
+facts_inside d t i = facts.part_facts d (form_of t) (parts_of t) i
 
 -- what the test of an if tells in a branch
 abbrev pub facts_by_test : Term → facts.Known → ℕ → List facts.Fact

@@ -13,13 +13,13 @@ abbrev pub only : ℕ → Interval
 only n = between n n
 
 -- of a number that number, of a set how many members it has, of an array its dimensions
-abbrev pub shown : Datum → Bounds
-shown (natural n) = number (only n)
-shown (truth b) = unknown
-shown (text s) = unknown
-shown (tuple vs) = unknown
-shown (set ms) = members (only (length (list_of ms))) unknown
-shown (array ds cs) = grid (map only ds) unknown
+abbrev pub exact_bounds : Datum → Bounds
+exact_bounds (natural n) = number (only n)
+exact_bounds (truth b) = unknown
+exact_bounds (text s) = unknown
+exact_bounds (tuple vs) = unknown
+exact_bounds (set ms) = members (only (length (list_of ms))) unknown
+exact_bounds (array ds cs) = grid (map only ds) unknown
 
 -- of terms, each with its interval: of a small term it is that of what is known of its value
 abbrev pub AreExactNumbers : Ctx → List Term → List Interval → Type 0

@@ -2,7 +2,7 @@
 use Rattle.std.proofs.Common.{ℕ, ◌+◌, ◌*◌, ◌-◌, ◌^◌, Bool, true, ◌&&◌, nat_lt, nat_eq, min, max, List, [], ◌∷◌, if◌then◌else◌}
 use Rattle.aql_value.specs.declared.ops.ArithOp.{ArithOp}
 use Rattle.aql_value.specs.declared.ops.ArithOp.TheVariants.{Add, Monus, Mul, Quotient, Remainder}
-use Rattle.aql_value.specs.Limits.{saturated}
+use Rattle.aql_value.specs.Limits.{saturate}
 use Rattle.nrca_ranges.specs.declared.interval.Interval.{Interval}
 
 -- the interval with these ends
@@ -37,29 +37,29 @@ least_rest low high = if is_end high then low - high else 0
 
 -- the interval of what an operation makes of a number of the one and a number of the other
 abbrev pub arith_interval : ArithOp → Interval → Interval → Interval
-arith_interval Add a b = between (saturated (a.low + b.low)) (saturated (a.high + b.high))
+arith_interval Add a b = between (saturate (a.low + b.low)) (saturate (a.high + b.high))
 arith_interval Monus a b = between (least_rest a.low b.high) a.high
-arith_interval Mul a b = between (saturated (a.low * b.low)) (saturated (a.high * b.high))
+arith_interval Mul a b = between (saturate (a.low * b.low)) (saturate (a.high * b.high))
 arith_interval Quotient a b = between 0 a.high
 arith_interval Remainder a b = between 0 (min a.high (before b.high))
 
 -- of the union of two sets: at least as many members as the greater lower end, at most the sum of the upper ends
 abbrev pub union_count : Interval → Interval → Interval
-union_count a b = between (max a.low b.low) (saturated (a.high + b.high))
+union_count a b = between (max a.low b.low) (saturate (a.high + b.high))
 
 -- of the union of sets: none, or up to the product of how many they are and how many members each has
 abbrev pub loop_count : Interval → Interval → Interval
-loop_count a b = between 0 (saturated (a.high * b.high))
+loop_count a b = between 0 (saturate (a.high * b.high))
 
 -- of a sum: the products of how many numbers they are and how great each is
 abbrev pub loop_sum : Interval → Interval → Interval
-loop_sum a b = between (saturated (a.low * b.low)) (saturated (a.high * b.high))
+loop_sum a b = between (saturate (a.low * b.low)) (saturate (a.high * b.high))
 
 -- whether the operation has a value at all numbers of the two intervals
 abbrev pub always_fits : ArithOp → Interval → Interval → Bool
-always_fits Add a b = is_end (saturated (a.high + b.high))
+always_fits Add a b = is_end (saturate (a.high + b.high))
 always_fits Monus a b = true
-always_fits Mul a b = is_end (saturated (a.high * b.high))
+always_fits Mul a b = is_end (saturate (a.high * b.high))
 always_fits Quotient a b = nat_lt 0 b.low
 always_fits Remainder a b = nat_lt 0 b.low
 

@@ -85,28 +85,28 @@ join_grids true is b = grid is b
 join_grids false is b = unknown
 
 -- a shape of all values that have one of the two: nothing is known where these are of different kinds, or of tuples
-abbrev pub joined : Bounds → Bounds → Bounds
-joined unknown b = unknown
-joined (number i) b = join_number i b
-joined (row as') b = unknown
-joined (members i a) unknown = unknown
-joined (members i a) (number j) = unknown
-joined (members i a) (row bs) = unknown
-joined (members i a) (members j b) = members (hull i j) (joined a b)
-joined (members i a) (grid js b) = unknown
-joined (grid is a) unknown = unknown
-joined (grid is a) (number j) = unknown
-joined (grid is a) (row bs) = unknown
-joined (grid is a) (members j b) = unknown
-joined (grid is a) (grid js b) = join_grids (nat_eq (length is) (length js)) (hulls is js) (joined a b)
+abbrev pub join_bounds : Bounds → Bounds → Bounds
+join_bounds unknown b = unknown
+join_bounds (number i) b = join_number i b
+join_bounds (row as') b = unknown
+join_bounds (members i a) unknown = unknown
+join_bounds (members i a) (number j) = unknown
+join_bounds (members i a) (row bs) = unknown
+join_bounds (members i a) (members j b) = members (hull i j) (join_bounds a b)
+join_bounds (members i a) (grid js b) = unknown
+join_bounds (grid is a) unknown = unknown
+join_bounds (grid is a) (number j) = unknown
+join_bounds (grid is a) (row bs) = unknown
+join_bounds (grid is a) (members j b) = unknown
+join_bounds (grid is a) (grid js b) = join_grids (nat_eq (length is) (length js)) (hulls is js) (join_bounds a b)
 
 -- the same of sets with so many members
 abbrev pub join_members : Interval → Bounds → Bounds → Bounds
-join_members i a b = joined (members i a) b
+join_members i a b = join_bounds (members i a) b
 
 -- and of arrays with these dimensions
 abbrev pub join_grid : List Interval → Bounds → Bounds → Bounds
-join_grid is a b = joined (grid is a) b
+join_grid is a b = join_bounds (grid is a) b
 
 -- entry i of a list, counted from 0
 abbrev pub entry_at : List Bounds → ℕ → Bounds
@@ -124,7 +124,7 @@ first_intervals n bs = map interval_of (take n bs)
 
 -- the shape of the union of two sets
 abbrev pub union_bounds : Bounds → Bounds → Bounds
-union_bounds a b = members (union_count (count_of a) (count_of b)) (joined (member_of a) (member_of b))
+union_bounds a b = members (union_count (count_of a) (count_of b)) (join_bounds (member_of a) (member_of b))
 
 -- the shape of the union of the sets of a body over the members of a set
 abbrev pub loop_bounds : Bounds → Bounds → Bounds
@@ -163,8 +163,8 @@ abbrev pub form_bounds : List (Option Bounds) → Form → List Bounds → Bound
 form_bounds gs (Form.var i) bs = unknown
 form_bounds gs (Form.global n) bs = position_bounds gs n
 form_bounds gs Form.bind bs = entry_at bs 1
-form_bounds gs Form.choose bs = joined (entry_at bs 1) (entry_at bs 2)
-form_bounds gs Form.default bs = joined (entry_at bs 0) (entry_at bs 1)
+form_bounds gs Form.choose bs = join_bounds (entry_at bs 1) (entry_at bs 2)
+form_bounds gs Form.default bs = join_bounds (entry_at bs 0) (entry_at bs 1)
 form_bounds gs Form.big_union bs = loop_bounds (entry_at bs 0) (entry_at bs 1)
 form_bounds gs Form.sum bs = number (loop_sum (count_of (entry_at bs 0)) (interval_of (entry_at bs 1)))
 form_bounds gs (Form.tab rank) bs = tab_bounds rank bs

@@ -5,7 +5,6 @@ use Rattle.aql_value.specs.Strict.{Strict}
 use Rattle.nrca_term.specs.declared.term.Core.{Core}
 use Rattle.nrca_term.specs.View.{term_of}
 use Rattle.nrca_term.specs.Term.{Term, Parts, none, part, Form, form_of, parts_of, child_of}
-use Rattle.nrca_term.specs.Nodes.{arith_term}
 use Rattle.nrca_term.specs.Facts.{Context, enter_facts}
 use Rattle.nrca_term.specs.Firm as pure
 use Rattle.nrca_ranges.specs.declared.context.Ctx.{Ctx}
@@ -36,10 +35,6 @@ span_with c own d t = pure.span (facts_below c own d) (term_of t)
 abbrev pub span_below : Ctx → List Fact → ℕ → ℕ → pure.Span
 span_below c own d i = pure.variable_span d i (facts_in c.facts.items ++ facts_in own)
 
--- an arithmetic node of terms of the code
-abbrev pub arith_of : ArithOp → Core → Core → Term
-arith_of op a b = arith_term op (term_of a) (term_of b)
-
 -- a form that is not arithmetic
 abbrev pub IsOther : Form → Type 0
 IsOther (Form.strict (Strict.arith op)) = ⊥
@@ -68,8 +63,8 @@ abbrev pub parts_true : Test → Context → Term → Bool
 parts_true T c t = rest_true T c t (pure.wants_all (form_of t)) 0 (parts_of t)
 
 -- both, or else one of them
-abbrev pub gathered : Bool → Bool → Bool → Bool
-gathered all a b = if all then a && b else a || b
+abbrev pub gather_flags : Bool → Bool → Bool → Bool
+gather_flags all a b = if all then a && b else a || b
 
 -- the parts from the one of that number on
 abbrev pub later_parts : ℕ → Parts → Parts
@@ -129,7 +124,7 @@ told_each = map summary_of
 -- whether the test holds of all of a list, or else of one of them
 abbrev pub rest_of : Bool → (Summary → Bool) → List Summary → Bool
 rest_of all T [] = all
-rest_of all T (s ∷ ss) = gathered all (T s) (rest_of all T ss)
+rest_of all T (s ∷ ss) = gather_flags all (T s) (rest_of all T ss)
 
 -- what is to be told of a term of the code inside of one that stands at the context, with these facts of its own
 abbrev pub summary_below : Ctx → List Fact → ℕ → Core → Summary

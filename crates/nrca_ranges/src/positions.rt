@@ -5,7 +5,7 @@ ghost use Rattle.aql_value.specs.Datum.{Data, array};
 ghost use Rattle.aql_value.specs.Meaning.{datum};
 ghost use Rattle.nrca_ranges.specs.Bounds.{HasShape, grid, unknown};
 ghost use Rattle.nrca_ranges.specs.Entered.{is_shaped, position_bounds};
-ghost use Rattle.nrca_ranges.specs.Exact.{only, shown};
+ghost use Rattle.nrca_ranges.specs.Exact.{only, exact_bounds};
 ghost use Rattle.nrca_ranges.specs.Shapes.{bounds_of, bounds_there, shapes_in, PushesShape};
 
 use crate::interval::{Interval, Intervals};
@@ -97,7 +97,7 @@ fn copy_shape(alloc: Global, shape: &Option<Shape>) -> Result<Option<Shape>, Mem
 /// array its dimensions. Of members, cells and the parts of tuples it says nothing.
 pub fn shape_of_value(alloc: Global, v: &Value) -> Result<Shape, Memory>
     ensures holds { IfOk result (λ s. HasShape (bounds_of s) (datum v.now)) }
-    ensures exact { IfOk result (λ s. bounds_of s ≡ shown (datum v.now)) }
+    ensures exact { IfOk result (λ s. bounds_of s ≡ exact_bounds (datum v.now)) }
 {
     match v {
         Value::Nat(n) => Ok(Shape::Number(Interval { low: *n, high: *n })),

@@ -3,7 +3,7 @@
 ghost use Rattle.std.specs.Prelude.{◌≡◌, IfOk};
 ghost use Rattle.nrca_ranges.specs.Shapes.{bounds_of, shapes_of};
 ghost use Rattle.nrca_ranges.specs.Transfer.{interval_of, count_of, member_of, cell_of};
-ghost use Rattle.nrca_ranges.specs.Transfer.{joined, join_number, join_members, join_grid};
+ghost use Rattle.nrca_ranges.specs.Transfer.{join_bounds, join_number, join_members, join_grid};
 
 use crate::interval::{Interval, Intervals};
 use crate::operations::{everything, hull, hulls};
@@ -143,7 +143,7 @@ pub fn cell_shape(shape: Shape) -> Shape
 /// A shape of all values that have one of the two.
 #[cycle(joins)]
 pub fn join(a: Shape, b: Shape) -> Shape
-    ensures { bounds_of result ≡ joined (bounds_of a) (bounds_of b) }
+    ensures { bounds_of result ≡ join_bounds (bounds_of a) (bounds_of b) }
 {
     match a {
         Shape::Unknown => Shape::Unknown,
@@ -222,7 +222,7 @@ fn join_with_grid(dims: Intervals, cell: Box<Shape>, b: Shape) -> Shape
 // The same of two boxes, in the first of them.
 #[cycle(joins)]
 fn join_boxes(mut a: Box<Shape>, b: Box<Shape>) -> Box<Shape>
-    ensures { bounds_of result.value ≡ joined (bounds_of a.value) (bounds_of b.value) }
+    ensures { bounds_of result.value ≡ join_bounds (bounds_of a.value) (bounds_of b.value) }
 {
     let first = mem::replace(&mut *a, Shape::Unknown);
     let second = Box::into_inner(b);

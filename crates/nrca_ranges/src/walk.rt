@@ -11,7 +11,7 @@ ghost use Rattle.nrca_ranges.specs.Entered.{is_shaped};
 ghost use Rattle.nrca_ranges.specs.Shapes.{bounds_of, bounds_each, shapes_in, certain_by_form};
 ghost use Rattle.nrca_ranges.specs.Spans.{span_of, IsOrdered};
 ghost use Rattle.nrca_ranges.specs.Transfer.{by_span};
-ghost use Rattle.nrca_ranges.specs.Walk.{span_with, span_below, IsOther, gathered};
+ghost use Rattle.nrca_ranges.specs.Walk.{span_with, span_below, IsOther, gather_flags};
 ghost use Rattle.nrca_ranges.specs.Walk.{IsArithTold, IsToldWith, AreToldWith, IsGathered};
 ghost use Rattle.nrca_ranges.specs.Walk.{told_each, summaries_below, IsSummary};
 ghost use Rattle.nrca_ranges.specs.Walk.{KeepsFacts, TellsOf, TellsOfPart, HoldsParts, ClosesNode};
@@ -262,7 +262,7 @@ fn either(a: bool, b: bool) -> bool
 
 // Both, or else one of them.
 fn gather(all: bool, a: bool, b: bool) -> bool
-    ensures { result ≡ gathered all a b }
+    ensures { result ≡ gather_flags all a b }
 {
     if all { a && b } else { a || b }
 }

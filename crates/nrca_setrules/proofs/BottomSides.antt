@@ -1,9 +1,10 @@
 -- Where B1 fits, and its right side.
-use Rattle.std.proofs.Common.{◌≡◌, ℕ, zero, suc, ◌+◌, ◌<◌, ◌⊎◌, inl, inr, true, false, [], Some, refl, sym, ap, ◌∙◌, arith}
+use Rattle.std.proofs.Common.{◌≡◌, ℕ, zero, suc, ◌+◌, ◌<◌, ◌⊎◌, inl, inr, true, false, [], refl, sym, ap, ◌∙◌, arith}
 use Rattle.nrca_term.specs.declared.trace.Rule.TheVariants.{B1}
-use Rattle.nrca_term.specs.Term.{Term, Parts, none, part, form_of, parts_of, child_of, count}
+use Rattle.nrca_term.specs.Term.{Term, form_of, parts_of, child_of, count}
 use Rattle.nrca_term.specs.Nodes.{bottom_term}
 use Rattle.nrca_term.specs.Subst.{is_strict}
+use Rattle.nrca_term.specs.Laws.Entering.{child-counted}
 use Rattle.nrca_laws.specs.Fitting.{RuleFits, IsRight}
 use Rattle.nrca_setrules.proofs.Sides.{right_of}
 use Rattle.nrca_setrules.specs.Strictly.{IsStrictBottom}
@@ -12,15 +13,9 @@ use Rattle.nrca_setrules.specs.Strictly.{IsStrictBottom}
 pub b1_fits : (t : Term) (i : ℕ) → IsStrictBottom i t → RuleFits B1 true t
 b1_fits t i h = (bottom_term, [], (i, h.0, h.1, refl, refl))
 
--- a place that has a part is among the parts
-before-count : (ps : Parts) (i : ℕ) (r : Term) → child_of ps i ≡ Some r → i < count ps
-before-count none i r e = cc
-before-count (part k t ps) zero r e = omega arith
-before-count (part k t ps) (suc i) r e = omega (arith, before-count ps i r e)
-
 -- B1 does not fit where no strict part is Bottom
 pub b1_unfit : (t : Term) (n : ℕ) → n ≡ count (parts_of t) → ((i : ℕ) → i < n → IsStrictBottom i t → ⊥) → RuleFits B1 false t
-b1_unfit t n e none_of = λ r ws x. none_of x.0 (omega (arith, e, before-count (parts_of t) x.0 bottom_term x.2)) (x.1, x.2)
+b1_unfit t n e none_of = λ r ws x. none_of x.0 (omega (arith, e, child-counted (parts_of t) x.0 bottom_term x.2)) (x.1, x.2)
 
 -- Bottom is the right side of B1
 pub b1_right : (t : Term) (f : RuleFits B1 true t) → IsRight B1 t bottom_term

@@ -2,22 +2,18 @@
 use Rattle.std.proofs.Common.{◌≡◌, ℕ, ◌+◌, ◌-◌, ◌*◌, ◌<◌, ◌≤◌, ◌^◌, min, List, [], ◌∷◌, ◌++◌, length, take, get_or, Some, None, sym, ap, subst, ◌∙◌, arith}
 use Rattle.std.proofs.lemmas.List.{length-map}
 use Rattle.aql_value.specs.Indices.{product}
-use Rattle.aql_value.specs.Laws.Saturation.{saturating_step}
+use Rattle.aql_value.specs.Laws.Saturation.{saturating_product}
 use Rattle.nrca_term.specs.Term.{Term}
 use Rattle.nrca_term.specs.Nodes.{number}
 use Rattle.nrca_setrules.specs.Constants.{CountsCells, IsMisshapen}
 use Rattle.nrca_setrules.specs.Laws.Lists.{numbers-same, product-more, numbers-more, number-at, whole-list}
-
--- a product that stopped at the greatest number stays there
-times : (a n m : ℕ) → min (min a m * n) m ≡ min (a * n) m
-times a n m = omega (arith, saturating_step a n 0 m)
 
 -- the count with one dimension more
 pub count-step : (ts : List Term) (i all n : ℕ) (u : Term) → i < length ts → u ≡ get_or ts i u → u ≡ number n → CountsCells (take i ts) (Some all) → CountsCells (take (i + 1) ts) (Some (min (all * n) (2 ^ 128 - 1)))
 count-step ts i all n u l e h t = (
   t.0 ++ n ∷ [],
   numbers-more ts i n t.0 u l e h t.1,
-  ap (λ a. min (a * n) (2 ^ 128 - 1)) t.2 ∙ times (product t.0) n (2 ^ 128 - 1) ∙ ap (λ a. min a (2 ^ 128 - 1)) (sym (product-more t.0 n)),
+  ap (λ a. min (a * n) (2 ^ 128 - 1)) t.2 ∙ saturating_product (product t.0) n (2 ^ 128 - 1) ∙ ap (λ a. min a (2 ^ 128 - 1)) (sym (product-more t.0 n)),
 )
 
 -- no count where one dimension is no number

@@ -1,9 +1,10 @@
 -- Where P1 and P2 fit, and their right sides, from one equation a node.
-use Rattle.std.proofs.Common.{◌≡◌, ℕ, zero, suc, ◌-◌, ◌<◌, ◌≤◌, Bool, true, false, List, [], ◌∷◌, length, Some, refl, sym, ap, ◌∙◌, arith}
+use Rattle.std.proofs.Common.{◌≡◌, ℕ, zero, suc, ◌-◌, ◌<◌, ◌≤◌, Bool, true, false, List, [], ◌∷◌, length, get_or, Some, refl, sym, ap, ◌∙◌, arith}
 use Rattle.std.specs.List.{slice_get}
+use Rattle.std.proofs.lemmas.Option.{same_Some, slice_get_within, slice_get-get_or}
 use Rattle.nrca_term.specs.declared.trace.Rule.TheVariants.{P1, P2}
 use Rattle.nrca_term.specs.Term.{Term, none, plain, parts_of, child_of, count}
-use Rattle.nrca_term.specs.Nodes.{let_term, proj_term, tuple_term}
+use Rattle.nrca_term.specs.Nodes.{bottom_term, let_term, proj_term, tuple_term}
 use Rattle.nrca_term.specs.Rules.{in_first, others}
 use Rattle.nrca_laws.specs.Fitting.{RuleFits, IsRight}
 use Rattle.nrca_laws.specs.Laws.Fitting.{right-side}
@@ -15,24 +16,12 @@ child_of-plain [] j = refl
 child_of-plain (t ∷ ts) zero = refl
 child_of-plain (t ∷ ts) (suc j) = child_of-plain ts j
 
--- a place within a list has an item
-there : (ts : List Term) (j : ℕ) → j < length ts → (r : Term) × (slice_get ts j ≡ Some r)
-there [] j h = absurd (omega (arith, h))
-there (t ∷ ts) zero h = (t, refl)
-there (t ∷ ts) (suc j) h = there ts j (omega (arith, h))
-
--- a place that has an item is within the list
-within : (ts : List Term) (j : ℕ) (r : Term) → slice_get ts j ≡ Some r → j < length ts
-within [] j r e = cc
-within (t ∷ ts) zero r e = omega arith
-within (t ∷ ts) (suc j) r e = omega (arith, within ts j r e)
-
 -- P1 fits a component that the tuple has
 pub p1_fits : (at of : ℕ) (t o : Term) (ts : List Term) → t ≡ proj_term at of o → o ≡ tuple_term ts → (1 ≤ at) × (at ≤ of) × (of ≡ length ts) → RuleFits P1 true t
 p1_fits zero of t o ts h k c = absurd (omega (arith, c.0))
 p1_fits (suc j) of t o ts h k c =
-    let r = there ts j (omega (arith, c.1, c.2)) in
-    (r.0, in_first (others j (length ts)), (j, ts, h ∙ ap (λ n. proj_term (suc j) n o) c.2 ∙ ap (proj_term (suc j) (length ts)) k, r.1, refl))
+    let l : j < length ts = omega (arith, c.1, c.2) in
+    (get_or ts j bottom_term, in_first (others j (length ts)), (j, ts, h ∙ ap (λ n. proj_term (suc j) n o) c.2 ∙ ap (proj_term (suc j) (length ts)) k, slice_get-get_or ts j bottom_term l, refl))
 
 -- equal components of tuples have equal numbers and tuples
 proj-same : (a b m n : ℕ) (ts us : List Term) → proj_term a m (tuple_term ts) ≡ proj_term b n (tuple_term us) → (a ≡ b) × (m ≡ n) × (ts ≡ us)
@@ -55,7 +44,7 @@ pub p1_unfit : (at of : ℕ) (t o : Term) (ts : List Term) → t ≡ proj_term a
 p1_unfit at of t o ts h k out = λ r ws x.
     let f : RuleFits P1 true t = (r, ws, x) in
     let e = p1_parts at of t o ts h k f in
-    let l = within ts f.2.0 f.0 e.2 in
+    let l = slice_get_within ts f.2.0 f.0 e.2 in
     out (omega (arith, e.0), omega (arith, e.0, e.1, l), e.1)
 
 -- P1 fits exactly where the tuple has the component
@@ -77,11 +66,7 @@ pub p1_within : (at of : ℕ) (t o : Term) → t ≡ proj_term at of o → RuleF
 p1_within at of t o h f =
     let e = proj-parts at (suc f.2.0) of (length f.2.1) o (tuple_term f.2.1) (sym h ∙ f.2.2) in
     let n : count (parts_of o) ≡ length f.2.1 = ap (λ x. count (parts_of x)) e.1 ∙ count-plain f.2.1 in
-    (omega (arith, e.0), omega (arith, e.0, n, within f.2.1 f.2.0 f.0 f.2.3))
-
--- equal items that are there are equal
-some-is : (r s : Term) → Some r ≡ Some s → r ≡ s
-some-is r s e = cc
+    (omega (arith, e.0), omega (arith, e.0, n, slice_get_within f.2.1 f.2.0 f.0 f.2.3))
 
 -- the part at the place is the right side of P1
 pub p1_right : (at of i : ℕ) (t o r : Term) → t ≡ proj_term at of o → RuleFits P1 true t → i ≡ at - 1 → Some r ≡ child_of (parts_of o) i → IsRight P1 t r
@@ -89,7 +74,7 @@ p1_right at of i t o r h f s q =
     let e = proj-parts at (suc f.2.0) of (length f.2.1) o (tuple_term f.2.1) (sym h ∙ f.2.2) in
     let j : i ≡ f.2.0 = omega (arith, e.0, s) in
     let z : Some f.0 ≡ Some r = sym f.2.3 ∙ sym (child_of-plain f.2.1 f.2.0) ∙ ap (child_of (plain f.2.1 none)) (sym j) ∙ ap (λ x. child_of (parts_of x) i) (sym e.1) ∙ sym q in
-    right_of P1 t r f (some-is f.0 r z)
+    right_of P1 t r f (same_Some f.0 r z)
 
 -- P2 fits a component of a let
 pub p2_fits : (j n : ℕ) (t o e b : Term) → t ≡ proj_term j n o → o ≡ let_term e b → RuleFits P2 true t

@@ -18,6 +18,8 @@ mod values;
 
 pub use gather::Gather;
 pub use set::{Set, ascending};
+pub use validity::numbers_fit;
+pub use values::number_items;
 
 // A set may be sent to another thread, and lent to several.
 fn crosses_threads<T: Send + Sync>(_value: &T) {}

@@ -6,7 +6,7 @@ ghost use Rattle.nrca_sets.specs.Distinct.{IsDistinct};
 ghost use Rattle.nrca_sets.specs.Pairs.{number_at, pair_at, pair_value};
 ghost use Rattle.nrca_sets.specs.Rows.{kinds_cmp, row_data, set_order};
 
-use crate::values::{all_numbers, all_pairs, number_items, numbers_of, pair_items, pair_value};
+use crate::values::{number_items, numbers_of, pair_items, pair_value};
 use aql_value::{Items, Memory, Value};
 use std::alloc::Global;
 use std::cmp::Ordering;
@@ -25,19 +25,6 @@ impl Rows {
         ensures { row_data result ≡ [] }
     {
         Rows::Ones(Vec::new(alloc))
-    }
-
-    // The values, packed where they can be.
-    pub(crate) fn from_items(alloc: Global, items: Items) -> Result<Rows, Memory>
-        ensures { IfOk result (λ rows. row_data rows ≡ items) }
-    {
-        match all_numbers(alloc, &items)? {
-            Some(numbers) => Ok(Rows::Ones(numbers)),
-            None => match all_pairs(alloc, &items)? {
-                Some(pairs) => Ok(Rows::Twos(pairs)),
-                None => Ok(Rows::Plain(items)),
-            },
-        }
     }
 
     // The values as they are.

@@ -5,7 +5,6 @@ ghost use Rattle.aql_value.specs.Canon.{canon, IsAscending};
 ghost use Rattle.aql_value.specs.Datum.{data_of, natural, set};
 ghost use Rattle.aql_value.specs.Lists.{below};
 ghost use Rattle.aql_value.specs.Meaning.{datum};
-ghost use Rattle.aql_value.specs.Operations.{as_set};
 ghost use Rattle.aql_value.specs.Valid.{IsValue};
 ghost use Rattle.nrca_sets.specs.Pairs.{number_at, pair_at, pair_cmp, pair_value};
 ghost use Rattle.nrca_sets.specs.Places.{places_order};
@@ -86,25 +85,6 @@ impl Set {
     {
         Set {
             rows: Rows::Plain(members.into_items()),
-        }
-    }
-
-    /// The same set, packed where it can be.
-    pub fn from_ascending(alloc: Global, members: Ascending) -> Result<Set, Memory>
-        ensures { IfOk result (λ s. s ≡ members) }
-    {
-        let rows = Rows::from_items(alloc, members.into_items())?;
-        Ok(Set { rows })
-    }
-
-    /// The set that a value is, packed where it can be: none of any other value.
-    #[tactic(auto, using(aql_value::specs::Laws::Datum::data_lists))]
-    pub fn from_value(alloc: Global, value: Value) -> Result<Option<Set>, Memory>
-        ensures { IfOk result (λ s. s ≡ as_set (datum value)) }
-    {
-        match value {
-            Value::Members(members) => Ok(Some(Set::from_ascending(alloc, members)?)),
-            _ => Ok(None),
         }
     }
 

@@ -28,8 +28,8 @@ fn valid_numbers(numbers: &[u64])
     numbers_fit(numbers);
 }
 
-// What the type of the parts of a slice says of it.
-fn numbers_fit(numbers: &[u64])
+/// Shows what the type of the numbers says of them.
+pub fn numbers_fit(numbers: &[u64])
     ensures { All (λ n. n < 2 ^ 64) numbers.now }
 {
     let _len = numbers.len();

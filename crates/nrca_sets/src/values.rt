@@ -44,7 +44,7 @@ pub(crate) fn pair_value(alloc: Global, pair: (u64, u64)) -> Result<Value, Memor
 }
 
 /// The numbers as values.
-pub(crate) fn number_items(alloc: Global, numbers: &[u64]) -> Result<Items, Memory>
+pub fn number_items(alloc: Global, numbers: &[u64]) -> Result<Items, Memory>
     ensures { IfOk result (λ items. items ≡ map natural numbers.now) }
 {
     let mut items = Vec::with_capacity(alloc, numbers.len())?;
@@ -63,34 +63,6 @@ pub(crate) fn pair_items(alloc: Global, pairs: &[(u64, u64)]) -> Result<Items, M
         items.push(pair_value(alloc, *pair)?)?;
     }
     Ok(Items { items })
-}
-
-/// The values as numbers below 2^64: none where one is no such number.
-pub(crate) fn all_numbers(alloc: Global, items: &Items) -> Result<Option<Vec<u64>>, Memory>
-    ensures { IfOk result (λ ns. IfSome ns (λ numbers. items.now ≡ map natural numbers.items)) }
-{
-    let mut numbers = Vec::new(alloc);
-    for value in items.items.iter() {
-        match number_below(value) {
-            None => return Ok(None),
-            Some(n) => numbers.push(n)?,
-        }
-    }
-    Ok(Some(numbers))
-}
-
-/// The values as pairs of numbers below 2^64: none where one is no such pair.
-pub(crate) fn all_pairs(alloc: Global, items: &Items) -> Result<Option<Vec<(u64, u64)>>, Memory>
-    ensures { IfOk result (λ ps. IfSome ps (λ pairs. items.now ≡ map pair_value pairs.items)) }
-{
-    let mut pairs = Vec::new(alloc);
-    for value in items.items.iter() {
-        match pair_below(value) {
-            None => return Ok(None),
-            Some(pair) => pairs.push(pair)?,
-        }
-    }
-    Ok(Some(pairs))
 }
 
 /// The number, where the value is one below 2^64.

@@ -1,18 +1,17 @@
 -- Two nodes of one form are one term exactly where their parts are.
 use Rattle.std.proofs.Common.{◌≡◌, ℕ, zero, suc, ◌+◌, ◌-◌, ◌<◌, ◌≤◌, ◌^◌, min, true, false, Some, None, refl, sym, ap, ◌∙◌, subst, arith}
+use Rattle.std.proofs.lemmas.Option.{same_Some}
 use Rattle.nrca_term.specs.Term.{Term, Parts, node, none, part, Form, form_of, parts_of, child_of, count, binders_of, variable_of, WellFormed, PartsWellFormed}
 use Rattle.nrca_term.specs.Subst.{shift_form, shift_term, shift_parts}
 use Rattle.nrca_subst.specs.Depth.{IsDepth, TellsShifted}
 use Rattle.nrca_subst.proofs.Deeper.{is_depth-deeper}
 use Rattle.nrca_term.specs.Laws.Entering.{child-counted}
+use Rattle.nrca_subst.specs.Laws.Walking.{shift_form-other}
 
 -- the first parts of u are those of t, shifted
 abbrev pub FirstShifted : ℕ → ℕ → Term → Term → ℕ → Type 0
 FirstShifted depth by t u i = (n : ℕ) → IsDepth depth n → (j : ℕ) (x y : Term) → j < i → child_of (parts_of t) j ≡ Some x → child_of (parts_of u) j ≡ Some y →
     y ≡ shift_term (n + binders_of (parts_of t) j) by x
-
-some-is : {A : Type 0} (x y : A) → Some x ≡ Some y → x ≡ y
-some-is x y e = cc
 
 -- parts of one form that are equal one by one
 equal-parts : (f : Form) (i m by : ℕ) (ps qs : Parts) → PartsWellFormed f i ps → PartsWellFormed f i qs → count ps ≡ count qs →
@@ -25,21 +24,10 @@ equal-parts f i m by (part k t ps) (part l u qs) w v c h =
     ∙ ap (λ x. part k x qs) (h 0 t u refl refl)
     ∙ ap (part k (shift_term (m + k) by t)) (equal-parts f (suc i) m by ps qs w.2 v.2 (omega (arith, c)) (λ j x y e g. h (suc j) x y e g))
 
-shift_form-other : (from by : ℕ) (f : Form) → variable_of f ≡ None → shift_form from by f ≡ f
-shift_form-other from by (Form.var i) e = cc
-shift_form-other from by (Form.global n) e = refl
-shift_form-other from by Form.bind e = refl
-shift_form-other from by Form.choose e = refl
-shift_form-other from by Form.default e = refl
-shift_form-other from by Form.big_union e = refl
-shift_form-other from by Form.sum e = refl
-shift_form-other from by (Form.tab rank) e = refl
-shift_form-other from by (Form.strict s) e = refl
-
 pub tells-all : (depth by i : ℕ) (t u : Term) → WellFormed t → WellFormed u → variable_of (form_of t) ≡ None → form_of t ≡ form_of u → count (parts_of t) ≡ count (parts_of u) → count (parts_of t) ≤ i →
     FirstShifted depth by t u i → TellsShifted depth by t u true
 tells-all depth by i (node f ps) (node g qs) w v o e c l h n d = (
-  (λ x. ap (λ k. node k qs) (sym e ∙ sym (shift_form-other n by f o))
+  (λ x. ap (λ k. node k qs) (sym e ∙ shift_form-other n by f o)
       ∙ ap (node (shift_form n by f)) (equal-parts f 0 n by ps qs w.1 (subst (λ k. PartsWellFormed k 0 qs) (sym e) v.1) c (λ j x y p q. h n d j x y (omega (arith, child-counted ps j x p, l)) p q))),
   (λ x. refl),
 )
@@ -64,5 +52,5 @@ pub tells-part : (depth by k i : ℕ) (t u x y : Term) → child_of (parts_of t)
 tells-part depth by k i (node f ps) u x y e g b r n d = (
   (λ z. absurd (not_true z)),
   (λ q. (r (n + k) (is_depth-deeper depth k n d)).1
-      (some-is y (shift_term (n + k) by x) (sym g ∙ ap (λ z. child_of (parts_of z) i) q ∙ child-shift n by ps i x e ∙ ap (λ m. Some (shift_term (n + m) by x)) (sym b)))),
+      (same_Some y (shift_term (n + k) by x) (sym g ∙ ap (λ z. child_of (parts_of z) i) q ∙ child-shift n by ps i x e ∙ ap (λ m. Some (shift_term (n + m) by x)) (sym b)))),
 )

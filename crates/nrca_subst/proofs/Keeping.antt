@@ -11,7 +11,7 @@ use Rattle.nrca_term.specs.Laws.TypingShift.{ctyped-shift_term}
 use Rattle.nrca_term.specs.Laws.Substituting.{cden-subst_term}
 use Rattle.nrca_term.specs.Laws.Undefined.{cden-subst_term-undefined}
 use Rattle.nrca_term.specs.Laws.TypingSubst.{ctyped-subst_term}
-use Rattle.nrca_subst.specs.Laws.{IsShifted, KeepsTypesShifted, IsSubstituted, IsUndefinedWith, KeepsTypesSubstituted}
+use Rattle.nrca_subst.specs.Kept.{IsShifted, KeepsTypesShifted, IsSubstituted, IsUndefinedWith, KeepsTypesSubstituted}
 
 shift_at : (from by m n : ℕ) (t u : Term) → m ≡ from → n ≡ by → u ≡ shift_term from by t → u ≡ shift_term m n t
 shift_at from by m n t u e f h = h ∙ ap (λ k. shift_term k by t) (sym e) ∙ ap (λ k. shift_term m k t) (sym f)

@@ -5,4 +5,3 @@ pub mod Keeping
 pub mod Pairs
 pub mod StrictCounts
 pub mod SubstWalk
-pub mod Walking

@@ -1,8 +1,6 @@
 -- The strict uses of a variable in the first parts of a node.
-use Rattle.std.proofs.Common.{◌≡◌, ℕ, zero, suc, ◌+◌, ◌-◌, ◌<◌, ◌^◌, min, Bool, true, false, Some, None, refl, sym, ap, ◌∙◌, arith, eq-eqb, add-one, if◌then◌else◌}
-use Rattle.std.proofs.lemmas.Bool.{ne_eqb}
+use Rattle.std.proofs.Common.{◌≡◌, ℕ, zero, suc, ◌+◌, ◌-◌, ◌^◌, min, Bool, true, false, Some, None, refl, sym, ap, ◌∙◌, arith, add-one, if◌then◌else◌}
 use Rattle.nrca_term.specs.Term.{Term, Parts, node, none, part, Form, form_of, parts_of, child_of, count, binders_of, variable_of}
-use Rattle.nrca_term.specs.Nodes.{variable}
 use Rattle.nrca_term.specs.Subst.{is_strict, strict_uses, parts_strict_uses}
 use Rattle.nrca_subst.specs.Depth.{IsDepth}
 use Rattle.nrca_subst.specs.Strictly.{CountsStrict, CountsPart, strict_in}
@@ -71,14 +69,6 @@ strict-other n (node (Form.strict s) ps) e = omega arith
 -- the count after all parts
 pub strict-counted : (n i : ℕ) (t : Term) → variable_of (form_of t) ≡ None → i ≡ count (parts_of t) → first_strict n (form_of t) 0 i (parts_of t) ≡ strict_uses n t
 strict-counted n i t e c = ap (λ j. first_strict n (form_of t) 0 j (parts_of t)) c ∙ first_strict-all n (form_of t) 0 (parts_of t) ∙ sym (strict-other n t e)
-
--- a variable is one use of itself
-pub strict-here : (at i : ℕ) → i < 2 ^ 64 → i ≡ at → CountsStrict at (variable i) 1
-strict-here at i l e n d = let z : i ≡ n = omega (arith, d) in rw (eq-eqb i n z) refl
-
--- and none of another
-pub strict-apart : (at i : ℕ) → i < 2 ^ 64 → (i ≡ at → ⊥) → CountsStrict at (variable i) 0
-strict-apart at i l e n d = rw (ne_eqb i n (λ z. e (omega (arith, z, d)))) refl
 
 -- no use counts in a part that is not strict
 pub part-lazy : (at i : ℕ) (t : Term) (b : Bool) → b ≡ is_strict (form_of t) i → b ≡ false → CountsPart at t i 0

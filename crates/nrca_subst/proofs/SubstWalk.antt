@@ -3,7 +3,7 @@ use Rattle.std.proofs.Common.{◌≡◌, ℕ, zero, suc, ◌+◌, ◌≤◌, Som
 use Rattle.nrca_term.specs.Term.{Term, Parts, Form, node, none, part, form_of, parts_of, count, child_of, binders_of, variable_of}
 use Rattle.nrca_term.specs.Subst.{shift_term, subst_node, subst_term, subst_parts, top_var, parts_top}
 use Rattle.nrca_term.specs.Laws.Shift.{shift_term-twice}
-use Rattle.nrca_subst.proofs.Walking.{first_parts, with_first_parts}
+use Rattle.nrca_subst.specs.Laws.Walking.{first_parts, with_first_parts}
 
 abbrev pub subst_part : ℕ → Term → ℕ → Term → Term
 subst_part at w k t = subst_term (at + k) (shift_term 0 k w) t

@@ -5,7 +5,7 @@ ghost use Rattle.nrca_term.specs.Nodes.{variable};
 ghost use Rattle.nrca_term.specs.Term.{form_of, variable_of};
 ghost use Rattle.nrca_term.specs.Subst.{shift_term, top_var};
 ghost use Rattle.nrca_term.specs.View.{term_of};
-ghost use Rattle.nrca_subst.specs.Laws.{IsShifted, KeepsTypesShifted};
+ghost use Rattle.nrca_subst.specs.Kept.{IsShifted, KeepsTypesShifted};
 
 use nrca_term::{Core, discard};
 

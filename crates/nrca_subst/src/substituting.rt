@@ -5,7 +5,7 @@ ghost use Rattle.nrca_term.specs.Nodes.{variable};
 ghost use Rattle.nrca_term.specs.Subst.{subst_term, top_var};
 ghost use Rattle.nrca_term.specs.Term.{form_of, variable_of};
 ghost use Rattle.nrca_term.specs.View.{term_of};
-ghost use Rattle.nrca_subst.specs.Laws.{IsSubst, KeepsMeaning, StaysUndefined, KeepsTypes};
+ghost use Rattle.nrca_subst.specs.Kept.{IsSubst, KeepsMeaning, StaysUndefined, KeepsTypes};
 ghost use Rattle.nrca_subst.specs.Depth.{DepthFits, FitsDeeper, SubstitutesIn, SubstitutesBoth, ReplacesVariable};
 
 use crate::shifting::shift;

@@ -16,6 +16,7 @@ pub mod SubstTops
 pub mod Substituting
 pub mod TurnsShift
 pub mod TypedForm
+pub mod TypedLists
 pub mod TypedPlaces
 pub mod TypingShift
 pub mod TypingSubst

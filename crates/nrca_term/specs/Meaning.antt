@@ -3,7 +3,7 @@ use Rattle.std.specs.Prelude.{ℕ, zero, suc, Bool, nat_eq, take, List, [], ◌�
 use Rattle.std.specs.List.{slice_get}
 use Rattle.aql_value.specs.Datum.{Datum}
 use Rattle.aql_value.specs.Indices.{indices}
-use Rattle.aql_value.specs.Operations.{as_natural, as_truth, as_set, union_all, sum_of, array_of, walked}
+use Rattle.aql_value.specs.Operations.{as_natural, as_truth, as_set, union_all, sum_of, array_of, push_index}
 use Rattle.aql_value.specs.Partial.{◌>>=◌, each, or_else}
 use Rattle.aql_value.specs.Strict.{strict_value}
 use Rattle.nrca_term.specs.Term.{Term, Parts, node, none, part, Form}
@@ -65,7 +65,7 @@ bounds_value rank ps = each here (take rank ps) >>= each as_natural
 
 -- a tabulation: the array of the body's value at each index below the bounds, in row-major order
 abbrev pub tab_value : ℕ → List Part → Option Datum
-tab_value rank ps = bounds_value rank ps >>= λ ds. each (λ at. worth ps rank (walked at [])) (indices ds) >>= array_of ds
+tab_value rank ps = bounds_value rank ps >>= λ ds. each (λ at. worth ps rank (push_index at [])) (indices ds) >>= array_of ds
 
 -- the value of a node, by what its parts are worth
 abbrev pub form_value : Outcomes → List Datum → Form → List Part → Option Datum

@@ -3,7 +3,7 @@ use Rattle.std.specs.Prelude.{◌≡◌, ℕ, zero, suc, Bool, true, false, nat_
 use Rattle.aql_value.specs.Datum.{Datum}
 use Rattle.aql_value.specs.Indices.{indices}
 use Rattle.aql_value.specs.Lists.{Every}
-use Rattle.aql_value.specs.Operations.{walked}
+use Rattle.aql_value.specs.Operations.{push_index}
 use Rattle.aql_value.specs.Partial.{◌>>=◌, concat}
 use Rattle.nrca_term.specs.Term.{Term, Parts, node, none, part, Form, form_of, parts_of, child_of}
 use Rattle.nrca_term.specs.Meaning.{Outcomes, Part, worth, test_value, members_value, bounds_value, part_values}
@@ -27,26 +27,26 @@ indices_of None = []
 indices_of (Some ds) = indices ds
 
 -- the values of its own variables with which an evaluation of the node comes to part i
-abbrev pub entered : Form → List Part → ℕ → List (List Datum)
-entered (Form.var n) ps i = [] ∷ []
-entered (Form.global n) ps i = [] ∷ []
-entered Form.bind ps zero = [] ∷ []
-entered Form.bind ps (suc i) = map (λ v. v ∷ []) (option_to_list (worth ps 0 []))
-entered Form.choose ps zero = [] ∷ []
-entered Form.choose ps (suc zero) = branch true (test_value ps)
-entered Form.choose ps (suc (suc i)) = branch false (test_value ps)
-entered Form.default ps zero = [] ∷ []
-entered Form.default ps (suc i) = otherwise (worth ps 0 [])
-entered Form.big_union ps zero = [] ∷ []
-entered Form.big_union ps (suc i) = map (λ m. m ∷ []) (unwrap_or (members_value ps) [])
-entered Form.sum ps zero = [] ∷ []
-entered Form.sum ps (suc i) = map (λ m. m ∷ []) (unwrap_or (members_value ps) [])
-entered (Form.tab rank) ps i = if nat_lt i rank then [] ∷ [] else map (λ at. walked at []) (indices_of (bounds_value rank ps))
-entered (Form.strict s) ps i = [] ∷ []
+abbrev pub entry_values : Form → List Part → ℕ → List (List Datum)
+entry_values (Form.var n) ps i = [] ∷ []
+entry_values (Form.global n) ps i = [] ∷ []
+entry_values Form.bind ps zero = [] ∷ []
+entry_values Form.bind ps (suc i) = map (λ v. v ∷ []) (option_to_list (worth ps 0 []))
+entry_values Form.choose ps zero = [] ∷ []
+entry_values Form.choose ps (suc zero) = branch true (test_value ps)
+entry_values Form.choose ps (suc (suc i)) = branch false (test_value ps)
+entry_values Form.default ps zero = [] ∷ []
+entry_values Form.default ps (suc i) = otherwise (worth ps 0 [])
+entry_values Form.big_union ps zero = [] ∷ []
+entry_values Form.big_union ps (suc i) = map (λ m. m ∷ []) (unwrap_or (members_value ps) [])
+entry_values Form.sum ps zero = [] ∷ []
+entry_values Form.sum ps (suc i) = map (λ m. m ∷ []) (unwrap_or (members_value ps) [])
+entry_values (Form.tab rank) ps i = if nat_lt i rank then [] ∷ [] else map (λ at. push_index at []) (indices_of (bounds_value rank ps))
+entry_values (Form.strict s) ps i = [] ∷ []
 
 -- the same of a term, at values of the variables around it
 abbrev pub entered_in : Outcomes → List Datum → Term → ℕ → List (List Datum)
-entered_in V around t i = entered (form_of t) (part_values V around (parts_of t)) i
+entered_in V around t i = entry_values (form_of t) (part_values V around (parts_of t)) i
 
 -- the part at a path: at each node the number of a part
 abbrev pub place_of : Term → List ℕ → Option Term
@@ -77,4 +77,4 @@ put_at t (i ∷ path) u = node (form_of t) (on_child (parts_of t) i (λ s. put_a
 
 -- two lists of parts that agree wherever an evaluation of the node comes to a part
 abbrev pub Agree : Form → List Part → List Part → Type 0
-Agree f ps qs = (i : ℕ) → Every (λ new. worth ps i new ≡ worth qs i new) (entered f ps i)
+Agree f ps qs = (i : ℕ) → Every (λ new. worth ps i new ≡ worth qs i new) (entry_values f ps i)

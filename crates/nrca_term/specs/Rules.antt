@@ -56,13 +56,13 @@ lets n [] body = body
 lets n (i ∷ is) body = let_term (shift_term 0 n i) (lets (suc n) is body)
 
 -- the body behind tests that each of the k innermost variables is below its bound
-abbrev pub guarded : ℕ → List Term → Term → Term
-guarded k [] b = b
-guarded k (d ∷ ds) b = if_term (less_term (variable (length ds)) (shift_term 0 k d)) (guarded k ds b) bottom_term
+abbrev pub guard : ℕ → List Term → Term → Term
+guard k [] b = b
+guard k (d ∷ ds) b = if_term (less_term (variable (length ds)) (shift_term 0 k d)) (guard k ds b) bottom_term
 
 -- a subscript of a tabulation: the body where the indices are below the bounds
 abbrev pub beta : List Term → Term → List Term → Term
-beta ds b is = lets 0 is (guarded (length ds) ds b)
+beta ds b is = lets 0 is (guard (length ds) ds b)
 
 -- whether a node is `Dim` of variable `at`
 abbrev pub is_dim_of : ℕ → Form → Parts → Bool

@@ -5,7 +5,7 @@ use Rattle.aql_value.specs.Partial.{each, total, if_some}
 use Rattle.aql_value.specs.Strict.{strict_turns}
 use Rattle.nrca_term.specs.Term.{Term, Parts, node, none, part, Form}
 use Rattle.nrca_term.specs.Meaning.{Outcomes, Part, here, members_value, bounds_value, part_values}
-use Rattle.nrca_term.specs.Places.{entered, indices_of}
+use Rattle.nrca_term.specs.Places.{entry_values, indices_of}
 
 -- the turns of a node beside those of its parts: a loop's members, a tabulation's cells, and those of the strict forms
 abbrev pub own_turns : Form → List Part → ℕ
@@ -28,4 +28,4 @@ abbrev mutual
   pub parts_settle : Outcomes → List Datum → Form → List Part → ℕ → Parts → ℕ
   parts_settle V vals f worths i none = 0
   parts_settle V vals f worths i (part k t ps) =
-      total (λ new. settle V (new ++ vals) t) (entered f worths i) + parts_settle V vals f worths (suc i) ps
+      total (λ new. settle V (new ++ vals) t) (entry_values f worths i) + parts_settle V vals f worths (suc i) ps

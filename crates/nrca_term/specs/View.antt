@@ -85,5 +85,5 @@ pure_form (named.Tab rank) = Form.tab rank
 pure_form (named.Strict s) = Form.strict (pure_strict s)
 
 -- the term of a part that a call lends, where it lends one
-abbrev pub lent : Option (Bor Core) → Option Term
-lent = option_map (λ r. term_of r.now)
+abbrev pub lent_term : Option (Bor Core) → Option Term
+lent_term = option_map (λ r. term_of r.now)

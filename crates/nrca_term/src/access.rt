@@ -6,13 +6,13 @@ ghost use Rattle.nrca_term.specs.Nodes.{number};
 ghost use Rattle.nrca_term.specs.Swapped.{SwapsOne, SwapsTwo, part_of_two};
 ghost use Rattle.nrca_term.specs.Term.{node, none, plain, Form, form_of, variable_of, form_weight};
 ghost use Rattle.nrca_term.specs.Term.{count, child_of, binders_of, with_part, parts_of};
-ghost use Rattle.nrca_term.specs.View.{term_of, terms_of, lent};
+ghost use Rattle.nrca_term.specs.View.{term_of, terms_of, lent_term};
 
 use crate::{Core, Terms};
 use std::mem;
 
 fn one<'a>(a: &'a Core, i: u64) -> Option<&'a Core>
-    ensures { lent result ≡ child_of (plain (term_of a.now ∷ []) none) i }
+    ensures { lent_term result ≡ child_of (plain (term_of a.now ∷ []) none) i }
 {
     match i {
         0 => Some(a),
@@ -21,7 +21,7 @@ fn one<'a>(a: &'a Core, i: u64) -> Option<&'a Core>
 }
 
 fn two<'a>(a: &'a Core, b: &'a Core, i: u64) -> Option<&'a Core>
-    ensures { lent result ≡ child_of (plain (term_of a.now ∷ term_of b.now ∷ []) none) i }
+    ensures { lent_term result ≡ child_of (plain (term_of a.now ∷ term_of b.now ∷ []) none) i }
 {
     match i {
         0 => Some(a),
@@ -32,7 +32,7 @@ fn two<'a>(a: &'a Core, b: &'a Core, i: u64) -> Option<&'a Core>
 
 #[tactic(auto, using(crate::proofs::Children::listed))]
 fn of_list(terms: &Terms, i: u64) -> Option<&Core>
-    ensures { lent result ≡ child_of (plain (terms_of terms.now) none) i }
+    ensures { lent_term result ≡ child_of (plain (terms_of terms.now) none) i }
 {
     if i < terms.0.len() as u64 {
         Some(&terms.0[i as usize])
@@ -45,7 +45,7 @@ impl Core {
     #[tactic(auto, using(crate::proofs::Children::numbered))]
     /// Part i, in the order written. None where there is no such part.
     pub fn part(&self, i: u64) -> Option<&Core>
-        ensures { lent result ≡ child_of (parts_of (term_of self.now)) i }
+        ensures { lent_term result ≡ child_of (parts_of (term_of self.now)) i }
     {
         match self {
             Core::Let(a, b) => two(a, b, i),

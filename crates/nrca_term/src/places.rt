@@ -2,13 +2,13 @@
 
 ghost use Rattle.std.specs.Prelude.{◌≡◌};
 ghost use Rattle.nrca_term.specs.Places.{place_of};
-ghost use Rattle.nrca_term.specs.View.{term_of, lent};
+ghost use Rattle.nrca_term.specs.View.{term_of, lent_term};
 
 use crate::{Core, Path};
 
 /// The part at a path. None exactly where the path leaves the term.
 pub fn place<'a>(term: &'a Core, path: &Path) -> Option<&'a Core>
-    ensures { lent result ≡ place_of (term_of term.now) path.now }
+    ensures { lent_term result ≡ place_of (term_of term.now) path.now }
 {
     let mut at = term;
     for i in &path.0 {

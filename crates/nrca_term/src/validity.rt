@@ -1,12 +1,11 @@
 //! What the types of a term's fields say of its constants.
 
-ghost use Rattle.std.specs.Prelude.{◌<◌, ◌^◌};
-ghost use Rattle.std.specs.List.{All};
 ghost use Rattle.nrca_term.specs.Term.{form_of};
 ghost use Rattle.nrca_term.specs.Valid.{FormConstant, HasConstants};
 ghost use Rattle.nrca_term.specs.View.{term_of};
 
 use crate::Core;
+use aql_value::bytes_fit;
 
 /// Shows that each number and each string in a term is a value of the language: in any term that
 /// there is they are. It takes no memory.
@@ -32,10 +31,4 @@ fn constant(term: &Core)
         Core::Text(s) => bytes_fit(s.bytes.as_slice()),
         _ => (),
     }
-}
-
-fn bytes_fit(bytes: &[u8])
-    ensures { All (λ b. b < 256) bytes.now }
-{
-    let _len = bytes.len();
 }

@@ -1,6 +1,6 @@
 -- What a name stands for, by the latest declaration of that name.
 use Rattle.std.proofs.Common.{◌≡◌, suc, true, false, List, [], ◌∷◌, length, Some, None, option_map, if◌then◌else◌, refl, sym, ap, ◌∙◌}
-use Rattle.aql_syntax.specs.Tree.{Name, Declaration, declared}
+use Rattle.aql_syntax.specs.Tree.{Name, Declaration, declared_name}
 use Rattle.aql_syntax.specs.Names.{names_equal, find}
 use Rattle.aql_desugar_spec.specs.Start.{known_of, knowns_of}
 use Rattle.aql_desugar.specs.Names.{declaration_of}
@@ -9,7 +9,7 @@ use Rattle.aql_desugar.specs.Names.{declaration_of}
 pub find-known : (x : Name) (ds : List Declaration) → find x (knowns_of ds) ≡ option_map (λ r. known_of r.0 (knowns_of r.1) (suc (length r.1))) (declaration_of x ds)
 find-known x [] = refl
 find-known x (d ∷ ds) =
-    elim (names_equal x (declared d)) as (λ b. (if b then Some (known_of d (knowns_of ds) (suc (length ds))) else find x (knowns_of ds))
+    elim (names_equal x (declared_name d)) as (λ b. (if b then Some (known_of d (knowns_of ds) (suc (length ds))) else find x (knowns_of ds))
     ≡ option_map (λ r. known_of r.0 (knowns_of r.1) (suc (length r.1))) (if b then Some (d, ds) else declaration_of x ds)) [
       | true ↦ refl
       | false ↦ find-known x ds

@@ -18,7 +18,7 @@ both_made (Ok c) (Ok x) T m n whole h k i l = h ∙ ap (λ a. T a (term_of x.1))
 both_made (Ok c) (Err e) T m n whole h k i l = absurd h
 both_made (Err e) p T m n whole h k i l = tt
 
--- what follows from what is known
-pub ok_map : {T E : Type 0} (r : Result T E) (P Q : T → Type 0) → ((x : T) → P x → Q x) → IfOk r P → IfOk r Q
-ok_map (Ok x) P Q f h = f x h
-ok_map (Err e) P Q f h = tt
+-- what follows from two things that are known
+pub ok_join : {T E : Type 0} (r : Result T E) (P Q R : T → Type 0) → ((x : T) → P x → Q x → R x) → IfOk r P → IfOk r Q → IfOk r R
+ok_join (Ok x) P Q R f h k = f x h k
+ok_join (Err e) P Q R f h k = tt

@@ -10,7 +10,7 @@ use Rattle.aql_value.specs.Indices.{cell, offset_of}
 use Rattle.aql_value.specs.Laws.RowMajor.{cell-offset_of}
 use Rattle.aql_value.specs.Lists.{below}
 use Rattle.aql_value.specs.Laws.Lists.{length-below}
-use Rattle.aql_value.specs.Operations.{as_set, as_array, dims_of, cell_of, walked, union_all}
+use Rattle.aql_value.specs.Operations.{as_set, as_array, dims_of, cell_of, push_index, union_all}
 use Rattle.aql_value.specs.Laws.Operations.{each-naturals}
 use Rattle.aql_value.specs.Partial.{◌>>=◌, each, total, if_some}
 use Rattle.aql_value.specs.Laws.Partial.{each-map, total-map}
@@ -25,7 +25,7 @@ use Rattle.nrca_term.specs.Meaning.{Outcomes, cden, part_values, here}
 use Rattle.nrca_term.specs.Turns.{settle}
 use Rattle.nrca_term.specs.Nodes.{variable, gen_term, let_term, empty_term}
 use Rattle.nrca_term.specs.Laws.Variants.{settle-strict}
-use Rattle.aql_desugar_spec.specs.Start.{Binders, Resolutions, bound, grown, dimension, loops_term, under, bound_axes, grown_axes, axes_term, index_terms, cell_term, cell_scope, array_term}
+use Rattle.aql_desugar_spec.specs.Start.{Binders, Resolutions, bind_pattern, count_binders, dimension, loops_term, under, bound_axes, grown_axes, axes_term, index_terms, cell_term, cell_binders, array_term}
 use Rattle.aql_desugar_spec.specs.Scopes.{env_of, Stand, IsInside}
 use Rattle.aql_desugar_spec.specs.Laws.Scopes.{inside_next, length-bound, length-bound_axes, fits-walked, env_of-walked, past}
 use Rattle.aql_desugar_spec.specs.Laws.Nodes.{heads, union_all-heads, let-worth, let_heads, matched_heads, let-turns, big_union-turns}
@@ -70,7 +70,7 @@ members-worth V l t d e = rw (e, list_of-data_of (map natural (below d))) refl
 pub cden-loops_term : (V : Outcomes) (g : Env → Option Datum) (rank : ℕ) (full : List ℕ) (inside : Term) (a : Datum) →
     dims_of rank a ≡ Some full → length full ≡ rank →
     (ds pre : List ℕ) (j : ℕ) → j ≡ length pre → full ≡ pre ++ ds → (l : List Datum) → slice_get l j ≡ Some a → (f : List ℕ → Option (List Env)) →
-    ((is : List ℕ) → length is ≡ length ds → cden V (walked is l) inside ≡ heads g (f is)) →
+    ((is : List ℕ) → length is ≡ length ds → cden V (push_index is l) inside ≡ heads g (f is)) →
     cden V l (loops_term (length ds) j rank inside) ≡ heads g (over_indices ds f)
 cden-loops_term V g rank full inside a e n [] pre j at is l h f i = i [] refl
 cden-loops_term V g rank full inside a e n (d ∷ ds) pre j at is l h f i =
@@ -97,7 +97,7 @@ loop-total d g f h =
 pub settle-loops_term : (V : Outcomes) (rank : ℕ) (full : List ℕ) (inside : Term) (a : Datum) →
     dims_of rank a ≡ Some full → length full ≡ rank →
     (ds pre : List ℕ) (j : ℕ) → j ≡ length pre → full ≡ pre ++ ds → (l : List Datum) → slice_get l j ≡ Some a → (f : List ℕ → ℕ) →
-    ((is : List ℕ) → length is ≡ length ds → settle V (walked is l) inside ≡ f is) →
+    ((is : List ℕ) → length is ≡ length ds → settle V (push_index is l) inside ≡ f is) →
     settle V l (loops_term (length ds) j rank inside) ≡ turns_over ds f
 settle-loops_term V rank full inside a e n [] pre j at is l h f i = i [] refl
 settle-loops_term V rank full inside a e n (d ∷ ds) pre j at is l h f i =
@@ -126,13 +126,13 @@ holds-past new l added m (i ∷ is) e h =
     let z : (added + m) + length is ≡ (added + length is) + m = omega arith in
     (ap (slice_get (new ++ l)) z ∙ past new l (added + length is) m e ∙ h.0, holds-past new l added m is e h.1)
 
-pub walked-at : (is : List ℕ) (l : List Datum) (n : ℕ) → slice_get (walked is l) (n + length is) ≡ slice_get l n
+pub walked-at : (is : List ℕ) (l : List Datum) (n : ℕ) → slice_get (push_index is l) (n + length is) ≡ slice_get l n
 walked-at [] l n = let z : n + 0 ≡ n = omega arith in ap (slice_get l) z
 walked-at (i ∷ is) l n =
     let z : n + suc (length is) ≡ suc n + length is = omega arith in
-    ap (slice_get (walked is (natural i ∷ l))) z ∙ walked-at is (natural i ∷ l) (suc n)
+    ap (slice_get (push_index is (natural i ∷ l))) z ∙ walked-at is (natural i ∷ l) (suc n)
 
-pub holds-walked : (is : List ℕ) (l : List Datum) → Holds (walked is l) 0 is
+pub holds-walked : (is : List ℕ) (l : List Datum) → Holds (push_index is l) 0 is
 holds-walked [] l = tt
 holds-walked (i ∷ is) l = (walked-at is (natural i ∷ l) 0, holds-walked is (natural i ∷ l))
 
@@ -145,12 +145,12 @@ cden-axes_term V globals known all no_pat s l added is inside other k a e c h n 
 cden-axes_term V globals known all (pat p ps) s l added [] inside other k a e c h n i = absurd (omega arith)
 cden-axes_term V globals known all (pat p ps) s l added (m ∷ is) inside other k a e c h n i =
     let z : added + count_pats ps ≡ added + length is = omega arith in
-    cden-match_term V globals known all p s l (added + count_pats ps) (natural m) (axes_term ps known (bound p s) (added + grown p) inside other) other
+    cden-match_term V globals known all p s l (added + count_pats ps) (natural m) (axes_term ps known (bind_pattern p s) (added + count_binders p) inside other) other
     (λ env. on_match (match_axes ps globals is env) k a None) a e (ap (slice_get l) z ∙ h.0) n
     (λ new f.
-    cden-axes_term V globals known all ps (bound p s) (new ++ l) (added + grown p) is inside other k a
-    (omega (arith, length-bound p s, length-append new l)) (omega arith) (holds-past new l added (grown p) is f h.1) n
-    (inside_next (λ l'. cden V l' inside) (grown p) (grown_axes ps) (bound_axes ps (bound p s)) l k new f i))
+    cden-axes_term V globals known all ps (bind_pattern p s) (new ++ l) (added + count_binders p) is inside other k a
+    (omega (arith, length-bound p s, length-append new l)) (omega arith) (holds-past new l added (count_binders p) is f h.1) n
+    (inside_next (λ l'. cden V l' inside) (count_binders p) (grown_axes ps) (bound_axes ps (bind_pattern p s)) l k new f i))
     ∙ on-then (match p globals (natural m) (env_of s l)) (match_axes ps globals is) k a None
 
 pub settle-axes_term : (V : Outcomes) (globals : Globals) (known : Resolutions) → Stand V globals known →
@@ -162,12 +162,12 @@ settle-axes_term V globals known all no_pat s l added is inside other k e c h n 
 settle-axes_term V globals known all (pat p ps) s l added [] inside other k e c h n i = absurd (omega arith)
 settle-axes_term V globals known all (pat p ps) s l added (m ∷ is) inside other k e c h n i =
     let z : added + count_pats ps ≡ added + length is = omega arith in
-    settle-match_term V globals known all p s l (added + count_pats ps) (natural m) (axes_term ps known (bound p s) (added + grown p) inside other) other
+    settle-match_term V globals known all p s l (added + count_pats ps) (natural m) (axes_term ps known (bind_pattern p s) (added + count_binders p) inside other) other
     (λ env. on_match (match_axes ps globals is env) k 0 0) e (ap (slice_get l) z ∙ h.0) n
     (λ new f.
-    settle-axes_term V globals known all ps (bound p s) (new ++ l) (added + grown p) is inside other k
-    (omega (arith, length-bound p s, length-append new l)) (omega arith) (holds-past new l added (grown p) is f h.1) n
-    (inside_next (λ l'. settle V l' inside) (grown p) (grown_axes ps) (bound_axes ps (bound p s)) l k new f i))
+    settle-axes_term V globals known all ps (bind_pattern p s) (new ++ l) (added + count_binders p) is inside other k
+    (omega (arith, length-bound p s, length-append new l)) (omega arith) (holds-past new l added (count_binders p) is f h.1) n
+    (inside_next (λ l'. settle V l' inside) (count_binders p) (grown_axes ps) (bound_axes ps (bind_pattern p s)) l k new f i))
     ∙ on-then (match p globals (natural m) (env_of s l)) (match_axes ps globals is) k 0 0
 
 index-worth : (V : Outcomes) (l : List Datum) (added m : ℕ) (is : List ℕ) → length is ≡ m → Holds l added is →
@@ -216,39 +216,39 @@ no_cell a = go (as_array a)
 abbrev at_cell : Pats → Binders → (Binders → Term) → Term
 at_cell ps s t =
     let_term (cell_term (count_pats ps) (grown_axes ps))
-    (t (cell_scope ps s))
+    (t (cell_binders ps s))
 
-holds_here : (ps : Pats) (is : List ℕ) (l new : List Datum) → length new ≡ grown_axes ps → Holds (new ++ walked is l) (grown_axes ps) is
+holds_here : (ps : Pats) (is : List ℕ) (l new : List Datum) → length new ≡ grown_axes ps → Holds (new ++ push_index is l) (grown_axes ps) is
 holds_here ps is l new e =
     let z : 0 + grown_axes ps ≡ grown_axes ps = omega arith in
-    subst (λ n. Holds (new ++ walked is l) n is) z (holds-past new (walked is l) 0 (grown_axes ps) is e (holds-walked is l))
+    subst (λ n. Holds (new ++ push_index is l) n is) z (holds-past new (push_index is l) 0 (grown_axes ps) is e (holds-walked is l))
 
 array_here : (ps : Pats) (is : List ℕ) (a : Datum) (l new : List Datum) → length is ≡ count_pats ps → length new ≡ grown_axes ps →
-    slice_get (new ++ walked is (a ∷ l)) (grown_axes ps + count_pats ps) ≡ Some a
+    slice_get (new ++ push_index is (a ∷ l)) (grown_axes ps + count_pats ps) ≡ Some a
 array_here ps is a l new c e =
     let z : grown_axes ps + count_pats ps ≡ (0 + length is) + grown_axes ps = omega arith in
-    ap (slice_get (new ++ walked is (a ∷ l))) z ∙ past new (walked is (a ∷ l)) (0 + length is) (grown_axes ps) e ∙ walked-at is (a ∷ l) 0
+    ap (slice_get (new ++ push_index is (a ∷ l))) z ∙ past new (push_index is (a ∷ l)) (0 + length is) (grown_axes ps) e ∙ walked-at is (a ∷ l) 0
 
 fits_here : (ps : Pats) (is : List ℕ) (a : Datum) (s : Binders) (vals new : List Datum) → length is ≡ count_pats ps → length s ≡ length vals → length new ≡ grown_axes ps →
-    length (cell_scope ps s) ≡ length (new ++ walked is (a ∷ vals))
+    length (cell_binders ps s) ≡ length (new ++ push_index is (a ∷ vals))
 fits_here ps is a s vals new c l e =
-    omega (arith, length-bound_axes ps (under (count_pats ps) (None ∷ s)), length-append new (walked is (a ∷ vals)), fits-walked (count_pats ps) is (None ∷ s) (a ∷ vals) c (ap suc l))
+    omega (arith, length-bound_axes ps (under (count_pats ps) (None ∷ s)), length-append new (push_index is (a ∷ vals)), fits-walked (count_pats ps) is (None ∷ s) (a ∷ vals) c (ap suc l))
 
 index_worth : (V : Outcomes) (globals : Globals) (known : Resolutions) → Stand V globals known →
     (ps : Pats) (s : Binders) (vals : List Datum) (t : Binders → Term) (g : Env → Option Datum) (R : Datum → Env → Option (List Env)) → length s ≡ length vals →
     ((w : Datum) (s' : Binders) (vals' : List Datum) → length s' ≡ length vals' → cden V (w ∷ vals') (t s') ≡ heads g (R w (env_of s' vals'))) →
     (a : Datum) (is : List ℕ) → length is ≡ count_pats ps →
-    cden V (walked is (a ∷ vals)) (axes_term ps known (under (count_pats ps) (None ∷ s)) 0 (at_cell ps s t) empty_term)
+    cden V (push_index is (a ∷ vals)) (axes_term ps known (under (count_pats ps) (None ∷ s)) 0 (at_cell ps s t) empty_term)
     ≡ heads g (on_match (match_axes ps globals is (env_of s vals)) (λ inner. cell_of a is >>= λ w. R w inner) (Some []) None)
 index_worth V globals known all ps s vals t g R l h a is c =
-    cden-axes_term V globals known all ps (under (count_pats ps) (None ∷ s)) (walked is (a ∷ vals)) 0 is (at_cell ps s t) empty_term
+    cden-axes_term V globals known all ps (under (count_pats ps) (None ∷ s)) (push_index is (a ∷ vals)) 0 is (at_cell ps s t) empty_term
     (λ inner. heads g (cell_of a is >>= λ w. R w inner)) (Some (set nil))
     (fits-walked (count_pats ps) is (None ∷ s) (a ∷ vals) c (ap suc l)) c (holds-walked is (a ∷ vals)) (λ l. refl)
     (λ new e.
-    let-worth (cell-worth V (new ++ walked is (a ∷ vals)) (grown_axes ps) (count_pats ps) is a c (holds_here ps is (a ∷ vals) new e) (array_here ps is a vals new c e))
-    (λ w. h w (cell_scope ps s) (new ++ walked is (a ∷ vals)) (fits_here ps is a s vals new c l e))
-    ∙ let_heads g (cell_of a is) (λ w. R w (env_of (cell_scope ps s) (new ++ walked is (a ∷ vals)))))
-    ∙ matched_heads g (match_axes ps globals is (env_of (under (count_pats ps) (None ∷ s)) (walked is (a ∷ vals)))) (λ inner. cell_of a is >>= λ w. R w inner)
+    let-worth (cell-worth V (new ++ push_index is (a ∷ vals)) (grown_axes ps) (count_pats ps) is a c (holds_here ps is (a ∷ vals) new e) (array_here ps is a vals new c e))
+    (λ w. h w (cell_binders ps s) (new ++ push_index is (a ∷ vals)) (fits_here ps is a s vals new c l e))
+    ∙ let_heads g (cell_of a is) (λ w. R w (env_of (cell_binders ps s) (new ++ push_index is (a ∷ vals)))))
+    ∙ matched_heads g (match_axes ps globals is (env_of (under (count_pats ps) (None ∷ s)) (push_index is (a ∷ vals)))) (λ inner. cell_of a is >>= λ w. R w inner)
     ∙ ap (λ env. heads g (on_match (match_axes ps globals is env) (λ inner. cell_of a is >>= λ w. R w inner) (Some []) None)) (env_of-walked (count_pats ps) is (None ∷ s) (a ∷ vals) c)
 
 pub array-worth : (V : Outcomes) (globals : Globals) (known : Resolutions) → Stand V globals known →
@@ -278,18 +278,18 @@ index_turns : (V : Outcomes) (globals : Globals) (known : Resolutions) → Stand
     (ps : Pats) (s : Binders) (vals : List Datum) (t : Binders → Term) (R : Datum → Env → ℕ) → length s ≡ length vals →
     ((w : Datum) (s' : Binders) (vals' : List Datum) → length s' ≡ length vals' → settle V (w ∷ vals') (t s') ≡ R w (env_of s' vals')) →
     (a : Datum) (is : List ℕ) → length is ≡ count_pats ps →
-    settle V (walked is (a ∷ vals)) (axes_term ps known (under (count_pats ps) (None ∷ s)) 0 (at_cell ps s t) empty_term)
+    settle V (push_index is (a ∷ vals)) (axes_term ps known (under (count_pats ps) (None ∷ s)) 0 (at_cell ps s t) empty_term)
     ≡ on_match (match_axes ps globals is (env_of s vals)) (λ inner. if_some (cell_of a is) (λ w. R w inner)) 0 0
 index_turns V globals known all ps s vals t R l h a is c =
-    settle-axes_term V globals known all ps (under (count_pats ps) (None ∷ s)) (walked is (a ∷ vals)) 0 is (at_cell ps s t) empty_term
+    settle-axes_term V globals known all ps (under (count_pats ps) (None ∷ s)) (push_index is (a ∷ vals)) 0 is (at_cell ps s t) empty_term
     (λ inner. if_some (cell_of a is) (λ w. R w inner))
     (fits-walked (count_pats ps) is (None ∷ s) (a ∷ vals) c (ap suc l)) c (holds-walked is (a ∷ vals)) (λ l. refl)
     (λ new e.
-    (let z = let-turns V (new ++ walked is (a ∷ vals)) (cell_term (count_pats ps) (grown_axes ps))
-    (t (cell_scope ps s)) 0 (cell_of a is) (λ w. R w (env_of (cell_scope ps s) (new ++ walked is (a ∷ vals))))
-    (cell-turns V (new ++ walked is (a ∷ vals)) (count_pats ps) (grown_axes ps))
-    (cell-worth V (new ++ walked is (a ∷ vals)) (grown_axes ps) (count_pats ps) is a c (holds_here ps is (a ∷ vals) new e) (array_here ps is a vals new c e))
-    (λ w. h w (cell_scope ps s) (new ++ walked is (a ∷ vals)) (fits_here ps is a s vals new c l e)) in omega arith))
+    (let z = let-turns V (new ++ push_index is (a ∷ vals)) (cell_term (count_pats ps) (grown_axes ps))
+    (t (cell_binders ps s)) 0 (cell_of a is) (λ w. R w (env_of (cell_binders ps s) (new ++ push_index is (a ∷ vals))))
+    (cell-turns V (new ++ push_index is (a ∷ vals)) (count_pats ps) (grown_axes ps))
+    (cell-worth V (new ++ push_index is (a ∷ vals)) (grown_axes ps) (count_pats ps) is a c (holds_here ps is (a ∷ vals) new e) (array_here ps is a vals new c e))
+    (λ w. h w (cell_binders ps s) (new ++ push_index is (a ∷ vals)) (fits_here ps is a s vals new c l e)) in omega arith))
     ∙ ap (λ env. on_match (match_axes ps globals is env) (λ inner. if_some (cell_of a is) (λ w. R w inner)) 0 0) (env_of-walked (count_pats ps) is (None ∷ s) (a ∷ vals) c)
 
 pub array-turns : (V : Outcomes) (globals : Globals) (known : Resolutions) → Stand V globals known →

@@ -8,10 +8,10 @@ use Rattle.aql_syntax.specs.Tree.{Name, Constant, Pat, bind, any, equals, refers
 use Rattle.aql_syntax.specs.Names.{names_equal, find}
 use Rattle.nrca_term.specs.Term.{Term, Parts, node, none, part, plain, Form, FormClosed, Closed, PartsClosed}
 use Rattle.nrca_term.specs.Nodes.{variable, truth_term, bottom_term, let_term, if_term, proj_term, gen_term, dim_term, empty_term, loop_term}
-use Rattle.aql_desugar_spec.specs.Start.{Binders, Resolved, numbered, inlined, Resolutions, index_under, index_of, name_term, position_term, macro_term, call_term, constant_term, bound, grown, growns, equal_term, match_term, parts_term, matching, united, dimension, loops_term, under, grown_axes, axes_term, index_terms, cell_term, cell_scope, array_term, under_axes, start, starts, bound_terms, quals_term, defs_term, hidden, inline, knowns_of}
+use Rattle.aql_desugar_spec.specs.Start.{Binders, Resolved, numbered, inlined, Resolutions, index_under, index_of, name_term, position_term, macro_term, call_term, constant_term, bind_pattern, count_binders, count_all_binders, equal_term, match_term, parts_term, matching, balanced_union, dimension, loops_term, under, grown_axes, axes_term, index_terms, cell_term, cell_binders, array_term, under_axes, start, starts, bound_terms, quals_term, defs_term, unnamed_binders, inline, knowns_of}
 use Rattle.aql_desugar_spec.specs.Laws.Scopes.{length-bound, length-bound_axes, length-under, length-under_axes}
 use Rattle.aql_desugar_spec.specs.Laws.Meaning.{length-bound_terms}
-use Rattle.aql_desugar_spec.specs.Laws.Positions.{length-hidden}
+use Rattle.aql_desugar_spec.specs.Laws.Positions.{length-unnamed_binders}
 use Rattle.aql_desugar_spec.specs.Laws.{StartCloses}
 
 -- the macros' terms have no variables but those around the application and the argument's
@@ -83,7 +83,7 @@ closed-plain : (n : ℕ) (ts : List Term) (ps : Parts) → Every (Closed n) ts �
 closed-plain n [] ps h k = k
 closed-plain n (t ∷ ts) ps h k = (at0 n t h.0, closed-plain n ts ps h.1 k)
 
-closed-united : (n k : ℕ) (ts : List Term) → Every (Closed n) ts → Closed n (united k ts)
+closed-united : (n k : ℕ) (ts : List Term) → Every (Closed n) ts → Closed n (balanced_union k ts)
 closed-united n zero ts h = (tt, tt)
 closed-united n (suc k) [] h = (tt, tt)
 closed-united n (suc k) (t ∷ []) h = (tt, (at0 n t h.0, tt))
@@ -91,14 +91,14 @@ closed-united n (suc k) (t ∷ u ∷ ts) h =
     let m = length (t ∷ u ∷ ts) / 2 in (
       tt,
       (
-        at0 n (united k (take m (t ∷ u ∷ ts))) (closed-united n k (take m (t ∷ u ∷ ts)) (Every-take (Closed n) m (t ∷ u ∷ ts) h)),
-        (at0 n (united k (drop m (t ∷ u ∷ ts))) (closed-united n k (drop m (t ∷ u ∷ ts)) (Every-drop (Closed n) m (t ∷ u ∷ ts) h)), tt),
+        at0 n (balanced_union k (take m (t ∷ u ∷ ts))) (closed-united n k (take m (t ∷ u ∷ ts)) (Every-take (Closed n) m (t ∷ u ∷ ts) h)),
+        (at0 n (balanced_union k (drop m (t ∷ u ∷ ts))) (closed-united n k (drop m (t ∷ u ∷ ts)) (Every-drop (Closed n) m (t ∷ u ∷ ts) h)), tt),
       ),
     )
 
 mutual
   pub closed-match_term : (p : Pat) (known : Resolutions) (s : Binders) (at n : ℕ) (inside other : Term) → length s ≡ n → at < n →
-      ((m : ℕ) → Closed m other) → Closed (n + grown p) inside → Closed n (match_term p known s at inside other)
+      ((m : ℕ) → Closed m other) → Closed (n + count_binders p) inside → Closed n (match_term p known s at inside other)
   closed-match_term (bind x) known s at n inside other e h o i =
       let z : n + 1 ≡ suc n = omega arith in
       closed-let n (variable at) inside (h, tt) (subst (λ m. Closed m inside) z i)
@@ -113,15 +113,15 @@ mutual
   closed-match_term (tuple ps) known s at n inside other e h o i = closed-parts_term ps known s at 1 (count_pats ps) n inside other e h o i
 
   pub closed-parts_term : (ps : Pats) (known : Resolutions) (s : Binders) (at j c n : ℕ) (inside other : Term) → length s ≡ n → at < n →
-      ((m : ℕ) → Closed m other) → Closed (n + growns ps) inside → Closed n (parts_term ps known s at j c inside other)
+      ((m : ℕ) → Closed m other) → Closed (n + count_all_binders ps) inside → Closed n (parts_term ps known s at j c inside other)
   closed-parts_term no_pat known s at j c n inside other e h o i = let z : n + 0 ≡ n = omega arith in subst (λ m. Closed m inside) z i
   closed-parts_term (pat p ps) known s at j c n inside other e h o i =
       closed-let n (proj_term j c (variable at))
-      (match_term p known (None ∷ s) 0 (parts_term ps known (bound p (None ∷ s)) (at + (grown p + 1)) (suc j) c inside other) other)
+      (match_term p known (None ∷ s) 0 (parts_term ps known (bind_pattern p (None ∷ s)) (at + (count_binders p + 1)) (suc j) c inside other) other)
       (closed-one (Strict.proj j c) n (variable at) (h, tt))
-      (closed-match_term p known (None ∷ s) 0 (suc n) (parts_term ps known (bound p (None ∷ s)) (at + (grown p + 1)) (suc j) c inside other) other (ap suc e) (omega arith) o
-      (closed-parts_term ps known (bound p (None ∷ s)) (at + (grown p + 1)) (suc j) c (suc n + grown p) inside other
-      (omega (arith, length-bound p (None ∷ s))) (omega arith) o (subst (λ m. Closed m inside) (deep n (grown p) (growns ps)) i)))
+      (closed-match_term p known (None ∷ s) 0 (suc n) (parts_term ps known (bind_pattern p (None ∷ s)) (at + (count_binders p + 1)) (suc j) c inside other) other (ap suc e) (omega arith) o
+      (closed-parts_term ps known (bind_pattern p (None ∷ s)) (at + (count_binders p + 1)) (suc j) c (suc n + count_binders p) inside other
+      (omega (arith, length-bound p (None ∷ s))) (omega arith) o (subst (λ m. Closed m inside) (deep n (count_binders p) (count_all_binders ps)) i)))
     where
       deep : (n g r : ℕ) → n + (r + (g + 1)) ≡ (suc n + g) + r
       deep n g r = omega arith
@@ -133,8 +133,8 @@ IsClosed t = (s : Binders) → Closed (length s) (t s)
 closed-matching : (p : Pat) (known : Resolutions) (s : Binders) (t : Binders → Term) (other : Term) → ((m : ℕ) → Closed m other) → IsClosed t →
     Closed (suc (length s)) (matching p known s t other)
 closed-matching p known s t other o h =
-    closed-match_term p known (None ∷ s) 0 (suc (length s)) (t (bound p (None ∷ s))) other refl (omega arith) o
-    (subst (λ m. Closed m (t (bound p (None ∷ s)))) (length-bound p (None ∷ s)) (h (bound p (None ∷ s))))
+    closed-match_term p known (None ∷ s) 0 (suc (length s)) (t (bind_pattern p (None ∷ s))) other refl (omega arith) o
+    (subst (λ m. Closed m (t (bind_pattern p (None ∷ s)))) (length-bound p (None ∷ s)) (h (bind_pattern p (None ∷ s))))
 
 closed-dimension : (rank j at n : ℕ) → at < n → Closed n (dimension rank j at)
 closed-dimension zero j at n h = closed-one (Strict.proj j 0) n (dim_term 0 (variable at)) (closed-one (Strict.dim 0) n (variable at) (h, tt))
@@ -154,9 +154,9 @@ closed-axes_term : (ps : Pats) (known : Resolutions) (s : Binders) (added n : �
     ((m : ℕ) → Closed m other) → Closed (n + grown_axes ps) inside → Closed n (axes_term ps known s added inside other)
 closed-axes_term no_pat known s added n inside other e h o i = let z : n + 0 ≡ n = omega arith in subst (λ m. Closed m inside) z i
 closed-axes_term (pat p ps) known s added n inside other e h o i =
-    let z : n + (grown_axes ps + grown p) ≡ (n + grown p) + grown_axes ps = omega arith in
-    closed-match_term p known s (added + count_pats ps) n (axes_term ps known (bound p s) (added + grown p) inside other) other e (omega arith) o
-    (closed-axes_term ps known (bound p s) (added + grown p) (n + grown p) inside other (omega (arith, length-bound p s)) (omega arith) o
+    let z : n + (grown_axes ps + count_binders p) ≡ (n + count_binders p) + grown_axes ps = omega arith in
+    closed-match_term p known s (added + count_pats ps) n (axes_term ps known (bind_pattern p s) (added + count_binders p) inside other) other e (omega arith) o
+    (closed-axes_term ps known (bind_pattern p s) (added + count_binders p) (n + count_binders p) inside other (omega (arith, length-bound p s)) (omega arith) o
     (subst (λ m. Closed m inside) z i))
 
 closed-index_terms : (m added n : ℕ) → added + m < suc n → PartsClosed n (plain (index_terms m added) none)
@@ -172,14 +172,14 @@ closed-array known ps s array t a h =
     let k = count_pats ps in
     let n = k + suc (length s) in
     let cell = cell_term k (grown_axes ps) in
-    let long : length (cell_scope ps s) ≡ n + grown_axes ps = omega (arith, length-bound_axes ps (under k (None ∷ s)), length-under k (None ∷ s)) in
-    let found = let_term cell (t (cell_scope ps s)) in
+    let long : length (cell_binders ps s) ≡ n + grown_axes ps = omega (arith, length-bound_axes ps (under k (None ∷ s)), length-under k (None ∷ s)) in
+    let found = let_term cell (t (cell_binders ps s)) in
     closed-let (length s) array (loops_term k 0 k (axes_term ps known (under k (None ∷ s)) 0 found empty_term)) a
     (closed-loops_term k 0 k (suc (length s)) (axes_term ps known (under k (None ∷ s)) 0 found empty_term) (omega arith)
     (closed-axes_term ps known (under k (None ∷ s)) 0 n found empty_term (length-under k (None ∷ s)) (omega arith) (λ m. (tt, tt))
-    (closed-let (n + grown_axes ps) cell (t (cell_scope ps s))
+    (closed-let (n + grown_axes ps) cell (t (cell_binders ps s))
     (tt, (at0 (n + grown_axes ps) (variable (grown_axes ps + k)) (omega arith, tt), closed-index_terms k (grown_axes ps) (n + grown_axes ps) (omega arith)))
-    (subst (λ m. Closed (suc m) (t (cell_scope ps s))) long (h (cell_scope ps s))))))
+    (subst (λ m. Closed (suc m) (t (cell_binders ps s))) long (h (cell_binders ps s))))))
 
 mutual
   pub closed-start : (known : Resolutions) → CallsClosed known → (e : Tree) → IsClosed (start e known)
@@ -253,8 +253,8 @@ calls-closed [] f n = (tt, tt)
 calls-closed (val x e ∷ ds) f n = one_more x (numbered (suc (length ds))) (knowns_of ds) (λ m. (tt, tt)) (calls-closed ds) f n
 calls-closed (mac x p body ∷ ds) f n =
     one_more x (inlined (inline p body (knowns_of ds))) (knowns_of ds)
-    (λ k. subst (λ m. Closed (suc m) (inline p body (knowns_of ds) k)) (length-hidden k)
-    (closed-matching p (knowns_of ds) (hidden k) (start body (knowns_of ds)) bottom_term (λ m. (tt, tt)) (closed-start (knowns_of ds) (calls-closed ds) body)))
+    (λ k. subst (λ m. Closed (suc m) (inline p body (knowns_of ds) k)) (length-unnamed_binders k)
+    (closed-matching p (knowns_of ds) (unnamed_binders k) (start body (knowns_of ds)) bottom_term (λ m. (tt, tt)) (closed-start (knowns_of ds) (calls-closed ds) body)))
     (calls-closed ds) f n
 calls-closed (read x r e ∷ ds) f n = one_more x (numbered (suc (length ds))) (knowns_of ds) (λ m. (tt, tt)) (calls-closed ds) f n
 calls-closed (bare e ∷ ds) f n = one_more it (numbered (suc (length ds))) (knowns_of ds) (λ m. (tt, tt)) (calls-closed ds) f n

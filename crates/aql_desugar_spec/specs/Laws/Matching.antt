@@ -14,7 +14,7 @@ use Rattle.nrca_term.specs.Term.{Term}
 use Rattle.nrca_term.specs.Meaning.{Outcomes, cden}
 use Rattle.nrca_term.specs.Turns.{settle}
 use Rattle.nrca_term.specs.Nodes.{variable, if_term, proj_term}
-use Rattle.aql_desugar_spec.specs.Start.{Binders, Resolutions, index_of, name_term, constant_term, bound, bound_all, grown, growns, equal_term, match_term, parts_term, matching}
+use Rattle.aql_desugar_spec.specs.Start.{Binders, Resolutions, index_of, name_term, constant_term, bind_pattern, bind_patterns, count_binders, count_all_binders, equal_term, match_term, parts_term, matching}
 use Rattle.aql_desugar_spec.specs.Scopes.{env_of, Stand, IsInside}
 use Rattle.aql_desugar_spec.specs.Laws.Scopes.{cden-name_term, settle-name_term, fits, inside_part, further}
 use Rattle.aql_desugar_spec.specs.Laws.Nodes.{let-turns, choose-turns}
@@ -74,7 +74,7 @@ mutual
   pub cden-match_term : (V : Outcomes) (globals : Globals) (known : Resolutions) → Stand V globals known →
       (p : Pat) (s : Binders) (vals : List Datum) (at : ℕ) (w : Datum) (inside other : Term) (k : Env → Option Datum) (a : Option Datum) →
       length s ≡ length vals → slice_get vals at ≡ Some w → ((l : List Datum) → cden V l other ≡ a) →
-      IsInside (λ l. cden V l inside) (grown p) (bound p s) vals k →
+      IsInside (λ l. cden V l inside) (count_binders p) (bind_pattern p s) vals k →
       cden V vals (match_term p known s at inside other) ≡ on_match (match p globals w (env_of s vals)) k a None
   cden-match_term V globals known all (bind x) s vals at w inside other k a e h n i = rw h (i (w ∷ []) refl)
   cden-match_term V globals known all any s vals at w inside other k a e h n i = i [] refl
@@ -89,28 +89,28 @@ mutual
   pub cden-parts_term : (V : Outcomes) (globals : Globals) (known : Resolutions) → Stand V globals known →
       (ps : Pats) (s : Binders) (vals : List Datum) (at j c : ℕ) (w : Datum) (inside other : Term) (k : Env → Option Datum) (a : Option Datum) →
       length s ≡ length vals → slice_get vals at ≡ Some w → ((l : List Datum) → cden V l other ≡ a) →
-      IsInside (λ l. cden V l inside) (growns ps) (bound_all ps s) vals k →
+      IsInside (λ l. cden V l inside) (count_all_binders ps) (bind_patterns ps s) vals k →
       cden V vals (parts_term ps known s at j c inside other) ≡ on_match (match_parts ps globals j c w (env_of s vals)) k a None
   cden-parts_term V globals known all no_pat s vals at j c w inside other k a e h n i = i [] refl
   cden-parts_term V globals known all (pat p ps) s vals at j c w inside other k a e h n i =
       rw h (with_each (part_of j c w)
-      (λ u. cden V (u ∷ vals) (match_term p known (None ∷ s) 0 (parts_term ps known (bound p (None ∷ s)) (at + (grown p + 1)) (suc j) c inside other) other))
+      (λ u. cden V (u ∷ vals) (match_term p known (None ∷ s) 0 (parts_term ps known (bind_pattern p (None ∷ s)) (at + (count_binders p + 1)) (suc j) c inside other) other))
       (λ u. on_match (match p globals u (env_of s vals)) (match_parts ps globals (suc j) c w) miss undefined) k a
       (λ u.
       cden-match_term V globals known all p (None ∷ s) (u ∷ vals) 0 u
-      (parts_term ps known (bound p (None ∷ s)) (at + (grown p + 1)) (suc j) c inside other) other
+      (parts_term ps known (bind_pattern p (None ∷ s)) (at + (count_binders p + 1)) (suc j) c inside other) other
       (λ env. on_match (match_parts ps globals (suc j) c w env) k a None) a (ap suc e) refl n
       (λ new l.
-      cden-parts_term V globals known all ps (bound p (None ∷ s)) (new ++ (u ∷ vals)) (at + (grown p + 1)) (suc j) c w inside other k a
-      (fits p s vals u new e l) (further new vals at (grown p) w u l h) n
-      (inside_part (λ l'. cden V l' inside) (grown p) (growns ps) (bound_all ps (bound p (None ∷ s))) vals k u new l i))
+      cden-parts_term V globals known all ps (bind_pattern p (None ∷ s)) (new ++ (u ∷ vals)) (at + (count_binders p + 1)) (suc j) c w inside other k a
+      (fits p s vals u new e l) (further new vals at (count_binders p) w u l h) n
+      (inside_part (λ l'. cden V l' inside) (count_binders p) (count_all_binders ps) (bind_patterns ps (bind_pattern p (None ∷ s))) vals k u new l i))
       ∙ on-then (match p globals u (env_of s vals)) (match_parts ps globals (suc j) c w) k a None))
 
 mutual
   pub settle-match_term : (V : Outcomes) (globals : Globals) (known : Resolutions) → Stand V globals known →
       (p : Pat) (s : Binders) (vals : List Datum) (at : ℕ) (w : Datum) (inside other : Term) (k : Env → ℕ) →
       length s ≡ length vals → slice_get vals at ≡ Some w → ((l : List Datum) → settle V l other ≡ 0) →
-      IsInside (λ l. settle V l inside) (grown p) (bound p s) vals k →
+      IsInside (λ l. settle V l inside) (count_binders p) (bind_pattern p s) vals k →
       settle V vals (match_term p known s at inside other) ≡ on_match (match p globals w (env_of s vals)) k 0 0
   settle-match_term V globals known all (bind x) s vals at w inside other k e h n i =
       let-turns V vals (variable at) inside 0 (Some w) (λ v. settle V (v ∷ vals) inside) refl h (λ v. refl) ∙ (let z = i (w ∷ []) refl in omega arith)
@@ -126,24 +126,24 @@ mutual
   pub settle-parts_term : (V : Outcomes) (globals : Globals) (known : Resolutions) → Stand V globals known →
       (ps : Pats) (s : Binders) (vals : List Datum) (at j c : ℕ) (w : Datum) (inside other : Term) (k : Env → ℕ) →
       length s ≡ length vals → slice_get vals at ≡ Some w → ((l : List Datum) → settle V l other ≡ 0) →
-      IsInside (λ l. settle V l inside) (growns ps) (bound_all ps s) vals k →
+      IsInside (λ l. settle V l inside) (count_all_binders ps) (bind_patterns ps s) vals k →
       settle V vals (parts_term ps known s at j c inside other) ≡ on_match (match_parts ps globals j c w (env_of s vals)) k 0 0
   settle-parts_term V globals known all no_pat s vals at j c w inside other k e h n i = i [] refl
   settle-parts_term V globals known all (pat p ps) s vals at j c w inside other k e h n i =
       let-turns V vals (proj_term j c (variable at))
-      (match_term p known (None ∷ s) 0 (parts_term ps known (bound p (None ∷ s)) (at + (grown p + 1)) (suc j) c inside other) other)
+      (match_term p known (None ∷ s) 0 (parts_term ps known (bind_pattern p (None ∷ s)) (at + (count_binders p + 1)) (suc j) c inside other) other)
       0 (part_of j c w)
-      (λ u. settle V (u ∷ vals) (match_term p known (None ∷ s) 0 (parts_term ps known (bound p (None ∷ s)) (at + (grown p + 1)) (suc j) c inside other) other))
+      (λ u. settle V (u ∷ vals) (match_term p known (None ∷ s) 0 (parts_term ps known (bind_pattern p (None ∷ s)) (at + (count_binders p + 1)) (suc j) c inside other) other))
       refl (rw h refl) (λ u. refl)
       ∙ with_turns (part_of j c w) _ (λ u. on_match (match p globals u (env_of s vals)) (match_parts ps globals (suc j) c w) miss undefined) k
       (λ u.
       settle-match_term V globals known all p (None ∷ s) (u ∷ vals) 0 u
-      (parts_term ps known (bound p (None ∷ s)) (at + (grown p + 1)) (suc j) c inside other) other
+      (parts_term ps known (bind_pattern p (None ∷ s)) (at + (count_binders p + 1)) (suc j) c inside other) other
       (λ env. on_match (match_parts ps globals (suc j) c w env) k 0 0) (ap suc e) refl n
       (λ new l.
-      settle-parts_term V globals known all ps (bound p (None ∷ s)) (new ++ (u ∷ vals)) (at + (grown p + 1)) (suc j) c w inside other k
-      (fits p s vals u new e l) (further new vals at (grown p) w u l h) n
-      (inside_part (λ l'. settle V l' inside) (grown p) (growns ps) (bound_all ps (bound p (None ∷ s))) vals k u new l i))
+      settle-parts_term V globals known all ps (bind_pattern p (None ∷ s)) (new ++ (u ∷ vals)) (at + (count_binders p + 1)) (suc j) c w inside other k
+      (fits p s vals u new e l) (further new vals at (count_binders p) w u l h) n
+      (inside_part (λ l'. settle V l' inside) (count_binders p) (count_all_binders ps) (bind_patterns ps (bind_pattern p (None ∷ s))) vals k u new l i))
       ∙ on-then (match p globals u (env_of s vals)) (match_parts ps globals (suc j) c w) k 0 0)
 
 -- a term in a scope is worth f of the names, wherever values stand for the variables
@@ -160,13 +160,13 @@ pub match-worth : (V : Outcomes) (globals : Globals) (known : Resolutions) → S
     length s ≡ length vals → ((l : List Datum) → cden V l other ≡ a) → IsWorth V t k → (w : Datum) →
     cden V (w ∷ vals) (matching p known s t other) ≡ on_match (match p globals w (env_of s vals)) k a None
 match-worth V globals known all p s vals t other k a e n h w =
-    cden-match_term V globals known all p (None ∷ s) (w ∷ vals) 0 w (t (bound p (None ∷ s))) other k a (ap suc e) refl n
-    (λ new l. h (bound p (None ∷ s)) (new ++ (w ∷ vals)) (fits p s vals w new e l))
+    cden-match_term V globals known all p (None ∷ s) (w ∷ vals) 0 w (t (bind_pattern p (None ∷ s))) other k a (ap suc e) refl n
+    (λ new l. h (bind_pattern p (None ∷ s)) (new ++ (w ∷ vals)) (fits p s vals w new e l))
 
 pub match-turns : (V : Outcomes) (globals : Globals) (known : Resolutions) → Stand V globals known →
     (p : Pat) (s : Binders) (vals : List Datum) (t : Binders → Term) (other : Term) (k : Env → ℕ) →
     length s ≡ length vals → ((l : List Datum) → settle V l other ≡ 0) → TakesTurns V t k → (w : Datum) →
     settle V (w ∷ vals) (matching p known s t other) ≡ on_match (match p globals w (env_of s vals)) k 0 0
 match-turns V globals known all p s vals t other k e n h w =
-    settle-match_term V globals known all p (None ∷ s) (w ∷ vals) 0 w (t (bound p (None ∷ s))) other k (ap suc e) refl n
-    (λ new l. h (bound p (None ∷ s)) (new ++ (w ∷ vals)) (fits p s vals w new e l))
+    settle-match_term V globals known all p (None ∷ s) (w ∷ vals) 0 w (t (bind_pattern p (None ∷ s))) other k (ap suc e) refl n
+    (λ new l. h (bind_pattern p (None ∷ s)) (new ++ (w ∷ vals)) (fits p s vals w new e l))

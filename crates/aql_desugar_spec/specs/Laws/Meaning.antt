@@ -1,7 +1,7 @@
 -- The start term is worth what the query denotes, and undefined where that is.
 use Rattle.std.proofs.Common.{◌≡◌, List, [], length, Option, Some, None, refl, ap, ◌∙◌, arith, suc}
 use Rattle.aql_value.specs.Datum.{Datum, set, nil}
-use Rattle.aql_value.specs.Operations.{as_truth, as_set, set_of, sum_of, union_all, walked}
+use Rattle.aql_value.specs.Operations.{as_truth, as_set, set_of, sum_of, union_all, push_index}
 use Rattle.aql_value.specs.Partial.{◌>>=◌, or_else, each}
 use Rattle.aql_value.specs.Strict.{Strict, strict_value}
 use Rattle.aql_syntax.specs.Tree.{Tree, name, op, members, comp, tab, bindings, choice, conjunction, disjunction, negation, default, apply, function, summap, Trees, no_tree, tree, Axes, no_axis, axis, Quals, no_qual, from, cells, same, test, Defs, no_def, def, axes, count_axes}
@@ -41,7 +41,7 @@ mutual
   cden-start V globals known all (tab xs body) s vals l =
       tab-worth V vals (bound_terms xs known s) (start body known (under_axes xs s)) (bound_values xs globals (env_of s vals)) _ (count_axes xs)
       (length-bound_terms xs known s) (cden-bound_terms V globals known all xs s vals l)
-      (λ at c. cden-start V globals known all body (under_axes xs s) (walked at vals) (fits-index xs at s vals c l) ∙ ap (den body globals) (env_of-index xs at s vals c))
+      (λ at c. cden-start V globals known all body (under_axes xs s) (push_index at vals) (fits-index xs at s vals c l) ∙ ap (den body globals) (env_of-index xs at s vals c))
   cden-start V globals known all (bindings ds body) s vals l =
       cden-defs_term V globals known all ds (start body known) (den body globals) (cden-start V globals known all body) s vals l
   cden-start V globals known all (choice c a b) s vals l =

@@ -14,7 +14,7 @@ use Rattle.aql_syntax.specs.Sound.{declarations_of}
 use Rattle.nrca_term.specs.Meaning.{Outcomes, cden}
 use Rattle.nrca_term.specs.Turns.{settle}
 use Rattle.nrca_term.specs.Nodes.{bottom_term}
-use Rattle.aql_desugar_spec.specs.Start.{Resolved, numbered, Resolutions, position_term, macro_term, hidden, inline, start, knowns_of}
+use Rattle.aql_desugar_spec.specs.Start.{Resolved, numbered, Resolutions, position_term, macro_term, unnamed_binders, inline, start, knowns_of}
 use Rattle.aql_desugar_spec.specs.Scopes.{env_of, Stand}
 use Rattle.aql_desugar_spec.specs.Laws.Matching.{match-worth, match-turns}
 use Rattle.aql_desugar_spec.specs.Laws.Meaning.{cden-start}
@@ -22,13 +22,13 @@ use Rattle.aql_desugar_spec.specs.Laws.Turns.{settle-start}
 use Rattle.aql_desugar_spec.specs.Laws.{StartMeans, StartTurns}
 use Rattle.aql_desugar_spec.specs.Positions.{outcomes_of}
 
-pub length-hidden : (n : ℕ) → length (hidden n) ≡ n
-length-hidden zero = refl
-length-hidden (suc n) = ap suc (length-hidden n)
+pub length-unnamed_binders : (n : ℕ) → length (unnamed_binders n) ≡ n
+length-unnamed_binders zero = refl
+length-unnamed_binders (suc n) = ap suc (length-unnamed_binders n)
 
-pub env_of-hidden : {A : Type 0} (vals : List A) → env_of (hidden (length vals)) vals ≡ []
-env_of-hidden [] = refl
-env_of-hidden (v ∷ vals) = env_of-hidden vals
+pub env_of-unnamed_binders : {A : Type 0} (vals : List A) → env_of (unnamed_binders (length vals)) vals ≡ []
+env_of-unnamed_binders [] = refl
+env_of-unnamed_binders (v ∷ vals) = env_of-unnamed_binders vals
 
 last_outcome : (os later : Outcomes) (o : Option Datum) (n : ℕ) → n ≡ length os → (slice_get (os ++ (o ∷ later)) n >>= λ r. r) ≡ o
 last_outcome [] later o zero e = refl
@@ -63,16 +63,16 @@ one_more V globals known y g k st a b c = record {
 inline-worth : (V : Outcomes) (globals : Globals) (known : Resolutions) → Stand V globals known → (p : Pat) (body : Tree) (w : Datum) (vals : List Datum) →
     cden V (w ∷ vals) (inline p body known (length vals)) ≡ on_match (match p globals w []) (den body globals) None None
 inline-worth V globals known st p body w vals =
-    match-worth V globals known st p (hidden (length vals)) vals (start body known) bottom_term (den body globals) None
-    (length-hidden (length vals)) (λ l. refl) (cden-start V globals known st body) w
-    ∙ ap (λ env. on_match (match p globals w env) (den body globals) None None) (env_of-hidden vals)
+    match-worth V globals known st p (unnamed_binders (length vals)) vals (start body known) bottom_term (den body globals) None
+    (length-unnamed_binders (length vals)) (λ l. refl) (cden-start V globals known st body) w
+    ∙ ap (λ env. on_match (match p globals w env) (den body globals) None None) (env_of-unnamed_binders vals)
 
 inline-turns : (V : Outcomes) (globals : Globals) (known : Resolutions) → Stand V globals known → (p : Pat) (body : Tree) (w : Datum) (vals : List Datum) →
     settle V (w ∷ vals) (inline p body known (length vals)) ≡ on_match (match p globals w []) (work body globals) 0 0
 inline-turns V globals known st p body w vals =
-    match-turns V globals known st p (hidden (length vals)) vals (start body known) bottom_term (work body globals)
-    (length-hidden (length vals)) (λ l. refl) (settle-start V globals known st body) w
-    ∙ ap (λ env. on_match (match p globals w env) (work body globals) 0 0) (env_of-hidden vals)
+    match-turns V globals known st p (unnamed_binders (length vals)) vals (start body known) bottom_term (work body globals)
+    (length-unnamed_binders (length vals)) (λ l. refl) (settle-start V globals known st body) w
+    ∙ ap (λ env. on_match (match p globals w env) (work body globals) 0 0) (env_of-unnamed_binders vals)
 
 -- whatever the outcomes of later positions are
 pub stand : (ds : Earlier) (later : Outcomes) → Stand (outcomes_of ds ++ later) (globals_of ds) (knowns_of (declarations_of ds))

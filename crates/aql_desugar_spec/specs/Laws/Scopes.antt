@@ -2,7 +2,7 @@
 use Rattle.std.proofs.Common.{◌≡◌, ℕ, zero, suc, ◌+◌, true, false, List, [], ◌∷◌, ◌++◌, length, Option, Some, None, if◌then◌else◌, refl, ap, ◌∙◌, subst, arith, append_assoc, length-append}
 use Rattle.std.specs.List.{slice_get}
 use Rattle.aql_value.specs.Datum.{Datum, natural}
-use Rattle.aql_value.specs.Operations.{walked}
+use Rattle.aql_value.specs.Operations.{push_index}
 use Rattle.aql_syntax.specs.Tree.{Name, Pat, bind, any, equals, refers, tuple, Pats, no_pat, pat, Axes, no_axis, axis, count_axes}
 use Rattle.aql_syntax.specs.Names.{names_equal, find}
 use Rattle.aql_syntax.specs.Matching.{Global, Globals, outcome_of, innermost, lookup}
@@ -10,7 +10,7 @@ use Rattle.aql_syntax.specs.Denotation.{call, in_head, at_index}
 use Rattle.aql_syntax.specs.Work.{turns_of_call}
 use Rattle.nrca_term.specs.Meaning.{Outcomes, cden}
 use Rattle.nrca_term.specs.Turns.{settle}
-use Rattle.aql_desugar_spec.specs.Start.{Binders, Resolved, numbered, inlined, Resolutions, index_under, index_of, position_term, name_term, macro_term, call_term, bound, bound_all, grown, growns, under, bound_axes, grown_axes, under_axes}
+use Rattle.aql_desugar_spec.specs.Start.{Binders, Resolved, numbered, inlined, Resolutions, index_under, index_of, position_term, name_term, macro_term, call_term, bind_pattern, bind_patterns, count_binders, count_all_binders, under, bound_axes, grown_axes, under_axes}
 use Rattle.aql_desugar_spec.specs.Scopes.{env_of, Stand, ResolvesTo, IsInside}
 
 raise : {A : Type 0} (vals : List A) (v : A) (i : Option ℕ) (w : Option A) → ResolvesTo vals i w → ResolvesTo (v ∷ vals) (index_under i) w
@@ -79,18 +79,18 @@ settle-call_term V globals known all f s vals w e =
 
 -- The lengths of scopes.
 mutual
-  pub length-bound : (p : Pat) (s : Binders) → length (bound p s) ≡ length s + grown p
+  pub length-bound : (p : Pat) (s : Binders) → length (bind_pattern p s) ≡ length s + count_binders p
   length-bound (bind x) s = omega arith
   length-bound any s = omega arith
   length-bound (equals c) s = omega arith
   length-bound (refers x) s = omega arith
   length-bound (tuple ps) s = length-bounds ps s
 
-  pub length-bounds : (ps : Pats) (s : Binders) → length (bound_all ps s) ≡ length s + growns ps
+  pub length-bounds : (ps : Pats) (s : Binders) → length (bind_patterns ps s) ≡ length s + count_all_binders ps
   length-bounds no_pat s = omega arith
   length-bounds (pat p ps) s =
-      let a : length (bound_all ps (bound p (None ∷ s))) ≡ length (bound p (None ∷ s)) + growns ps = length-bounds ps (bound p (None ∷ s)) in
-      let b : length (bound p (None ∷ s)) ≡ suc (length s) + grown p = length-bound p (None ∷ s) in
+      let a : length (bind_patterns ps (bind_pattern p (None ∷ s))) ≡ length (bind_pattern p (None ∷ s)) + count_all_binders ps = length-bounds ps (bind_pattern p (None ∷ s)) in
+      let b : length (bind_pattern p (None ∷ s)) ≡ suc (length s) + count_binders p = length-bound p (None ∷ s) in
       omega arith
 
 pub length-under : (m : ℕ) (s : Binders) → length (under m s) ≡ m + length s
@@ -99,36 +99,36 @@ length-under (suc m) s = let a : length (under m (None ∷ s)) ≡ m + suc (leng
 
 pub length-bound_axes : (ps : Pats) (s : Binders) → length (bound_axes ps s) ≡ length s + grown_axes ps
 length-bound_axes no_pat s = omega arith
-length-bound_axes (pat p ps) s = omega (arith, length-bound_axes ps (bound p s), length-bound p s)
+length-bound_axes (pat p ps) s = omega (arith, length-bound_axes ps (bind_pattern p s), length-bound p s)
 
 pub length-under_axes : (xs : Axes) (s : Binders) → length (under_axes xs s) ≡ length s + count_axes xs
 length-under_axes no_axis s = omega arith
 length-under_axes (axis x e rest) s = let a : length (under_axes rest (Some x ∷ s)) ≡ suc (length s) + count_axes rest = length-under_axes rest (Some x ∷ s) in omega arith
 
-pub fits : {A : Type 0} (p : Pat) (s : Binders) (vals : List A) (u : A) (new : List A) → length s ≡ length vals → length new ≡ grown p →
-    length (bound p (None ∷ s)) ≡ length (new ++ (u ∷ vals))
+pub fits : {A : Type 0} (p : Pat) (s : Binders) (vals : List A) (u : A) (new : List A) → length s ≡ length vals → length new ≡ count_binders p →
+    length (bind_pattern p (None ∷ s)) ≡ length (new ++ (u ∷ vals))
 fits p s vals u new e l = omega (arith, length-bound p (None ∷ s), length-append new (u ∷ vals))
 
 -- Values that are put on one by one.
-pub fits-walked : (n : ℕ) (at : List ℕ) (s : Binders) (l : List Datum) → length at ≡ n → length s ≡ length l → length (under n s) ≡ length (walked at l)
+pub fits-walked : (n : ℕ) (at : List ℕ) (s : Binders) (l : List Datum) → length at ≡ n → length s ≡ length l → length (under n s) ≡ length (push_index at l)
 fits-walked zero [] s l e f = f
 fits-walked zero (i ∷ at) s l e f = absurd (omega arith)
 fits-walked (suc n) [] s l e f = absurd (omega arith)
 fits-walked (suc n) (i ∷ at) s l e f = fits-walked n at (None ∷ s) (natural i ∷ l) (omega arith) (ap suc f)
 
-pub env_of-walked : (n : ℕ) (at : List ℕ) (s : Binders) (l : List Datum) → length at ≡ n → env_of (under n s) (walked at l) ≡ env_of s l
+pub env_of-walked : (n : ℕ) (at : List ℕ) (s : Binders) (l : List Datum) → length at ≡ n → env_of (under n s) (push_index at l) ≡ env_of s l
 env_of-walked zero [] s l e = refl
 env_of-walked zero (i ∷ at) s l e = absurd (omega arith)
 env_of-walked (suc n) [] s l e = absurd (omega arith)
 env_of-walked (suc n) (i ∷ at) s l e = env_of-walked n at (None ∷ s) (natural i ∷ l) (omega arith)
 
-pub fits-index : (xs : Axes) (at : List ℕ) (s : Binders) (vals : List Datum) → length at ≡ count_axes xs → length s ≡ length vals → length (under_axes xs s) ≡ length (walked at vals)
+pub fits-index : (xs : Axes) (at : List ℕ) (s : Binders) (vals : List Datum) → length at ≡ count_axes xs → length s ≡ length vals → length (under_axes xs s) ≡ length (push_index at vals)
 fits-index no_axis [] s vals e l = l
 fits-index no_axis (i ∷ at) s vals e l = absurd (omega arith)
 fits-index (axis x b rest) [] s vals e l = absurd (omega arith)
 fits-index (axis x b rest) (i ∷ at) s vals e l = fits-index rest at (Some x ∷ s) (natural i ∷ vals) (omega arith) (ap suc l)
 
-pub env_of-index : (xs : Axes) (at : List ℕ) (s : Binders) (vals : List Datum) → length at ≡ count_axes xs → env_of (under_axes xs s) (walked at vals) ≡ at_index xs at (env_of s vals)
+pub env_of-index : (xs : Axes) (at : List ℕ) (s : Binders) (vals : List Datum) → length at ≡ count_axes xs → env_of (under_axes xs s) (push_index at vals) ≡ at_index xs at (env_of s vals)
 env_of-index no_axis [] s vals e = refl
 env_of-index no_axis (i ∷ at) s vals e = absurd (omega arith)
 env_of-index (axis x b rest) [] s vals e = absurd (omega arith)

@@ -1,7 +1,7 @@
 -- The start term takes the turns of the query as written.
 use Rattle.std.proofs.Common.{◌≡◌, ℕ, ◌+◌, true, false, List, length, Option, Some, None, if◌then◌else◌, refl, ap, ◌∙◌, arith}
 use Rattle.aql_value.specs.Datum.{Datum}
-use Rattle.aql_value.specs.Operations.{as_truth, walked}
+use Rattle.aql_value.specs.Operations.{as_truth, push_index}
 use Rattle.aql_value.specs.Partial.{◌>>=◌, total, if_some}
 use Rattle.aql_value.specs.Strict.{strict_turns}
 use Rattle.aql_syntax.specs.Tree.{Tree, name, op, members, comp, tab, bindings, choice, conjunction, disjunction, negation, default, apply, function, summap, Trees, no_tree, tree, Axes, no_axis, axis, Quals, no_qual, from, cells, same, test, Defs, no_def, def, axes, count_axes}
@@ -54,7 +54,7 @@ mutual
   settle-start V globals known all (tab xs body) s vals l =
       tab-turns V vals (bound_terms xs known s) (start body known (under_axes xs s)) (work_bounds xs globals (env_of s vals)) (bound_values xs globals (env_of s vals)) _ (count_axes xs)
       (length-bound_terms xs known s) (settle-bound_terms V globals known all xs s vals l) (cden-bound_terms V globals known all xs s vals l)
-      (λ at c. settle-start V globals known all body (under_axes xs s) (walked at vals) (fits-index xs at s vals c l) ∙ ap (work body globals) (env_of-index xs at s vals c))
+      (λ at c. settle-start V globals known all body (under_axes xs s) (push_index at vals) (fits-index xs at s vals c l) ∙ ap (work body globals) (env_of-index xs at s vals c))
   settle-start V globals known all (bindings ds body) s vals l =
       settle-defs_term V globals known all ds (start body known) (work body globals) (settle-start V globals known all body) s vals l
   settle-start V globals known all (choice c a b) s vals l =

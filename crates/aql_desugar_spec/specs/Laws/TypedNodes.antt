@@ -1,5 +1,5 @@
 -- The types of the nodes that a translation makes, and of names and matches.
-use Rattle.std.proofs.Common.{◌≡◌, ℕ, zero, suc, ◌+◌, ◌/◌, true, false, List, [], ◌∷◌, ◌++◌, length, map, replicate, take, drop, Option, Some, None, if◌then◌else◌, refl, sym, ap, ◌∙◌, subst, arith, append_assoc, length-append}
+use Rattle.std.proofs.Common.{◌≡◌, ℕ, zero, suc, ◌+◌, ◌/◌, List, [], ◌∷◌, ◌++◌, length, map, replicate, take, drop, Option, Some, None, refl, sym, ap, ◌∙◌, subst, arith, append_assoc, length-append}
 use Rattle.std.specs.List.{slice_get}
 use Rattle.std.specs.Option.{option_map}
 use Rattle.aql_value.specs.Lists.{Every}
@@ -12,16 +12,18 @@ use Rattle.aql_types.specs.Laws.Types.{count_apply}
 use Rattle.aql_types.specs.OperationTypes.{strict_rule}
 use Rattle.aql_syntax.specs.Tree as tree
 use Rattle.aql_syntax.specs.Tree.{Name, Constant, Pat, bind, any, equals, refers, tuple, Pats, no_pat, pat, count_pats}
-use Rattle.aql_syntax.specs.Names.{names_equal, find}
-use Rattle.aql_syntax.specs.Typing.{Environment, Locals, NameHas, MacroTakes, constant_type, PatternFits, FitsAll, OperandWithin, FirstWithin}
+use Rattle.aql_syntax.specs.Names.{find}
+use Rattle.aql_syntax.specs.Typing.{Environment, Locals, NameHas, MacroTakes, constant_type, PatternFits, FitsAll, OperandWithin, FirstWithin, local_instances}
 use Rattle.nrca_term.specs.Term.{Term, node, none, plain, Form}
 use Rattle.nrca_term.specs.Typing.{arg, form_rule, ctyped, parts_typed}
 use Rattle.nrca_term.specs.Nodes.{variable, bottom_term, empty_term, let_term, if_term, proj_term, big_union_term, loop_term}
 use Rattle.aql_desugar_spec.specs.Start as start_term
-use Rattle.aql_desugar_spec.specs.Start.{Resolved, Resolutions, index_of, position_term, name_term, macro_term, call_term, constant_term, bound, bound_all, grown, growns, equal_term, match_term, parts_term, matching, united}
+use Rattle.aql_desugar_spec.specs.Start.{Resolved, Resolutions, index_of, position_term, name_term, macro_term, call_term, constant_term, bind_pattern, bind_patterns, count_binders, count_all_binders, equal_term, match_term, parts_term, matching, balanced_union}
 use Rattle.aql_desugar_spec.specs.Scopes.{env_of, ResolvesTo}
 use Rattle.aql_desugar_spec.specs.Laws.Scopes.{leads, fits, further, rejoined}
 use Rattle.aql_syntax.specs.Written.{IsWrittenForm}
+use Rattle.aql_syntax.specs.Laws.Sound.{instance_list, tys_of-listed}
+use Rattle.aql_syntax.specs.Laws.Names.{find-instances}
 
 -- the types of positions
 abbrev pub Given : Type 1
@@ -104,30 +106,17 @@ pub typed-strict : (G : Given) (env : List Ty) (s : Strict) (ts : List Term) (Ts
     ctyped G env (node (Form.strict s) (plain ts none)) T
 typed-strict G env s ts Ts T k h r = (k, map (arg []) Ts, (Ts, refl, r), typed-plain G env ts Ts h)
 
-pub typed-united : (G : Given) (env : List Ty) (A : Ty) → IsType A → (n : ℕ) (ts : List Term) → Every (λ t. ctyped G env t A) ts → ctyped G env (united n ts) (types.set_of A)
+pub typed-united : (G : Given) (env : List Ty) (A : Ty) → IsType A → (n : ℕ) (ts : List Term) → Every (λ t. ctyped G env t A) ts → ctyped G env (balanced_union n ts) (types.set_of A)
 typed-united G env A k zero ts h = typed-empty G env A k
 typed-united G env A k (suc n) [] h = typed-empty G env A k
 typed-united G env A k (suc n) (t ∷ []) h = typed-one G env Strict.single t A (types.set_of A) k h.0 (A, refl, refl)
 typed-united G env A k (suc n) (t ∷ u ∷ ts) h =
     let m = length (t ∷ u ∷ ts) / 2 in
-    typed-two G env Strict.union (united n (take m (t ∷ u ∷ ts))) (united n (drop m (t ∷ u ∷ ts))) (types.set_of A) (types.set_of A) (types.set_of A) k
+    typed-two G env Strict.union (balanced_union n (take m (t ∷ u ∷ ts))) (balanced_union n (drop m (t ∷ u ∷ ts))) (types.set_of A) (types.set_of A) (types.set_of A) k
     (typed-united G env A k n (take m (t ∷ u ∷ ts)) (Every-take (λ t. ctyped G env t A) m (t ∷ u ∷ ts) h))
     (typed-united G env A k n (drop m (t ∷ u ∷ ts)) (Every-drop (λ t. ctyped G env t A) m (t ∷ u ∷ ts) h)) (A, refl, refl)
 
 -- Names.
-
--- local names with the instances of their types
-abbrev pub local_instances : Subst → Locals → Locals
-local_instances u [] = []
-local_instances u ((x, t) ∷ env) = (x, apply u t) ∷ local_instances u env
-
-find-instances : (u : Subst) (x : Name) (env : Locals) → find x (local_instances u env) ≡ option_map (apply u) (find x env)
-find-instances u x [] = refl
-find-instances u x ((y, t) ∷ env) =
-    elim (names_equal x y) as (λ b. (if b then Some (apply u t) else find x (local_instances u env)) ≡ option_map (apply u) (if b then Some t else find x env)) [
-      | true ↦ refl
-      | false ↦ find-instances u x env
-    ]
 
 named : (G : Given) (g : Environment) (u : Subst) (env : List Ty) (x : Name) (i : Option ℕ) (w : Option Ty) (k : Option Resolved) (T : Ty) → IsType (apply u T) →
     ResolvesTo env i (option_map (apply u) w) → ((U : Ty) → g.has x U → ctyped G env (position_term k) (apply u U)) → NameHas g w x T → ctyped G env (name_term i k) (apply u T)
@@ -180,16 +169,7 @@ typed-inside_next u P m n s env locals new e h after l i =
     let long : length (after ++ new) ≡ n + m = omega (arith, length-append after new) in
     subst P (append_assoc after new env) (h (after ++ new) long (ap (λ l. env_of s l) (append_assoc after new env) ∙ i))
 
--- the instances of some types, as a list
-abbrev listed : Subst → Tys → List Ty
-listed u no_type = []
-listed u (type t ts) = apply u t ∷ listed u ts
-
-tys_of-listed : (u : Subst) (ts : Tys) → tys_of (listed u ts) ≡ apply_all u ts
-tys_of-listed u no_type = refl
-tys_of-listed u (type t ts) = ap (type (apply u t)) (tys_of-listed u ts)
-
-length-listed : (u : Subst) (ts : Tys) → length (listed u ts) ≡ count ts
+length-listed : (u : Subst) (ts : Tys) → length (instance_list u ts) ≡ count ts
 length-listed u no_type = refl
 length-listed u (type t ts) = omega (arith, length-listed u ts)
 
@@ -209,7 +189,7 @@ mutual
   pub typed-match_term : (G : Given) (g : Environment) (known : Resolutions) (u : Subst) → Typed G g known u →
       (p : Pat) (s : start_term.Binders) (env : List Ty) (at : ℕ) (A B : Ty) (inside other : Term) (before locals : Locals) → IsType A → IsType B →
       length s ≡ length env → env_of s env ≡ local_instances u before → slice_get env at ≡ Some (apply u A) → PatternFits p g before A locals → ((l : List Ty) → ctyped G l other B) →
-      Inside u (λ l. ctyped G l inside B) (grown p) (bound p s) env locals →
+      Inside u (λ l. ctyped G l inside B) (count_binders p) (bind_pattern p s) env locals →
       ctyped G env (match_term p known s at inside other) B
   typed-match_term G g known u all (bind x) s env at A B inside other before locals a b l v h f o i =
       typed-let G env (variable at) inside (apply u A) B b (typed-variable G env at (apply u A) (apply-type u all.proper A a) h)
@@ -223,19 +203,19 @@ mutual
       (typed-equal G env at (name_term (index_of x s) (find x known)) (apply u A) (apply-type u all.proper A a) h (typed-name G g known u all x s env before A a l v f.0))
       (i [] refl (v ∙ ap (local_instances u) (sym f.1))) (o env)
   typed-match_term G g known u all (tuple ps) s env at A B inside other before locals a b l v h f o i =
-      let is : types.product (tys_of (listed u f.0)) ≡ apply u (types.product f.0) = ap types.product (tys_of-listed u f.0) in
+      let is : types.product (tys_of (instance_list u f.0)) ≡ apply u (types.product f.0) = ap types.product (tys_of-listed u f.0) in
       let k : IsType (types.product f.0) = subst IsType f.1 a in
-      typed-parts_term G g known u all ps s env at 0 (count_pats ps) B inside other before locals (listed u f.0) f.0
+      typed-parts_term G g known u all ps s env at 0 (count_pats ps) B inside other before locals (instance_list u f.0) f.0
       (subst IsType (sym is) (apply-type u all.proper (types.product f.0) k)) k.1 b l v (h ∙ ap (λ t. Some (apply u t)) f.1 ∙ ap Some (sym is))
-      (length-listed u f.0 ∙ count_fits ps g before f.0 locals f.2) (λ m. let z : 0 + m ≡ m = omega arith in ap (slice_get (listed u f.0)) z) f.2 o i
+      (length-listed u f.0 ∙ count_fits ps g before f.0 locals f.2) (λ m. let z : 0 + m ≡ m = omega arith in ap (slice_get (instance_list u f.0)) z) f.2 o i
 
   pub typed-parts_term : (G : Given) (g : Environment) (known : Resolutions) (u : Subst) → Typed G g known u →
       (ps : Pats) (s : start_term.Binders) (env : List Ty) (at j c : ℕ) (B : Ty) (inside other : Term) (before locals : Locals) (full : List Ty) (ts : Tys) →
       IsType (types.product (tys_of full)) → AreTypes ts → IsType B →
       length s ≡ length env → env_of s env ≡ local_instances u before → slice_get env at ≡ Some (types.product (tys_of full)) → length full ≡ c →
-      ((m : ℕ) → slice_get full (j + m) ≡ slice_get (listed u ts) m) →
+      ((m : ℕ) → slice_get full (j + m) ≡ slice_get (instance_list u ts) m) →
       FitsAll ps g before ts locals → ((l : List Ty) → ctyped G l other B) →
-      Inside u (λ l. ctyped G l inside B) (growns ps) (bound_all ps s) env locals →
+      Inside u (λ l. ctyped G l inside B) (count_all_binders ps) (bind_patterns ps s) env locals →
       ctyped G env (parts_term ps known s at (suc j) c inside other) B
   typed-parts_term G g known u all no_pat s env at j c B inside other before locals full ts q r b l v h n d f o i = i [] refl (v ∙ ap (local_instances u) (sym f.1))
   typed-parts_term G g known u all (pat p ps) s env at j c B inside other before locals full ts q r b l v h n d f o i =
@@ -243,17 +223,17 @@ mutual
       let k : AreTypes (type t f.1) = subst AreTypes f.3 r in
       let z : j ≡ j + 0 = omega arith in
       typed-let G env (proj_term (suc j) c (variable at))
-      (match_term p known (None ∷ s) 0 (parts_term ps known (bound p (None ∷ s)) (at + (grown p + 1)) (suc (suc j)) c inside other) other) (apply u t) B b
+      (match_term p known (None ∷ s) 0 (parts_term ps known (bind_pattern p (None ∷ s)) (at + (count_binders p + 1)) (suc (suc j)) c inside other) other) (apply u t) B b
       (typed-one G env (Strict.proj (suc j) c) (variable at) (types.product (tys_of full)) (apply u t) (apply-type u all.proper t k.0) (typed-variable G env at (types.product (tys_of full)) q h)
-      (full, j, refl, n, refl, ap (slice_get full) z ∙ d 0 ∙ ap (λ ts. slice_get (listed u ts) 0) f.3))
+      (full, j, refl, n, refl, ap (slice_get full) z ∙ d 0 ∙ ap (λ ts. slice_get (instance_list u ts) 0) f.3))
       (typed-match_term G g known u all p (None ∷ s) (apply u t ∷ env) 0 t B
-      (parts_term ps known (bound p (None ∷ s)) (at + (grown p + 1)) (suc (suc j)) c inside other) other before f.2 k.0 b (ap suc l) v refl f.4 o
+      (parts_term ps known (bind_pattern p (None ∷ s)) (at + (count_binders p + 1)) (suc (suc j)) c inside other) other before f.2 k.0 b (ap suc l) v refl f.4 o
       (λ new e w.
-      typed-parts_term G g known u all ps (bound p (None ∷ s)) (new ++ (apply u t ∷ env)) (at + (grown p + 1)) (suc j) c B inside other f.2 locals full f.1 q k.1 b
-      (fits p s env (apply u t) new l e) w (further new env at (grown p) (types.product (tys_of full)) (apply u t) e h) n
-      (λ m. let y : suc j + m ≡ j + suc m = omega arith in ap (slice_get full) y ∙ d (suc m) ∙ ap (λ ts. slice_get (listed u ts) (suc m)) f.3)
+      typed-parts_term G g known u all ps (bind_pattern p (None ∷ s)) (new ++ (apply u t ∷ env)) (at + (count_binders p + 1)) (suc j) c B inside other f.2 locals full f.1 q k.1 b
+      (fits p s env (apply u t) new l e) w (further new env at (count_binders p) (types.product (tys_of full)) (apply u t) e h) n
+      (λ m. let y : suc j + m ≡ j + suc m = omega arith in ap (slice_get full) y ∙ d (suc m) ∙ ap (λ ts. slice_get (instance_list u ts) (suc m)) f.3)
       f.5 o
-      (typed-inside_part u (λ l'. ctyped G l' inside B) (grown p) (growns ps) (bound_all ps (bound p (None ∷ s))) env locals (apply u t) new e i)))
+      (typed-inside_part u (λ l'. ctyped G l' inside B) (count_binders p) (count_all_binders ps) (bind_patterns ps (bind_pattern p (None ∷ s))) env locals (apply u t) new e i)))
 
 -- a term in a scope has the type under the instance of the local names
 abbrev pub HasIn : Given → Subst → (start_term.Binders → Term) → Locals → Ty → Type 0
@@ -264,8 +244,8 @@ pub typed-matching : (G : Given) (g : Environment) (known : Resolutions) (u : Su
     length s ≡ length env → env_of s env ≡ local_instances u before → PatternFits p g before A locals → ((l : List Ty) → ctyped G l other B) → HasIn G u t locals B →
     ctyped G (apply u A ∷ env) (matching p known s t other) B
 typed-matching G g known u all p s env t other A B before locals a b l v f o h =
-    typed-match_term G g known u all p (None ∷ s) (apply u A ∷ env) 0 A B (t (bound p (None ∷ s))) other before locals a b (ap suc l) v refl f o
-    (λ new e q. h (bound p (None ∷ s)) (new ++ (apply u A ∷ env)) (fits p s env (apply u A) new l e) q)
+    typed-match_term G g known u all p (None ∷ s) (apply u A ∷ env) 0 A B (t (bind_pattern p (None ∷ s))) other before locals a b (ap suc l) v refl f o
+    (λ new e q. h (bind_pattern p (None ∷ s)) (new ++ (apply u A ∷ env)) (fits p s env (apply u A) new l e) q)
 
 -- The types of the parts of an operation are types of the language where that of the whole is, and the operand's where it is not a part of it.
 

@@ -5,14 +5,15 @@ use Rattle.std.specs.List.{slice_get}
 use Rattle.aql_types.specs.Types as types
 use Rattle.aql_types.specs.Types.{Ty, natural, Tys, no_type, type, Subst, apply, apply_all, IsType, AreTypes, is_type, IsWithin, Sort, value, macro, apply_sort}
 use Rattle.aql_types.specs.Laws.Types.{apply-apply, apply_var, true_is_type, is_type_true}
-use Rattle.aql_syntax.specs.Tree.{Name, Pat, Tree, Declaration, val, mac, read, bare, declared}
+use Rattle.aql_syntax.specs.Tree.{Name, Pat, Tree, Declaration, val, mac, read, bare, declared_name}
 use Rattle.aql_syntax.specs.Names.{names_equal, find}
-use Rattle.aql_syntax.specs.Typing.{Environment, DeclHas, IsInstanceOf, if_name, extended, scope_of, IsPrincipal}
+use Rattle.aql_syntax.specs.Typing.{Environment, DeclHas, IsInstanceOf, if_name, extend, environment_of, IsPrincipal}
 use Rattle.nrca_term.specs.Typing.{instances, ctyped}
 use Rattle.nrca_term.specs.Nodes.{bottom_term}
-use Rattle.aql_desugar_spec.specs.Start.{Resolved, numbered, inlined, Resolutions, position_term, macro_term, hidden, inline, start, knowns_of}
-use Rattle.aql_desugar_spec.specs.Laws.Positions.{length-hidden, env_of-hidden}
+use Rattle.aql_desugar_spec.specs.Start.{Resolved, numbered, inlined, Resolutions, position_term, macro_term, unnamed_binders, inline, start, knowns_of}
+use Rattle.aql_desugar_spec.specs.Laws.Positions.{length-unnamed_binders, env_of-unnamed_binders}
 use Rattle.aql_syntax.specs.Written.{IsWritten, DeclWritten}
+use Rattle.aql_syntax.specs.Laws.Sound.{value-is, argument-is, result-is}
 use Rattle.aql_desugar_spec.specs.Laws.{EachPrincipal, sort_types, StartTyped}
 use Rattle.aql_desugar_spec.specs.Positions.{value_type}
 use Rattle.aql_desugar_spec.specs.Laws.TypedNodes.{Given, Typed, apply-type, typed-bottom, typed-matching}
@@ -53,27 +54,20 @@ instance-cured u v s A h e =
     let is : apply u A ≡ apply (λ x. apply u (v x)) s = ap (apply u) e ∙ apply-apply u v s in
     apply-cured (λ x. apply u (v x)) s (subst IsType is h) ∙ sym is
 
-value_is : (A B : Ty) → value A ≡ value B → A ≡ B
-value_is A B e = cc
-
-macro_is : (A B C D : Ty) → macro A B ≡ macro C D → (A ≡ C) × (B ≡ D)
-macro_is A B C D e = (cc, cc)
-
 -- what a macro's body has at an instance of the macro's sort
-typed-inline : (G : Given) (ds : List Declaration) → ((w : Subst) → ((x : ℕ) → IsType (w x)) → Typed G (scope_of ds) (knowns_of ds) w) →
+typed-inline : (G : Given) (ds : List Declaration) → ((w : Subst) → ((x : ℕ) → IsType (w x)) → Typed G (environment_of ds) (knowns_of ds) w) →
     (f : Name) (p : Pat) (body : Tree) → IsWritten body → (u : Subst) → ((x : ℕ) → IsType (u x)) → (A B : Ty) → IsType A → IsType B →
-    (v : Subst) (general : Sort) → DeclHas (mac f p body) (scope_of ds) general → macro A B ≡ apply_sort v general →
+    (v : Subst) (general : Sort) → DeclHas (mac f p body) (environment_of ds) general → macro A B ≡ apply_sort v general →
     (env : List Ty) → ctyped G (apply u A ∷ env) (inline p body (knowns_of ds) (length env)) (apply u B)
 typed-inline G ds all f p body w u proper A B a b v (value t) h e env = absurd h
 typed-inline G ds all f p body w u proper A B a b v (macro s t) h e env =
-    let i = macro_is A B (apply v s) (apply v t) e in
     let c : Subst = λ x. cured (apply u (v x)) in
     let here = all c (λ x. cured-type (apply u (v x))) in
-    subst (λ T. ctyped G (apply u A ∷ env) (inline p body (knowns_of ds) (length env)) T) (instance-cured u v t B (apply-type u proper B b) i.1)
-    (subst (λ S. ctyped G (S ∷ env) (inline p body (knowns_of ds) (length env)) (apply c t)) (instance-cured u v s A (apply-type u proper A a) i.0)
-    (typed-matching G (scope_of ds) (knowns_of ds) c here p (hidden (length env)) env (start body (knowns_of ds)) bottom_term s (apply c t) [] h.0 h.1.2 (apply-type c here.proper t h.2.2)
-    (length-hidden (length env)) (env_of-hidden env) h.3 (λ m. typed-bottom G m (apply c t) (apply-type c here.proper t h.2.2))
-    (typed-start G (scope_of ds) (knowns_of ds) c here body w h.0 t h.2.2 h.4)))
+    subst (λ T. ctyped G (apply u A ∷ env) (inline p body (knowns_of ds) (length env)) T) (instance-cured u v t B (apply-type u proper B b) (result-is A B (apply v s) (apply v t) e))
+    (subst (λ S. ctyped G (S ∷ env) (inline p body (knowns_of ds) (length env)) (apply c t)) (instance-cured u v s A (apply-type u proper A a) (argument-is A B (apply v s) (apply v t) e))
+    (typed-matching G (environment_of ds) (knowns_of ds) c here p (unnamed_binders (length env)) env (start body (knowns_of ds)) bottom_term s (apply c t) [] h.0 h.1.2 (apply-type c here.proper t h.2.2)
+    (length-unnamed_binders (length env)) (env_of-unnamed_binders env) h.3 (λ m. typed-bottom G m (apply c t) (apply-type c here.proper t h.2.2))
+    (typed-start G (environment_of ds) (knowns_of ds) c here body w h.0 t h.2.2 h.4)))
 
 -- each type that a value's position gives is an instance of its principal type
 principal-instance : (d : Declaration) (g : Environment) (s : Sort) (u : Subst) (T : Ty) → IsPrincipal d g s → IsInstanceOf d g (value T) → (w : Subst) × (apply u T ≡ apply w (value_type s))
@@ -85,7 +79,7 @@ principal-instance d g s u T h k =
     go (value S) e =
         let v = (h.general k.1 k.2).0 in (
           λ x. apply u (apply k.0 (v x)),
-          ap (apply u) (value_is T (apply k.0 (apply v S)) e ∙ apply-apply k.0 v S) ∙ apply-apply u (λ x. apply k.0 (v x)) S,
+          ap (apply u) (value-is T (apply k.0 (apply v S)) e ∙ apply-apply k.0 v S) ∙ apply-apply u (λ x. apply k.0 (v x)) S,
         )
     go (macro a b) e = cc
 
@@ -106,19 +100,19 @@ no-value d g h T k = go k.1 k.2 k.3
 one_more : (G : Given) (g : Environment) (known : Resolutions) (u : Subst) (d : Declaration) (k : Resolved) → Typed G g known u →
     ((T : Ty) → IsType T → IsInstanceOf d g (value T) → (env : List Ty) → ctyped G env (position_term (Some k)) (apply u T)) →
     ((A B : Ty) → IsType A → IsType B → IsInstanceOf d g (macro A B) → (env : List Ty) → ctyped G (apply u A ∷ env) (macro_term (Some k) (length env)) (apply u B)) →
-    Typed G (extended d g) ((declared d, k) ∷ known) u
+    Typed G (extend d g) ((declared_name d, k) ∷ known) u
 one_more G g known u d k all a b = record {
   proper = all.proper;
-  names = λ x T h env. (elim (names_equal x (declared d)) as (λ t. if_name t (IsWithin T × IsInstanceOf d g (value T)) (g.has x T) →
+  names = λ x T h env. (elim (names_equal x (declared_name d)) as (λ t. if_name t (IsWithin T × IsInstanceOf d g (value T)) (g.has x T) →
       ctyped G env (position_term (if t then Some k else find x known)) (apply u T)) [
         | true ↦ λ c. a T c.0.2 c.1 env
         | false ↦ λ c. all.names x T c env
       ]) h;
-  arguments = λ f A B h. (elim (names_equal f (declared d)) as (λ t. if_name t (IsWithin A × IsWithin B × IsInstanceOf d g (macro A B)) (g.takes f A B) → IsType A) [
+  arguments = λ f A B h. (elim (names_equal f (declared_name d)) as (λ t. if_name t (IsWithin A × IsWithin B × IsInstanceOf d g (macro A B)) (g.takes f A B) → IsType A) [
     | true ↦ λ c. c.0.2
     | false ↦ λ c. all.arguments f A B c
   ]) h;
-  calls = λ f A B h env. (elim (names_equal f (declared d)) as (λ t. if_name t (IsWithin A × IsWithin B × IsInstanceOf d g (macro A B)) (g.takes f A B) →
+  calls = λ f A B h env. (elim (names_equal f (declared_name d)) as (λ t. if_name t (IsWithin A × IsWithin B × IsInstanceOf d g (macro A B)) (g.takes f A B) →
       ctyped G (apply u A ∷ env) (macro_term (if t then Some k else find f known) (length env)) (apply u B)) [
         | true ↦ λ c. b A B c.0.2 c.1.2 c.2 env
         | false ↦ λ c. all.calls f A B c env
@@ -139,30 +133,30 @@ length-types (d ∷ ds) sorts h =
 
 -- the positions before one of sort s have their types under each substitution
 abbrev Before : Sort → List Sort → List Declaration → List Ty → Type 0
-Before s sorts ds later = (w : Subst) → ((x : ℕ) → IsType (w x)) → Typed (instances (sort_types sorts ++ (value_type s ∷ later))) (scope_of ds) (knowns_of ds) w
+Before s sorts ds later = (w : Subst) → ((x : ℕ) → IsType (w x)) → Typed (instances (sort_types sorts ++ (value_type s ∷ later))) (environment_of ds) (knowns_of ds) w
 
 pub typed-positions : (ds : List Declaration) (sorts : List Sort) → EachPrincipal ds sorts → (later : List Ty) (u : Subst) → ((x : ℕ) → IsType (u x)) →
-    Typed (instances (sort_types sorts ++ later)) (scope_of ds) (knowns_of ds) u
+    Typed (instances (sort_types sorts ++ later)) (environment_of ds) (knowns_of ds) u
 typed-positions [] sorts h later u proper = record { proper = proper; names = λ x T k env. absurd k; arguments = λ f A B k. absurd k; calls = λ f A B k env. absurd k }
 typed-positions (d ∷ ds) sorts h later u proper =
-    subst (λ l. Typed (instances (sort_types l ++ later)) (scope_of (d ∷ ds)) (knowns_of (d ∷ ds)) u) (sym h.2)
-    (subst (λ l. Typed (instances l) (scope_of (d ∷ ds)) (knowns_of (d ∷ ds)) u) (sym (append_assoc (sort_types h.1) (value_type h.0 ∷ []) later))
+    subst (λ l. Typed (instances (sort_types l ++ later)) (environment_of (d ∷ ds)) (knowns_of (d ∷ ds)) u) (sym h.2)
+    (subst (λ l. Typed (instances l) (environment_of (d ∷ ds)) (knowns_of (d ∷ ds)) u) (sym (append_assoc (sort_types h.1) (value_type h.0 ∷ []) later))
     (one d h.3 h.4 (λ w p. typed-positions ds h.1 h.5 (value_type h.0 ∷ later) w p)))
   where
-    position : (d : Declaration) → IsPrincipal d (scope_of ds) h.0 → ((s t : Ty) → DeclHas d (scope_of ds) (macro s t) → ⊥) → Before h.0 h.1 ds later →
-        Typed (instances (sort_types h.1 ++ (value_type h.0 ∷ later))) (extended d (scope_of ds)) ((declared d, numbered (suc (length ds))) ∷ knowns_of ds) u
+    position : (d : Declaration) → IsPrincipal d (environment_of ds) h.0 → ((s t : Ty) → DeclHas d (environment_of ds) (macro s t) → ⊥) → Before h.0 h.1 ds later →
+        Typed (instances (sort_types h.1 ++ (value_type h.0 ∷ later))) (extend d (environment_of ds)) ((declared_name d, numbered (suc (length ds))) ∷ knowns_of ds) u
     position d i n before =
-        one_more _ (scope_of ds) (knowns_of ds) u d (numbered (suc (length ds))) (before u proper)
+        one_more _ (environment_of ds) (knowns_of ds) u d (numbered (suc (length ds))) (before u proper)
         (λ T t k env.
-        let r = principal-instance d (scope_of ds) h.0 u T i k in
+        let r = principal-instance d (environment_of ds) h.0 u T i k in
         (apply-type u proper T t, [], (refl, (value_type h.0, r.0, last_type (sort_types h.1) later (value_type h.0) (length ds) (length-types ds h.1 h.5), r.1)), refl))
-        (λ A B a b k env. absurd (no-macro d (scope_of ds) n A B k))
+        (λ A B a b k env. absurd (no-macro d (environment_of ds) n A B k))
 
-    one : (d : Declaration) → DeclWritten d → IsPrincipal d (scope_of ds) h.0 → Before h.0 h.1 ds later → Typed (instances (sort_types h.1 ++ (value_type h.0 ∷ later))) (scope_of (d ∷ ds)) (knowns_of (d ∷ ds)) u
+    one : (d : Declaration) → DeclWritten d → IsPrincipal d (environment_of ds) h.0 → Before h.0 h.1 ds later → Typed (instances (sort_types h.1 ++ (value_type h.0 ∷ later))) (environment_of (d ∷ ds)) (knowns_of (d ∷ ds)) u
     one (val x e) w i before = position (val x e) i (λ s t k. k) before
     one (mac f p body) w i before =
-        one_more _ (scope_of ds) (knowns_of ds) u (mac f p body) (inlined (inline p body (knowns_of ds))) (before u proper)
-        (λ T t k env. absurd (no-value (mac f p body) (scope_of ds) (λ t k. k) T k))
+        one_more _ (environment_of ds) (knowns_of ds) u (mac f p body) (inlined (inline p body (knowns_of ds))) (before u proper)
+        (λ T t k env. absurd (no-value (mac f p body) (environment_of ds) (λ t k. k) T k))
         (λ A B a b k env. typed-inline _ ds before f p body w u proper A B a b k.0 k.1 k.2 k.3 env)
     one (read x r e) w i before = position (read x r e) i (λ s t k. k) before
     one (bare e) w i before = position (bare e) i (λ s t k. k) before
@@ -170,4 +164,4 @@ typed-positions (d ∷ ds) sorts h later u proper =
 pub start-typed : StartTyped
 start-typed ds sorts later e T h w k i =
     subst (λ U. ctyped (instances (sort_types sorts ++ later)) [] (start e (knowns_of ds) []) U) (apply_var T)
-    (typed-start _ (scope_of ds) (knowns_of ds) types.var (typed-positions ds sorts h later types.var (λ x. tt)) e w [] T k i [] [] refl refl)
+    (typed-start _ (environment_of ds) (knowns_of ds) types.var (typed-positions ds sorts h later types.var (λ x. tt)) e w [] T k i [] [] refl refl)

@@ -7,21 +7,22 @@ use Rattle.aql_value.specs.Lists.{Every}
 use Rattle.aql_value.specs.Strict.{Strict}
 use Rattle.aql_types.specs.Types as types
 use Rattle.aql_types.specs.Types.{Ty, natural, truth, Subst, apply, IsType, IsRank, tys_of}
+use Rattle.aql_types.specs.Laws.Types.{natural_types-are}
 use Rattle.aql_syntax.specs.Tree as tree
 use Rattle.aql_syntax.specs.Tree.{Pats, no_pat, pat, Tree, name, op, members, comp, tab, bindings, choice, conjunction, disjunction, negation, default, function, summap, Trees, no_tree, Axes, no_axis, axis, Quals, no_qual, from, cells, same, test, Defs, no_def, def, count_pats, count_axes, axes}
 use Rattle.aql_syntax.specs.Names.{find}
-use Rattle.aql_syntax.specs.Typing.{Environment, Locals, FitsAxes, with_indices, Has, HasAll, HasEach, BoundsHave, Rows, Binds}
+use Rattle.aql_syntax.specs.Typing.{Environment, Locals, FitsAxes, with_indices, Has, HasAll, HasEach, BoundsHave, Rows, Binds, local_instances}
 use Rattle.aql_syntax.specs.Laws.Sound.{rule-instance}
 use Rattle.nrca_term.specs.Term.{Term, Parts, none, part, plain, Form}
 use Rattle.nrca_term.specs.Typing.{Arg, arg, ctyped, parts_typed}
 use Rattle.nrca_term.specs.Nodes.{variable, truth_term, bottom_term, empty_term, let_term, gen_term, dim_term, tab_term, default_term}
 use Rattle.aql_desugar_spec.specs.Start as start_term
-use Rattle.aql_desugar_spec.specs.Start.{Resolutions, index_of, call_term, bound, grown, matching, axes_term, dimension, loops_term, under, bound_axes, grown_axes, index_terms, cell_term, cell_scope, array_term, under_axes, start, starts, bound_terms, quals_term, defs_term}
+use Rattle.aql_desugar_spec.specs.Start.{Resolutions, index_of, call_term, bind_pattern, count_binders, matching, axes_term, dimension, loops_term, under, bound_axes, grown_axes, index_terms, cell_term, cell_binders, array_term, under_axes, start, starts, bound_terms, quals_term, defs_term}
 use Rattle.aql_desugar_spec.specs.Scopes.{env_of}
 use Rattle.aql_desugar_spec.specs.Laws.Scopes.{length-bound, length-bound_axes, past}
 use Rattle.aql_desugar_spec.specs.Laws.Meaning.{length-bound_terms}
 use Rattle.aql_syntax.specs.Written.{IsWritten, AreWritten, AxesWritten, QualsWritten, DefsWritten}
-use Rattle.aql_desugar_spec.specs.Laws.TypedNodes.{Given, Typed, apply-type, typed-leaf, typed-one, typed-choose, typed-binding, typed-let, typed-big_union, typed-variable, typed-bottom, typed-empty, TermsTyped, typed-strict, typed-united, local_instances, typed-name, typed-call, takes-type, Inside, typed-inside_next, typed-match_term, HasIn, typed-matching, part-types}
+use Rattle.aql_desugar_spec.specs.Laws.TypedNodes.{Given, Typed, apply-type, typed-leaf, typed-one, typed-choose, typed-binding, typed-let, typed-big_union, typed-variable, typed-bottom, typed-empty, TermsTyped, typed-strict, typed-united, typed-name, typed-call, takes-type, Inside, typed-inside_next, typed-match_term, HasIn, typed-matching, part-types}
 
 -- Array generators.
 
@@ -30,10 +31,6 @@ nth-natural zero j h = absurd (omega arith)
 nth-natural (suc m) zero h = refl
 nth-natural (suc m) (suc j) h = nth-natural m j (omega arith)
 
-naturals-types : (m : ℕ) → types.AreTypes (tys_of (replicate m natural))
-naturals-types zero = tt
-naturals-types (suc m) = (tt, naturals-types m)
-
 typed-dimension : (G : Given) (env : List Ty) (rank j at : ℕ) (A : Ty) → IsRank rank → IsType A → j < rank → slice_get env at ≡ Some (types.array_of rank A) → ctyped G env (dimension rank (suc j) at) natural
 typed-dimension G env zero j at A r k l h = absurd (omega arith)
 typed-dimension G env (suc zero) j at A r k l h =
@@ -41,7 +38,7 @@ typed-dimension G env (suc zero) j at A r k l h =
 typed-dimension G env (suc (suc n)) j at A r k l h =
     typed-one G env (Strict.proj (suc j) (suc (suc n))) (dim_term (suc (suc n)) (variable at)) (types.product (tys_of (replicate (suc (suc n)) natural))) natural tt
     (typed-one G env (Strict.dim (suc (suc n))) (variable at) (types.array_of (suc (suc n)) A) (types.product (tys_of (replicate (suc (suc n)) natural)))
-    (omega arith, naturals-types (suc (suc n))) (typed-variable G env at (types.array_of (suc (suc n)) A) (r, k) h) (A, r, refl, refl))
+    (omega arith, natural_types-are (suc (suc n))) (typed-variable G env at (types.array_of (suc (suc n)) A) (r, k) h) (A, r, refl, refl))
     (replicate (suc (suc n)) natural, j, refl, length-replicate (suc (suc n)) natural, refl, nth-natural (suc (suc n)) j l)
 
 -- types of numbers that are put on one by one
@@ -75,15 +72,15 @@ typed-axes : (G : Given) (g : Environment) (known : Resolutions) (u : Subst) →
     ctyped G l (axes_term ps known s added inside other) B
 typed-axes G g known u all no_pat s l added inside other B before locals b e v h f o i = i [] refl (v ∙ ap (local_instances u) (sym f))
 typed-axes G g known u all (pat p ps) s l added inside other B before locals b e v h f o i =
-    typed-match_term G g known u all p s l (added + count_pats ps) natural B (axes_term ps known (bound p s) (added + grown p) inside other) other before f.0 tt b
+    typed-match_term G g known u all p s l (added + count_pats ps) natural B (axes_term ps known (bind_pattern p s) (added + count_binders p) inside other) other before f.0 tt b
     e v (h (count_pats ps) (omega arith)) f.1 o
     (λ new c q.
-    typed-axes G g known u all ps (bound p s) (new ++ l) (added + grown p) inside other B f.0 locals b
+    typed-axes G g known u all ps (bind_pattern p s) (new ++ l) (added + count_binders p) inside other B f.0 locals b
     (omega (arith, length-bound p s, length-append new l)) q
-    (λ n a. let z : (added + grown p) + n ≡ (added + n) + grown p = omega arith in
-    ap (slice_get (new ++ l)) z ∙ past new l (added + n) (grown p) c ∙ h n (omega arith))
+    (λ n a. let z : (added + count_binders p) + n ≡ (added + n) + count_binders p = omega arith in
+    ap (slice_get (new ++ l)) z ∙ past new l (added + n) (count_binders p) c ∙ h n (omega arith))
     f.2 o
-    (typed-inside_next u (λ l'. ctyped G l' inside B) (grown p) (grown_axes ps) (bound_axes ps (bound p s)) l locals new c i))
+    (typed-inside_next u (λ l'. ctyped G l' inside B) (count_binders p) (grown_axes ps) (bound_axes ps (bind_pattern p s)) l locals new c i))
 
 typed-index_terms : (G : Given) (m added : ℕ) (l : List Ty) → ((n : ℕ) → n < m → slice_get l (added + n) ≡ Some natural) → TermsTyped G l (index_terms m added) (replicate m natural)
 typed-index_terms G zero added l h = refl
@@ -107,7 +104,7 @@ typed-array G g known u all ps s env array t A B before mid r p b l v a f h =
     let k = count_pats ps in
     let base = types.array_of k A ∷ env in
     let cell = cell_term k (grown_axes ps) in
-    let found = let_term cell (t (cell_scope ps s)) in
+    let found = let_term cell (t (cell_binders ps s)) in
     typed-let G env array (loops_term k 0 k (axes_term ps known (under k (None ∷ s)) 0 found empty_term)) (types.array_of k A) (types.set_of B) b a
     (typed-loops G k 0 k (axes_term ps known (under k (None ∷ s)) 0 found empty_term) A B base r p b (omega arith) refl
     (typed-axes G g known u all ps (under k (None ∷ s)) (walk k base) 0 found empty_term (types.set_of B) before mid b
@@ -116,7 +113,7 @@ typed-array G g known u all ps s env array t A B before mid r p b l v a f h =
     f
     (λ l. typed-empty G l B b)
     (λ new c q.
-    typed-let G (new ++ walk k base) cell (t (cell_scope ps s)) A (types.set_of B) b
+    typed-let G (new ++ walk k base) cell (t (cell_binders ps s)) A (types.set_of B) b
     (typed-strict G (new ++ walk k base) Strict.sub (variable (grown_axes ps + k) ∷ index_terms k (grown_axes ps)) (types.array_of k A ∷ replicate k natural) A p (
       types.array_of k A,
       replicate k natural,
@@ -129,7 +126,7 @@ typed-array G g known u all ps s env array t A B before mid r p b l v a f h =
           ap (slice_get (new ++ walk k base)) z ∙ past new (walk k base) n (grown_axes ps) c ∙ walk-below k base n d),
     )
     (k, r, refl))
-    (h (cell_scope ps s) (new ++ walk k base)
+    (h (cell_binders ps s) (new ++ walk k base)
     (omega (arith, length-bound_axes ps (under k (None ∷ s)), length-append new (walk k base), fits-walk k (None ∷ s) base (ap suc l))) q))))
 
 -- Tabulations.

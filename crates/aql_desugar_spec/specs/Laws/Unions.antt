@@ -9,7 +9,7 @@ use Rattle.aql_value.specs.Strict.{Strict, strict_value}
 use Rattle.nrca_term.specs.Term.{Term, weight_of}
 use Rattle.nrca_term.specs.Meaning.{Outcomes, cden}
 use Rattle.nrca_term.specs.Turns.{settle}
-use Rattle.aql_desugar_spec.specs.Start.{united}
+use Rattle.aql_desugar_spec.specs.Start.{balanced_union}
 use Rattle.aql_desugar_spec.specs.Laws.Nodes.{one-worth, two-worth, one_head}
 
 pub split_at : {A : Type 0} (n : ℕ) (xs : List A) → take n xs ++ drop n xs ≡ xs
@@ -32,7 +32,7 @@ pub halves : (n m : ℕ) → suc (suc m) ≤ suc n → (1 ≤ suc (suc m) / 2) �
 halves n m h = (omega arith, omega arith, omega arith, omega arith)
 
 pub cden-united : (V : Outcomes) (vals : List Datum) (n : ℕ) (ts : List Term) → length ts ≤ n →
-    cden V vals (united n ts) ≡ (each (cden V vals) ts >>= λ ws. Some (set_of ws))
+    cden V vals (balanced_union n ts) ≡ (each (cden V vals) ts >>= λ ws. Some (set_of ws))
 cden-united V vals zero [] h = refl
 cden-united V vals zero (t ∷ ts) h = absurd (omega arith)
 cden-united V vals (suc n) [] h = refl
@@ -46,7 +46,7 @@ cden-united V vals (suc n) (t ∷ u ∷ ts) h =
     ∙ set_of-append (cden V vals) (take k (t ∷ u ∷ ts)) (drop k (t ∷ u ∷ ts))
     ∙ ap (λ l. each (cden V vals) l >>= λ ws. Some (set_of ws)) (split_at k (t ∷ u ∷ ts))
 
-pub settle-united : (V : Outcomes) (vals : List Datum) (n : ℕ) (ts : List Term) → length ts ≤ n → settle V vals (united n ts) ≡ total (settle V vals) ts
+pub settle-united : (V : Outcomes) (vals : List Datum) (n : ℕ) (ts : List Term) → length ts ≤ n → settle V vals (balanced_union n ts) ≡ total (settle V vals) ts
 settle-united V vals zero [] h = refl
 settle-united V vals zero (t ∷ ts) h = absurd (omega arith)
 settle-united V vals (suc n) [] h = refl
@@ -57,9 +57,9 @@ settle-united V vals (suc n) (t ∷ u ∷ ts) h =
     let l = settle-united V vals n (take k (t ∷ u ∷ ts)) (let e = length-taken k (t ∷ u ∷ ts) b.2 in omega (arith, b.1)) in
     let r = settle-united V vals n (drop k (t ∷ u ∷ ts)) (let e = length-dropped k (t ∷ u ∷ ts) in omega (arith, b.3)) in
     let s = total-split (settle V vals) k (t ∷ u ∷ ts) in
-    (let z : 0 + ((settle V vals (united n (take k (t ∷ u ∷ ts))) + 0) + ((settle V vals (united n (drop k (t ∷ u ∷ ts))) + 0) + 0)) ≡ total (settle V vals) (take k (t ∷ u ∷ ts)) + total (settle V vals) (drop k (t ∷ u ∷ ts)) = omega arith in z ∙ s)
+    (let z : 0 + ((settle V vals (balanced_union n (take k (t ∷ u ∷ ts))) + 0) + ((settle V vals (balanced_union n (drop k (t ∷ u ∷ ts))) + 0) + 0)) ≡ total (settle V vals) (take k (t ∷ u ∷ ts)) + total (settle V vals) (drop k (t ∷ u ∷ ts)) = omega arith in z ∙ s)
 
-pub weight-united : (n : ℕ) (ts : List Term) → length ts ≤ n → 1 ≤ length ts → weight_of (united n ts) + 1 ≤ total weight_of ts + 2 * length ts
+pub weight-united : (n : ℕ) (ts : List Term) → length ts ≤ n → 1 ≤ length ts → weight_of (balanced_union n ts) + 1 ≤ total weight_of ts + 2 * length ts
 weight-united zero ts h i = absurd (omega arith)
 weight-united (suc n) [] h i = absurd (omega arith)
 weight-united (suc n) (t ∷ []) h i = omega arith

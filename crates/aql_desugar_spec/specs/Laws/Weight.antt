@@ -5,15 +5,15 @@ use Rattle.aql_value.specs.Strict.{Strict}
 use Rattle.aql_types.specs.Types.{Ty, Sort, value, macro}
 use Rattle.aql_types.specs.OperationTypes.{strict_rule}
 use Rattle.aql_syntax.specs.Tree as tree
-use Rattle.aql_syntax.specs.Tree.{Name, Constant, Pat, bind, any, equals, refers, tuple, Pats, no_pat, pat, Tree, name, op, members, comp, tab, bindings, choice, conjunction, disjunction, negation, default, apply, function, summap, Trees, no_tree, Axes, no_axis, axis, Quals, no_qual, from, cells, same, test, Defs, no_def, def, Declaration, val, mac, read, bare, it, declared, count_pats, count_axes, axes}
+use Rattle.aql_syntax.specs.Tree.{Name, Constant, Pat, bind, any, equals, refers, tuple, Pats, no_pat, pat, Tree, name, op, members, comp, tab, bindings, choice, conjunction, disjunction, negation, default, apply, function, summap, Trees, no_tree, Axes, no_axis, axis, Quals, no_qual, from, cells, same, test, Defs, no_def, def, Declaration, val, mac, read, bare, it, declared_name, count_pats, count_axes, axes}
 use Rattle.aql_syntax.specs.Names.{names_equal, find}
 use Rattle.aql_syntax.specs.Size.{Extents, Extent, extent_of, pat_nodes, pats_nodes, count_quals, count_defs, quals_patterns, defs_patterns, size, sizes, axes_sizes, quals_sizes, defs_sizes, extent, extents_of}
-use Rattle.aql_syntax.specs.Typing.{Environment, Locals, Has, HasAll, HasEach, BoundsHave, Rows, Binds, DeclHas, scope_of}
+use Rattle.aql_syntax.specs.Typing.{Environment, Locals, Has, HasAll, HasEach, BoundsHave, Rows, Binds, DeclHas, environment_of}
 use Rattle.aql_syntax.specs.Laws.Sound.{generator-rank}
 use Rattle.nrca_term.specs.Term.{Term, Parts, none, part, plain, Form, form_weight, weight_of, parts_weight}
 use Rattle.nrca_term.specs.Nodes.{bottom_term, empty_term, let_term, tab_term}
 use Rattle.aql_desugar_spec.specs.Start as start_term
-use Rattle.aql_desugar_spec.specs.Start.{Resolved, numbered, inlined, Resolutions, index_of, name_term, position_term, macro_term, call_term, constant_term, bound, grown, match_term, parts_term, matching, united, dimension, loops_term, under, bound_axes, grown_axes, axes_term, index_terms, cell_term, cell_scope, under_axes, start, starts, bound_terms, quals_term, defs_term, hidden, inline, knowns_of}
+use Rattle.aql_desugar_spec.specs.Start.{Resolved, numbered, inlined, Resolutions, index_of, name_term, position_term, macro_term, call_term, constant_term, bind_pattern, count_binders, match_term, parts_term, matching, balanced_union, dimension, loops_term, under, bound_axes, grown_axes, axes_term, index_terms, cell_term, cell_binders, under_axes, start, starts, bound_terms, quals_term, defs_term, unnamed_binders, inline, knowns_of}
 use Rattle.aql_desugar_spec.specs.Laws.Meaning.{length-bound_terms}
 use Rattle.aql_desugar_spec.specs.Laws.Unions.{weight-united}
 use Rattle.aql_desugar_spec.specs.Laws.{EachHas, StartWeighs}
@@ -57,8 +57,8 @@ mutual
       weight_of (parts_term ps known s at j c inside other) ≤ 8 * pats_nodes ps + weight_of inside
   weight-parts_term no_pat known s at j c inside other h = omega arith
   weight-parts_term (pat p ps) known s at j c inside other h =
-      let a = weight-match_term p known (None ∷ s) 0 (parts_term ps known (bound p (None ∷ s)) (at + (grown p + 1)) (suc j) c inside other) other h in
-      let b = weight-parts_term ps known (bound p (None ∷ s)) (at + (grown p + 1)) (suc j) c inside other h in
+      let a = weight-match_term p known (None ∷ s) 0 (parts_term ps known (bind_pattern p (None ∷ s)) (at + (count_binders p + 1)) (suc j) c inside other) other h in
+      let b = weight-parts_term ps known (bind_pattern p (None ∷ s)) (at + (count_binders p + 1)) (suc j) c inside other h in
       omega arith
 
 weight-dimension : (rank j at : ℕ) → rank ≤ 8 → weight_of (dimension rank j at) ≤ 20
@@ -74,7 +74,7 @@ weight-axes_term : (ps : Pats) (known : Resolutions) (s : start_term.Binders) (a
     weight_of (axes_term ps known s added inside other) ≤ 8 * pats_nodes ps + weight_of inside
 weight-axes_term no_pat known s added inside other h = omega arith
 weight-axes_term (pat p ps) known s added inside other h =
-    omega (arith, weight-match_term p known s (added + count_pats ps) (axes_term ps known (bound p s) (added + grown p) inside other) other h, weight-axes_term ps known (bound p s) (added + grown p) inside other h)
+    omega (arith, weight-match_term p known s (added + count_pats ps) (axes_term ps known (bind_pattern p s) (added + count_binders p) inside other) other h, weight-axes_term ps known (bind_pattern p s) (added + count_binders p) inside other h)
 
 weight-index_terms : (m added : ℕ) → parts_weight (plain (index_terms m added) none) ≡ m
 weight-index_terms zero added = refl
@@ -106,7 +106,7 @@ nodes-axes (equals c) = omega arith
 nodes-axes (refers x) = omega arith
 nodes-axes (tuple ps) = omega arith
 
-some-united : (ts : List Term) → weight_of (united (length ts) ts) ≤ total weight_of ts + 2 * length ts + 1
+some-united : (ts : List Term) → weight_of (balanced_union (length ts) ts) ≤ total weight_of ts + 2 * length ts + 1
 some-united [] = omega arith
 some-united (t ∷ ts) = omega (arith, weight-united (suc (length ts)) (t ∷ ts) (omega arith) (omega arith))
 
@@ -239,15 +239,15 @@ mutual
       omega (
         arith,
         weight-start known ms all a r.1 s,
-        weight-match_term p known (None ∷ s) 0 (start body known (bound p (None ∷ s))) bottom_term refl,
-        weight-start known ms all body r.0 (bound p (None ∷ s)),
+        weight-match_term p known (None ∷ s) 0 (start body known (bind_pattern p (None ∷ s))) bottom_term refl,
+        weight-start known ms all body r.0 (bind_pattern p (None ∷ s)),
       )
   weight-start known ms all (summap p body e) r s =
       omega (
         arith,
         weight-start known ms all e r.1 s,
-        weight-match_term p known (None ∷ s) 0 (start body known (bound p (None ∷ s))) bottom_term refl,
-        weight-start known ms all body r.0 (bound p (None ∷ s)),
+        weight-match_term p known (None ∷ s) 0 (start body known (bind_pattern p (None ∷ s))) bottom_term refl,
+        weight-start known ms all body r.0 (bind_pattern p (None ∷ s)),
       )
 
   weight-starts : (known : Resolutions) (ms : Extents) → Weigh known ms → (es : Trees) → AllRanked es → (s : start_term.Binders) →
@@ -268,12 +268,12 @@ mutual
       omega (
         arith,
         weight-start known ms all e r.0 s,
-        weight-match_term p known (None ∷ s) 0 (quals_term rest t known (bound p (None ∷ s))) empty_term refl,
-        weight-quals_term known ms all rest r.1 t m h (bound p (None ∷ s)),
+        weight-match_term p known (None ∷ s) 0 (quals_term rest t known (bind_pattern p (None ∷ s))) empty_term refl,
+        weight-quals_term known ms all rest r.1 t m h (bind_pattern p (None ∷ s)),
       )
   weight-quals_term known ms all (cells p q e rest) r t m h s =
       let k = count_pats (axes p) in
-      let inner = cell_scope (axes p) s in
+      let inner = cell_binders (axes p) s in
       let found = let_term (cell_term k (grown_axes (axes p))) (matching q known inner (quals_term rest t known) empty_term) in
       omega (
         arith,
@@ -281,8 +281,8 @@ mutual
         weight-loops_term k 0 k (axes_term (axes p) known (under k (None ∷ s)) 0 found empty_term) r.0,
         weight-axes_term (axes p) known (under k (None ∷ s)) 0 found empty_term refl,
         weight-index_terms k (grown_axes (axes p)),
-        weight-match_term q known (None ∷ inner) 0 (quals_term rest t known (bound q (None ∷ inner))) empty_term refl,
-        weight-quals_term known ms all rest r.2 t m h (bound q (None ∷ inner)),
+        weight-match_term q known (None ∷ inner) 0 (quals_term rest t known (bind_pattern q (None ∷ inner))) empty_term refl,
+        weight-quals_term known ms all rest r.2 t m h (bind_pattern q (None ∷ inner)),
         nodes-axes p,
         count-nodes (axes p),
       )
@@ -290,8 +290,8 @@ mutual
       omega (
         arith,
         weight-start known ms all e r.0 s,
-        weight-match_term p known (None ∷ s) 0 (quals_term rest t known (bound p (None ∷ s))) empty_term refl,
-        weight-quals_term known ms all rest r.1 t m h (bound p (None ∷ s)),
+        weight-match_term p known (None ∷ s) 0 (quals_term rest t known (bind_pattern p (None ∷ s))) empty_term refl,
+        weight-quals_term known ms all rest r.1 t m h (bind_pattern p (None ∷ s)),
       )
   weight-quals_term known ms all (test e rest) r t m h s = omega (arith, weight-start known ms all e r.0 s, weight-quals_term known ms all rest r.1 t m h s)
 
@@ -303,8 +303,8 @@ mutual
       omega (
         arith,
         weight-start known ms all e r.0 s,
-        weight-match_term p known (None ∷ s) 0 (defs_term rest t known (bound p (None ∷ s))) bottom_term refl,
-        weight-defs_term known ms all rest r.1 t m h (bound p (None ∷ s)),
+        weight-match_term p known (None ∷ s) 0 (defs_term rest t known (bind_pattern p (None ∷ s))) bottom_term refl,
+        weight-defs_term known ms all rest r.1 t m h (bind_pattern p (None ∷ s)),
       )
 
 one_more : (x : Name) (k : Resolved) (known : Resolutions) (o : Option Extent) (ms : Extents) →
@@ -327,12 +327,12 @@ weigh (mac x p body ∷ ds) h f n =
     (λ m.
     omega (
       arith,
-      weight-match_term p (knowns_of ds) (None ∷ hidden m) 0 (start body (knowns_of ds) (bound p (None ∷ hidden m))) bottom_term refl,
-      weight-start (knowns_of ds) (extents_of ds) (weigh ds h.1) body (macro-ranked x p body (scope_of ds) h.0.0 h.0.1) (bound p (None ∷ hidden m)),
+      weight-match_term p (knowns_of ds) (None ∷ unnamed_binders m) 0 (start body (knowns_of ds) (bind_pattern p (None ∷ unnamed_binders m))) bottom_term refl,
+      weight-start (knowns_of ds) (extents_of ds) (weigh ds h.1) body (macro-ranked x p body (environment_of ds) h.0.0 h.0.1) (bind_pattern p (None ∷ unnamed_binders m)),
     ))
     (weigh ds h.1) f n
 weigh (read x r e ∷ ds) h f n = one_more x (numbered (suc (length ds))) (knowns_of ds) None (extents_of ds) (λ m. omega arith) (weigh ds h.1) f n
 weigh (bare e ∷ ds) h f n = one_more it (numbered (suc (length ds))) (knowns_of ds) None (extents_of ds) (λ m. omega arith) (weigh ds h.1) f n
 
 pub start-weighs : StartWeighs
-start-weighs ds e T h k = omega (arith, weight-start (knowns_of ds) (extents_of ds) (weigh ds h) e (has-ranked e (scope_of ds) [] T k) [])
+start-weighs ds e T h k = omega (arith, weight-start (knowns_of ds) (extents_of ds) (weigh ds h) e (has-ranked e (environment_of ds) [] T k) [])

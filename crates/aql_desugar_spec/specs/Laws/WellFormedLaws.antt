@@ -9,7 +9,7 @@ use Rattle.aql_syntax.specs.Tree.{Name, Constant, Pat, bind, any, equals, refers
 use Rattle.aql_syntax.specs.Names.{names_equal, find}
 use Rattle.nrca_term.specs.Term.{Term, none, part, plain, Form, WellFormed, PartsWellFormed}
 use Rattle.nrca_term.specs.Nodes.{variable, bottom_term, empty_term, let_term, if_term, proj_term, tab_term}
-use Rattle.aql_desugar_spec.specs.Start.{Binders, Resolved, numbered, inlined, Resolutions, index_of, name_term, position_term, macro_term, call_term, constant_term, bound, grown, equal_term, match_term, parts_term, matching, united, dimension, loops_term, under, grown_axes, axes_term, index_terms, cell_term, cell_scope, array_term, under_axes, start, starts, bound_terms, quals_term, defs_term, hidden, inline, knowns_of}
+use Rattle.aql_desugar_spec.specs.Start.{Binders, Resolved, numbered, inlined, Resolutions, index_of, name_term, position_term, macro_term, call_term, constant_term, bind_pattern, count_binders, equal_term, match_term, parts_term, matching, balanced_union, dimension, loops_term, under, grown_axes, axes_term, index_terms, cell_term, cell_binders, array_term, under_axes, start, starts, bound_terms, quals_term, defs_term, unnamed_binders, inline, knowns_of}
 use Rattle.aql_desugar_spec.specs.Laws.{StartIsWellFormed}
 
 -- the macros' terms are well formed
@@ -54,7 +54,7 @@ formed-bounds rank i (t ∷ ts) b e h k = (rw (lt-ltb i rank (omega arith)) refl
 formed-tab : (ts : List Term) (b : Term) → Every WellFormed ts → WellFormed b → WellFormed (tab_term ts b)
 formed-tab ts b h k = (tt, formed-bounds (length ts) 0 ts b (omega arith) h k)
 
-formed-united : (n : ℕ) (ts : List Term) → Every WellFormed ts → WellFormed (united n ts)
+formed-united : (n : ℕ) (ts : List Term) → Every WellFormed ts → WellFormed (balanced_union n ts)
 formed-united zero ts h = (tt, tt)
 formed-united (suc n) [] h = (tt, tt)
 formed-united (suc n) (t ∷ []) h = (tt, (refl, h.0, tt))
@@ -77,17 +77,17 @@ mutual
   formed-parts_term no_pat known s at j n inside other h o = h
   formed-parts_term (pat p ps) known s at j n inside other h o =
       formed-let (proj_term j n (variable at))
-      (match_term p known (None ∷ s) 0 (parts_term ps known (bound p (None ∷ s)) (at + (grown p + 1)) (suc j) n inside other) other)
+      (match_term p known (None ∷ s) 0 (parts_term ps known (bind_pattern p (None ∷ s)) (at + (count_binders p + 1)) (suc j) n inside other) other)
       (tt, (refl, (refl, tt), tt))
-      (formed-match_term p known (None ∷ s) 0 (parts_term ps known (bound p (None ∷ s)) (at + (grown p + 1)) (suc j) n inside other) other
-      (formed-parts_term ps known (bound p (None ∷ s)) (at + (grown p + 1)) (suc j) n inside other h o) o)
+      (formed-match_term p known (None ∷ s) 0 (parts_term ps known (bind_pattern p (None ∷ s)) (at + (count_binders p + 1)) (suc j) n inside other) other
+      (formed-parts_term ps known (bind_pattern p (None ∷ s)) (at + (count_binders p + 1)) (suc j) n inside other h o) o)
 
 -- a term in a scope is well formed
 abbrev pub IsFormed : (Binders → Term) → Type 0
 IsFormed t = (s : Binders) → WellFormed (t s)
 
 formed-matching : (p : Pat) (known : Resolutions) (s : Binders) (t : Binders → Term) (other : Term) → WellFormed other → IsFormed t → WellFormed (matching p known s t other)
-formed-matching p known s t other o h = formed-match_term p known (None ∷ s) 0 (t (bound p (None ∷ s))) other (h (bound p (None ∷ s))) o
+formed-matching p known s t other o h = formed-match_term p known (None ∷ s) 0 (t (bind_pattern p (None ∷ s))) other (h (bind_pattern p (None ∷ s))) o
 
 formed-dimension : (rank j at : ℕ) → WellFormed (dimension rank j at)
 formed-dimension zero j at = (tt, (refl, (tt, (refl, (refl, tt), tt)), tt))
@@ -102,8 +102,8 @@ formed-loops_term (suc m) j rank inside h =
 formed-axes_term : (ps : Pats) (known : Resolutions) (s : Binders) (added : ℕ) (inside other : Term) → WellFormed inside → WellFormed other → WellFormed (axes_term ps known s added inside other)
 formed-axes_term no_pat known s added inside other h o = h
 formed-axes_term (pat p ps) known s added inside other h o =
-    formed-match_term p known s (added + count_pats ps) (axes_term ps known (bound p s) (added + grown p) inside other) other
-    (formed-axes_term ps known (bound p s) (added + grown p) inside other h o) o
+    formed-match_term p known s (added + count_pats ps) (axes_term ps known (bind_pattern p s) (added + count_binders p) inside other) other
+    (formed-axes_term ps known (bind_pattern p s) (added + count_binders p) inside other h o) o
 
 formed-index_terms : (m added : ℕ) → Every WellFormed (index_terms m added)
 formed-index_terms zero added = tt
@@ -112,11 +112,11 @@ formed-index_terms (suc m) added = ((refl, tt), formed-index_terms m added)
 formed-array : (known : Resolutions) (ps : Pats) (s : Binders) (array : Term) (t : Binders → Term) → WellFormed array → IsFormed t → WellFormed (array_term ps known s array t empty_term)
 formed-array known ps s array t a h =
     let k = count_pats ps in
-    let found = let_term (cell_term k (grown_axes ps)) (t (cell_scope ps s)) in
+    let found = let_term (cell_term k (grown_axes ps)) (t (cell_binders ps s)) in
     formed-let array (loops_term k 0 k (axes_term ps known (under k (None ∷ s)) 0 found empty_term)) a
     (formed-loops_term k 0 k (axes_term ps known (under k (None ∷ s)) 0 found empty_term)
     (formed-axes_term ps known (under k (None ∷ s)) 0 found empty_term
-    (formed-let (cell_term k (grown_axes ps)) (t (cell_scope ps s)) (tt, (refl, (refl, tt), formed-plain Strict.sub 1 (index_terms k (grown_axes ps)) (formed-index_terms k (grown_axes ps)))) (h (cell_scope ps s)))
+    (formed-let (cell_term k (grown_axes ps)) (t (cell_binders ps s)) (tt, (refl, (refl, tt), formed-plain Strict.sub 1 (index_terms k (grown_axes ps)) (formed-index_terms k (grown_axes ps)))) (h (cell_binders ps s)))
     (tt, tt)))
 
 mutual
@@ -181,7 +181,7 @@ calls-formed [] f n = (tt, tt)
 calls-formed (val x e ∷ ds) f n = one_more x (numbered (suc (length ds))) (knowns_of ds) (λ m. (tt, tt)) (calls-formed ds) f n
 calls-formed (mac x p body ∷ ds) f n =
     one_more x (inlined (inline p body (knowns_of ds))) (knowns_of ds)
-    (λ k. formed-matching p (knowns_of ds) (hidden k) (start body (knowns_of ds)) bottom_term (tt, tt) (formed-start (knowns_of ds) (calls-formed ds) body)) (calls-formed ds) f n
+    (λ k. formed-matching p (knowns_of ds) (unnamed_binders k) (start body (knowns_of ds)) bottom_term (tt, tt) (formed-start (knowns_of ds) (calls-formed ds) body)) (calls-formed ds) f n
 calls-formed (read x r e ∷ ds) f n = one_more x (numbered (suc (length ds))) (knowns_of ds) (λ m. (tt, tt)) (calls-formed ds) f n
 calls-formed (bare e ∷ ds) f n = one_more it (numbered (suc (length ds))) (knowns_of ds) (λ m. (tt, tt)) (calls-formed ds) f n
 

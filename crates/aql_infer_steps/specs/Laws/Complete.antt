@@ -1,44 +1,31 @@
 -- Each typing of a declaration comes from a solution of what it asks.
-use Rattle.std.proofs.Common.{ℕ, ◌≡◌, ◌<◌, true, List, [], ◌∷◌, Option, Some, None, refl, sym, ap, ◌∙◌, subst}
+use Rattle.std.proofs.Common.{ℕ, ◌≡◌, ◌<◌, true, List, [], ◌∷◌, Option, Some, None, refl, sym, ap, ◌∙◌, subst, option_map}
+use Rattle.std.proofs.lemmas.Option.{same_Some}
 use Rattle.aql_types.specs.Types as types
 use Rattle.aql_types.specs.Types.{Ty, natural, Tys, type, Subst, apply, apply_all, IsWithin, Sort, value, macro, apply_sort}
 use Rattle.aql_types.specs.Laws.Types.{row_is, apply-apply, natural_within, truth_within, member_within, cell_within}
 use Rattle.aql_syntax.specs.Tree.{Name, Pat, bind, any, equals, refers, tuple, Pats, no_pat, pat, Tree, name, op, members, comp, tab, bindings, choice, conjunction, disjunction, negation, default, function, summap, Trees, no_tree, tree, Axes, no_axis, axis, Quals, no_qual, from, cells, same, test, Defs, no_def, def, Reader, plain, signed, strided, records, Declaration, val, mac, read, bare, count_pats, count_axes, axes}
 use Rattle.aql_syntax.specs.Tree as trees
 use Rattle.aql_syntax.specs.Names.{find}
-use Rattle.aql_syntax.specs.Typing.{Environment, Locals, NameHas, MacroTakes, PatternFits, FitsAll, FitsAxes, with_indices, Has, HasAll, HasEach, BoundsHave, Rows, Binds, reader_type, argument_type, DeclHas}
-use Rattle.aql_infer_steps.specs.Constraints.{NumberedSort, NumberedSorts, State, is_rank, make_value, make_global, make_name, make_macro, make_call, Matched, MatchedAll, make_pat, make_pats, matched, matched_member, matched_index, matched_cell, make, make_all, make_each, make_bounds, make_rows, make_binds, reader_fits, make_decl}
+use Rattle.aql_syntax.specs.Typing.{Environment, Locals, NameHas, MacroTakes, PatternFits, FitsAll, FitsAxes, with_indices, Has, HasAll, HasEach, BoundsHave, Rows, Binds, reader_type, argument_type, DeclHas, local_instances}
+use Rattle.aql_infer_steps.specs.Constraints.{NumberedScheme, NumberedSchemes, State, is_rank, make_value, make_global, make_name, make_macro, make_call, Matched, MatchedAll, make_pat, make_pats, make_match, matched_member, matched_index, matched_cell, make, make_all, make_each, make_bounds, make_rows, make_binds, reader_fits, make_decl}
 use Rattle.aql_infer_steps.specs.Laws.Steps.{Agrees, later_later, Stays, on, Found, found_after, found_made, found_equate, found_within, found_guard, found_fresh, found_opened}
-use Rattle.aql_infer_steps.specs.Describes.{at, at_some, SortHas, SortTakes, SchemeHas, SchemeTakes, IsClosedSort, SchemeClosed, Describes}
-use Rattle.aql_infer_steps.specs.Laws.Describes.{find_at}
+use Rattle.aql_infer_steps.specs.Describes.{SortHas, SortTakes, SchemeHas, SchemeTakes, IsClosedSort, SchemeClosed, Describes}
 use Rattle.aql_syntax.specs.Written.{IsWritten, AreWritten, AxesWritten, QualsWritten, DefsWritten, DeclWritten}
 use Rattle.aql_syntax.specs.Laws.Uses.{EachWithin, operands-within}
+use Rattle.aql_syntax.specs.Laws.Names.{find-instances}
+use Rattle.aql_syntax.specs.Laws.Sound.{value-is, argument-is, result-is}
 use Rattle.aql_infer_steps.specs.Laws.Operations.{IsTy, IsEach, op_found, true_rank}
 use Rattle.aql_infer_steps.specs.Laws.Sound.{constant_apply, indices_at, reader_apply, argument_apply}
 
-abbrev pub AreTys : Tys → Subst → Tys → Type 0
-AreTys ts v a = apply_all v a ≡ ts
-
 abbrev pub AreLocals : Locals → Subst → Locals → Type 0
-AreLocals env v a = at v a ≡ env
+AreLocals env v a = local_instances v a ≡ env
 
 abbrev Any : {A : Type 0} → Subst → A → Type 0
 Any v a = Unit {0}
 
 itself : (n : State) (u : Subst) → Agrees n u u
 itself n u x lt = refl
-
-some_is : {a b : Ty} → Some a ≡ Some b → a ≡ b
-some_is e = cc
-
-pub value_is : (a b : Ty) → value a ≡ value b → a ≡ b
-value_is a b e = cc
-
-pub left_is : (a b c d : Ty) → macro a b ≡ macro c d → a ≡ c
-left_is a b c d e = cc
-
-pub right_is : (a b c d : Ty) → macro a b ≡ macro c d → b ≡ d
-right_is a b c d e = cc
 
 not_some : {A : Type 0} (a : Ty) → Some a ≡ None → A
 not_some a e = cc
@@ -66,24 +53,24 @@ value_found (value r) k c t h =
     found_made (λ v g. is w v ((on m st).holds v g))))
   where
     is : (w v : Subst) → ((i : ℕ) → i < k → apply v (w i) ≡ h.1.0 i) → apply v (apply w r) ≡ t
-    is w v e = apply-apply v w r ∙ value_is _ _ (c (λ i. apply v (w i)) h.1.0 e) ∙ sym h.1.1
+    is w v e = apply-apply v w r ∙ value-is _ _ (c (λ i. apply v (w i)) h.1.0 e) ∙ sym h.1.1
 
-global_found : (o : Option NumberedSort) → SchemeClosed o → (t : Ty) → SchemeHas o t → {n : State} {u : Subst} → Found n u (IsTy t) (make_global o n)
+global_found : (o : Option NumberedScheme) → SchemeClosed o → (t : Ty) → SchemeHas o t → {n : State} {u : Subst} → Found n u (IsTy t) (make_global o n)
 global_found None c t h = absurd h
 global_found (Some s) c t h = value_found s.sort s.variables c t h
 
 looked_up : (env env0 : Locals) (x : Name) {n : State} {u : Subst} → Stays n u (AreLocals env0) env →
-    (v : Subst) → Agrees n u v → at_some v (find x env) ≡ find x env0
-looked_up env env0 x st v g = sym (find_at v x env) ∙ ap (find x) (st.holds v g)
+    (v : Subst) → Agrees n u v → option_map (apply v) (find x env) ≡ find x env0
+looked_up env env0 x st v g = sym (find-instances v x env) ∙ ap (find x) (st.holds v g)
 
-name_found : (g : Environment) (ss : NumberedSorts) → Describes g ss → (env env0 : Locals) (x : Name) (t : Ty) {n : State} {u : Subst} →
+name_found : (g : Environment) (ss : NumberedSchemes) → Describes g ss → (env env0 : Locals) (x : Name) (t : Ty) {n : State} {u : Subst} →
     Stays n u (AreLocals env0) env → NameHas g (find x env0) x t → Found n u (IsTy t) (make_name ss (find x env) x n)
 name_found g ss d env env0 x t {n} {u} st h = go (find x env) (find x env0) (looked_up env env0 x st) h
   where
-    go : (o z : Option Ty) → ((v : Subst) → Agrees n u v → at_some v o ≡ z) → NameHas g z x t → Found n u (IsTy t) (make_name ss o x n)
+    go : (o z : Option Ty) → ((v : Subst) → Agrees n u v → option_map (apply v) o ≡ z) → NameHas g z x t → Found n u (IsTy t) (make_name ss o x n)
     go None z e h = global_found (find x ss) (d.closed x) t (d.had x t (subst (λ z. NameHas g z x t) (sym (e u (itself n u))) h))
     go (Some s) None e h = not_some (apply u s) (e u (itself n u))
-    go (Some s) (Some r) e h = found_made (λ v a. some_is (e v a) ∙ sym h)
+    go (Some s) (Some r) e h = found_made (λ v a. same_Some _ _ (e v a) ∙ sym h)
 
 macro_found : (r : Sort) (k : ℕ) → IsClosedSort k r → (s t : Ty) → SortTakes r s t → (a : Ty) → {n : State} {u : Subst} → Stays n u (IsTy s) a →
     Found n u (IsTy t) (make_macro r k a n)
@@ -98,21 +85,21 @@ macro_found (macro p q) k c s t h a st =
     found_made (λ v g. to_q w v ((on (later_later m (later_later m' m'')) o).holds v g))))))
   where
     from_p : (w v : Subst) → ((i : ℕ) → i < k → apply v (w i) ≡ h.2.0 i) → apply v (apply w p) ≡ s
-    from_p w v e = apply-apply v w p ∙ left_is _ _ _ _ (c (λ i. apply v (w i)) h.2.0 e) ∙ sym h.2.1
+    from_p w v e = apply-apply v w p ∙ argument-is _ _ _ _ (c (λ i. apply v (w i)) h.2.0 e) ∙ sym h.2.1
 
     to_q : (w v : Subst) → ((i : ℕ) → i < k → apply v (w i) ≡ h.2.0 i) → apply v (apply w q) ≡ t
-    to_q w v e = apply-apply v w q ∙ right_is _ _ _ _ (c (λ i. apply v (w i)) h.2.0 e) ∙ sym h.2.2
+    to_q w v e = apply-apply v w q ∙ result-is _ _ _ _ (c (λ i. apply v (w i)) h.2.0 e) ∙ sym h.2.2
 
-call_found : (g : Environment) (ss : NumberedSorts) → Describes g ss → (env env0 : Locals) (f : Name) (s t : Ty) (a : Ty) {n : State} {u : Subst} →
+call_found : (g : Environment) (ss : NumberedSchemes) → Describes g ss → (env env0 : Locals) (f : Name) (s t : Ty) (a : Ty) {n : State} {u : Subst} →
     Stays n u (AreLocals env0) env → Stays n u (IsTy s) a → MacroTakes g (find f env0) f s t →
     Found n u (IsTy t) (make_call (find f env) (find f ss) a n)
 call_found g ss d env env0 f s t a {n} {u} keeps st h = go (find f env) (find f env0) (looked_up env env0 f keeps) h
   where
-    none : (r : Option NumberedSort) → SchemeClosed r → SchemeTakes r s t → Found n u (IsTy t) (make_call None r a n)
+    none : (r : Option NumberedScheme) → SchemeClosed r → SchemeTakes r s t → Found n u (IsTy t) (make_call None r a n)
     none None c h = absurd h
     none (Some r) c h = macro_found r.sort r.variables c s t h a st
 
-    go : (o z : Option Ty) → ((v : Subst) → Agrees n u v → at_some v o ≡ z) → MacroTakes g z f s t →
+    go : (o z : Option Ty) → ((v : Subst) → Agrees n u v → option_map (apply v) o ≡ z) → MacroTakes g z f s t →
         Found n u (IsTy t) (make_call o (find f ss) a n)
     go None z e h = none (find f ss) (d.closed f) (d.taken f s t (subst (λ z. MacroTakes g z f s t) (sym (e u (itself n u))) h))
     go (Some l) None e h = not_some (apply u l) (e u (itself n u))
@@ -121,16 +108,16 @@ call_found g ss d env env0 f s t a {n} {u} keeps st h = go (find f env) (find f 
 -- Patterns.
 
 abbrev pub IsMatched : Ty → Locals → Subst → Matched → Type 0
-IsMatched t env v r = (apply v r.of ≡ t) × (at v r.names ≡ env)
+IsMatched t env v r = (apply v r.of ≡ t) × (local_instances v r.names ≡ env)
 
 abbrev pub AreMatched : Tys → Locals → Subst → MatchedAll → Type 0
-AreMatched ts env v r = (apply_all v r.of ≡ ts) × (at v r.names ≡ env)
+AreMatched ts env v r = (apply_all v r.of ≡ ts) × (local_instances v r.names ≡ env)
 
 names_stay : {t : Ty} {env : Locals} {n : State} {u : Subst} {r : Matched} → Stays n u (IsMatched t env) r → Stays n u (AreLocals env) r.names
 names_stay st = record { holds = λ v g. (st.holds v g).1 }
 
 mutual
-  pub pat_found : (p : Pat) (g : Environment) (ss : NumberedSorts) → Describes g ss → (env env0 : Locals) (t : Ty) (inner : Locals) → {n : State} {u : Subst} →
+  pub pat_found : (p : Pat) (g : Environment) (ss : NumberedSchemes) → Describes g ss → (env env0 : Locals) (t : Ty) (inner : Locals) → {n : State} {u : Subst} →
       Stays n u (AreLocals env0) env → PatternFits p g env0 t inner → Found n u (IsMatched t inner) (make_pat p ss env n)
   pat_found (bind x) g ss d env env0 t inner keeps h =
       found_after (found_fresh t) (λ a n u l st. found_made (λ v g. (st.holds v g, entry x (st.holds v g) ((on l keeps).holds v g) ∙ sym h)))
@@ -144,7 +131,7 @@ mutual
       found_after (pats_found ps g ss d env env0 h.0 inner keeps h.2) (λ a n u l st.
       found_made (λ v g. (ap types.product (st.holds v g).0 ∙ sym h.1, (st.holds v g).1)))
 
-  pub pats_found : (ps : Pats) (g : Environment) (ss : NumberedSorts) → Describes g ss → (env env0 : Locals) (ts : Tys) (inner : Locals) → {n : State} {u : Subst} →
+  pub pats_found : (ps : Pats) (g : Environment) (ss : NumberedSchemes) → Describes g ss → (env env0 : Locals) (ts : Tys) (inner : Locals) → {n : State} {u : Subst} →
       Stays n u (AreLocals env0) env → FitsAll ps g env0 ts inner → Found n u (AreMatched ts inner) (make_pats ps ss env n)
   pats_found no_pat g ss d env env0 ts inner keeps h = found_made (λ v g. (sym h.0, keeps.holds v g ∙ sym h.1))
   pats_found (pat p ps) g ss d env env0 ts inner keeps h =
@@ -152,8 +139,8 @@ mutual
       found_after (pats_found ps g ss d r.names h.2 h.1 inner (names_stay st) h.5) (λ q n u m su.
       found_made (λ v g. (row_is ((on m st).holds v g).0 (su.holds v g).0 ∙ sym h.3, (su.holds v g).1))))
 
-matched_found : (p : Pat) (g : Environment) (ss : NumberedSorts) → Describes g ss → (env env0 : Locals) (s : Ty) (inner : Locals) (t : Ty) → {n : State} {u : Subst} →
-    Stays n u (AreLocals env0) env → Stays n u (IsTy s) t → IsWithin s → PatternFits p g env0 s inner → Found n u (AreLocals inner) (matched p ss env t n)
+matched_found : (p : Pat) (g : Environment) (ss : NumberedSchemes) → Describes g ss → (env env0 : Locals) (s : Ty) (inner : Locals) (t : Ty) → {n : State} {u : Subst} →
+    Stays n u (AreLocals env0) env → Stays n u (IsTy s) t → IsWithin s → PatternFits p g env0 s inner → Found n u (AreLocals inner) (make_match p ss env t n)
 matched_found p g ss d env env0 s inner t keeps st w h =
     found_after (pat_found p g ss d env env0 s inner keeps h) (λ r n u l sr.
     found_after (found_equate t r.of (λ v g. (on l st).holds v g ∙ sym ((sr.holds v g).0)) (λ v g. subst IsWithin (sym ((sr.holds v g).0)) w)) (λ _ n u m _.
@@ -161,7 +148,7 @@ matched_found p g ss d env env0 s inner t keeps st w h =
     found_after (found_within r.of (λ v g. subst IsWithin (sym ((sr'.holds v g).0)) w)) (λ _ n u m' _.
     found_made (λ v g. ((on m' sr').holds v g).1))))
 
-member_found : (p : Pat) (g : Environment) (ss : NumberedSorts) → Describes g ss → (env env0 : Locals) (s : Ty) (inner : Locals) (t : Ty) → {n : State} {u : Subst} →
+member_found : (p : Pat) (g : Environment) (ss : NumberedSchemes) → Describes g ss → (env env0 : Locals) (s : Ty) (inner : Locals) (t : Ty) → {n : State} {u : Subst} →
     Stays n u (AreLocals env0) env → Stays n u (IsTy (types.set_of s)) t → IsWithin (types.set_of s) → PatternFits p g env0 s inner →
     Found n u (AreLocals inner) (matched_member p ss env t n)
 member_found p g ss d env env0 s inner t keeps st w h =
@@ -172,7 +159,7 @@ member_found p g ss d env env0 s inner t keeps st w h =
     found_after (found_within (types.set_of r.of) (λ v g. subst IsWithin (sym (sets (sr'.holds v g).0)) w)) (λ _ n u m' _.
     found_made (λ v g. ((on m' sr').holds v g).1))))
 
-cell_found : (q : Pat) (k : ℕ) (g : Environment) (ss : NumberedSorts) → Describes g ss → (env env0 : Locals) (s : Ty) (inner : Locals) (t : Ty) → {n : State} {u : Subst} →
+cell_found : (q : Pat) (k : ℕ) (g : Environment) (ss : NumberedSchemes) → Describes g ss → (env env0 : Locals) (s : Ty) (inner : Locals) (t : Ty) → {n : State} {u : Subst} →
     Stays n u (AreLocals env0) env → Stays n u (IsTy (types.array_of k s)) t → IsWithin (types.array_of k s) → PatternFits q g env0 s inner →
     Found n u (AreLocals inner) (matched_cell q k ss env t n)
 cell_found q k g ss d env env0 s inner t keeps st w h =
@@ -183,7 +170,7 @@ cell_found q k g ss d env env0 s inner t keeps st w h =
     found_after (found_within (types.array_of k r.of) (λ v g. subst IsWithin (sym (arrays k (sr'.holds v g).0)) w)) (λ _ n u m' _.
     found_made (λ v g. ((on m' sr').holds v g).1))))
 
-axes_found : (ps : Pats) (g : Environment) (ss : NumberedSorts) → Describes g ss → (env env0 inner : Locals) → {n : State} {u : Subst} →
+axes_found : (ps : Pats) (g : Environment) (ss : NumberedSchemes) → Describes g ss → (env env0 inner : Locals) → {n : State} {u : Subst} →
     Stays n u (AreLocals env0) env → FitsAxes ps g env0 inner → Found n u (AreLocals inner) (matched_index ps ss env n)
 axes_found no_pat g ss d env env0 inner keeps h = found_made (λ v a. keeps.holds v a ∙ sym h)
 axes_found (pat p ps) g ss d env env0 inner keeps h =
@@ -192,7 +179,7 @@ axes_found (pat p ps) g ss d env env0 inner keeps h =
     axes_found ps g ss d r.names h.0 inner (on m (names_stay sr)) h.2))
 
 -- the argument's type is within the limits
-takes_within : (r : Option NumberedSort) (s t : Ty) → SchemeTakes r s t → IsWithin s
+takes_within : (r : Option NumberedScheme) (s t : Ty) → SchemeTakes r s t → IsWithin s
 takes_within None s t h = absurd h
 takes_within (Some r) s t h = go r.sort h
   where
@@ -200,7 +187,7 @@ takes_within (Some r) s t h = go r.sort h
     go (value r) h = absurd h
     go (macro p q) h = h.0
 
-argument_within : (g : Environment) (ss : NumberedSorts) → Describes g ss → (o : Option Ty) (f : Name) (s t : Ty) → MacroTakes g o f s t → IsWithin s
+argument_within : (g : Environment) (ss : NumberedSchemes) → Describes g ss → (o : Option Ty) (f : Name) (s t : Ty) → MacroTakes g o f s t → IsWithin s
 argument_within g ss d None f s t h = takes_within (find f ss) s t (d.taken f s t h)
 argument_within g ss d (Some r) f s t h = absurd h
 
@@ -210,7 +197,7 @@ indices_stay xs env env0 st = record { holds = λ v g. indices_at v xs env ∙ a
 -- Expressions.
 
 mutual
-  pub complete : (e : Tree) → IsWritten e → (g : Environment) (ss : NumberedSorts) → Describes g ss → (env env0 : Locals) (t : Ty) → {n : State} {u : Subst} →
+  pub complete : (e : Tree) → IsWritten e → (g : Environment) (ss : NumberedSchemes) → Describes g ss → (env env0 : Locals) (t : Ty) → {n : State} {u : Subst} →
       Stays n u (AreLocals env0) env → IsWithin t → Has e g env0 t → Found n u (IsTy t) (make e ss env n)
   complete (name x) z g ss d env env0 t keeps w h = name_found g ss d env env0 x t keeps h
   complete (op o es) z g ss d env env0 t keeps w h =
@@ -278,7 +265,7 @@ mutual
       found_after (found_equate b natural sb.holds (λ v a. natural_within)) (λ _ n u m'' _.
       found_made (λ v a. sym h.2)))))
 
-  pub all_complete : (es : Trees) → AreWritten es → (g : Environment) (ss : NumberedSorts) → Describes g ss → (env env0 : Locals) (ts : List Ty) → {n : State} {u : Subst} →
+  pub all_complete : (es : Trees) → AreWritten es → (g : Environment) (ss : NumberedSchemes) → Describes g ss → (env env0 : Locals) (ts : List Ty) → {n : State} {u : Subst} →
       Stays n u (AreLocals env0) env → EachWithin ts → HasAll es g env0 ts → Found n u (IsEach ts) (make_all es ss env n)
   all_complete no_tree z g ss d env env0 ts keeps w h = found_made (λ v a. sym h)
   all_complete (tree e es) z g ss d env env0 ts keeps w h =
@@ -287,7 +274,7 @@ mutual
       found_after (all_complete es z.1 g ss d env env0 h.1 (on l keeps) ws.1 h.4) (λ r n u m su.
       found_made (λ v a. conses ((on m st).holds v a) (su.holds v a) ∙ sym h.2)))
 
-  pub each_complete : (es : Trees) → AreWritten es → (g : Environment) (ss : NumberedSorts) → Describes g ss → (env env0 : Locals) (s t : Ty) → {n : State} {u : Subst} →
+  pub each_complete : (es : Trees) → AreWritten es → (g : Environment) (ss : NumberedSchemes) → Describes g ss → (env env0 : Locals) (s t : Ty) → {n : State} {u : Subst} →
       Stays n u (AreLocals env0) env → Stays n u (IsTy t) s → IsWithin t → HasEach es g env0 t → Found n u (Any {A = Unit {0}}) (make_each es ss env s n)
   each_complete no_tree z g ss d env env0 s t keeps st w h = found_made (λ v a. tt)
   each_complete (tree e es) z g ss d env env0 s t keeps st w h =
@@ -296,7 +283,7 @@ mutual
       let l = later_later m m' in
       each_complete es z.1 g ss d env env0 s t (on l keeps) (on l st) w h.1))
 
-  pub bounds_complete : (xs : Axes) → AxesWritten xs → (g : Environment) (ss : NumberedSorts) → Describes g ss → (env env0 : Locals) → {n : State} {u : Subst} →
+  pub bounds_complete : (xs : Axes) → AxesWritten xs → (g : Environment) (ss : NumberedSchemes) → Describes g ss → (env env0 : Locals) → {n : State} {u : Subst} →
       Stays n u (AreLocals env0) env → BoundsHave xs g env0 → Found n u (Any {A = Unit {0}}) (make_bounds xs ss env n)
   bounds_complete no_axis z g ss d env env0 keeps h = found_made (λ v a. tt)
   bounds_complete (axis x e rest) z g ss d env env0 keeps h =
@@ -304,7 +291,7 @@ mutual
       found_after (found_equate y natural sy.holds (λ v a. natural_within)) (λ _ n u m' _.
       bounds_complete rest z.1 g ss d env env0 (on (later_later m m') keeps) h.1))
 
-  pub rows_complete : (qs : Quals) → QualsWritten qs → (g : Environment) (ss : NumberedSorts) → Describes g ss → (env env0 inner : Locals) → {n : State} {u : Subst} →
+  pub rows_complete : (qs : Quals) → QualsWritten qs → (g : Environment) (ss : NumberedSchemes) → Describes g ss → (env env0 inner : Locals) → {n : State} {u : Subst} →
       Stays n u (AreLocals env0) env → Rows qs g env0 inner → Found n u (AreLocals inner) (make_rows qs ss env n)
   rows_complete no_qual z g ss d env env0 inner keeps h = found_made (λ v a. keeps.holds v a ∙ sym h)
   rows_complete (from p e rest) z g ss d env env0 inner keeps h =
@@ -325,7 +312,7 @@ mutual
       found_after (found_equate x types.truth st.holds (λ v a. truth_within)) (λ _ n u l' _.
       rows_complete rest z.1 g ss d env env0 inner (on (later_later l l') keeps) h.1))
 
-  pub binds_complete : (ds : Defs) → DefsWritten ds → (g : Environment) (ss : NumberedSorts) → Describes g ss → (env env0 inner : Locals) → {n : State} {u : Subst} →
+  pub binds_complete : (ds : Defs) → DefsWritten ds → (g : Environment) (ss : NumberedSchemes) → Describes g ss → (env env0 inner : Locals) → {n : State} {u : Subst} →
       Stays n u (AreLocals env0) env → Binds ds g env0 inner → Found n u (AreLocals inner) (make_binds ds ss env n)
   binds_complete no_def z g ss d env env0 inner keeps h = found_made (λ v a. keeps.holds v a ∙ sym h)
   binds_complete (def p e rest) z g ss d env env0 inner keeps h =
@@ -347,7 +334,7 @@ reader_ranked (signed k) w = true_rank k w.2.0
 reader_ranked (strided k) w = true_rank k w.2.0
 reader_ranked (records header ks) w = refl
 
-pub decl_found : (dec : Declaration) → DeclWritten dec → (g : Environment) (ss : NumberedSorts) → Describes g ss → (s : Sort) → {n : State} {u : Subst} →
+pub decl_found : (dec : Declaration) → DeclWritten dec → (g : Environment) (ss : NumberedSchemes) → Describes g ss → (s : Sort) → {n : State} {u : Subst} →
     DeclHas dec g s → Found n u (IsSort s) (make_decl dec ss n)
 decl_found (val x e) z g ss d (macro a b) h = absurd h
 decl_found (val x e) z g ss d (value t) h =

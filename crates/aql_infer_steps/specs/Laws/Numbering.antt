@@ -5,7 +5,7 @@ use Rattle.aql_types.specs.Types as types
 use Rattle.aql_types.specs.Types.{Ty, natural, truth, var, product, set_of, array_of, Tys, no_type, type, Subst, apply, apply_all, nodes, nodes_all, levels, levels_all, IsType, AreTypes, IsWithin, Sort, value, macro, apply_sort}
 use Rattle.aql_types.specs.Laws.Types.{row_is, apply-apply, apply_var, count_apply}
 use Rattle.aql_types.specs.Variables.{is_one_of, variable_index, variables, variables_all, sort_variables}
-use Rattle.aql_infer_steps.specs.Numbering.{at_index, renumbering, number, named, names_back, IsNumbered}
+use Rattle.aql_infer_steps.specs.Numbering.{at_index, renumbering, number, undo_numbering, names_back, IsNumbered}
 
 at_index-index : (x : ℕ) (ys : List ℕ) → is_one_of x ys ≡ true → at_index (variable_index x ys) ys ≡ x
 unfolding at_index
@@ -58,9 +58,9 @@ mutual
   all_agree_on vs u v h (type t ts) k = row_is (agree_on vs u v h t k.0) (all_agree_on vs u v h ts k.1)
 
 -- the names come back
-named_numbered : (vs : List ℕ) (t : Ty) → Among vs t → apply (named vs) (apply (renumbering vs) t) ≡ t
+named_numbered : (vs : List ℕ) (t : Ty) → Among vs t → apply (undo_numbering vs) (apply (renumbering vs) t) ≡ t
 named_numbered vs t k =
-    apply-apply (named vs) (renumbering vs) t
+    apply-apply (undo_numbering vs) (renumbering vs) t
     ∙ agree_on vs (λ x. var (at_index (variable_index x vs) vs)) var (λ x h. ap var (at_index-index x vs h)) t k
     ∙ apply_var t
 

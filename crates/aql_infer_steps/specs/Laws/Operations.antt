@@ -7,11 +7,11 @@ use Rattle.std.proofs.Math.Dec.{leb}
 use Rattle.std.proofs.lemmas.Bool.{leb-true, le-leb}
 use Rattle.aql_value.specs.Strict.{Strict}
 use Rattle.aql_types.specs.Types as types
-use Rattle.aql_types.specs.Types.{Ty, natural, Tys, no_type, type, Subst, apply, apply_all, IsRank, IsWithin, tys_of, index_type}
+use Rattle.aql_types.specs.Types.{Ty, natural, no_type, type, Subst, apply, apply_all, IsRank, IsWithin, tys_of}
 use Rattle.aql_types.specs.OperationTypes.{strict_rule}
-use Rattle.aql_types.specs.Laws.Types.{natural_within, cell_within}
+use Rattle.aql_types.specs.Laws.Types.{natural_within, cell_within, index_type-apply}
 use Rattle.aql_syntax.specs.Typing.{OperandWithin, FirstWithin}
-use Rattle.aql_infer_steps.specs.Constraints.{State, Making, made, fresh, is_rank, equate_each, with_none, with_one, with_two, with_first, literal_parts, pair_type, made_arith, made_compare, made_empty, made_single, made_union, made_gen, made_get, made_sub, made_dim, made_index, make_op}
+use Rattle.aql_infer_steps.specs.Constraints.{State, Making, pure, fresh, is_rank, equate_each, with_none, with_one, with_two, with_first, literal_parts, pair_type, made_arith, made_compare, made_empty, made_single, made_union, made_gen, made_get, made_sub, made_dim, made_index, make_op}
 use Rattle.aql_infer_steps.specs.Laws.Steps.{Sound, sound_after, sound_made, sound_none, weaker, sound_fresh, sound_equate, sound_within, sound_guard, Agrees, later_later, Stays, on, Found, found_after, found_made, found_equate, found_within, found_guard, found_fresh}
 use Rattle.aql_infer_steps.specs.Describes.{apply_each}
 use Rattle.aql_syntax.specs.Written.{IsWrittenForm}
@@ -24,18 +24,8 @@ rank_true k e = (leb-true _ _ (first_so (leb 1 k) (leb k 8) e), leb-true _ _ (se
 pub true_rank : (k : ℕ) → IsRank k → is_rank k ≡ true
 true_rank k h = both_true (le-leb _ _ h.0) (le-leb _ _ h.1)
 
-naturals_apply : (u : Subst) (k : ℕ) → apply_all u (tys_of (replicate k natural)) ≡ tys_of (replicate k natural)
-naturals_apply u zero = refl
-naturals_apply u (suc k) = ap (type natural) (naturals_apply u k)
-
--- an index has no variables
-pub index_apply : (u : Subst) (k : ℕ) → apply u (index_type k) ≡ index_type k
-index_apply u zero = refl
-index_apply u (suc zero) = refl
-index_apply u (suc (suc k)) = ap (λ (ts : Tys). types.product (type natural (type natural ts))) (naturals_apply u k)
-
 pub pair_apply : (u : Subst) (k : ℕ) (s : Ty) → apply u (pair_type k s) ≡ pair_type k (apply u s)
-pair_apply u k s = ap (λ (i : Ty). types.product (type i (type (apply u s) no_type))) (index_apply u k)
+pair_apply u k s = ap (λ (i : Ty). types.product (type i (type (apply u s) no_type))) (index_type-apply u k)
 
 pub tys_apply : (u : Subst) (ts : List Ty) → apply_all u (tys_of ts) ≡ tys_of (apply_each u ts)
 tys_apply u [] = refl
@@ -98,9 +88,9 @@ literal_sound u (suc k) s (t ∷ ts) n =
     sound_after (sound_equate u t natural n) (λ _ n. weaker (literal_sound u k s ts n) (λ _ f e. (f.0, conses e f.1)))
 
 pub op_sound : (o : Strict) (u : Subst) (ts : List Ty) (n : State) → Sound n u (λ t. OpHas o (apply_each u ts) (apply u t)) (make_op o ts n)
-op_sound (Strict.nat k) u ts n = none_sound u n (OpHas (Strict.nat k)) ts (made natural) (sound_made ((refl, refl), tt))
-op_sound (Strict.bool b) u ts n = none_sound u n (OpHas (Strict.bool b)) ts (made types.truth) (sound_made ((refl, refl), tt))
-op_sound (Strict.text s) u ts n = none_sound u n (OpHas (Strict.text s)) ts (made types.text) (sound_made ((refl, refl), tt))
+op_sound (Strict.nat k) u ts n = none_sound u n (OpHas (Strict.nat k)) ts (pure natural) (sound_made ((refl, refl), tt))
+op_sound (Strict.bool b) u ts n = none_sound u n (OpHas (Strict.bool b)) ts (pure types.truth) (sound_made ((refl, refl), tt))
+op_sound (Strict.text s) u ts n = none_sound u n (OpHas (Strict.text s)) ts (pure types.text) (sound_made ((refl, refl), tt))
 op_sound Strict.bottom u ts n = none_sound u n (OpHas Strict.bottom) ts fresh (weaker (sound_fresh u n) (λ t _. (refl, tt)))
 op_sound Strict.tuple u ts n =
     sound_after (sound_guard u (nat_le 2 (length ts)) n) (λ _ n. sound_made (λ g.
@@ -140,7 +130,7 @@ op_sound (Strict.dim k) u ts n =
     sound_after (sound_guard u (is_rank k) n) (λ _ n. sound_after (sound_fresh u n) (λ s n.
     sound_after (sound_equate u a (types.array_of k s) n) (λ _ n.
     sound_after (sound_within u (types.array_of k s) n) (λ _ n.
-    sound_made (λ w e _ g. ((apply u s, rank_true k g, conses e refl, index_apply u k), subst IsWithin (sym e) w)))))))
+    sound_made (λ w e _ g. ((apply u s, rank_true k g, conses e refl, index_type-apply u k), subst IsWithin (sym e) w)))))))
 op_sound (Strict.index k) u ts n =
     one_sound u n (OpHas (Strict.index k)) ts (made_index k) (λ a.
     sound_after (sound_guard u (is_rank k) n) (λ _ n. sound_after (sound_fresh u n) (λ s n.
@@ -209,9 +199,6 @@ first_found : {n : State} {u : Subst} {P : Subst → Ty → Type 0} (s : Ty) (ss
 first_found {n} {u} {P} s ss [] f st h = absurd (nil_cons (st.holds u (itself n u)))
 first_found {n} {u} {P} s ss (a ∷ at) f st h = h a at (head_stays st) (tail_stays st)
 
-abbrev Any : {A : Type 0} → Subst → A → Type 0
-Any v a = Unit {0}
-
 -- each of a list becomes that type
 each_found : {n : State} {u : Subst} (k : ℕ) (s : Ty) (bs : List Ty) (a : Ty) → IsWithin s → Stays n u (IsEach (replicate k s)) bs → Stays n u (IsTy s) a →
     Found n u (λ v (_ : Unit {0}). Unit {0}) (equate_each bs a n)
@@ -254,9 +241,9 @@ sub_found k t a at e w sa st =
 
 pub op_found : (o : Strict) → IsWrittenForm o → (ts : List Ty) (t : Ty) → IsWithin t → strict_rule o ts t → OperandWithin o ts → (bs : List Ty) → {n : State} {u : Subst} →
     Stays n u (IsEach ts) bs → Found n u (IsTy t) (make_op o bs n)
-op_found (Strict.nat k) f ts t w h q bs st = none_found bs (made natural) (each_at h.0 st) (found_made (λ v g. sym h.1))
-op_found (Strict.bool b) f ts t w h q bs st = none_found bs (made types.truth) (each_at h.0 st) (found_made (λ v g. sym h.1))
-op_found (Strict.text s) f ts t w h q bs st = none_found bs (made types.text) (each_at h.0 st) (found_made (λ v g. sym h.1))
+op_found (Strict.nat k) f ts t w h q bs st = none_found bs (pure natural) (each_at h.0 st) (found_made (λ v g. sym h.1))
+op_found (Strict.bool b) f ts t w h q bs st = none_found bs (pure types.truth) (each_at h.0 st) (found_made (λ v g. sym h.1))
+op_found (Strict.text s) f ts t w h q bs st = none_found bs (pure types.text) (each_at h.0 st) (found_made (λ v g. sym h.1))
 op_found Strict.bottom f ts t w h q bs st = none_found bs fresh (each_at h st) (found_fresh t)
 op_found Strict.tuple f ts t w h q bs st =
     found_after (found_guard (nat_le 2 (length bs)) (le-leb _ _ (omega (arith, h.0, same_length ts bs st)))) (λ _ n u l _.
@@ -306,7 +293,7 @@ op_found (Strict.dim k) f ts t w h q bs st =
     found_after (found_fresh h.0) (λ s n u m ss.
     found_after (found_equate a (types.array_of k s) (λ v g. (on (later_later l m) sa).holds v g ∙ sym (arrays k (ss.holds v g))) (λ v g. subst IsWithin (sym (arrays k (ss.holds v g))) ws)) (λ _ n u m' _.
     found_after (found_within (types.array_of k s) (λ v g. subst IsWithin (sym (arrays k ((on m' ss).holds v g))) ws)) (λ _ n u m'' _.
-    found_made (λ v g. index_apply v k ∙ sym h.3))))))
+    found_made (λ v g. index_type-apply v k ∙ sym h.3))))))
 op_found (Strict.index k) f ts t w h q bs st =
     let ws = subst FirstWithin h.2 q in
     one_found (types.set_of (pair_type k h.0)) bs (made_index k) (each_at h.2 st) (λ a sa.

@@ -4,7 +4,7 @@ use Rattle.std.proofs.Math.Dec.{ltb}
 use Rattle.std.proofs.lemmas.Bool.{lt-ltb, le-ltb}
 use Rattle.aql_types.specs.Types.{Ty, Tys, no_type, type, Subst, apply, append, IsWithin}
 use Rattle.aql_types.specs.Unifiers.{AllUnify, AllWithin, SidesWithin}
-use Rattle.aql_infer_steps.specs.Constraints.{State, Made, Making, made, after, raised, opened, fresh, equate, within, guard}
+use Rattle.aql_infer_steps.specs.Constraints.{State, Made, Making, pure, after, raise_variables, fresh_variables, fresh, equate, within, guard}
 
 -- u solves the equations of a state, and the types used are within the limits
 pub record Meets (u : Subst) (s : State) : Type 0 where
@@ -48,7 +48,7 @@ sound_after {A} {B} {s} {u} {P} {Q} {o} {f} h t = record { holds = go o h.holds 
     go None h = tt
     go (Some m) h = both m (f m.result m.state) (t m.result m.state).holds h
 
-pub sound_made : {A : Type 0} {u : Subst} {P : A → Type 0} {a : A} {s : State} → P a → Sound s u P (made a s)
+pub sound_made : {A : Type 0} {u : Subst} {P : A → Type 0} {a : A} {s : State} → P a → Sound s u P (pure a s)
 sound_made p = record { holds = λ e. (e, p) }
 
 pub sound_none : {A : Type 0} {u : Subst} {P : A → Type 0} {s : State} → Sound s u P None
@@ -65,8 +65,8 @@ pub sound_fresh : (u : Subst) (s : State) → Sound s u (λ t. Unit {0}) (fresh 
 unfolding fresh
 sound_fresh u s = record { holds = λ e. (record { unify = e.unify; within = e.within }, tt) }
 
-pub sound_opened : (u : Subst) (k : ℕ) (s : State) → Sound s u (λ w. Unit {0}) (opened k s)
-unfolding opened
+pub sound_opened : (u : Subst) (k : ℕ) (s : State) → Sound s u (λ w. Unit {0}) (fresh_variables k s)
+unfolding fresh_variables
 sound_opened u k s = record { holds = λ e. (record { unify = e.unify; within = e.within }, tt) }
 
 pub sound_equate : (u : Subst) (a b : Ty) (s : State) → Sound s u (λ _. apply u a ≡ apply u b) (equate a b s)
@@ -143,7 +143,7 @@ found_after {A} {B} {n} {u} {P} {Q} {o} {f} s t = record { found = go o s.found 
 now : (n : State) (u : Subst) → Later n u n u
 now n u = record { le = omega arith; agrees = λ x lt. refl }
 
-pub found_made : {A : Type 0} {n : State} {u : Subst} {P : Subst → A → Type 0} {a : A} → ((v : Subst) → Agrees n u v → P v a) → Found n u P (made a n)
+pub found_made : {A : Type 0} {n : State} {u : Subst} {P : Subst → A → Type 0} {a : A} → ((v : Subst) → Agrees n u v → P v a) → Found n u P (pure a n)
 found_made {A} {n} {u} p = record { found = record { grow = u; later = now n u; holds = λ v a. ((λ e. e), p v a) } }
 
 pub found_equate : {n : State} {u : Subst} (a b : Ty) → ((v : Subst) → Agrees n u v → apply v a ≡ apply v b) →
@@ -181,13 +181,13 @@ found_guard {n} {u} true e = record { found = record { grow = u; later = record 
 found_guard {n} {u} false e = cc
 
 -- below n as u, from n on as w from 0 on
-abbrev pub spliced : ℕ → Subst → Subst → Subst
-spliced n u w x = if ltb x n then u x else w (x - n)
+abbrev pub splice : ℕ → Subst → Subst → Subst
+splice n u w x = if ltb x n then u x else w (x - n)
 
-spliced_below : (n : ℕ) (u w : Subst) → Below n u (spliced n u w)
+spliced_below : (n : ℕ) (u w : Subst) → Below n u (splice n u w)
 spliced_below n u w x lt = rw (lt-ltb x n lt) refl
 
-spliced_from : (n : ℕ) (u w : Subst) (i : ℕ) → spliced n u w (n + i) ≡ w i
+spliced_from : (n : ℕ) (u w : Subst) (i : ℕ) → splice n u w (n + i) ≡ w i
 spliced_from n u w i =
     let no : ltb (n + i) n ≡ false = le-ltb (n + i) n (omega arith) in
     let same : n + i - n ≡ i = omega arith in
@@ -197,21 +197,21 @@ pub found_fresh : {n : State} {u : Subst} (t : Ty) → Found n u (λ v a. apply 
 unfolding fresh
 found_fresh {n} {u} t = record {
   found = record {
-    grow = spliced n.next u (λ _. t);
+    grow = splice n.next u (λ _. t);
     later = record { le = omega arith; agrees = spliced_below n.next u (λ _. t) };
     holds = λ v g. ((λ e. record { unify = e.unify; within = e.within; sides = e.sides }), g n.next (omega arith) ∙ at_n);
   };
 }
   where
-    at_n : spliced n.next u (λ _. t) n.next ≡ t
+    at_n : splice n.next u (λ _. t) n.next ≡ t
     at_n = let no : ltb n.next n.next ≡ false = le-ltb n.next n.next (omega arith) in rw no refl
 
 pub found_opened : {n : State} {u : Subst} (w : Subst) (k : ℕ) →
-    Found n u (λ v s. (i : ℕ) → i < k → apply v (s i) ≡ w i) (opened k n)
-unfolding opened raised
+    Found n u (λ v s. (i : ℕ) → i < k → apply v (s i) ≡ w i) (fresh_variables k n)
+unfolding fresh_variables raise_variables
 found_opened {n} {u} w k = record {
   found = record {
-    grow = spliced n.next u w;
+    grow = splice n.next u w;
     later = record { le = omega arith; agrees = spliced_below n.next u w };
     holds = λ v g. (
       (λ e. record { unify = e.unify; within = e.within; sides = e.sides }),

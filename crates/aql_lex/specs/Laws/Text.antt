@@ -3,7 +3,7 @@ use Rattle.std.proofs.Common.{ℕ, ◌≡◌, ◌≤◌, ◌<◌, ◌+◌, ◌-�
 use Rattle.std.proofs.lemmas.Bool.{eqb-true}
 use Rattle.std.proofs.lemmas.Grind.{common_steps}
 use Rattle.aql_syntax.specs.Lexis.{is_digit, is_between, is_plain, is_hex, hex_value, InString, string_end, string_plain, string_escape, string_hex}
-use Rattle.aql_lex.specs.Texts.{digits_value, within, unescaped}
+use Rattle.aql_lex.specs.Texts.{digits_value, within, string_bytes}
 
 plain_parts : (x y z : Bool) → (if x || y then false else z) ≡ true → (x ≡ false) × (y ≡ false)
 plain_parts true y z e = cc
@@ -28,7 +28,7 @@ below_256 : (n : ℕ) → n < 256 → n % 256 ≡ n
 below_256 n h = omega arith
 
 -- the rest of a string stands for its unescaped bytes
-pub unescaped_is : {x s r : List ℕ} → InString x s r → unescaped within s ≡ x
+pub unescaped_is : {x s r : List ℕ} → InString x s r → string_bytes within s ≡ x
 unescaped_is string_end = refl
 unescaped_is (string_plain {b} e d) = let k = plain_is b e in rw (k.0, k.1) (ap (λ z. b ∷ z) (unescaped_is d))
 unescaped_is (string_escape {b} e d) = rw (mark_no_x b e) (ap (λ z. b ∷ z) (unescaped_is d))

@@ -7,7 +7,7 @@ use Rattle.aql_syntax.specs.Lexis.{Lexeme, mark}
 use Rattle.aql_syntax.specs.Tree.{Pat, Pats, Tree, name, op, no_tree, tree}
 use Rattle.aql_syntax.specs.Grammar.{ReadsPat, pat_bind, pat_any, pat_number, pat_text, pat_true, pat_false, pat_name, pat_paren, pat_tuple, ReadsPats, pats_last, pats_more}
 use Rattle.aql_value.specs.Partial.{◌>>=◌}
-use Rattle.aql_parse_spec.specs.Parsing.{Out, Parser, Parsers, after, operand, opening_in, list_at, enclosed, paren_at, primary_at, sub_rest, postfix_at, chain_rest, level_at, default_rest, whole_in, parse_at}
+use Rattle.aql_parse_spec.specs.Parsing.{Out, Parser, Parsers, after, operand, opening_in, list_at, grouping, paren_at, primary_at, sub_rest, postfix_at, chain_rest, level_at, default_rest, whole_in, parse_at}
 use Rattle.aql_parse_spec.specs.Laws.First.{pat_shrinks}
 use Rattle.aql_parse_spec.specs.Stops.{Stops}
 use Rattle.aql_parse_spec.specs.Laws.StopsLaws.{stops_below, chain_rest_stops, sub_rest_stops, default_rest_stops, no_bang, choice_skipped, negation_skipped, list_one, list_cons, paren_primary, application_postfix, level_0, level_tight, level_4, level_5, level_loose, parse_8}
@@ -89,7 +89,7 @@ paren_none p k s is = rw is refl
 
 pub paren_as : (p : Parsers) (k : ℕ) (s r : List Lexeme) → EndsAt (list_at p k s) (mark signs.Close ∷ r) → EndsAt (primary_at p k (mark signs.Open ∷ s)) r
 paren_as p k s r (inl is) = inl (paren_none p k s is)
-paren_as p k s r (inr (es, is)) = inr (enclosed es, paren_primary p k es s r is)
+paren_as p k s r (inr (es, is)) = inr (grouping es, paren_primary p k es s r is)
 
 pub list_as_one : (p : Parsers) (k : ℕ) (s r : List Lexeme) → Stops 9 r → 0 < k → EndsAt (p 8 s) r → EndsAt (list_at p k s) r
 list_as_one p k s r st lt (inl is) = inl (list_none p k s is)

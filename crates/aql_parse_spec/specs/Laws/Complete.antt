@@ -7,7 +7,7 @@ use Rattle.aql_syntax.specs.Lexis.{Lexeme, named, mark}
 use Rattle.aql_syntax.specs.Tree.{Pat, Tree, op, function, summap, Trees, no_tree, tree, Axes, Quals, Defs, count_trees}
 use Rattle.aql_syntax.specs.View.{of_two}
 use Rattle.aql_syntax.specs.Grammar.{ReadsPat, Level, primary, postfix, tight, comparison, loose, whole, Reads, reads_number, reads_text, reads_true, reads_false, reads_name, reads_paren, reads_tuple, reads_empty, reads_members, reads_comp, reads_tab, reads_literal, reads_let, reads_primary, reads_sub, reads_postfix, reads_apply, reads_operation, reads_function, reads_summap, reads_tighter, reads_binary, reads_union, reads_compare, reads_comparison, reads_not, reads_looser, reads_junction, reads_or, reads_default, reads_if, ReadsList, list_last, list_more, ReadsMaybe, maybe_none, maybe_list, ReadsAxes, axes_last, axes_more, ReadsDefs, defs_last, defs_more, ReadsQuals, quals_from, quals_cells, quals_same, quals_test, ReadsMoreQuals, more_none, more_quals}
-use Rattle.aql_parse_spec.specs.Parsing.{Out, Parser, Parsers, after, pat_at, Joiner, builds, joins, joined_by, operator_of, list_at, maybe_at, axes_at, Front, from_set, from_cells, matches, tests, qualified, front_of, cells_front, front_at, quals_at, quals_rest, defs_at, braces_at, primary_at, sub_rest, postfix_at, chain_rest, level_at, choice_at, parse_at}
+use Rattle.aql_parse_spec.specs.Parsing.{Out, Parser, Parsers, after, pat_at, Joiner, builds, joins, joined_by, operator_of, list_at, maybe_at, axes_at, Front, from_set, from_cells, matches, tests, add_qualifier, front_of, cells_front, front_at, quals_at, quals_rest, defs_at, braces_at, primary_at, sub_rest, postfix_at, chain_rest, level_at, choice_at, parse_at}
 use Rattle.aql_parse_spec.specs.Laws.First.{shrinks, list_shrinks, defs_shrink, pat_shrinks, starts_at, list_starts, StartsBracket, BracketsTwice, brackets_twice}
 use Rattle.aql_parse_spec.specs.Laws.PatternComplete.{pat_complete, pat_then_complete}
 use Rattle.aql_parse_spec.specs.Stops.{Stops, NoVal}
@@ -329,6 +329,6 @@ mutual
       ∙ more_complete m n k (omega (arith, shrinks d)) (omega (arith, shrinks d)) c tests e
 
   more_complete : {qs : Quals} {s r : List Lexeme} → ReadsMoreQuals qs s r → (n k : ℕ) → length s ≤ k → length s < n → StartsBrace r →
-      (f : Front) (e : Tree) → quals_rest (quals_at (parse_at n) n k) f e s ≡ Some (qualified f e qs, r)
+      (f : Front) (e : Tree) → quals_rest (quals_at (parse_at n) n k) f e s ≡ Some (add_qualifier f e qs, r)
   more_complete (more_none {r}) n k le lt c f e = quals_rest_stops (quals_at (parse_at n) n k) f e r (brace_stops r c)
   more_complete (more_quals d) n k le lt c f e = rw (quals_complete d n k (omega arith) (omega arith) c) refl

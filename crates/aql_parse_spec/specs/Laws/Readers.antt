@@ -8,6 +8,7 @@ use Rattle.aql_syntax.specs.Tree.{Name, Reader, plain, signed, strided, records}
 use Rattle.aql_syntax.specs.Grammar.{netcdf, csv, kind_letter, reader_name, IsReader}
 use Rattle.aql_value.specs.Partial.{◌>>=◌}
 use Rattle.aql_syntax.specs.Lexis.{behind}
+use Rattle.aql_syntax.specs.Laws.Lexis.{behind_is}
 use Rattle.aql_parse_spec.specs.Parsing.{short, rank_of, kind_of_letter, kinds_of, records_of, netcdf_reader, csv_reader, reader_named}
 use Rattle.aql_parse_spec.specs.Laws.Steps.{went, short_is}
 use Rattle.aql_parse_spec.specs.Laws.StopsLaws.{short_list}
@@ -15,15 +16,6 @@ use Rattle.aql_parse_spec.specs.Laws.StopsLaws.{short_list}
 pub record IsNamed (x : Name) (reader : Reader) : Type 0 where
   pub name : x ≡ reader_name reader
   pub valid : IsReader reader
-
-behind_is : (p s r : List ℕ) → behind p s ≡ Some r → s ≡ p ++ r
-behind_is [] s r e = cc
-behind_is (a ∷ p) [] r e = cc
-behind_is (a ∷ p) (b ∷ s) r e = go (b == a) refl (behind_is p s r)
-  where
-    go : (t : Bool) → (b == a) ≡ t → (behind p s ≡ Some r → s ≡ p ++ r) → b ∷ s ≡ a ∷ (p ++ r)
-    go true here again = let e' = rw here at e in let f = eqb-true b a here in let g = again e' in cc
-    go false other again = let e' = rw other at e in cc
 
 -- a rank's digit
 pub record IsDigit (s : List ℕ) (k : ℕ) : Type 0 where

@@ -8,7 +8,7 @@ use Rattle.aql_syntax.specs.Lexis.{Lexeme, named, numeral, quoted, mark}
 use Rattle.aql_syntax.specs.Tree.{Name, Pat, Tree, op, tab, function, summap, Trees, tree, Axes, axis, Quals, no_qual, Defs, def, count_trees, count_axes}
 use Rattle.aql_syntax.specs.Grammar.{ReadsPat, Level, primary, postfix, tight, comparison, loose, whole, head_operator, Reads, reads_number, reads_text, reads_true, reads_false, reads_name, reads_paren, reads_tuple, reads_empty, reads_members, reads_comp, reads_tab, reads_literal, reads_let, reads_primary, reads_sub, reads_postfix, reads_apply, reads_operation, reads_function, reads_summap, reads_tighter, reads_union, reads_comparison, reads_not, reads_looser, reads_or, reads_default, reads_if, ReadsList, list_last, list_more, ReadsMaybe, maybe_none, maybe_list, ReadsAxes, axes_last, axes_more, ReadsDefs, defs_last, defs_more, ReadsQuals, quals_from, quals_cells, quals_same, quals_test, ReadsMoreQuals, more_none, more_quals}
 use Rattle.aql_value.specs.Partial.{◌>>=◌, or_else}
-use Rattle.aql_parse_spec.specs.Parsing.{Out, Parser, Parsers, after, binder_at, pat_at, pat_then, Joiner, joined_by, operator_at, Opening, applies, operates, functions, summaps, operand, opens, operates_at, opening_in, opening, list_at, list_rest, maybe_at, short, only, enclosed, axes_at, axes_rest, Front, from_set, from_cells, matches, qualified, front_of, cells_front, or_tests, front_at, quals_at, quals_rest, def_at, defs_at, defs_rest, closed_twice, brace_rest, braces_at, literal_of, bracket_rest, brackets_at, let_at, paren_at, primary_in, primary_at, sub_rest, postfix_at, function_at, applied, application_at, chain_rest, negation_at, level_at, choice_at, default_rest, whole_in, whole_at, parse_at}
+use Rattle.aql_parse_spec.specs.Parsing.{Out, Parser, Parsers, after, binder_at, pat_at, pat_then, Joiner, joined_by, operator_at, Opening, applies, operates, functions, summaps, operand, opens, operates_at, opening_in, opening, list_at, list_rest, maybe_at, short, only, grouping, axes_at, axes_rest, Front, from_set, from_cells, matches, add_qualifier, front_of, cells_front, or_tests, front_at, quals_at, quals_rest, def_at, defs_at, defs_rest, closed_twice, brace_rest, braces_at, literal_of, bracket_rest, brackets_at, let_at, paren_at, primary_in, primary_at, sub_rest, postfix_at, function_at, application, application_at, chain_rest, negation_at, level_at, choice_at, default_rest, whole_in, whole_at, parse_at}
 use Rattle.aql_parse_spec.specs.Laws.Steps.{went, moved, after_is, at_sign, from_sign, binder_is, short_is}
 use Rattle.aql_parse_spec.specs.Laws.PatternSound.{pat_at_sound, pat_then_sound}
 use Rattle.aql_parse_spec.specs.Laws.Operators.{operator_is, reads_tight, reads_comparing, reads_loose}
@@ -22,7 +22,7 @@ pub record AreSound (p : Parsers) : Type 0 where
   pub negations : Finds (p 5) (loose 0)
   pub applications : Finds (p 0) (tight 0)
 
-enclosed_reads : {es : Trees} {s r : List Lexeme} → ReadsList es s (mark signs.Close ∷ r) → Reads primary (enclosed es) (mark signs.Open ∷ s) r
+enclosed_reads : {es : Trees} {s r : List Lexeme} → ReadsList es s (mark signs.Close ∷ r) → Reads primary (grouping es) (mark signs.Open ∷ s) r
 enclosed_reads (list_last d) = reads_paren d
 enclosed_reads (list_more d (list_last c)) = reads_tuple d (list_last c)
 enclosed_reads (list_more d (list_more c cs)) = reads_tuple d (list_more c cs)
@@ -101,7 +101,7 @@ module _ (p : Parsers) (sound : AreSound p) where
 
   -- what is before a qualifier's expression
   abbrev Fronts : Front → List Lexeme → List Lexeme → Type 0
-  Fronts f s s' = (e : Tree) (qs : Quals) (s'' r : List Lexeme) → Reads whole e s' s'' → ReadsMoreQuals qs s'' r → ReadsQuals (qualified f e qs) s r
+  Fronts f s s' = (e : Tree) (qs : Quals) (s'' r : List Lexeme) → Reads whole e s' s'' → ReadsMoreQuals qs s'' r → ReadsQuals (add_qualifier f e qs) s r
 
   front_of_sound : (n : ℕ) (s s' : List Lexeme) (f : Front) → front_of (pat_at n s) ≡ Some (f, s') → Fronts f s s'
   front_of_sound n s s' f e = go (pat_at n s) refl
@@ -154,7 +154,7 @@ module _ (p : Parsers) (sound : AreSound p) where
           ((s r : List Lexeme) (qs : Quals) → quals_at p n k s ≡ Some (qs, r) → ReadsQuals qs s r) →
           ReadsQuals qs s r
       rest f s0 a (mark signs.Comma ∷ s') c d e again =
-          let w = went (quals_at p n k s') (λ y. Some (qualified f a y.0, y.1)) (qs, r) e in
+          let w = went (quals_at p n k s') (λ y. Some (add_qualifier f a y.0, y.1)) (qs, r) e in
           moved (λ z r. ReadsQuals z s r) _ qs _ r w.second (c a w.value.0 _ _ d (more_quals (again s' w.value.1 w.value.0 w.first)))
       rest f s0 a s' c d e again = moved (λ z r. ReadsQuals z s r) _ qs s' r e (c a no_qual _ _ d more_none)
 
@@ -331,7 +331,7 @@ module _ (p : Parsers) (sound : AreSound p) where
       ap (λ z. mark signs.Summap ∷ z) (after_is signs.Open s w.value w.first ∙ ap (λ z. mark signs.Open ∷ z) (after_is signs.Fn w.value r w.second)))
   opening_is (l ∷ s) = operates_is l s (head_operator l) refl
 
-  applied_sound : (k : ℕ) (s r : List Lexeme) (e : Tree) (o : Opening) → Opens s o → applied p k s o ≡ Some (e, r) → Reads (tight 0) e s r
+  applied_sound : (k : ℕ) (s r : List Lexeme) (e : Tree) (o : Opening) → Opens s o → application p k s o ≡ Some (e, r) → Reads (tight 0) e s r
   applied_sound k s r e (applies f t) is h =
       let w = went (p 0 t) _ (e, r) h in
       subst (λ z. Reads (tight 0) e z r) (sym is)

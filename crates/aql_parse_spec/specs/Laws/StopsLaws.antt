@@ -11,7 +11,7 @@ use Rattle.aql_syntax.specs.Tree.{Name, Pat, Tree, op, members, comp, tab, bindi
 use Rattle.aql_syntax.specs.View.{of_one}
 use Rattle.aql_syntax.specs.Grammar.{ReadsPat, Junction, tight_operator, compare_operator, loose_operator, primary, postfix, head_operator, Reads, reads_number, reads_text, reads_true, reads_false, reads_name, reads_paren, reads_tuple, reads_empty, reads_members, reads_comp, reads_tab, reads_literal, reads_let, reads_primary, reads_sub, ReadsList, list_last, list_more, ReadsDefs, defs_last, defs_more}
 use Rattle.aql_value.specs.Partial.{◌>>=◌}
-use Rattle.aql_parse_spec.specs.Parsing.{Out, Parser, Parsers, after, name_at, binder_at, pat_then, Joiner, builds, joins, joined_by, operator_of, at_level, operator_at, operates, operand, opening_in, opening, list_at, list_rest, maybe_at, short, enclosed, axes_at, axes_rest, Front, qualified, front_at, quals_at, quals_rest, def_at, defs_at, defs_rest, closed_twice, brace_rest, braces_at, literal_of, bracket_rest, brackets_at, let_at, paren_at, primary_at, sub_rest, postfix_at, function_at, application_at, chain_rest, negation_at, level_at, default_rest, whole_in, whole_at, parse_at}
+use Rattle.aql_parse_spec.specs.Parsing.{Out, Parser, Parsers, after, name_at, binder_at, pat_then, Joiner, builds, joins, joined_by, operator_of, at_level, operator_at, operates, operand, opening_in, opening, list_at, list_rest, maybe_at, short, grouping, axes_at, axes_rest, Front, add_qualifier, front_at, quals_at, quals_rest, def_at, defs_at, defs_rest, closed_twice, brace_rest, braces_at, literal_of, bracket_rest, brackets_at, let_at, paren_at, primary_at, sub_rest, postfix_at, function_at, application_at, chain_rest, negation_at, level_at, default_rest, whole_in, whole_at, parse_at}
 use Rattle.aql_parse_spec.specs.Laws.First.{StartsAt, starts_at}
 use Rattle.aql_parse_spec.specs.Laws.PatternComplete.{pat_then_complete, after_self}
 use Rattle.aql_parse_spec.specs.Stops.{goes_on, Stops, NoVal}
@@ -116,7 +116,7 @@ pub axes_rest_stops : (more : List Lexeme → Out Axes) (x : Name) (e : Tree) (r
 axes_rest_stops more x e (mark signs.Comma ∷ r) st = absurd (omega (arith, st))
 axes_rest_stops more x e r st = refl
 
-pub quals_rest_stops : (more : List Lexeme → Out Quals) (f : Front) (e : Tree) (r : List Lexeme) → Stops 9 r → quals_rest more f e r ≡ Some (qualified f e no_qual, r)
+pub quals_rest_stops : (more : List Lexeme → Out Quals) (f : Front) (e : Tree) (r : List Lexeme) → Stops 9 r → quals_rest more f e r ≡ Some (add_qualifier f e no_qual, r)
 quals_rest_stops more f e (mark signs.Comma ∷ r) st = absurd (omega (arith, st))
 quals_rest_stops more f e r st = refl
 
@@ -269,7 +269,7 @@ short_list n x le = go (nat_lt 8 n) refl
 
 -- primaries
 pub paren_primary : (p : Parsers) (k : ℕ) (es : Trees) (s r : List Lexeme) → list_at p k s ≡ Some (es, mark signs.Close ∷ r) →
-    primary_at p k (mark signs.Open ∷ s) ≡ Some (enclosed es, r)
+    primary_at p k (mark signs.Open ∷ s) ≡ Some (grouping es, r)
 unfolding primary_at paren_at after
 paren_primary p k es s r is = rw is refl
 
@@ -305,7 +305,7 @@ pub let_primary : (p : Parsers) (k : ℕ) (ds : Defs) (e : Tree) (s s' r : List 
 unfolding primary_at let_at after
 let_primary p k ds e s s' r is rest = rw (is, rest) refl
 
-pub enclosed_list : {es : Trees} {s r : List Lexeme} (e : Tree) → ReadsList es s r → enclosed (tree e es) ≡ op Strict.tuple (tree e es)
+pub enclosed_list : {es : Trees} {s r : List Lexeme} (e : Tree) → ReadsList es s r → grouping (tree e es) ≡ op Strict.tuple (tree e es)
 enclosed_list e (list_last d) = refl
 enclosed_list e (list_more d ds) = refl
 

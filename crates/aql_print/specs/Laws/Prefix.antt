@@ -8,7 +8,7 @@ use Rattle.aql_value.specs.Meaning.{datum}
 use Rattle.aql_value.specs.Laws.Meaning.{get_or_meaning}
 use Rattle.aql_value.specs.declared.value.Value.{Value}
 use Rattle.aql_print.specs.Appends.{AppendsPrefix}
-use Rattle.aql_print.specs.Joined.{after, separated, before}
+use Rattle.aql_print.specs.Joined.{after, join_texts, before}
 use Rattle.aql_print.specs.ValueText.{text, texts}
 
 -- a prefix of a text as a prefix of a longer one
@@ -76,7 +76,7 @@ after-at sep (y ∷ xs) (suc i) x d h e =
 
 -- the texts before one, its separator, it, and the texts behind it
 pub separated-at : (sep : List ℕ) (xs : List (List ℕ)) (i : ℕ) (x d : List ℕ) → i < length xs → x ≡ get_or xs i d →
-    separated sep xs ≡ separated sep (take i xs) ++ (before i sep ++ (x ++ after sep (drop (i + 1) xs)))
+    join_texts sep xs ≡ join_texts sep (take i xs) ++ (before i sep ++ (x ++ after sep (drop (i + 1) xs)))
 separated-at sep [] i x d h e = absurd (omega (arith, h))
 separated-at sep (y ∷ xs) zero x d h e = ap (λ z. z ++ after sep xs) (sym e)
 separated-at sep (y ∷ xs) (suc i) x d h e =
@@ -97,34 +97,34 @@ after-more sep (y ∷ xs) (suc i) x d h e =
 
 -- one text more
 pub separated-more : (sep : List ℕ) (xs : List (List ℕ)) (i : ℕ) (x d : List ℕ) → i < length xs → x ≡ get_or xs i d →
-    separated sep (take (i + 1) xs) ≡ separated sep (take i xs) ++ (before i sep ++ x)
+    join_texts sep (take (i + 1) xs) ≡ join_texts sep (take i xs) ++ (before i sep ++ x)
 separated-more sep [] i x d h e = absurd (omega (arith, h))
 separated-more sep (y ∷ xs) zero x d h e = append-nil y ∙ sym e
 separated-more sep (y ∷ xs) (suc i) x d h e =
-    (let z : suc i + 1 ≡ suc (i + 1) = omega arith in ap (λ n. separated sep (take n (y ∷ xs))) z)
+    (let z : suc i + 1 ≡ suc (i + 1) = omega arith in ap (λ n. join_texts sep (take n (y ∷ xs))) z)
     ∙ ap (λ l. y ++ l) (after-more sep xs i x d (omega (arith, h)) e)
     ∙ sym (append_assoc y (after sep (take i xs)) (sep ++ x))
 
 -- what is written of texts with a separator between each two
-module _ (sep : List ℕ) (xs : List (List ℕ)) (i : ℕ) (x d old done mid new : List ℕ) (e : done ≡ old ++ separated sep (take i xs))
+module _ (sep : List ℕ) (xs : List (List ℕ)) (i : ℕ) (x d old done mid new : List ℕ) (e : done ≡ old ++ join_texts sep (take i xs))
     (h : i < length xs) (k : x ≡ get_or xs i d) where
   -- a prefix of the separator
-  pub prefix_before : AppendsPrefix done new (before i sep) → AppendsPrefix old new (separated sep xs)
+  pub prefix_before : AppendsPrefix done new (before i sep) → AppendsPrefix old new (join_texts sep xs)
   prefix_before p =
-      rw (separated-at sep xs i x d h k) (prefix_second old done new (separated sep (take i xs)) (before i sep ++ (x ++ after sep (drop (i + 1) xs))) e
+      rw (separated-at sep xs i x d h k) (prefix_second old done new (join_texts sep (take i xs)) (before i sep ++ (x ++ after sep (drop (i + 1) xs))) e
       (prefix_first done new (before i sep) (x ++ after sep (drop (i + 1) xs)) p))
 
   -- the separator, and a prefix of the text
-  pub prefix_text : mid ≡ done ++ before i sep → AppendsPrefix mid new x → AppendsPrefix old new (separated sep xs)
+  pub prefix_text : mid ≡ done ++ before i sep → AppendsPrefix mid new x → AppendsPrefix old new (join_texts sep xs)
   prefix_text f p =
-      rw (separated-at sep xs i x d h k) (prefix_second old done new (separated sep (take i xs)) (before i sep ++ (x ++ after sep (drop (i + 1) xs))) e
+      rw (separated-at sep xs i x d h k) (prefix_second old done new (join_texts sep (take i xs)) (before i sep ++ (x ++ after sep (drop (i + 1) xs))) e
       (prefix_second done mid new (before i sep) (x ++ after sep (drop (i + 1) xs)) f (prefix_first mid new x (after sep (drop (i + 1) xs)) p)))
 
   -- both whole
-  pub both_whole : mid ≡ done ++ before i sep → new ≡ mid ++ x → new ≡ old ++ separated sep (take (i + 1) xs)
+  pub both_whole : mid ≡ done ++ before i sep → new ≡ mid ++ x → new ≡ old ++ join_texts sep (take (i + 1) xs)
   both_whole f g =
       g ∙ ap (λ l. l ++ x) f ∙ append_assoc done (before i sep) x ∙ ap (λ l. l ++ (before i sep ++ x)) e
-      ∙ append_assoc old (separated sep (take i xs)) (before i sep ++ x)
+      ∙ append_assoc old (join_texts sep (take i xs)) (before i sep ++ x)
       ∙ ap (λ l. old ++ l) (sym (separated-more sep xs i x d h k))
 
 pub length-texts : (vs : List Datum) → length (texts (data_of vs)) ≡ length vs

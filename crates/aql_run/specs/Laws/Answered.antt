@@ -1,12 +1,13 @@
 -- The outcomes of the declarations that were answered are the values of the script.
 use Rattle.std.proofs.Common.{ℕ, zero, suc, ◌≡◌, ◌+◌, ◌-◌, ◌<◌, ◌≤◌, ◌⊎◌, inl, inr, List, [], ◌∷◌, refl, sym, ap, ◌∙◌, subst, length, take, arith, Bool, true, false}
 use Rattle.std.proofs.lemmas.Bool.{cases_lt}
+use Rattle.std.proofs.lemmas.Option.{slice_get_within}
 use Rattle.std.specs.List.{slice_get}
 use Rattle.std.specs.Option.{ForSome}
 use Rattle.std.specs.Prelude.{Option, Some, None, replicate}
 use Rattle.aql_outside.specs.Contents.{Content}
 use Rattle.aql_value.specs.Datum.{Datum}
-use Rattle.aql_value.specs.Laws.Lists.{slice_get-append_left}
+use Rattle.aql_value.specs.Laws.Lists.{slice_get-append_left, entry-there}
 use Rattle.aql_types.specs.Types.{Sort}
 use Rattle.aql_syntax.specs.Matching.{Globals}
 use Rattle.aql_syntax.specs.Script.{ReaderMeaning, Earlier, globals_of, outcome_after, then_after, outcomes_after, values}
@@ -23,18 +24,6 @@ use Rattle.aql_run.specs.Answered.{AreAnswered}
 use Rattle.aql_words.specs.Settings.{Settings}
 
 -- ---- lists
-
--- an element is there only below the length
-pub inside : {X : Type 0} (xs : List X) (i : ℕ) (x : X) → slice_get xs i ≡ Some x → i < length xs
-inside [] i x e = absurd cc
-inside (y ∷ xs) zero x e = omega arith
-inside (y ∷ xs) (suc i) x e = omega (arith, inside xs i x e)
-
--- and there is one there
-there_is : {X : Type 0} (xs : List X) (i : ℕ) → i < length xs → (x : X) × (slice_get xs i ≡ Some x)
-there_is [] i lt = absurd (omega (arith, lt))
-there_is (x ∷ xs) zero lt = (x, refl)
-there_is (x ∷ xs) (suc i) lt = there_is xs i (omega (arith, lt))
 
 -- an outcome among nones is none
 none_at : (n : ℕ) (V : Outcomes) (i : ℕ) (o : Option Datum) → take n V ≡ replicate n None → i < n → slice_get V i ≡ Some o → o ≡ None
@@ -88,9 +77,9 @@ pub told_at : (ds : List Declaration) (sorts : List Sort) (settings : Settings) 
     IsOutcome d (earlier_of (positions ds) (take (prelude_count + i) V)) holds o
     × ForSome holds (λ files. outcome_after (reading files) d (globals_of (earlier_of (positions ds) (take (prelude_count + i) V))) ≡ Some o)
 told_at ds sorts settings holds answers V i d o h there is =
-    let lt = inside V (prelude_count + i) o is in
+    let lt = slice_get_within V (prelude_count + i) o is in
     let many = h.many in
-    let (a, e) = there_is answers i (omega (arith, lt, many)) in
+    let (a, e) = entry-there answers i (omega (arith, lt, many)) in
     ((h.each i d a o there e is).outcome, (h.each i d a o there e is).told)
 
 -- outcomes each of which comes after those before it are the first of the list

@@ -11,7 +11,7 @@ use Rattle.aql_types.specs.Types.{natural, value}
 use Rattle.aql_types.specs.Laws.Types.{fits_within}
 use Rattle.aql_syntax.specs.Script.{Earlier}
 use Rattle.aql_syntax.specs.Tree.{Tree, Declaration, bare}
-use Rattle.aql_syntax.specs.Typing.{Environment, Has, DeclHas, scope_of}
+use Rattle.aql_syntax.specs.Typing.{Environment, Has, DeclHas, environment_of}
 use Rattle.aql_syntax.specs.View.{of_two}
 use Rattle.nrca_term.specs.Meaning.{Outcomes}
 use Rattle.aql_prelude.specs.Prelude.{prelude_decls, prelude_count}
@@ -22,7 +22,7 @@ use Rattle.aql_script.proofs.Examples.{number, product, sum, one_sum, sum_read, 
 use Rattle.aql_session.specs.Bound.{earlier_of}
 use Rattle.aql_words.specs.Words.{options_of}
 use Rattle.aql_words.specs.Laws.Examples.{name_read}
-use Rattle.aql_run.specs.Complete.{AreOutcomes, IsWithinBudget, HaveTypings, IsSound}
+use Rattle.aql_run.specs.Complete.{AreOutcomes, IsWithinBudget, IsSound}
 
 -- ---- the typings
 
@@ -41,12 +41,12 @@ sum_has g =
     (fits_within natural refl, two_have ariths.Add (number 1) product g (number_has 1 g) right)
 
 -- typings of some declarations, and of the sum behind them
-behind : (front earlier : List Declaration) → HaveSorts earlier front → HaveTypings earlier (front ++ one_sum)
-behind [] earlier h = ((value natural, sum_has (scope_of earlier)), tt)
+behind : (front earlier : List Declaration) → HaveSorts earlier front → HaveSorts earlier (front ++ one_sum)
+behind [] earlier h = ((value natural, sum_has (environment_of earlier)), tt)
 behind (d ∷ front) earlier h = (h.0, behind front (d ∷ earlier) h.1)
 
 -- the prelude and the sum have typings
-all_typed : HaveTypings [] (positions one_sum)
+all_typed : HaveSorts [] (positions one_sum)
 unfolding positions
 all_typed = behind prelude_decls [] prelude_typed
 

@@ -102,7 +102,7 @@ fn streaming(alloc: Global) -> Result<Vec<u8>, Memory> {
 }
 
 // A file of signed numbers.
-fn signed(alloc: Global) -> Result<Vec<u8>, Memory> {
+fn signed_file(alloc: Global) -> Result<Vec<u8>, Memory> {
     changed_bytes(alloc, VERSION_5, &[(108, 0xa)])
 }
 
@@ -119,7 +119,7 @@ pub(crate) fn folder(alloc: Global) -> Result<Folder, Memory> {
     let all = with_file(alloc, with_values(alloc), "three", bytes(alloc, b"CDF\x03"));
     let all = with_file(alloc, all, "short", bytes(alloc, b"CDF\x01"));
     let all = with_file(alloc, all, "streaming", streaming(alloc));
-    with_file(alloc, all, "signed", signed(alloc))
+    with_file(alloc, all, "signed", signed_file(alloc))
 }
 
 // A script and what is written; the status is 0.

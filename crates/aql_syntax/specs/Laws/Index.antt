@@ -1,21 +1,19 @@
--- Array generators by indices: each index below the dimensions in row-major order, twice the sum of the prefix products in turns,
--- and the index as one value against its pattern.
+-- Array generators by indices: each index below the dimensions in row-major order, and twice the sum of the prefix products in turns.
 use Rattle.std.proofs.Common.{◌≡◌, ℕ, zero, suc, ◌+◌, ◌*◌, List, [], ◌∷◌, ◌++◌, length, map, Option, Some, None, refl, sym, ap, ◌∙◌, arith}
 use Rattle.std.proofs.Math.Path.{fun_ext}
 use Rattle.std.specs.List.{slice_get}
 use Rattle.std.proofs.lemmas.List.{length-map}
 use Rattle.aql_value.specs.Datum as datum
-use Rattle.aql_value.specs.Datum.{Datum, natural, data_of, list_of}
+use Rattle.aql_value.specs.Datum.{natural, data_of}
 use Rattle.aql_value.specs.Indices.{indices, prefix_products}
 use Rattle.aql_value.specs.Laws.RowMajor.{indices-cons}
 use Rattle.aql_value.specs.Lists.{below}
 use Rattle.aql_value.specs.Laws.Lists.{length-below, concat-append}
 use Rattle.aql_value.specs.Partial.{◌>>=◌, each, concat, total}
 use Rattle.aql_value.specs.Laws.Partial.{each-then, each-append, each-map, total-concat, total-map}
-use Rattle.aql_value.specs.Operations.{index_value, part_of}
+use Rattle.aql_value.specs.Operations.{part_of}
 use Rattle.aql_value.specs.Laws.Operations.{part_of-tuple}
-use Rattle.aql_syntax.specs.Tree.{Pat, Pats, tuple, no_pat, pat, count_pats, axes}
-use Rattle.aql_syntax.specs.Matching.{Env, Globals, Match, hit, miss, undefined, on_match, match, match_parts, match_axes}
+use Rattle.aql_syntax.specs.Tree.{tuple}
 use Rattle.aql_syntax.specs.Denotation.{over_indices}
 use Rattle.aql_syntax.specs.Work.{turns_over}
 
@@ -94,35 +92,3 @@ mapped (x ∷ l) (suc k) m g = mapped l k m g
 pub part_natural : (full : List ℕ) (n j i : ℕ) → length full ≡ n → slice_get full j ≡ Some i →
     part_of (suc j) n (datum.tuple (data_of (map natural full))) ≡ Some (natural i)
 part_natural full n j i e g = part_of-tuple j n (map natural full) (length-map full natural ∙ e) ∙ mapped full j i g
-
--- the parts of a tuple pattern meet an index as they meet the tuple of its numbers
-axes_parts : (ps : Pats) (globals : Globals) (env : Env) (full at : List ℕ) (j n : ℕ) → length full ≡ n →
-    ((m : ℕ) → slice_get full (j + m) ≡ slice_get at m) → length at ≡ count_pats ps →
-    match_axes ps globals at env ≡ match_parts ps globals (suc j) n (datum.tuple (data_of (map natural full))) env
-axes_parts no_pat globals env full at j n e h c = refl
-axes_parts (pat p ps) globals env full [] j n e h c = absurd (omega arith)
-axes_parts (pat p ps) globals env full (i ∷ at) j n e h c =
-    let z : j + 0 ≡ j = omega arith in
-    rw (part_natural full n j i e (ap (slice_get full) (sym z) ∙ h 0))
-    (ap (λ (F : Env → Match). on_match (match p globals (natural i) env) F miss undefined)
-    (fun_ext (λ env'. axes_parts ps globals env' full at (suc j) n e
-    (λ m. let y : suc j + m ≡ j + suc m = omega arith in ap (slice_get full) y ∙ h (suc m)) (omega arith))))
-
--- a tuple pattern meets an index as it meets the tuple of its numbers
-pub match_axes-tuple : (p q : Pat) (ps : Pats) (globals : Globals) (env : Env) (at : List ℕ) → length at ≡ count_pats (pat p (pat q ps)) →
-    match_axes (axes (tuple (pat p (pat q ps)))) globals at env ≡ match (tuple (pat p (pat q ps))) globals (index_value at) env
-match_axes-tuple p q ps globals env [] c = absurd (omega arith)
-match_axes-tuple p q ps globals env (i ∷ []) c = absurd (omega arith)
-match_axes-tuple p q ps globals env (i ∷ k ∷ at) c =
-    axes_parts (pat p (pat q ps)) globals env (i ∷ k ∷ at) (i ∷ k ∷ at) 0 (count_pats (pat p (pat q ps))) c
-    (λ m. let z : 0 + m ≡ m = omega arith in ap (slice_get (i ∷ k ∷ at)) z) c
-
-one_axis : (m : Match) → on_match m (λ env. hit env) miss undefined ≡ m
-one_axis (hit env) = refl
-one_axis miss = refl
-one_axis undefined = refl
-
--- any other pattern meets the one number of an index
-pub match_axes-one : (p : Pat) (globals : Globals) (env : Env) (i : ℕ) → axes p ≡ pat p no_pat →
-    match_axes (axes p) globals (i ∷ []) env ≡ match p globals (index_value (i ∷ [])) env
-match_axes-one p globals env i e = ap (λ ps. match_axes ps globals (i ∷ []) env) e ∙ one_axis (match p globals (natural i) env)

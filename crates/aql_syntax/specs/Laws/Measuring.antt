@@ -1,11 +1,11 @@
 -- Sizes along the code's lists.
-use Rattle.std.proofs.Common.{ℕ, zero, suc, ◌≡◌, ◌+◌, ◌<◌, ◌≤◌, ◌*◌, ◌/◌, ◌==◌, ◌≢◌, max, Bool, true, false, List, [], ◌∷◌, ◌++◌, Some, None, refl, sym, ap, ◌∙◌, arith, length, take, get_or, reverse, append_assoc, if◌then◌else◌}
+use Rattle.std.proofs.Common.{ℕ, zero, suc, ◌≡◌, ◌+◌, ◌<◌, ◌≤◌, ◌*◌, ◌/◌, ◌==◌, ◌≢◌, max, Bool, true, false, List, [], ◌∷◌, ◌++◌, Some, None, refl, sym, ap, ◌∙◌, arith, length, take, get_or, reverse, append-nil, append_assoc, if◌then◌else◌}
 use Rattle.std.proofs.lemmas.Bool.{eqb-true, eq-eqb}
 use Rattle.std.specs.List.{slice_get}
 use Rattle.std.proofs.lemmas.List.{reverse-append}
 use Rattle.aql_syntax.specs.Names.{names_equal, find}
 use Rattle.aql_syntax.specs.Tree as tree
-use Rattle.aql_syntax.specs.Tree.{Name, Declaration, declared, Quals}
+use Rattle.aql_syntax.specs.Tree.{Name, Declaration, declared_name, Quals}
 use Rattle.aql_syntax.specs.View.{decl_of, decls_of, qual_of}
 use Rattle.aql_syntax.specs.Size.{Extents, extent, extents_of, binary_digits, digits_among, quals_sizes, quals_greatest, quals_patterns, count_quals, size, levels}
 use Rattle.aql_syntax.specs.Laws.View.{quals_from, quals_past, count_trees-list, count_axes-list}
@@ -36,12 +36,12 @@ pub latest_last : (ds : List Decl) (d : Decl) → latest (ds ++ d ∷ []) ≡ de
 latest_last ds d = onto_last ds d []
 
 -- the last declaration has the name
-pub find_here : (x : Name) (ds all : List Decl) (d : Decl) → all ≡ ds ++ d ∷ [] → names_equal x (declared (decl_of d)) ≡ true →
+pub find_here : (x : Name) (ds all : List Decl) (d : Decl) → all ≡ ds ++ d ∷ [] → names_equal x (declared_name (decl_of d)) ≡ true →
     find x (extents_of (latest all)) ≡ Some (extent (decl_of d) (extents_of (latest ds)))
 find_here x ds all d e h = rw (e, latest_last ds d, h) refl
 
 -- the last declaration has another name
-pub find_past : (x : Name) (ds all : List Decl) (d : Decl) → all ≡ ds ++ d ∷ [] → names_equal x (declared (decl_of d)) ≡ false →
+pub find_past : (x : Name) (ds all : List Decl) (d : Decl) → all ≡ ds ++ d ∷ [] → names_equal x (declared_name (decl_of d)) ≡ false →
     find x (extents_of (latest all)) ≡ find x (extents_of (latest ds))
 find_past x ds all d e h = rw (e, latest_last ds d, h) refl
 
@@ -145,7 +145,7 @@ sizes-append : (a b : Trees) (ms : Extents) → sizes (tree.append a b) ms ≡ s
 sizes-append tree.no_tree b ms = omega arith
 sizes-append (tree.tree e a) b ms = omega (arith, sizes-append a b ms)
 
-greatest-append : (a b : Trees) (ms : Extents) → greatest (tree.append a b) ms ≡ max (greatest a ms) (greatest b ms)
+pub greatest-append : (a b : Trees) (ms : Extents) → greatest (tree.append a b) ms ≡ max (greatest a ms) (greatest b ms)
 greatest-append tree.no_tree b ms = omega arith
 greatest-append (tree.tree e a) b ms = omega (arith, greatest-append a b ms)
 
@@ -226,10 +226,6 @@ decls_of-take : (i : ℕ) (ds : List Decl) → decls_of (take i ds) ≡ take i (
 decls_of-take zero ds = refl
 decls_of-take (suc i) [] = refl
 decls_of-take (suc i) (d ∷ ds) = ap (λ l. decl_of d ∷ l) (decls_of-take i ds)
-
-append-nil : (l : List Declaration) → l ++ [] ≡ l
-append-nil [] = refl
-append-nil (d ∷ l) = ap (λ m. d ∷ m) (append-nil l)
 
 -- the declarations before a place, the latest first
 pub latest-take : (i : ℕ) (ds : List Decl) → latest (take i ds) ≡ reverse (take i (decls_of ds))

@@ -3,6 +3,7 @@ use Rattle.std.proofs.Common.{◌≡◌, ℕ, zero, suc, ◌+◌, Bool, true, fa
 use Rattle.std.specs.List.{slice_get}
 use Rattle.std.specs.Ordering.{is_eq}
 use Rattle.std.proofs.lemmas.List.{length-map}
+use Rattle.std.proofs.lemmas.Option.{same_Some}
 use Rattle.aql_value.specs.Datum as datum
 use Rattle.aql_value.specs.Datum.{Datum}
 use Rattle.aql_value.specs.Order.{datum_cmp}
@@ -20,7 +21,7 @@ use Rattle.aql_types.specs.Types.{Ty, Tys, no_type, type, natural, Subst, apply,
 use Rattle.aql_types.specs.Laws.Types.{apply-apply, apply_var}
 use Rattle.aql_types.specs.OperationTypes.{strict_rule}
 use Rattle.aql_types.specs.ValueTypes.{HasType, HaveTypes}
-use Rattle.aql_types.specs.Laws.Operation.{some-list, set-members, has-set, has-array, array-table, strict-sound, part-sound, cell-found}
+use Rattle.aql_types.specs.Laws.Operation.{set-members, has-set, has-array, array-table, strict-sound, part-sound, cell-found}
 use Rattle.aql_syntax.specs.Tree as tree
 use Rattle.aql_syntax.specs.Tree.{Name, Pat, Pats, Tree, Trees, Axes, Quals, Defs, Declaration, count_pats, count_axes, axes}
 use Rattle.aql_syntax.specs.Names.{names_equal, find}
@@ -32,7 +33,7 @@ use Rattle.aql_syntax.specs.declared.ast.Kind.{Kind}
 use Rattle.aql_syntax.specs.declared.ast.Kind.TheVariants as kinds
 use Rattle.aql_syntax.specs.Work.{work}
 use Rattle.aql_syntax.specs.Script.{Earlier, entry, globals_of, ReaderMeaning, read_outcome, outcome_after}
-use Rattle.aql_syntax.specs.Typing.{Environment, Locals, NameHas, MacroTakes, PatternFits, FitsAll, FitsAxes, with_indices, Has, HasAll, HasEach, Rows, Binds, DeclHas, IsInstanceOf, if_name, extended, scope_of, field_types, record_type, reader_type}
+use Rattle.aql_syntax.specs.Typing.{Environment, Locals, NameHas, MacroTakes, PatternFits, FitsAll, FitsAxes, with_indices, Has, HasAll, HasEach, Rows, Binds, DeclHas, IsInstanceOf, if_name, extend, environment_of, field_types, record_type, reader_type}
 use Rattle.aql_syntax.specs.Sound.{declarations_of, OutcomesTyped, ReadsHave}
 
 -- an array generator that has a typing walks an array of a rank from 1 to 8: its array's type is within the limits
@@ -142,7 +143,7 @@ name-sound u g globals gh x t None None k n v e = gh.values x t v n e u
 name-sound u g globals gh x t None (Some w) k n v e = absurd k
 name-sound u g globals gh x t (Some s) None k n v e = absurd k
 name-sound u g globals gh x t (Some s) (Some w) k n v e =
-    let z : w ≡ v = some-list w v e in subst (λ X. HasType (apply u X) v) (sym n) (subst (HasType (apply u s)) z k)
+    let z : w ≡ v = same_Some w v e in subst (λ X. HasType (apply u X) v) (sym n) (subst (HasType (apply u s)) z k)
 
 call-sound : (u : Subst) (g : Environment) (globals : Globals) → GlobalsHave g globals → (f : Name) (s t : Ty) (o : Option Ty) (p : Option Datum) → FoundHave u o p → MacroTakes g o f s t →
     (w v : Datum) → HasType (apply u s) w → call (in_head p (find f globals)) w ≡ Some v → HasType (apply u t) v
@@ -168,11 +169,11 @@ match-hit miss f vals e = cc
 match-hit undefined f vals e = cc
 
 -- the instances of a tuple's types
-abbrev pub listed : Subst → Tys → List Ty
-listed u no_type = []
-listed u (type t ts) = apply u t ∷ listed u ts
+abbrev pub instance_list : Subst → Tys → List Ty
+instance_list u no_type = []
+instance_list u (type t ts) = apply u t ∷ instance_list u ts
 
-tys_of-listed : (u : Subst) (ts : Tys) → tys_of (listed u ts) ≡ apply_all u ts
+pub tys_of-listed : (u : Subst) (ts : Tys) → tys_of (instance_list u ts) ≡ apply_all u ts
 tys_of-listed u no_type = refl
 tys_of-listed u (type t ts) = ap (type (apply u t)) (tys_of-listed u ts)
 
@@ -193,18 +194,18 @@ mutual
       let r = value-hit (lookup globals vals x) (λ c. compare_with w c vals) vals' e in
       subst (λ l. EnvHas u l vals') (sym f.1) (subst (EnvHas u env) (compared (is_eq (datum_cmp w r.0)) vals vals' r.2) h)
   match-sound (tree.tuple ps) u g globals gh env vals h t w k env' f vals' e =
-      parts-sound ps u g globals gh env vals h f.0 (listed u f.0) 0 (count_pats ps) w
+      parts-sound ps u g globals gh env vals h f.0 (instance_list u f.0) 0 (count_pats ps) w
       (subst (λ X. HasType X w) (ap types.product (sym (tys_of-listed u f.0))) (subst (λ X. HasType (apply u X) w) f.1 k))
-      (λ m T q. let z : 0 + m ≡ m = omega arith in ap (slice_get (listed u f.0)) z ∙ q) env' f.2 vals' e
+      (λ m T q. let z : 0 + m ≡ m = omega arith in ap (slice_get (instance_list u f.0)) z ∙ q) env' f.2 vals' e
 
   pub parts-sound : (ps : Pats) (u : Subst) (g : Environment) (globals : Globals) → GlobalsHave g globals → (env : Locals) (vals : Env) → EnvHas u env vals → (ts : Tys) (all : List Ty) (j n : ℕ) (w : Datum) →
-      HasType (types.product (tys_of all)) w → Suffix all (listed u ts) j → (env' : Locals) → FitsAll ps g env ts env' → (vals' : Env) → match_parts ps globals (suc j) n w vals ≡ hit vals' → EnvHas u env' vals'
+      HasType (types.product (tys_of all)) w → Suffix all (instance_list u ts) j → (env' : Locals) → FitsAll ps g env ts env' → (vals' : Env) → match_parts ps globals (suc j) n w vals ≡ hit vals' → EnvHas u env' vals'
   parts-sound tree.no_pat u g globals gh env vals h ts all j n w k s env' f vals' e =
       subst (λ l. EnvHas u l vals') (sym f.1) (subst (EnvHas u env) (hit-is _ _ e) h)
   parts-sound (tree.pat p ps) u g globals gh env vals h ts all j n w k s env' f vals' e =
       let r = value-hit (part_of (suc j) n w) (λ x. on_match (match p globals x vals) (match_parts ps globals (suc (suc j)) n w) miss undefined) vals' e in
       let m = match-hit (match p globals r.0 vals) (match_parts ps globals (suc (suc j)) n w) vals' r.2 in
-      let s' : Suffix all (listed u (type f.0 f.1)) j = subst (λ l. Suffix all (listed u l) j) f.3 s in
+      let s' : Suffix all (instance_list u (type f.0 f.1)) j = subst (λ l. Suffix all (instance_list u l) j) f.3 s in
       let z : j + 0 ≡ j = omega arith in
       let first : slice_get all j ≡ Some (apply u f.0) = ap (slice_get all) (sym z) ∙ s' 0 (apply u f.0) refl in
       parts-sound ps u g globals gh f.2 m.0
@@ -233,7 +234,7 @@ over_indices-every {A} P (d ∷ ds) f h r e =
     let a = then-is (each (λ i. over_indices ds (λ at. f (i ∷ at))) (below d)) (λ found. Some (concat found)) r e in
     let every = each-values (λ i. over_indices ds (λ at. f (i ∷ at))) (λ i. Unit {0}) (λ (l : List A). Every P l)
     (λ i l y q. over_indices-every P ds (λ at. f (i ∷ at)) (λ at m q'. h (i ∷ at) m q') l q) (below d) a.0 (Every-all (λ (i : ℕ). Unit {0}) (λ i. tt) (below d)) a.1 in
-    subst (Every P) (some-list (concat a.0) r a.2) (Every-lists P a.0 every)
+    subst (Every P) (same_Some (concat a.0) r a.2) (Every-lists P a.0 every)
 
 -- the names of a tabulation's indices are numbers
 indices-have : (xs : Axes) (u : Subst) (env : Locals) (vals : Env) (at : List ℕ) → EnvHas u env vals → length at ≡ count_axes xs → EnvHas u (with_indices xs env) (at_index xs at vals)
@@ -242,18 +243,18 @@ indices-have (tree.axis x b rest) u env vals [] h e = absurd (omega (arith, e))
 indices-have (tree.axis x b rest) u env vals (i ∷ at) h e = indices-have rest u ((x, natural) ∷ env) ((x, datum.natural i) ∷ vals) at (refl, (i, refl), h) (omega (arith, e))
 
 bounds-length : (xs : Axes) (globals : Globals) (vals : Env) (ws : List Datum) → bound_values xs globals vals ≡ Some ws → length ws ≡ count_axes xs
-bounds-length tree.no_axis globals vals ws e = let z : [] ≡ ws = some-list _ _ e in ap length (sym z)
+bounds-length tree.no_axis globals vals ws e = let z : [] ≡ ws = same_Some _ _ e in ap length (sym z)
 bounds-length (tree.axis x b rest) globals vals ws e =
     let a = then-is (den b globals vals) (λ w. bound_values rest globals vals >>= λ ws. Some (w ∷ ws)) ws e in
     let c = then-is (bound_values rest globals vals) (λ ws. Some (a.0 ∷ ws)) ws a.2 in
-    ap length (sym (some-list _ _ c.2)) ∙ ap suc (bounds-length rest globals vals c.0 c.1)
+    ap length (sym (same_Some _ _ c.2)) ∙ ap suc (bounds-length rest globals vals c.0 c.1)
 
 sum-has : (vs : List Datum) (v : Datum) → sum_of vs ≡ Some v → HasType natural v
 sum-has vs v e =
     let a = then-is (each as_natural vs) (λ ns. in_range (sum ns)) v e in go (sum a.0) (nat_lt (sum a.0) (2 ^ 128)) a.2
   where
     go : (n : ℕ) (b : Bool) → (if b then Some (datum.natural n) else None) ≡ Some v → HasType natural v
-    go n true k = (n, sym (some-list _ _ k))
+    go n true k = (n, sym (same_Some _ _ k))
     go n false k = cc
 
 test-sound : (o : Option Datum) (a b : Option Datum) (T : Ty) (v : Datum) → (a ≡ Some v → HasType T v) → (b ≡ Some v → HasType T v) →
@@ -265,7 +266,7 @@ test-sound o a b T v h k e = let r = then-is (o >>= as_truth) (λ t. if t then a
     go false m = k m
 
 truth-has : (b : Bool) (v : Datum) → Some (datum.truth b) ≡ Some v → HasType types.truth v
-truth-has b v e = (b, sym (some-list _ _ e))
+truth-has b v e = (b, sym (same_Some _ _ e))
 
 or_else-sound : (o p : Option Datum) (T : Ty) (v : Datum) → (o ≡ Some v → HasType T v) → (p ≡ Some v → HasType T v) → or_else o p ≡ Some v → HasType T v
 or_else-sound (Some w) p T v h k e = h e
@@ -275,7 +276,7 @@ instance-has : (u : Subst) (s t : Ty) (v : Datum) → t ≡ s → HasType (apply
 instance-has u s t v e h = subst (λ X. HasType (apply u X) v) (sym e) h
 
 no-rows : (u : Subst) (env' : Locals) (rs : List Env) → Some [] ≡ Some rs → Every (EnvHas u env') rs
-no-rows u env' rs e = subst (Every (EnvHas u env')) (some-list _ _ e) tt
+no-rows u env' rs e = subst (Every (EnvHas u env')) (same_Some _ _ e) tt
 
 tested-rows : (u : Subst) (env' : Locals) (b : Bool) (o : Option (List Env)) (rs : List Env) → (o ≡ Some rs → Every (EnvHas u env') rs) →
     (if b then o else Some []) ≡ Some rs → Every (EnvHas u env') rs
@@ -291,13 +292,13 @@ mutual
       strict-sound o (map (apply u) k.0) (apply u t) a.0 v (rule-instance u o k.0 t k.1) (all-sound es u g globals gh env vals h k.0 k.3 a.0 a.1) a.2
   sound (tree.members es) u g globals gh env vals h t k v e =
       let a = then-is (dens es globals vals) (λ ws. Some (set_of ws)) v e in
-      instance-has u (types.set_of k.0) t v k.1 (subst (HasType (types.set_of (apply u k.0))) (some-list _ _ a.2) (has-set (apply u k.0) a.0 (each-sound es u g globals gh env vals h k.0 k.2 a.0 a.1)))
+      instance-has u (types.set_of k.0) t v k.1 (subst (HasType (types.set_of (apply u k.0))) (same_Some _ _ a.2) (has-set (apply u k.0) a.0 (each-sound es u g globals gh env vals h k.0 k.2 a.0 a.1)))
   sound (tree.comp head quals) u g globals gh env vals h t k v e =
       let a = then-is (rows quals globals vals >>= each (den head globals)) (λ ws. Some (set_of ws)) v e in
       let b = then-is (rows quals globals vals) (each (den head globals)) a.0 a.1 in
       let every = each-values (den head globals) (EnvHas u k.1) (HasType (apply u k.0)) (λ inner w i q. sound head u g globals gh k.1 inner i k.0 k.4 w q) b.0 a.0
       (rows-sound quals u g globals gh env vals h k.1 k.3 b.0 b.1) b.2 in
-      instance-has u (types.set_of k.0) t v k.2 (subst (HasType (types.set_of (apply u k.0))) (some-list _ _ a.2) (has-set (apply u k.0) a.0 every))
+      instance-has u (types.set_of k.0) t v k.2 (subst (HasType (types.set_of (apply u k.0))) (same_Some _ _ a.2) (has-set (apply u k.0) a.0 every))
   sound (tree.tab xs body) u g globals gh env vals h t k v e =
       let a = then-is (bound_values xs globals vals >>= each as_natural) (λ ds. each (λ at. den body globals (at_index xs at vals)) (indices ds) >>= array_of ds) v e in
       let b = then-is (bound_values xs globals vals) (each as_natural) a.0 a.1 in
@@ -336,25 +337,25 @@ mutual
   pub all-sound : (es : Trees) (u : Subst) (g : Environment) (globals : Globals) → GlobalsHave g globals → (env : Locals) (vals : Env) → EnvHas u env vals → (ts : List Ty) → HasAll es g env ts →
       (ws : List Datum) → dens es globals vals ≡ Some ws → HaveTypes (map (apply u) ts) ws
   all-sound tree.no_tree u g globals gh env vals h ts k ws e =
-      subst (HaveTypes (map (apply u) ts)) (some-list _ _ e) (subst (λ l. HaveTypes (map (apply u) l) []) (sym k) tt)
+      subst (HaveTypes (map (apply u) ts)) (same_Some _ _ e) (subst (λ l. HaveTypes (map (apply u) l) []) (sym k) tt)
   all-sound (tree.tree a es) u g globals gh env vals h ts k ws e =
       let r = then-is (den a globals vals) (λ w. dens es globals vals >>= λ ws. Some (w ∷ ws)) ws e in
       let q = then-is (dens es globals vals) (λ ws. Some (r.0 ∷ ws)) ws r.2 in
-      subst (HaveTypes (map (apply u) ts)) (some-list _ _ q.2)
+      subst (HaveTypes (map (apply u) ts)) (same_Some _ _ q.2)
       (subst (λ l. HaveTypes (map (apply u) l) (r.0 ∷ q.0)) (sym k.2) (sound a u g globals gh env vals h k.0 k.3 r.0 r.1, all-sound es u g globals gh env vals h k.1 k.4 q.0 q.1))
 
   pub each-sound : (es : Trees) (u : Subst) (g : Environment) (globals : Globals) → GlobalsHave g globals → (env : Locals) (vals : Env) → EnvHas u env vals → (t : Ty) → HasEach es g env t →
       (ws : List Datum) → dens es globals vals ≡ Some ws → Every (HasType (apply u t)) ws
-  each-sound tree.no_tree u g globals gh env vals h t k ws e = subst (Every (HasType (apply u t))) (some-list _ _ e) tt
+  each-sound tree.no_tree u g globals gh env vals h t k ws e = subst (Every (HasType (apply u t))) (same_Some _ _ e) tt
   each-sound (tree.tree a es) u g globals gh env vals h t k ws e =
       let r = then-is (den a globals vals) (λ w. dens es globals vals >>= λ ws. Some (w ∷ ws)) ws e in
       let q = then-is (dens es globals vals) (λ ws. Some (r.0 ∷ ws)) ws r.2 in
-      subst (Every (HasType (apply u t))) (some-list _ _ q.2) (sound a u g globals gh env vals h t k.0 r.0 r.1, each-sound es u g globals gh env vals h t k.1 q.0 q.1)
+      subst (Every (HasType (apply u t))) (same_Some _ _ q.2) (sound a u g globals gh env vals h t k.0 r.0 r.1, each-sound es u g globals gh env vals h t k.1 q.0 q.1)
 
   pub rows-sound : (qs : Quals) (u : Subst) (g : Environment) (globals : Globals) → GlobalsHave g globals → (env : Locals) (vals : Env) → EnvHas u env vals → (env' : Locals) → Rows qs g env env' →
       (rs : List Env) → rows qs globals vals ≡ Some rs → Every (EnvHas u env') rs
   rows-sound tree.no_qual u g globals gh env vals h env' k rs e =
-      subst (Every (EnvHas u env')) (some-list _ _ e) (subst (λ l. EnvHas u l vals) (sym k) h, tt)
+      subst (Every (EnvHas u env')) (same_Some _ _ e) (subst (λ l. EnvHas u l vals) (sym k) h, tt)
   rows-sound (tree.from p a rest) u g globals gh env vals h env' k rs e =
       let r = then-is (den a globals vals >>= as_set >>= each (λ w. on_match (match p globals w vals) (rows rest globals) (Some []) None)) (λ found. Some (concat found)) rs e in
       let q = then-is (den a globals vals >>= as_set) (each (λ w. on_match (match p globals w vals) (rows rest globals) (Some []) None)) r.0 r.1 in
@@ -363,7 +364,7 @@ mutual
       let every = each-values (λ w. on_match (match p globals w vals) (rows rest globals) (Some []) None) (HasType (apply u k.0)) (λ l. Every (EnvHas u env') l)
       (λ w l i j. matched (match p globals w vals) (rows rest globals) (Some []) (λ l. Every (EnvHas u env') l) l
       (λ inner m y. rows-sound rest u g globals gh k.1 inner (match-sound p u g globals gh env vals h k.0 w i k.1 k.4 inner m) env' k.5 l y) (λ y. no-rows u env' l y) j) q.0 r.0 members q.2 in
-      subst (Every (EnvHas u env')) (some-list _ _ r.2) (Every-lists (EnvHas u env') r.0 every)
+      subst (Every (EnvHas u env')) (same_Some _ _ r.2) (Every-lists (EnvHas u env') r.0 every)
   rows-sound (tree.cells p q a rest) u g globals gh env vals h env' k rs e =
       let r = then-is (den a globals vals) (λ x. dims_of (count_pats (axes p)) x >>= λ ds. over_indices ds (λ at. on_match (match_axes (axes p) globals at vals) (λ inner.
       cell_of x at >>= λ w. on_match (match q globals w inner) (rows rest globals) (Some []) None) (Some []) None)) rs e in
@@ -401,13 +402,13 @@ mutual
       matched (match p globals r.0 vals) (defs rest f globals) None (HasType T) v
       (λ inner m q. defs-sound rest u g globals gh k.1 inner (match-sound p u g globals gh env vals h k.0 r.0 w k.1 k.4 inner m) env' k.5 f T c v q) (λ q. cc) r.2
 
-value-is : (s t : Ty) → value s ≡ value t → s ≡ t
+pub value-is : (s t : Ty) → value s ≡ value t → s ≡ t
 value-is s t e = cc
 
-argument-is : (s t a b : Ty) → macro s t ≡ macro a b → s ≡ a
+pub argument-is : (s t a b : Ty) → macro s t ≡ macro a b → s ≡ a
 argument-is s t a b e = cc
 
-result-is : (s t a b : Ty) → macro s t ≡ macro a b → t ≡ b
+pub result-is : (s t a b : Ty) → macro s t ≡ macro a b → t ≡ b
 result-is s t a b e = cc
 
 -- an instance of an instance
@@ -488,7 +489,7 @@ macro-at x y p body s t w v g globals gh = go (names_equal x y)
 
 -- one position more
 extended-have : (d : Declaration) (o : Option Datum) (g : Environment) (globals : Globals) → GlobalsHave g globals →
-    ((t : Ty) (v : Datum) → DeclHas d g (value t) → o ≡ Some v → (u : Subst) → HasType (apply u t) v) → GlobalsHave (extended d g) (entry d o globals ∷ globals)
+    ((t : Ty) (v : Datum) → DeclHas d g (value t) → o ≡ Some v → (u : Subst) → HasType (apply u t) v) → GlobalsHave (extend d g) (entry d o globals ∷ globals)
 extended-have (tree.val y e) o g globals gh k = record {
   values = λ x t v h q u. value-at o x y t v (IsInstanceOf (tree.val y e) g (value t)) (λ i. given-value (tree.val y e) g o k t v i) g globals gh h q u;
   macros = λ x s t w v h u i q. macro-past o x y s t w v (IsInstanceOf (tree.val y e) g (macro s t)) (no-macro (tree.val y e) g s t (λ a b j. j)) g globals gh h u i q;
@@ -507,15 +508,15 @@ extended-have (tree.bare e) o g globals gh k = record {
 }
 
 -- the positions of a script whose outcomes have their types
-pub globals-have : (earlier : Earlier) → OutcomesTyped earlier → GlobalsHave (scope_of (declarations_of earlier)) (globals_of earlier)
+pub globals-have : (earlier : Earlier) → OutcomesTyped earlier → GlobalsHave (environment_of (declarations_of earlier)) (globals_of earlier)
 globals-have [] h = record { values = λ x t v k e u. absurd k; macros = λ f s t w v k u i e. absurd k }
-globals-have ((d, o) ∷ earlier) h = extended-have d o (scope_of (declarations_of earlier)) (globals_of earlier) (globals-have earlier h.1) h.0
+globals-have ((d, o) ∷ earlier) h = extended-have d o (environment_of (declarations_of earlier)) (globals_of earlier) (globals-have earlier h.1) h.0
 
 -- a query's value has each type of the query
-pub typed-value : (earlier : Earlier) → OutcomesTyped earlier → (e : Tree) (t : Ty) (v : Datum) → Has e (scope_of (declarations_of earlier)) [] t →
+pub typed-value : (earlier : Earlier) → OutcomesTyped earlier → (e : Tree) (t : Ty) (v : Datum) → Has e (environment_of (declarations_of earlier)) [] t →
     den e (globals_of earlier) [] ≡ Some v → HasType t v
 typed-value earlier h e t v k q =
-    subst (λ X. HasType X v) (apply_var t) (sound e types.var (scope_of (declarations_of earlier)) (globals_of earlier) (globals-have earlier h) [] [] tt t k v q)
+    subst (λ X. HasType X v) (apply_var t) (sound e types.var (environment_of (declarations_of earlier)) (globals_of earlier) (globals-have earlier h) [] [] tt t k v q)
 
 apply-field_types : (u : Subst) (ks : List Kind) → apply_all u (field_types ks) ≡ field_types ks
 apply-field_types u [] = refl
@@ -539,24 +540,24 @@ apply-reader_type u (tree.records header ks) = ap types.set_of (apply-record_typ
 pub outcome-has : (reading : ReaderMeaning) → ReadsHave reading → (earlier : Earlier) → OutcomesTyped earlier → (d : Declaration) (o : Option Datum) →
     outcome_after reading d (globals_of earlier) ≡ Some o → OutcomesTyped ((d, o) ∷ earlier)
 outcome-has reading rh earlier h (tree.val x e) o q =
-    let z : den e (globals_of earlier) [] ≡ o = some-list _ _ q in
-    ((λ t v k m u. sound e u (scope_of (declarations_of earlier)) (globals_of earlier) (globals-have earlier h) [] [] tt t k.1 v (z ∙ m)), h)
+    let z : den e (globals_of earlier) [] ≡ o = same_Some _ _ q in
+    ((λ t v k m u. sound e u (environment_of (declarations_of earlier)) (globals_of earlier) (globals-have earlier h) [] [] tt t k.1 v (z ∙ m)), h)
 outcome-has reading rh earlier h (tree.mac f p body) o q = ((λ t v k m u. absurd k), h)
 outcome-has reading rh earlier h (tree.read x r e) o q = ((λ t v k m u. go (den e (globals_of earlier) []) t v k.0 m u q), h)
   where
     made : (p : Option Datum) (a : Datum) → reading r a ≡ p → (t : Ty) (v : Datum) → t ≡ reader_type r → o ≡ Some v → (u : Subst) → option_map (λ w. Some w) p ≡ Some o → HasType (apply u t) v
     made None a n t v k m u q = cc
     made (Some w) a n t v k m u q =
-        let z : Some w ≡ o = some-list _ _ q in
-        let y : w ≡ v = some-list _ _ (z ∙ m) in
+        let z : Some w ≡ o = same_Some _ _ q in
+        let y : w ≡ v = same_Some _ _ (z ∙ m) in
         subst (λ X. HasType X v) (sym (ap (apply u) k ∙ apply-reader_type u r)) (subst (HasType (reader_type r)) y (rh r a w n))
 
     nothing : (t : Ty) (v : Datum) → o ≡ Some v → (u : Subst) → Some None ≡ Some o → HasType (apply u t) v
-    nothing t v m u q = let z : None ≡ o = some-list _ _ q in cc
+    nothing t v m u q = let z : None ≡ o = same_Some _ _ q in cc
 
     go : (p : Option Datum) (t : Ty) (v : Datum) → t ≡ reader_type r → o ≡ Some v → (u : Subst) → read_outcome (reading r) p ≡ Some o → HasType (apply u t) v
     go None t v k m u q = nothing t v m u q
     go (Some a) t v k m u q = made (reading r a) a refl t v k m u q
 outcome-has reading rh earlier h (tree.bare e) o q =
-    let z : den e (globals_of earlier) [] ≡ o = some-list _ _ q in
-    ((λ t v k m u. sound e u (scope_of (declarations_of earlier)) (globals_of earlier) (globals-have earlier h) [] [] tt t k.1 v (z ∙ m)), h)
+    let z : den e (globals_of earlier) [] ≡ o = same_Some _ _ q in
+    ((λ t v k m u. sound e u (environment_of (declarations_of earlier)) (globals_of earlier) (globals-have earlier h) [] [] tt t k.1 v (z ∙ m)), h)

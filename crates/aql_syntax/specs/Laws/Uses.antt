@@ -6,10 +6,10 @@ use Rattle.aql_types.specs.Types.{Ty, natural, Tys, no_type, type, IsRank, IsWit
 use Rattle.aql_types.specs.Laws.Types.{natural_within, truth_within, member_within, cell_within, PartsWithin, parts_within, first_within, rest_within}
 use Rattle.aql_types.specs.OperationTypes.{strict_rule}
 use Rattle.aql_syntax.specs.Tree as tree
-use Rattle.aql_syntax.specs.Tree.{Name, Pat, Pats, Tree, Trees, Axes, Quals, Defs, Declaration, declared, count_pats, count_axes, axes}
+use Rattle.aql_syntax.specs.Tree.{Name, Pat, Pats, Tree, Trees, Axes, Quals, Defs, Declaration, declared_name, count_pats, count_axes, axes}
 use Rattle.aql_syntax.specs.Names.{names_equal, find}
-use Rattle.aql_syntax.specs.Typing.{Environment, Locals, MacroTakes, PatternFits, FitsAll, FitsAxes, FirstWithin, OperandWithin, Has, HasAll, HasEach, BoundsHave, Rows, Binds, DeclHas, if_name, scope_of}
-use Rattle.aql_syntax.specs.Uses.{ScopeWithin, FitsWithin, FitAllWithin, FitAxesWithin, HasWithin, HaveAllWithin, HaveEachWithin, BoundsWithin, RowsWithin, BindsWithin, DeclHasWithin}
+use Rattle.aql_syntax.specs.Typing.{Environment, Locals, MacroTakes, PatternFits, FitsAll, FitsAxes, FirstWithin, OperandWithin, Has, HasAll, HasEach, BoundsHave, Rows, Binds, DeclHas, if_name, environment_of}
+use Rattle.aql_syntax.specs.Uses.{EnvironmentWithin, FitsWithin, FitAllWithin, FitAxesWithin, HasWithin, HaveAllWithin, HaveEachWithin, BoundsWithin, RowsWithin, BindsWithin, DeclHasWithin}
 
 -- The operands of an operation.
 
@@ -79,18 +79,18 @@ operand-within (Strict.literal k) ts h = tt
 
 -- Names.
 
-takes-within : (g : Environment) → ScopeWithin g → (o : Option Ty) (f : Name) (s t : Ty) → MacroTakes g o f s t → IsWithin s
+takes-within : (g : Environment) → EnvironmentWithin g → (o : Option Ty) (f : Name) (s t : Ty) → MacroTakes g o f s t → IsWithin s
 takes-within g w (Some l) f s t h = absurd h
 takes-within g w None f s t h = (w.takes f s t h).0
 
 -- the names of earlier positions have types within the limits
-pub scope_of-within : (ds : List Declaration) → ScopeWithin (scope_of ds)
-scope_of-within [] = record { has = λ x t h. absurd h; takes = λ x s t h. absurd h }
-scope_of-within (d ∷ earlier) =
-    let w = scope_of-within earlier in
+pub environment_of-within : (ds : List Declaration) → EnvironmentWithin (environment_of ds)
+environment_of-within [] = record { has = λ x t h. absurd h; takes = λ x s t h. absurd h }
+environment_of-within (d ∷ earlier) =
+    let w = environment_of-within earlier in
     record {
-      has = λ x t h. chosen (names_equal x (declared d)) (λ k. k.0) (λ k. w.has x t k) h;
-      takes = λ x s t h. chosen (names_equal x (declared d)) (λ k. (k.0, k.1)) (λ k. w.takes x s t k) h;
+      has = λ x t h. chosen (names_equal x (declared_name d)) (λ k. k.0) (λ k. w.has x t k) h;
+      takes = λ x s t h. chosen (names_equal x (declared_name d)) (λ k. (k.0, k.1)) (λ k. w.takes x s t k) h;
     }
   where
     chosen : {A B C : Type 0} (b : Bool) → (A → C) → (B → C) → if_name b A B → C
@@ -143,7 +143,7 @@ pattern-within g (tree.tuple ps) env t env' h = h.0
 -- Expressions.
 
 mutual
-  has-uses : (g : Environment) → ScopeWithin g → (e : Tree) (env : Locals) (t : Ty) → IsWithin t → Has e g env t → HasWithin e g env t
+  has-uses : (g : Environment) → EnvironmentWithin g → (e : Tree) (env : Locals) (t : Ty) → IsWithin t → Has e g env t → HasWithin e g env t
   has-uses g v (tree.name x) env t w h = (w, h)
   has-uses g v (tree.op o es) env t w h = (w, h.0, h.1, all-use g v es env h.0 (operands-within o h.0 t w h.1 h.2) h.3)
   has-uses g v (tree.members es) env t w h = (w, h.0, h.1, each-uses g v es env h.0 (member_within h.0 (subst IsWithin h.1 w)) h.2)
@@ -166,20 +166,20 @@ mutual
   has-uses g v (tree.summap p body e) env t w h =
       (w, h.0, h.1, h.2, has-uses g v e env (types.set_of h.0) h.3 h.4, fits-uses g p env h.0 h.1 (member_within h.0 h.3) h.5, has-uses g v body h.1 natural natural_within h.6)
 
-  all-use : (g : Environment) → ScopeWithin g → (es : Trees) (env : Locals) (ts : List Ty) → EachWithin ts → HasAll es g env ts → HaveAllWithin es g env ts
+  all-use : (g : Environment) → EnvironmentWithin g → (es : Trees) (env : Locals) (ts : List Ty) → EachWithin ts → HasAll es g env ts → HaveAllWithin es g env ts
   all-use g v tree.no_tree env ts w h = h
   all-use g v (tree.tree e es) env ts w h =
       let k = subst EachWithin h.2 w in (h.0, h.1, h.2, has-uses g v e env h.0 k.0 h.3, all-use g v es env h.1 k.1 h.4)
 
-  each-uses : (g : Environment) → ScopeWithin g → (es : Trees) (env : Locals) (t : Ty) → IsWithin t → HasEach es g env t → HaveEachWithin es g env t
+  each-uses : (g : Environment) → EnvironmentWithin g → (es : Trees) (env : Locals) (t : Ty) → IsWithin t → HasEach es g env t → HaveEachWithin es g env t
   each-uses g v tree.no_tree env t w h = tt
   each-uses g v (tree.tree e es) env t w h = (has-uses g v e env t w h.0, each-uses g v es env t w h.1)
 
-  bounds-use : (g : Environment) → ScopeWithin g → (xs : Axes) (env : Locals) → BoundsHave xs g env → BoundsWithin xs g env
+  bounds-use : (g : Environment) → EnvironmentWithin g → (xs : Axes) (env : Locals) → BoundsHave xs g env → BoundsWithin xs g env
   bounds-use g v tree.no_axis env h = tt
   bounds-use g v (tree.axis x e rest) env h = (has-uses g v e env natural natural_within h.0, bounds-use g v rest env h.1)
 
-  rows-use : (g : Environment) → ScopeWithin g → (qs : Quals) (env env' : Locals) → Rows qs g env env' → RowsWithin qs g env env'
+  rows-use : (g : Environment) → EnvironmentWithin g → (qs : Quals) (env env' : Locals) → Rows qs g env env' → RowsWithin qs g env env'
   rows-use g v tree.no_qual env env' h = h
   rows-use g v (tree.from p e rest) env env' h =
       (h.0, h.1, has-uses g v e env (types.set_of h.0) h.2 h.3, fits-uses g p env h.0 h.1 (member_within h.0 h.2) h.4, rows-use g v rest h.1 env' h.5)
@@ -196,7 +196,7 @@ mutual
       (h.0, h.1, has-uses g v e env h.0 h.2 h.3, fits-uses g p env h.0 h.1 h.2 h.4, rows-use g v rest h.1 env' h.5)
   rows-use g v (tree.test e rest) env env' h = (has-uses g v e env types.truth truth_within h.0, rows-use g v rest env env' h.1)
 
-  binds-use : (g : Environment) → ScopeWithin g → (ds : Defs) (env env' : Locals) → Binds ds g env env' → BindsWithin ds g env env'
+  binds-use : (g : Environment) → EnvironmentWithin g → (ds : Defs) (env env' : Locals) → Binds ds g env env' → BindsWithin ds g env env'
   binds-use g v tree.no_def env env' h = h
   binds-use g v (tree.def p e rest) env env' h =
       (h.0, h.1, has-uses g v e env h.0 h.2 h.3, fits-uses g p env h.0 h.1 h.2 h.4, binds-use g v rest h.1 env' h.5)
@@ -291,11 +291,11 @@ mutual
       (h.0, h.1, expression-within g e env h.0 h.2, has-only g e env h.0 h.2, fits-only g p env h.0 h.1 h.3, binds-only g rest h.1 env' h.4)
 
 -- each type that the typing of an expression uses is within the limits, where its own is
-pub expression-uses : (g : Environment) → ScopeWithin g → (e : Tree) (env : Locals) (t : Ty) → IsWithin t → Has e g env t ↔ HasWithin e g env t
+pub expression-uses : (g : Environment) → EnvironmentWithin g → (e : Tree) (env : Locals) (t : Ty) → IsWithin t → Has e g env t ↔ HasWithin e g env t
 expression-uses g v e env t w = ((λ h. has-uses g v e env t w h), (λ h. has-only g e env t h))
 
 -- each type that the typing of a declaration uses is within the limits
-pub declaration-uses : (g : Environment) → ScopeWithin g → (d : Declaration) (s : Sort) → DeclHas d g s ↔ DeclHasWithin d g s
+pub declaration-uses : (g : Environment) → EnvironmentWithin g → (d : Declaration) (s : Sort) → DeclHas d g s ↔ DeclHasWithin d g s
 declaration-uses g v (tree.val x e) (value t) =
     ((λ h. has-uses g v e [] t h.0 h.1), (λ h. (expression-within g e [] t h, has-only g e [] t h)))
 declaration-uses g v (tree.val x e) (macro s t) = ((λ h. h), (λ h. h))
@@ -314,5 +314,5 @@ declaration-uses g v (tree.bare e) (value t) =
 declaration-uses g v (tree.bare e) (macro s t) = ((λ h. h), (λ h. h))
 
 -- so over the positions before it, whatever they are
-pub position-uses : (earlier : List Declaration) (d : Declaration) (s : Sort) → DeclHas d (scope_of earlier) s ↔ DeclHasWithin d (scope_of earlier) s
-position-uses earlier d s = declaration-uses (scope_of earlier) (scope_of-within earlier) d s
+pub position-uses : (earlier : List Declaration) (d : Declaration) (s : Sort) → DeclHas d (environment_of earlier) s ↔ DeclHasWithin d (environment_of earlier) s
+position-uses earlier d s = declaration-uses (environment_of earlier) (environment_of-within earlier) d s

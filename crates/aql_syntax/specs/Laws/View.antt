@@ -11,6 +11,7 @@ use Rattle.aql_syntax.specs.declared.ast.Expr.TheBlock.{hidden-the_row-Expr-0, h
 use Rattle.aql_syntax.specs.declared.ast.Qual as code_qual
 use Rattle.aql_syntax.specs.declared.ast.Qual.{Qual}
 use Rattle.aql_syntax.specs.declared.ast.Bind.{Bind}
+use Rattle.aql_syntax.specs.declared.ast.Decl.{Decl}
 use Rattle.aql_syntax.specs.declared.ast.LetBind.{LetBind}
 use Rattle.aql_syntax.specs.declared.ast.Binds.{Row_of-Bind, end_of-Bind, more_of-Bind, items-the_row-Bind, items_hidden-the_row-Bind-2}
 use Rattle.aql_syntax.specs.declared.ast.Lets.{Row_of-LetBind, end_of-LetBind, more_of-LetBind, items-the_row-LetBind, items_hidden-the_row-LetBind-3}
@@ -24,7 +25,7 @@ use Rattle.aql_syntax.specs.declared.ast.Binds as code_binds
 use Rattle.aql_syntax.specs.declared.ast.Lets as code_lets
 use Rattle.aql_syntax.specs.Tree as tree
 use Rattle.aql_syntax.specs.Tree.{Trees, Pats, count_trees, append_pats, append_quals, append_axes, append_defs, count_axes, count_pats}
-use Rattle.aql_syntax.specs.View.{pat_of, pat_row, pats_of, tree_of, tree_row, trees_of, qual_of, qual_row, quals_of, axis_row, axes_of, axes_in, def_row, defs_of, defs_in}
+use Rattle.aql_syntax.specs.View.{pat_of, pat_row, pats_of, tree_of, tree_row, trees_of, qual_of, qual_row, quals_of, axis_row, axes_of, axes_in, def_row, defs_of, defs_in, decl_of, decls_of}
 
 -- what stands in a tree is what stands in its list
 
@@ -240,5 +241,15 @@ pub defs_past : (xs : List LetBind) (i : ℕ) → length xs ≤ i → defs_in (d
 defs_past xs i h = at_drop_all defs_in xs i h
 
 pub ruleset defs_steps = (defs_last, append_defs-assoc, append_defs-none, defs_from, defs_past)
+
+-- the declarations of the code's lists
+
+pub decls_of-append : (a b : List Decl) → decls_of (a ++ b) ≡ decls_of a ++ decls_of b
+decls_of-append [] b = refl
+decls_of-append (d ∷ a) b = ap (λ l. decl_of d ∷ l) (decls_of-append a b)
+
+pub length-decls_of : (ds : List Decl) → length (decls_of ds) ≡ length ds
+length-decls_of [] = refl
+length-decls_of (d ∷ ds) = ap suc (length-decls_of ds)
 
 pub ruleset tree_views = (tree_of-Row, tree_of-Members, tree_of-Comp, tree_of-Literal, tree_of-Sub, axes_of-items, defs_of-items)

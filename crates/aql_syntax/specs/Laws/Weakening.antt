@@ -11,56 +11,7 @@ use Rattle.aql_syntax.specs.Names.{names_equal, find}
 use Rattle.aql_syntax.specs.Matching.{Env, Global, Globals, innermost, Match, miss, undefined, on_match, with_value, compare_with, match, match_parts, match_axes}
 use Rattle.aql_syntax.specs.Denotation.{call, in_head, over_indices, at_index, den, dens, bound_values, rows, defs}
 use Rattle.aql_syntax.specs.Work.{turns_of_call, if_none, turns_over, work, works, work_bounds, work_rows, work_defs}
-
-abbrev mutual
-  -- the pattern compares with no such name
-  pub PatAvoids : Name → Pat → Type 0
-  PatAvoids x (bind y) = Unit {0}
-  PatAvoids x any = Unit {0}
-  PatAvoids x (equals c) = Unit {0}
-  PatAvoids x (refers y) = names_equal y x ≡ false
-  PatAvoids x (tuple ps) = PatsAvoid x ps
-
-  pub PatsAvoid : Name → Pats → Type 0
-  PatsAvoid x no_pat = Unit {0}
-  PatsAvoid x (pat p ps) = PatAvoids x p × PatsAvoid x ps
-
-abbrev mutual
-  -- the expression uses no such name, be it as a value or in head position; what it binds itself may be called so
-  pub Avoids : Name → Tree → Type 0
-  Avoids x (name y) = names_equal y x ≡ false
-  Avoids x (op o es) = AllAvoid x es
-  Avoids x (members es) = AllAvoid x es
-  Avoids x (comp head quals) = QualsAvoid x quals × Avoids x head
-  Avoids x (tab xs body) = AxesAvoid x xs × Avoids x body
-  Avoids x (bindings ds body) = DefsAvoid x ds × Avoids x body
-  Avoids x (choice c a b) = Avoids x c × Avoids x a × Avoids x b
-  Avoids x (conjunction a b) = Avoids x a × Avoids x b
-  Avoids x (disjunction a b) = Avoids x a × Avoids x b
-  Avoids x (negation a) = Avoids x a
-  Avoids x (default a b) = Avoids x a × Avoids x b
-  Avoids x (apply f a) = (names_equal f x ≡ false) × Avoids x a
-  Avoids x (function p body a) = PatAvoids x p × Avoids x body × Avoids x a
-  Avoids x (summap p body e) = PatAvoids x p × Avoids x body × Avoids x e
-
-  pub AllAvoid : Name → Trees → Type 0
-  AllAvoid x no_tree = Unit {0}
-  AllAvoid x (tree e es) = Avoids x e × AllAvoid x es
-
-  pub AxesAvoid : Name → Axes → Type 0
-  AxesAvoid x no_axis = Unit {0}
-  AxesAvoid x (axis y e rest) = Avoids x e × AxesAvoid x rest
-
-  pub QualsAvoid : Name → Quals → Type 0
-  QualsAvoid x no_qual = Unit {0}
-  QualsAvoid x (from p e rest) = PatAvoids x p × Avoids x e × QualsAvoid x rest
-  QualsAvoid x (cells p q e rest) = PatsAvoid x (axes p) × PatAvoids x q × Avoids x e × QualsAvoid x rest
-  QualsAvoid x (same p e rest) = PatAvoids x p × Avoids x e × QualsAvoid x rest
-  QualsAvoid x (test e rest) = Avoids x e × QualsAvoid x rest
-
-  pub DefsAvoid : Name → Defs → Type 0
-  DefsAvoid x no_def = Unit {0}
-  DefsAvoid x (def p e rest) = PatAvoids x p × Avoids x e × DefsAvoid x rest
+use Rattle.aql_syntax.specs.Scopes.{PatAvoids, PatsAvoid, Avoids, AllAvoid, AxesAvoid, QualsAvoid, DefsAvoid}
 
 -- the positions give the same under every other name
 abbrev pub SameBut : Name → Globals → Globals → Type 0

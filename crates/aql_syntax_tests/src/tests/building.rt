@@ -16,13 +16,13 @@ pub fn name(alloc: Global, letter: u8, number: u8) -> Result<Str, Memory> {
     Ok(Str { bytes })
 }
 
-pub fn named(alloc: Global, letter: u8, number: u8) -> Made {
+pub fn letter_name(alloc: Global, letter: u8, number: u8) -> Made {
     Ok(Expr::Name(name(alloc, letter, number)?))
 }
 
 /// x
 pub fn local(alloc: Global) -> Made {
-    named(alloc, b'x', 0)
+    letter_name(alloc, b'x', 0)
 }
 
 /// \x
@@ -31,7 +31,7 @@ pub fn binding(alloc: Global) -> Result<Pattern, Memory> {
 }
 
 /// The call of the macro of that number.
-pub fn applied(alloc: Global, number: u8, argument: Made) -> Made {
+pub fn call_macro(alloc: Global, number: u8, argument: Made) -> Made {
     let (name, argument) = both(name(alloc, b'm', number), make_box(alloc, argument))?;
     Ok(Expr::Apply { name, argument })
 }
@@ -62,15 +62,15 @@ pub fn doublings(alloc: Global, last: u8) -> Result<Vec<Decl>, Memory> {
     let first = sum(alloc, local(alloc), local(alloc));
     let mut items = make_list(alloc, definition(alloc, 0, first))?;
     for k in 0..last {
-        let left = applied(alloc, k, local(alloc));
-        let right = applied(alloc, k, local(alloc));
+        let left = call_macro(alloc, k, local(alloc));
+        let right = call_macro(alloc, k, local(alloc));
         let next = definition(alloc, k.wrapping_add(1), sum(alloc, left, right));
         put(&mut items, next)?;
     }
     Ok(items)
 }
 
-pub fn collected(alloc: Global, head: Made, quals: Result<Vec<Qual>, Memory>) -> Made {
+pub fn collect_set(alloc: Global, head: Made, quals: Result<Vec<Qual>, Memory>) -> Made {
     let (head, quals) = both(make_box(alloc, head), quals)?;
     Ok(comprehension(head, quals))
 }
@@ -86,11 +86,11 @@ fn tests(alloc: Global, count: u64) -> Result<Vec<Qual>, Memory> {
 
 /// {1 | true, .. , true} with that many tests.
 pub fn tests_alone(alloc: Global, count: u64) -> Made {
-    collected(alloc, Ok(Expr::Nat(1)), tests(alloc, count))
+    collect_set(alloc, Ok(Expr::Nat(1)), tests(alloc, count))
 }
 
 // (\x,_) <- {}
-fn drawn(alloc: Global) -> Result<Qual, Memory> {
+fn draw_first(alloc: Global) -> Result<Qual, Memory> {
     let parts = make_pair_list(alloc, binding(alloc), Ok(Pattern::Any))?;
     Ok(Qual::From {
         pattern: tuple_pattern(parts),
@@ -99,13 +99,13 @@ fn drawn(alloc: Global) -> Result<Qual, Memory> {
 }
 
 /// {1 | (\x,_) <- {}, 1 == 2}
-pub fn matched(alloc: Global) -> Made {
+pub fn match_first(alloc: Global) -> Made {
     let test = Qual::Match {
         pattern: Pattern::Nat(1),
         of: Expr::Nat(2),
     };
-    let quals = make_pair_list(alloc, drawn(alloc), Ok(test));
-    collected(alloc, Ok(Expr::Nat(1)), quals)
+    let quals = make_pair_list(alloc, draw_first(alloc), Ok(test));
+    collect_set(alloc, Ok(Expr::Nat(1)), quals)
 }
 
 /// {1, 2, 3}

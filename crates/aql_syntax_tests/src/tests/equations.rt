@@ -26,7 +26,7 @@ fn array(alloc: Global, rank: u64, cell: Made) -> Made {
 }
 
 // That many sets around the type of numbers.
-fn nested(alloc: Global, depth: u64) -> Made {
+fn nest_sets(alloc: Global, depth: u64) -> Made {
     let mut t = Ok(Ty::Nat);
     for _ in 0..depth {
         t = set_of(alloc, t);
@@ -35,7 +35,7 @@ fn nested(alloc: Global, depth: u64) -> Made {
 }
 
 // What solving answers, want of memory apart.
-fn found(r: Result<Solution, UnifyFault>) -> Result<Option<Solution>, Memory> {
+fn solution_found(r: Result<Solution, UnifyFault>) -> Result<Option<Solution>, Memory> {
     match r {
         Ok(s) => Ok(Some(s)),
         Err(UnifyFault::Clash) => Ok(None),
@@ -48,7 +48,7 @@ fn equal(alloc: Global, a: Made, b: Made) -> Result<Option<Solution>, Memory> {
     let (left, right) = both(a, b)?;
     let mut work = Vec::new(alloc);
     work.push(Equation { left, right })?;
-    found(solve(alloc, work, Vec::new(alloc)))
+    solution_found(solve(alloc, work, Vec::new(alloc)))
 }
 
 fn unifies(alloc: Global, a: Made, b: Made) -> Result<bool, Memory> {
@@ -59,7 +59,7 @@ fn unifies(alloc: Global, a: Made, b: Made) -> Result<bool, Memory> {
 // Whether the type can be used, where there are no equations.
 fn usable(alloc: Global, t: Made) -> Result<bool, Memory> {
     let uses = make_list(alloc, t)?;
-    let s = found(solve(alloc, Vec::new(alloc), uses))?;
+    let s = solution_found(solve(alloc, Vec::new(alloc), uses))?;
     Ok(s.is_some())
 }
 
@@ -94,8 +94,8 @@ fn forms_and_cycles(rt: HostRuntime) {
 #[test]
 fn uses_at_the_limit(rt: HostRuntime) {
     let alloc = rt.alloc();
-    assert_same(&rt, usable(alloc, nested(alloc, 399)), Ok(true));
-    assert_same(&rt, usable(alloc, nested(alloc, 400)), Ok(false));
+    assert_same(&rt, usable(alloc, nest_sets(alloc, 399)), Ok(true));
+    assert_same(&rt, usable(alloc, nest_sets(alloc, 400)), Ok(false));
 }
 
 // Numbers of variables that 32 bits do not hold.

@@ -44,7 +44,7 @@ struct Made {
 
 type Making = Result<Made, Broken>;
 
-fn ended(r: Result<(u32, Graph), Memory>) -> Making {
+fn end_result(r: Result<(u32, Graph), Memory>) -> Making {
     let (last, graph) = r?;
     Ok(Made { graph, last })
 }
@@ -59,35 +59,35 @@ fn set(g: Graph, member: u32) -> Making {
     if !has_node(&g, member) {
         return Err(Broken::NoNode);
     }
-    ended(push_set(g, member))
+    end_result(push_set(g, member))
 }
 
 fn array(g: Graph, rank: u32, cell: u32) -> Making {
     if !has_node(&g, cell) {
         return Err(Broken::NoNode);
     }
-    ended(push_array(g, rank, cell))
+    end_result(push_array(g, rank, cell))
 }
 
 fn pair(g: Graph, a: u32, b: u32) -> Making {
     if !has_node(&g, a) || !has_node(&g, b) {
         return Err(Broken::NoNode);
     }
-    ended(push_tuple(g, &[a, b]))
+    end_result(push_tuple(g, &[a, b]))
 }
 
 fn triple(g: Graph, a: u32, b: u32, c: u32) -> Making {
     if !has_node(&g, a) || !has_node(&g, b) || !has_node(&g, c) {
         return Err(Broken::NoNode);
     }
-    ended(push_tuple(g, &[a, b, c]))
+    end_result(push_tuple(g, &[a, b, c]))
 }
 
 fn single(g: Graph, a: u32) -> Making {
     if !has_node(&g, a) {
         return Err(Broken::NoNode);
     }
-    ended(push_tuple(g, &[a]))
+    end_result(push_tuple(g, &[a]))
 }
 
 // The set of a node, behind what was made.
@@ -122,17 +122,17 @@ fn then_pair_with_last(made: Making, a: u32) -> Making {
 
 fn then_variable(made: Making) -> Making {
     let m = made?;
-    ended(push_variable(m.graph))
+    end_result(push_variable(m.graph))
 }
 
 fn then_natural(made: Making) -> Making {
     let m = made?;
-    ended(push_natural(m.graph))
+    end_result(push_natural(m.graph))
 }
 
 fn then_truth(made: Making) -> Making {
     let m = made?;
-    ended(push_truth(m.graph))
+    end_result(push_truth(m.graph))
 }
 
 // The same graph, and another of its nodes as the last.
@@ -155,7 +155,7 @@ fn twice_last(made: Making) -> Making {
 }
 
 // That many sets around the last node.
-fn nested(made: Making, n: u64) -> Making {
+fn nest_sets(made: Making, n: u64) -> Making {
     let mut made = made;
     for _ in 0..n {
         made = set_of_last(made);
@@ -164,7 +164,7 @@ fn nested(made: Making, n: u64) -> Making {
 }
 
 // That many pairs, each of the node before it twice.
-fn doubled(made: Making, n: u64) -> Making {
+fn double_pairs(made: Making, n: u64) -> Making {
     let mut made = made;
     for _ in 0..n {
         made = twice_last(made);
@@ -173,24 +173,24 @@ fn doubled(made: Making, n: u64) -> Making {
 }
 
 fn naturals(alloc: Global) -> Making {
-    ended(push_natural(empty_graph(alloc)))
+    end_result(push_natural(empty_graph(alloc)))
 }
 
 // That many sets around the type of numbers.
 fn sets(alloc: Global, n: u64) -> Making {
-    nested(naturals(alloc), n)
+    nest_sets(naturals(alloc), n)
 }
 
 // A chain of that many pairs over the type of numbers.
 fn chain(alloc: Global, n: u64) -> Making {
-    doubled(naturals(alloc), n)
+    double_pairs(naturals(alloc), n)
 }
 
 // The graph with a variable behind it, which is to be the last node.
-fn named(made: Making) -> Result<(Graph, Equation), Broken> {
+fn name_last(made: Making) -> Result<(Graph, Equation), Broken> {
     let m = made?;
     let left = m.last;
-    let m = ended(push_variable(m.graph))?;
+    let m = end_result(push_variable(m.graph))?;
     let right = m.last;
     Ok((m.graph, Equation { left, right }))
 }
@@ -198,15 +198,19 @@ fn named(made: Making) -> Result<(Graph, Equation), Broken> {
 // A type of that many nodes by sharing alone: 8,191 in a chain of 12 pairs, 1,023, 511, 255 and 15
 // in four more of its pairs, and sets around the last of these. Node i of the chain is a type of
 // 2^(i+1)-1 nodes.
-fn shared(alloc: Global, more: u64) -> Making {
-    let around = nested(at(chain(alloc, 12), 3), more);
+fn share_tree(alloc: Global, more: u64) -> Making {
+    let around = nest_sets(at(chain(alloc, 12), 3), more);
     let seven = then_pair_with_last(around, 7);
     let eight = then_pair_with_last(seven, 8);
     let nine = then_pair_with_last(eight, 9);
     then_pair_with_last(nine, 12)
 }
 
-fn solved(alloc: Global, g: Graph, work: Vec<Equation>) -> Result<Option<SolvedGraph>, Broken> {
+fn solve_graph(
+    alloc: Global,
+    g: Graph,
+    work: Vec<Equation>,
+) -> Result<Option<SolvedGraph>, Broken> {
     if !are_nodes(&work, g.nodes.len()) {
         return Err(Broken::NoNode);
     }
@@ -220,16 +224,16 @@ fn solved(alloc: Global, g: Graph, work: Vec<Equation>) -> Result<Option<SolvedG
 // Whether there is a solution, the graph alone being asked.
 fn stands(alloc: Global, made: Making) -> Result<bool, Broken> {
     let m = made?;
-    let found = solved(alloc, m.graph, Vec::new(alloc))?;
+    let found = solve_graph(alloc, m.graph, Vec::new(alloc))?;
     Ok(found.is_some())
 }
 
 // Whether there is a solution that makes the last node a new variable's type.
 fn stands_named(alloc: Global, made: Making) -> Result<bool, Broken> {
-    let (g, e) = named(made)?;
+    let (g, e) = name_last(made)?;
     let mut work = Vec::new(alloc);
     work.push(e)?;
-    let found = solved(alloc, g, work)?;
+    let found = solve_graph(alloc, g, work)?;
     Ok(found.is_some())
 }
 
@@ -245,10 +249,10 @@ fn levels_at_their_edge(rt: HostRuntime) {
 #[test]
 fn nodes_at_their_edge_by_sharing(rt: HostRuntime) {
     let alloc = rt.alloc();
-    assert_same(&rt, stands(alloc, shared(alloc, 1)), Ok(true));
-    assert_same(&rt, stands(alloc, shared(alloc, 2)), Ok(false));
-    assert_same(&rt, stands_named(alloc, shared(alloc, 1)), Ok(true));
-    assert_same(&rt, stands_named(alloc, shared(alloc, 2)), Ok(false));
+    assert_same(&rt, stands(alloc, share_tree(alloc, 1)), Ok(true));
+    assert_same(&rt, stands(alloc, share_tree(alloc, 2)), Ok(false));
+    assert_same(&rt, stands_named(alloc, share_tree(alloc, 1)), Ok(true));
+    assert_same(&rt, stands_named(alloc, share_tree(alloc, 2)), Ok(false));
 }
 
 #[test]
@@ -261,7 +265,7 @@ fn chains_that_double(rt: HostRuntime) {
 }
 
 fn variable(alloc: Global) -> Making {
-    ended(push_variable(empty_graph(alloc)))
+    end_result(push_variable(empty_graph(alloc)))
 }
 
 // Two new variables, numbers 0 and 1 of the graph's nodes.
@@ -273,7 +277,7 @@ fn two_variables(alloc: Global) -> Making {
 fn meet(alloc: Global, made: Making, all: &[(u32, u32)]) -> Result<bool, Broken> {
     let work = equations(alloc, all)?;
     let m = made?;
-    let found = solved(alloc, m.graph, work)?;
+    let found = solve_graph(alloc, m.graph, work)?;
     Ok(found.is_some())
 }
 
@@ -390,7 +394,7 @@ fn two_sides(alloc: Global) -> Making {
 fn variable_read(alloc: Global, x: u32) -> Result<Ty, Broken> {
     let work = equations(alloc, &[(4, 6)])?;
     let m = two_sides(alloc)?;
-    match solved(alloc, m.graph, work)? {
+    match solve_graph(alloc, m.graph, work)? {
         None => Err(Broken::NoNode),
         Some(s) => Ok(node_type(alloc, &s, x)?),
     }
@@ -416,7 +420,7 @@ fn types_are_read_out(rt: HostRuntime) {
 fn nodes_read(alloc: Global, n: u64) -> Result<u64, Broken> {
     let m = chain(alloc, n)?;
     let last = m.last;
-    match solved(alloc, m.graph, Vec::new(alloc))? {
+    match solve_graph(alloc, m.graph, Vec::new(alloc))? {
         None => Err(Broken::NoNode),
         Some(s) => {
             let t = node_type(alloc, &s, last)?;

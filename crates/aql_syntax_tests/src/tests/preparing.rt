@@ -4,7 +4,7 @@ use crate::tests::preparing::tree_text::tree_text;
 use aql_infer::check::check;
 use aql_lex::lexer::tokens;
 use aql_parse::script;
-use aql_prelude::prelude;
+use aql_prelude::{COUNT, prelude};
 use aql_print::print_scheme;
 use aql_script::{ScriptFault, prepare};
 use aql_syntax::ast::{Decl, Decls};
@@ -46,19 +46,22 @@ fn type_texts(alloc: Global, schemes: &[Scheme]) -> Result<String, Memory> {
 // The types of a script's own declarations, or that it has a fault.
 fn types(alloc: Global, source: &[u8]) -> Result<String, Memory> {
     match prepare(alloc, source) {
-        Ok(prepared) => type_texts(alloc, prepared.typed.items.get(24..).unwrap_or(&[])),
+        Ok(prepared) => {
+            let own = prepared.typed.items.get(COUNT as usize..).unwrap_or(&[]);
+            type_texts(alloc, own)
+        }
         Err(_) => Ok(String::from_str(alloc, "refused")?),
     }
 }
 
-fn parsed(alloc: Global, source: &[u8]) -> Option<Decls> {
+fn parse_script(alloc: Global, source: &[u8]) -> Option<Decls> {
     let found = tokens(alloc, source).ok()?;
     script(alloc, &found, source).ok()
 }
 
 // The types of declarations that no prelude stands before, or that there is a fault.
 fn types_alone(alloc: Global, source: &[u8]) -> Result<String, Memory> {
-    match parsed(alloc, source).and_then(|decls| check(alloc, &decls).ok()) {
+    match parse_script(alloc, source).and_then(|decls| check(alloc, &decls).ok()) {
         Some(typed) => type_texts(alloc, &typed.items),
         None => Ok(String::from_str(alloc, "refused")?),
     }
@@ -227,14 +230,14 @@ fn assert_read_as(rt: &impl Abort, alloc: Global, source: &str, tree: &Decl) -> 
 
 // The trees that a text is read as, in prefix form. Nothing where it has a fault.
 fn read_text(alloc: Global, source: &[u8]) -> Result<Vec<u8>, Memory> {
-    match parsed(alloc, source) {
+    match parse_script(alloc, source) {
         Some(decls) => tree_text(alloc, &decls.items),
         None => Ok(Vec::new(alloc)),
     }
 }
 
 // What a row of a table says: `none` is an empty text.
-fn said(text: &str) -> &str {
+fn row_text(text: &str) -> &str {
     if text == "none" { "" } else { text }
 }
 
@@ -288,7 +291,7 @@ fn types_of_scripts(rt: HostRuntime) -> Result<(), Memory> {
             assert_text(
                 &rt,
                 types(rt.alloc(), source.as_bytes()),
-                said(expected),
+                row_text(expected),
                 source,
             )?;
             rows = rows.saturating_add(1);
@@ -365,7 +368,7 @@ fn first_faults(rt: HostRuntime) -> Result<(), Memory> {
     let mut rows: u64 = 0;
     for line in FAULTS.split('\n') {
         if let Some((source, expected)) = line.split_once(" ~ ") {
-            assert_fault(&rt, rt.alloc(), source, said(expected))?;
+            assert_fault(&rt, rt.alloc(), source, row_text(expected))?;
             rows = rows.saturating_add(1);
         }
     }
@@ -387,7 +390,7 @@ fn assert_fault_of(
 }
 
 // A text with a part of it repeated that many times.
-fn repeated(
+fn repeat_part(
     alloc: Global,
     before: &str,
     part: &str,
@@ -425,7 +428,7 @@ fn faults_where_a_part_is_repeated(rt: HostRuntime) -> Result<(), Memory> {
         (tens, "{(v,v,v,v,v,v,v,v,v)}", 1, ";", "type 3"),
     ];
     for (before, part, times, after, expected) in rows {
-        let source = repeated(rt.alloc(), before, part, times, after);
+        let source = repeat_part(rt.alloc(), before, part, times, after);
         assert_fault_of(&rt, rt.alloc(), source, expected)?;
     }
     Ok(())
@@ -446,7 +449,7 @@ fn put_macro(j: u64, body: &str, source: &mut String) -> Result<(), AllocError> 
 }
 
 // Macros `f1` to that many behind the first, `f0`: each has this body, with the macro before it for each `?`.
-fn chained(
+fn chain_macros(
     alloc: Global,
     first: &str,
     body: &str,
@@ -480,7 +483,7 @@ fn faults_of_chained_macros(rt: HostRuntime) -> Result<(), Memory> {
         (single, nested, 8, "f8!(f7!(f4!1));", "type 10"),
     ];
     for (first, body, count, last, expected) in rows {
-        let source = chained(rt.alloc(), first, body, count, last);
+        let source = chain_macros(rt.alloc(), first, body, count, last);
         assert_fault_of(&rt, rt.alloc(), source, expected)?;
     }
     Ok(())

@@ -17,7 +17,7 @@ fn read(alloc: Global, found: &[Token], source: &[u8]) -> (&'static str, u64) {
 }
 
 // How many declarations a script has, or its fault.
-fn seen(alloc: Global, source: &[u8]) -> Result<String, AllocError> {
+fn count_or_fault(alloc: Global, source: &[u8]) -> Result<String, AllocError> {
     let (kind, n) = match tokens(alloc, source) {
         Ok(found) => read(alloc, &found, source),
         Err(LexFault::Text { at }) => ("text ", at),
@@ -33,7 +33,7 @@ fn assert_seen(
     source: &[u8],
     expected: &str,
 ) -> Result<(), AllocError> {
-    let found = seen(alloc, source)?;
+    let found = count_or_fault(alloc, source)?;
     assert_eq!(rt; found.as_str(), expected);
     drop(found);
     Ok(())
@@ -148,7 +148,12 @@ fn assert_seen_of(
 }
 
 // A `1` in that many brackets.
-fn nested(alloc: Global, times: u64, open: &[u8], close: &[u8]) -> Result<Vec<u8>, AllocError> {
+fn nest_brackets(
+    alloc: Global,
+    times: u64,
+    open: &[u8],
+    close: &[u8],
+) -> Result<Vec<u8>, AllocError> {
     let mut source = Vec::new(alloc);
     for _ in 0..times {
         source.extend_from_slice(open)?;
@@ -170,7 +175,7 @@ fn brackets_nest_to_the_scans_limit(rt: HostRuntime) -> Result<(), AllocError> {
         (400, b"a[", b"]", "1"),
     ];
     for (times, open, close, expected) in rows {
-        let source = nested(rt.alloc(), times, open, close);
+        let source = nest_brackets(rt.alloc(), times, open, close);
         assert_seen_of(&rt, rt.alloc(), source, expected)?;
     }
     Ok(())
@@ -296,7 +301,7 @@ fn comparison(o: CompareOp) -> &'static [u8] {
     }
 }
 
-fn parsed(alloc: Global, source: &[u8]) -> Option<Decls> {
+fn parse_script(alloc: Global, source: &[u8]) -> Option<Decls> {
     let found = tokens(alloc, source).ok()?;
     script(alloc, &found, source).ok()
 }
@@ -312,7 +317,7 @@ fn first_text(alloc: Global, decls: &[Decl]) -> Result<Vec<u8>, AllocError> {
 
 // The first declaration of a script, an expression. Nothing where it is none.
 fn expression(alloc: Global, source: &[u8]) -> Result<Vec<u8>, AllocError> {
-    match parsed(alloc, source) {
+    match parse_script(alloc, source) {
         Some(decls) => first_text(alloc, &decls.items),
         None => Ok(Vec::new(alloc)),
     }

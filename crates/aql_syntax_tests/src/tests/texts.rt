@@ -23,7 +23,7 @@ fn assert_text(
     Ok(())
 }
 
-fn printed(alloc: Global, v: Result<Value, Memory>) -> Result<Vec<u8>, Memory> {
+fn print_made(alloc: Global, v: Result<Value, Memory>) -> Result<Vec<u8>, Memory> {
     let v = v?;
     let mut out = Vec::new(alloc);
     print_value(alloc, &v, &mut out)?;
@@ -88,7 +88,7 @@ fn strings_are_quoted_and_escaped(rt: HostRuntime) -> Result<(), Memory> {
         (b"\x80\xff", b"\"\\x80\\xff\""),
     ];
     for (content, want) in rows {
-        assert_text(&rt, printed(alloc, string(alloc, content)), want)?;
+        assert_text(&rt, print_made(alloc, string(alloc, content)), want)?;
     }
     Ok(())
 }
@@ -98,10 +98,10 @@ fn numbers_and_truth_values(rt: HostRuntime) -> Result<(), Memory> {
     let alloc = rt.alloc();
     let greatest = 340282366920938463463374607431768211455;
     let digits = b"340282366920938463463374607431768211455";
-    assert_text(&rt, printed(alloc, Ok(Value::Nat(0))), b"0")?;
-    assert_text(&rt, printed(alloc, Ok(Value::Nat(greatest))), digits)?;
-    assert_text(&rt, printed(alloc, Ok(Value::Bool(true))), b"true")?;
-    assert_text(&rt, printed(alloc, Ok(Value::Bool(false))), b"false")
+    assert_text(&rt, print_made(alloc, Ok(Value::Nat(0))), b"0")?;
+    assert_text(&rt, print_made(alloc, Ok(Value::Nat(greatest))), digits)?;
+    assert_text(&rt, print_made(alloc, Ok(Value::Bool(true))), b"true")?;
+    assert_text(&rt, print_made(alloc, Ok(Value::Bool(false))), b"false")
 }
 
 fn sets_of_numbers(alloc: Global, all: &[&[u128]]) -> Result<Items, Memory> {
@@ -124,33 +124,37 @@ fn strings(alloc: Global, all: &[&[u8]]) -> Result<Items, Memory> {
 fn sets(rt: HostRuntime) -> Result<(), Memory> {
     let alloc = rt.alloc();
     let squares = set(alloc, numbers(alloc, &[9, 4, 1, 0, 4]));
-    assert_text(&rt, printed(alloc, squares), b"{0, 1, 4, 9}")?;
+    assert_text(&rt, print_made(alloc, squares), b"{0, 1, 4, 9}")?;
     let letters = set(alloc, strings(alloc, &[b"b", b"a", b"b"]));
-    assert_text(&rt, printed(alloc, letters), b"{\"a\", \"b\"}")
+    assert_text(&rt, print_made(alloc, letters), b"{\"a\", \"b\"}")
 }
 
 #[test]
 fn sets_of_sets(rt: HostRuntime) -> Result<(), Memory> {
     let alloc = rt.alloc();
     let nested = set(alloc, sets_of_numbers(alloc, &[&[0, 1], &[0], &[]]));
-    assert_text(&rt, printed(alloc, nested), b"{{}, {0}, {0, 1}}")?;
+    assert_text(&rt, print_made(alloc, nested), b"{{}, {0}, {0, 1}}")?;
     let grouped = grid(alloc, &[3], sets_of_numbers(alloc, &[&[5, 6], &[], &[7]]));
-    assert_text(&rt, printed(alloc, grouped), b"[[3; {5, 6}, {}, {7}]]")
+    assert_text(&rt, print_made(alloc, grouped), b"[[3; {5, 6}, {}, {7}]]")
 }
 
 #[test]
 fn arrays_of_numbers(rt: HostRuntime) -> Result<(), Memory> {
     let alloc = rt.alloc();
     let table = grid(alloc, &[2, 3], numbers(alloc, &[0, 1, 2, 10, 11, 12]));
-    assert_text(&rt, printed(alloc, table), b"[[2,3; 0, 1, 2, 10, 11, 12]]")?;
+    assert_text(
+        &rt,
+        print_made(alloc, table),
+        b"[[2,3; 0, 1, 2, 10, 11, 12]]",
+    )?;
     let empty = grid(alloc, &[0], numbers(alloc, &[]));
-    assert_text(&rt, printed(alloc, empty), b"[[0; ]]")?;
+    assert_text(&rt, print_made(alloc, empty), b"[[0; ]]")?;
     let huge = grid(alloc, &[HALF, 4, 0], numbers(alloc, &[]));
     let want = b"[[170141183460469231731687303715884105728,4,0; ]]";
-    assert_text(&rt, printed(alloc, huge), want)
+    assert_text(&rt, print_made(alloc, huge), want)
 }
 
-fn signed(alloc: Global, all: &[(bool, u128)]) -> Result<Items, Memory> {
+fn signed_table(alloc: Global, all: &[(bool, u128)]) -> Result<Items, Memory> {
     let mut items = Vec::new(alloc);
     for (sign, n) in all {
         items.push(pair(alloc, Value::Bool(*sign), Value::Nat(*n))?)?;
@@ -161,10 +165,14 @@ fn signed(alloc: Global, all: &[(bool, u128)]) -> Result<Items, Memory> {
 #[test]
 fn arrays_of_pairs(rt: HostRuntime) -> Result<(), Memory> {
     let alloc = rt.alloc();
-    let table = grid(alloc, &[1, 2], signed(alloc, &[(false, 3), (true, 2)]));
+    let table = grid(
+        alloc,
+        &[1, 2],
+        signed_table(alloc, &[(false, 3), (true, 2)]),
+    );
     assert_text(
         &rt,
-        printed(alloc, table),
+        print_made(alloc, table),
         b"[[1,2; (false, 3), (true, 2)]]",
     )
 }
@@ -252,7 +260,7 @@ fn letters_begin_anew_with_a_number(rt: HostRuntime) -> Result<(), Memory> {
     Ok(())
 }
 
-fn packed(alloc: Global, lengths: &[u128], cells: Result<Items, Memory>) -> Result<Held, Memory>
+fn pack_made(alloc: Global, lengths: &[u128], cells: Result<Items, Memory>) -> Result<Held, Memory>
     requires some { 1 ≤ length lengths.now }
     requires few { length lengths.now ≤ 8 }
 {
@@ -269,7 +277,7 @@ fn packed_arrays(rt: HostRuntime) -> Result<(), Memory> {
     let alloc = rt.alloc();
     let mut out = Vec::new(alloc);
     let cells = numbers(alloc, &[7, 300, 0]);
-    put_held(alloc, packed(alloc, &[1, 3], cells), &mut out)?;
+    put_held(alloc, pack_made(alloc, &[1, 3], cells), &mut out)?;
     put_held(alloc, Ok(Held::Value(Value::Bool(true))), &mut out)?;
     assert_eq!(rt; out.as_slice(), b"[[1,3; 7, 300, 0]]true".as_slice());
     Ok(())
@@ -328,7 +336,7 @@ fn single(alloc: Global, a: Made) -> Made {
     Ok(Core::Single(make_box(alloc, a)?))
 }
 
-fn generated(alloc: Global, a: Made) -> Made {
+fn generate(alloc: Global, a: Made) -> Made {
     Ok(Core::Gen(make_box(alloc, a)?))
 }
 
@@ -339,7 +347,7 @@ fn choice(alloc: Global, c: Made, a: Made, b: Made) -> Made {
 
 // A loop over the numbers below 10,000.
 fn loop_over(alloc: Global, body: Made) -> Made {
-    let (over, body) = make_boxes(alloc, generated(alloc, Ok(Core::Nat(10000))), body)?;
+    let (over, body) = make_boxes(alloc, generate(alloc, Ok(Core::Nat(10000))), body)?;
     Ok(Core::BigUnion { over, body })
 }
 
@@ -363,13 +371,13 @@ fn cell(alloc: Global, array: Made, at: Made) -> Made {
     Ok(Core::Sub { array, at })
 }
 
-fn named(alloc: Global, e: Made, body: Made) -> Made {
+fn let_name(alloc: Global, e: Made, body: Made) -> Made {
     let (e, body) = make_boxes(alloc, e, body)?;
     Ok(Core::Let(e, body))
 }
 
 // The members below 5 of a loop in a loop.
-fn filtered(alloc: Global) -> Made {
+fn filter_loop(alloc: Global) -> Made {
     let test = less(alloc, Ok(Core::Var(1)), Ok(Core::Nat(5)));
     let member = single(alloc, Ok(Core::Var(1)));
     let filter = choice(alloc, test, member, Ok(Core::Empty));
@@ -384,9 +392,9 @@ fn otherwise(alloc: Global) -> Made {
 }
 
 // A cell of a literal array under a name.
-fn bound(alloc: Global) -> Made {
+fn bind_array(alloc: Global) -> Made {
     let array = literal(alloc, Ok(Core::Nat(1)), Ok(Core::Bottom));
-    named(
+    let_name(
         alloc,
         cell(alloc, array, Ok(Core::Nat(0))),
         Ok(Core::Var(0)),
@@ -397,11 +405,11 @@ fn bound(alloc: Global) -> Made {
 fn core_terms(rt: HostRuntime) -> Result<(), Memory> {
     let alloc = rt.alloc();
     let want = b"U{U{(if (x0 < 5) then {x0} else {}) | x1 in gen(10000)} | x0 in gen(10000)}";
-    assert_text(&rt, core_printed(alloc, filtered(alloc)), want)?;
+    assert_text(&rt, core_printed(alloc, filter_loop(alloc)), want)?;
     let want = b"(dim_1([[(10 / x0) | x0<3]]) default @3)";
     assert_text(&rt, core_printed(alloc, otherwise(alloc)), want)?;
     let want = b"(let x0 = sub([[1; undefined]]; 0) in x0)";
-    assert_text(&rt, core_printed(alloc, bound(alloc)), want)
+    assert_text(&rt, core_printed(alloc, bind_array(alloc)), want)
 }
 
 fn trace_printed(alloc: Global, rules: &[Rule]) -> Result<Vec<u8>, Memory> {

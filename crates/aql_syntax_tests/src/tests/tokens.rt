@@ -15,7 +15,7 @@ fn letter(kind: TokenKind) -> &'static str {
 }
 
 // The kinds and spans of tokens, as `N0-1` for a name, `D`, `T`, `W` for a word, `S`.
-fn told(alloc: Global, found: &[Token]) -> Result<String, AllocError> {
+fn tell_tokens(alloc: Global, found: &[Token]) -> Result<String, AllocError> {
     let mut text = String::new(alloc);
     for token in found {
         let letter = letter(token.kind);
@@ -35,9 +35,9 @@ fn fault(fault: &LexFault) -> (&'static str, u64) {
 }
 
 // The tokens of a script, or its fault.
-fn seen(alloc: Global, script: &[u8]) -> Result<String, AllocError> {
+fn tokens_or_fault(alloc: Global, script: &[u8]) -> Result<String, AllocError> {
     match tokens(alloc, script) {
-        Ok(found) => told(alloc, &found),
+        Ok(found) => tell_tokens(alloc, &found),
         Err(why) => {
             let (kind, at) = fault(&why);
             format!(in alloc; "{kind} {at}")
@@ -51,7 +51,7 @@ fn assert_seen(
     script: &[u8],
     expected: &str,
 ) -> Result<(), AllocError> {
-    let found = seen(alloc, script)?;
+    let found = tokens_or_fault(alloc, script)?;
     assert_eq!(rt; found.as_str(), expected);
     drop(found);
     Ok(())
@@ -92,7 +92,7 @@ fn scripts_have_their_tokens(rt: HostRuntime) -> Result<(), AllocError> {
 }
 
 // A part repeated that many times.
-fn repeated(alloc: Global, times: u64, part: &[u8]) -> Result<Vec<u8>, AllocError> {
+fn repeat_part(alloc: Global, times: u64, part: &[u8]) -> Result<Vec<u8>, AllocError> {
     let mut script = Vec::new(alloc);
     for _ in 0..times {
         script.extend_from_slice(part)?;
@@ -101,7 +101,7 @@ fn repeated(alloc: Global, times: u64, part: &[u8]) -> Result<Vec<u8>, AllocErro
 }
 
 fn begins_with(alloc: Global, script: &[u8], kind: &str) -> Result<bool, AllocError> {
-    let found = seen(alloc, script)?;
+    let found = tokens_or_fault(alloc, script)?;
     let begins = found.starts_with(kind);
     drop(found);
     Ok(begins)
@@ -146,7 +146,7 @@ fn deep_scripts_are_refused(rt: HostRuntime) -> Result<(), AllocError> {
         (401, b"(+", "deep 400"),
     ];
     for (times, part, expected) in rows {
-        let script = repeated(rt.alloc(), times, part);
+        let script = repeat_part(rt.alloc(), times, part);
         assert_seen_of(&rt, rt.alloc(), script, expected)?;
     }
     Ok(())
@@ -156,7 +156,7 @@ fn deep_scripts_are_refused(rt: HostRuntime) -> Result<(), AllocError> {
 fn scripts_at_the_limit_are_not_deep(rt: HostRuntime) -> Result<(), AllocError> {
     let rows: [(u64, &[u8]); 2] = [(400, b"("), (401, b"let,end")];
     for (times, part) in rows {
-        let script = repeated(rt.alloc(), times, part);
+        let script = repeat_part(rt.alloc(), times, part);
         assert!(rt; !made_begins_with(rt.alloc(), script, "deep")?);
     }
     Ok(())
@@ -174,7 +174,7 @@ fn deep_scripts_may_have_a_fault_of_text(rt: HostRuntime) -> Result<(), AllocErr
         (401, b"(+"),
     ];
     for (times, part) in rows {
-        let script = with_quote(repeated(rt.alloc(), times, part));
+        let script = with_quote(repeat_part(rt.alloc(), times, part));
         assert!(rt; made_begins_with(rt.alloc(), script, "text")?);
     }
     Ok(())

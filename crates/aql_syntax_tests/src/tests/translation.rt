@@ -1,8 +1,8 @@
 //! Declarations that are translated, with the weights of their terms, and declarations past a limit.
 
 use crate::tests::building::{
-    Made, applied, bare, binding, collected, doublings, local, matched, name, named, sum,
-    tests_alone, three_members,
+    Made, bare, binding, call_macro, collect_set, doublings, letter_name, local, match_first, name,
+    sum, tests_alone, three_members,
 };
 use aql_desugar::fault::Fault;
 use aql_desugar::translate::translate;
@@ -17,7 +17,7 @@ use std::process::Abort;
 
 // [_:\x] <- it
 fn cell_of_it(alloc: Global) -> Result<Qual, Memory> {
-    let (cell, over) = both(binding(alloc), named(alloc, b'i', b't'))?;
+    let (cell, over) = both(binding(alloc), letter_name(alloc, b'i', b't'))?;
     Ok(Qual::Cells {
         index: Pattern::Any,
         cell,
@@ -27,7 +27,7 @@ fn cell_of_it(alloc: Global) -> Result<Qual, Memory> {
 
 // {x | [_:\x] <- it}
 fn cells(alloc: Global) -> Made {
-    collected(alloc, local(alloc), make_list(alloc, cell_of_it(alloc)))
+    collect_set(alloc, local(alloc), make_list(alloc, cell_of_it(alloc)))
 }
 
 // \x<3
@@ -39,7 +39,7 @@ fn axis(alloc: Global) -> Result<Bind, Memory> {
 }
 
 // [[x+1 | \x<3]]
-fn counted(alloc: Global) -> Made {
+fn count_up(alloc: Global) -> Made {
     let body = make_box(alloc, sum(alloc, local(alloc), Ok(Expr::Nat(1))));
     let (body, axes) = both(body, make_list(alloc, axis(alloc)))?;
     Ok(tabulation(body, axes))
@@ -59,14 +59,14 @@ fn default(alloc: Global, a: Made, b: Made) -> Made {
 }
 
 // let val \x = 1 in x default 2 end
-fn defaulted(alloc: Global) -> Made {
+fn default_let(alloc: Global) -> Made {
     let body = make_box(alloc, default(alloc, local(alloc), Ok(Expr::Nat(2))));
     let (body, binds) = both(body, make_list(alloc, one(alloc)))?;
     Ok(let_in(binds, body))
 }
 
 // A bare expression after declarations.
-fn translated(alloc: Global, earlier: Vec<Decl>, e: Expr) -> Result<u128, Fault> {
+fn translate_after(alloc: Global, earlier: Vec<Decl>, e: Expr) -> Result<u128, Fault> {
     let mut items = earlier;
     items.push(Decl::Bare { expr: e })?;
     let n = items.len() as u64;
@@ -84,7 +84,7 @@ fn translated(alloc: Global, earlier: Vec<Decl>, e: Expr) -> Result<u128, Fault>
 }
 
 // The weight of the term, or the size and the levels.
-fn told(answer: Result<u128, Fault>) -> (u128, u64, u64) {
+fn tell_answer(answer: Result<u128, Fault>) -> (u128, u64, u64) {
     match answer {
         Ok(weight) => (weight, 0, 0),
         Err(Fault::Large { size, levels }) => (0, size, levels),
@@ -100,7 +100,7 @@ fn assert_told(
     expected: (u128, u64, u64),
 ) -> Result<(), Memory> {
     let (earlier, e) = both(earlier, e)?;
-    assert_eq!(rt; told(translated(alloc, earlier, e)), expected);
+    assert_eq!(rt; tell_answer(translate_after(alloc, earlier, e)), expected);
     Ok(())
 }
 
@@ -118,20 +118,20 @@ fn assert_alone(
 fn weights_of_terms(rt: HostRuntime) -> Result<(), Memory> {
     let alloc = rt.alloc();
     assert_alone(&rt, alloc, three_members(alloc), (8, 0, 0))?;
-    assert_alone(&rt, alloc, matched(alloc), (19, 0, 0))?;
-    assert_alone(&rt, alloc, counted(alloc), (16, 0, 0))?;
-    assert_alone(&rt, alloc, defaulted(alloc), (7, 0, 0))?;
-    let arrays = make_list(alloc, bare(counted(alloc)));
+    assert_alone(&rt, alloc, match_first(alloc), (19, 0, 0))?;
+    assert_alone(&rt, alloc, count_up(alloc), (16, 0, 0))?;
+    assert_alone(&rt, alloc, default_let(alloc), (7, 0, 0))?;
+    let arrays = make_list(alloc, bare(count_up(alloc)));
     assert_told(&rt, alloc, arrays, cells(alloc), (17, 0, 0))?;
-    let call = applied(alloc, 0, Ok(Expr::Nat(5)));
+    let call = call_macro(alloc, 0, Ok(Expr::Nat(5)));
     assert_told(&rt, alloc, doublings(alloc, 10), call, (7, 0, 0))
 }
 
 #[test]
 fn declarations_past_a_limit(rt: HostRuntime) -> Result<(), Memory> {
     let alloc = rt.alloc();
-    let left = applied(alloc, 10, Ok(Expr::Nat(1)));
-    let right = applied(alloc, 10, Ok(Expr::Nat(1)));
+    let left = call_macro(alloc, 10, Ok(Expr::Nat(1)));
+    let right = call_macro(alloc, 10, Ok(Expr::Nat(1)));
     let doubled = sum(alloc, left, right);
     assert_told(&rt, alloc, doublings(alloc, 10), doubled, (0, 20473, 35))?;
     assert_alone(&rt, alloc, tests_alone(alloc, 250), (0, 502, 1002))?;

@@ -1,7 +1,7 @@
 //! Worked sizes, and copies that are made.
 
 use crate::tests::building::{
-    Made, bare, definition, doublings, matched, tests_alone, three_members,
+    Made, bare, definition, doublings, match_first, tests_alone, three_members,
 };
 use aql_syntax::ast::{Decl, Decls, Expr, Pattern};
 use aql_syntax::sizes::{levels, size};
@@ -15,7 +15,7 @@ fn alone(alloc: Global, e: Made) -> Result<Decls, Memory> {
     Ok(Decls { items })
 }
 
-fn copied(alloc: Global, e: Made) -> Made {
+fn copy_made(alloc: Global, e: Made) -> Made {
     let e = e?;
     let made = e.copy(alloc);
     drop(e);
@@ -55,7 +55,7 @@ fn assert_measures(
 fn comprehensions_and_sets(rt: HostRuntime) -> Result<(), Memory> {
     let alloc = rt.alloc();
     assert_measures(&rt, alone(alloc, tests_alone(alloc, 250)), (502, 1002))?;
-    assert_measures(&rt, alone(alloc, matched(alloc)), (10, 14))?;
+    assert_measures(&rt, alone(alloc, match_first(alloc)), (10, 14))?;
     assert_measures(&rt, alone(alloc, three_members(alloc)), (4, 4))
 }
 
@@ -69,7 +69,11 @@ fn copied_declaration(alloc: Global, decl: Result<Decl, Memory>) -> Result<Decl,
 #[test]
 fn copies_are_made(rt: HostRuntime) -> Result<(), Memory> {
     let alloc = rt.alloc();
-    assert_measures(&rt, alone(alloc, copied(alloc, matched(alloc))), (10, 14))?;
+    assert_measures(
+        &rt,
+        alone(alloc, copy_made(alloc, match_first(alloc))),
+        (10, 14),
+    )?;
     let decl = copied_declaration(alloc, definition(alloc, 0, three_members(alloc)))?;
     let is_macro = matches!(
         decl,

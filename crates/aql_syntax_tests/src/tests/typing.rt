@@ -1,4 +1,4 @@
-use crate::tests::building::{Made, applied, definition, local, name};
+use crate::tests::building::{Made, call_macro, definition, local, name};
 use aql_infer::check::{Typed, check};
 use aql_infer::fault::TypeFault;
 use aql_syntax::ast::{Decl, Decls, Expr};
@@ -70,7 +70,7 @@ fn single(alloc: Global) -> Made {
 fn nestings(alloc: Global) -> Result<Vec<Decl>, Memory> {
     let mut items = make_list(alloc, definition(alloc, 0, single(alloc)))?;
     for k in 0..9u8 {
-        let twice = applied(alloc, k, applied(alloc, k, local(alloc)));
+        let twice = call_macro(alloc, k, call_macro(alloc, k, local(alloc)));
         items.push(definition(alloc, k.wrapping_add(1), twice)?)?;
     }
     Ok(items)

@@ -7,7 +7,7 @@ use Rattle.aql_type_graph.specs.Shapes.{Shape, Valuation, parts, alike}
 use Rattle.aql_type_graph.specs.Forms.{Form, at}
 use Rattle.aql_type_graph.specs.Forms as form
 use Rattle.aql_type_graph.specs.Valuations.{Says, Holds, Equal}
-use Rattle.aql_type_graph.specs.Steps.{paired}
+use Rattle.aql_type_graph.specs.Steps.{pair_parts}
 use Rattle.aql_type_graph.specs.Trees.{Grows}
 use Rattle.aql_type_graph.specs.Schemes.{IsClosed, AreClosed, AreDistinct}
 use Rattle.aql_type_graph.specs.Laws.Shapes.{whole_alike, alike_length}
@@ -35,7 +35,7 @@ same_parts s t e q = let bad : ⊥ = cc in absurd bad
 abbrev Earlier : Valuation → ℕ → ℕ → Type 0
 Earlier v g m = (i j : ℕ) → i < m → i < g → j < g → v i ≡ v j → i ≡ j
 
-same_list : (v : Valuation) (g m i j : ℕ) → i ≤ m → i < g → j < g → Earlier v g m → (ps qs : List ℕ) → length ps ≡ length qs → Equal v (paired ps qs) → Every (λ p. p < i) ps → Every (λ q. q < j) qs → ps ≡ qs
+same_list : (v : Valuation) (g m i j : ℕ) → i ≤ m → i < g → j < g → Earlier v g m → (ps qs : List ℕ) → length ps ≡ length qs → Equal v (pair_parts ps qs) → Every (λ p. p < i) ps → Every (λ q. q < j) qs → ps ≡ qs
 same_list v g m i j le il jl r [] [] n e h k = refl
 same_list v g m i j le il jl r [] (q ∷ qs) n e h k = let bad : ⊥ = omega (arith, n) in absurd bad
 same_list v g m i j le il jl r (p ∷ ps) [] n e h k = let bad : ⊥ = omega (arith, n) in absurd bad

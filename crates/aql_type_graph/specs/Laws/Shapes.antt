@@ -11,7 +11,7 @@ use Rattle.aql_types.specs.Laws.Types.{row_is}
 use Rattle.aql_type_graph.specs.Shapes as shape
 use Rattle.aql_type_graph.specs.Shapes.{Shape, Valuation, parts, types_at, whole, alike, is_formed}
 use Rattle.aql_type_graph.specs.Valuations.{Equal}
-use Rattle.aql_type_graph.specs.Steps.{paired}
+use Rattle.aql_type_graph.specs.Steps.{pair_parts}
 
 -- Properties of every number of a list.
 
@@ -34,7 +34,7 @@ apply_types_at u v [] = refl
 apply_types_at u v (p ∷ ps) = row_is refl (apply_types_at u v ps)
 
 -- equal place by place, where there are as many
-pub paired_types : (v : Valuation) (ps qs : List ℕ) → length ps ≡ length qs → Equal v (paired ps qs) → types_at v ps ≡ types_at v qs
+pub paired_types : (v : Valuation) (ps qs : List ℕ) → length ps ≡ length qs → Equal v (pair_parts ps qs) → types_at v ps ≡ types_at v qs
 paired_types v [] [] e h = refl
 paired_types v [] (q ∷ qs) e h = let bad : ⊥ = omega (arith, e) in absurd bad
 paired_types v (p ∷ ps) [] e h = let bad : ⊥ = omega (arith, e) in absurd bad
@@ -46,7 +46,7 @@ first_is e = cc
 rest_is : {a c : Ty} {b d : Tys} → type a b ≡ type c d → b ≡ d
 rest_is e = cc
 
-pub types_paired : (v : Valuation) (ps qs : List ℕ) → types_at v ps ≡ types_at v qs → Equal v (paired ps qs)
+pub types_paired : (v : Valuation) (ps qs : List ℕ) → types_at v ps ≡ types_at v qs → Equal v (pair_parts ps qs)
 types_paired v [] qs e = tt
 types_paired v (p ∷ ps) [] e = tt
 types_paired v (p ∷ ps) (q ∷ qs) e = (first_is e, types_paired v ps qs (rest_is e))
@@ -86,7 +86,7 @@ cell_is : {k l : ℕ} {a b : Ty} → types.array_of k a ≡ types.array_of l b �
 cell_is e = cc
 
 -- equal types have shapes of one form, and equal parts
-pub whole_alike : (v : Valuation) (s t : Shape) → whole v s ≡ whole v t → (alike s t ≡ true) × Equal v (paired (parts s) (parts t))
+pub whole_alike : (v : Valuation) (s t : Shape) → whole v s ≡ whole v t → (alike s t ≡ true) × Equal v (pair_parts (parts s) (parts t))
 whole_alike v shape.natural shape.natural e = (refl, tt)
 whole_alike v shape.truth shape.truth e = (refl, tt)
 whole_alike v shape.text shape.text e = (refl, tt)
@@ -96,7 +96,7 @@ whole_alike v (shape.array_of k p) (shape.array_of l q) e = (eq-eqb k l (rank_is
 whole_alike v s t e = let bad : ⊥ = cc in absurd bad
 
 -- and the other way round
-pub alike_whole : (v : Valuation) (s t : Shape) → alike s t ≡ true → Equal v (paired (parts s) (parts t)) → whole v s ≡ whole v t
+pub alike_whole : (v : Valuation) (s t : Shape) → alike s t ≡ true → Equal v (pair_parts (parts s) (parts t)) → whole v s ≡ whole v t
 alike_whole v shape.natural shape.natural e h = refl
 alike_whole v shape.truth shape.truth e h = refl
 alike_whole v shape.text shape.text e h = refl

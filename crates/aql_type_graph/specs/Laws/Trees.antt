@@ -6,7 +6,7 @@ use Rattle.aql_type_graph.specs.Shapes.{parts}
 use Rattle.aql_type_graph.specs.Forms.{Form, at}
 use Rattle.aql_type_graph.specs.Forms as form
 use Rattle.aql_type_graph.specs.Valuations.{IsOrdered, Points}
-use Rattle.aql_type_graph.specs.Trees.{IsBuilt, Grows, grown, tree, type_at}
+use Rattle.aql_type_graph.specs.Trees.{IsBuilt, Grows, form_type, tree, type_at}
 use Rattle.aql_type_graph.specs.Laws.Shapes.{each, whole_same}
 
 -- Types written out, with any room that is enough.
@@ -17,7 +17,7 @@ tree_same fs b zero n i lt mt = let bad : ⊥ = omega (arith, lt) in absurd bad
 tree_same fs b (suc m) zero i lt mt = let bad : ⊥ = omega (arith, mt) in absurd bad
 tree_same fs b (suc m) (suc n) i lt mt = go (tree_same fs b m n) (at fs i) (b i)
   where
-    go : ((j : ℕ) → j < m → j < n → tree m fs j ≡ tree n fs j) → (x : Form) → Grows x i → grown (tree m fs) x ≡ grown (tree n fs) x
+    go : ((j : ℕ) → j < m → j < n → tree m fs j ≡ tree n fs j) → (x : Form) → Grows x i → form_type (tree m fs) x ≡ form_type (tree n fs) x
     go r (form.var z) h = refl
     go r (form.made s) h =
         whole_same (tree m fs) (tree n fs) s
@@ -25,11 +25,11 @@ tree_same fs b (suc m) (suc n) i lt mt = go (tree_same fs b m n) (at fs i) (b i)
     go r (form.link j) h = absurd h
 
 -- a node's type is that of its parts' types
-pub type_grown : (fs : List Form) → IsBuilt fs → (i : ℕ) → type_at fs i ≡ grown (type_at fs) (at fs i)
+pub type_grown : (fs : List Form) → IsBuilt fs → (i : ℕ) → type_at fs i ≡ form_type (type_at fs) (at fs i)
 unfolding tree
 type_grown fs b i = go (at fs i) (b i)
   where
-    go : (x : Form) → Grows x i → grown (tree i fs) x ≡ grown (type_at fs) x
+    go : (x : Form) → Grows x i → form_type (tree i fs) x ≡ form_type (type_at fs) x
     go (form.var z) h = refl
     go (form.made s) h =
         whole_same (tree i fs) (type_at fs) s
@@ -47,9 +47,9 @@ at_last fs f = get_or-append_right fs (f ∷ []) (length fs) (length fs) (form.v
 kept_tree : (fs gs : List Form) → IsBuilt fs → (m i : ℕ) → i < length fs → tree m (fs ++ gs) i ≡ tree m fs i
 unfolding tree
 kept_tree fs gs b zero i lt = refl
-kept_tree fs gs b (suc m) i lt = ap (grown (tree m (fs ++ gs))) (at_first fs gs i lt) ∙ go (kept_tree fs gs b m) (at fs i) (b i)
+kept_tree fs gs b (suc m) i lt = ap (form_type (tree m (fs ++ gs))) (at_first fs gs i lt) ∙ go (kept_tree fs gs b m) (at fs i) (b i)
   where
-    go : ((j : ℕ) → j < length fs → tree m (fs ++ gs) j ≡ tree m fs j) → (x : Form) → Grows x i → grown (tree m (fs ++ gs)) x ≡ grown (tree m fs) x
+    go : ((j : ℕ) → j < length fs → tree m (fs ++ gs) j ≡ tree m fs j) → (x : Form) → Grows x i → form_type (tree m (fs ++ gs)) x ≡ form_type (tree m fs) x
     go r (form.var z) h = refl
     go r (form.made s) h =
         whole_same (tree m (fs ++ gs)) (tree m fs) s

@@ -13,7 +13,7 @@ use Rattle.aql_types.specs.Unifiers as unifiers
 use Rattle.aql_types.specs.Laws.Types.{PartsWithin, parts_within, first_within, rest_within, member_within, cell_within, row_is, apply_same, apply_all_same, apply_var, apply_all_var, apply_all-append}
 use Rattle.aql_types.specs.declared.ty.Ty as code
 use Rattle.aql_types.specs.declared.equation.Equation as code_equation
-use Rattle.aql_types.specs.View.{type_of, types_of, listed}
+use Rattle.aql_types.specs.View.{type_of, types_of, equation_list}
 use Rattle.aql_types.specs.Laws.View.{types_last}
 use Rattle.aql_type_graph.specs.declared.node.Equation.{Equation}
 use Rattle.aql_type_graph.specs.declared.graph.Graph.{Graph}
@@ -22,7 +22,7 @@ use Rattle.aql_type_graph.specs.Shapes.{Shape, Valuation, parts, types_at, whole
 use Rattle.aql_type_graph.specs.Forms.{Form, form_of, at}
 use Rattle.aql_type_graph.specs.Forms as form
 use Rattle.aql_type_graph.specs.Valuations.{AreIn}
-use Rattle.aql_type_graph.specs.Trees.{grown, type_at, equations_of, AllWithin}
+use Rattle.aql_type_graph.specs.Trees.{form_type, type_at, equations_of, AllWithin}
 use Rattle.aql_type_graph.specs.Graphs.{forms_of, Adds}
 use Rattle.aql_type_graph.specs.Laws.Shapes.{types_same, whole_same}
 use Rattle.aql_type_graph.specs.Laws.Trees.{type_grown, at_first, at_last, kept_type}
@@ -78,7 +78,7 @@ added_at i new old s a =
 added_type : (i : ℕ) (new old : Graph) (s : Shape) → Adds i new old (form.made s) → Every (λ p. p < length old.nodes.items) (parts s) → type_at (forms_of new) i ≡ whole (type_at (forms_of old)) s
 added_type i new old s a h =
     type_grown (forms_of new) new.built i
-    ∙ ap (grown (type_at (forms_of new))) (added_at i new old s a)
+    ∙ ap (form_type (type_at (forms_of new))) (added_at i new old s a)
     ∙ whole_same (type_at (forms_of new)) (type_at (forms_of old)) s
     (Every-impl (λ p. p < length old.nodes.items) (λ p. type_at (forms_of new) p ≡ type_at (forms_of old) p) (λ p lt. kept new old (added i new old s a) p lt) (parts s) h)
 
@@ -129,7 +129,7 @@ found x g h lt =
     record {
       extends = itself g;
       below = omega (arith, lt, l, forms_long g);
-      is = type_grown (forms_of g) g.built x ∙ ap (grown (type_at (forms_of g))) (h.stands x lt);
+      is = type_grown (forms_of g) g.built x ∙ ap (form_type (type_at (forms_of g))) (h.stands x lt);
       within = λ u a b. a;
     }
 
@@ -241,22 +241,22 @@ equations_more es ds new mid old w v h k = record {
     both : {a b c d : Equations} → a ≡ b → c ≡ d → a ++ c ≡ b ++ d
     both e f = cc
 
-listed-append : (xs ys : List code_equation.Equation) → listed (xs ++ ys) ≡ listed xs ++ listed ys
+listed-append : (xs ys : List code_equation.Equation) → equation_list (xs ++ ys) ≡ equation_list xs ++ equation_list ys
 listed-append [] ys = refl
 listed-append (x ∷ xs) ys = ap (λ w. (type_of x.left, type_of x.right) ∷ w) (listed-append xs ys)
 
 -- the next equation of a list
-pub next_equation : (es ds : List Equation) (d : Equation) (new mid old : Graph) (xs : List code_equation.Equation) (x : code_equation.Equation) → ds ≡ es ++ d ∷ [] → PushesEquations es mid old (listed xs) → PushesEquations (d ∷ []) new mid (listed (x ∷ [])) → PushesEquations ds new old (listed (xs ++ x ∷ []))
+pub next_equation : (es ds : List Equation) (d : Equation) (new mid old : Graph) (xs : List code_equation.Equation) (x : code_equation.Equation) → ds ≡ es ++ d ∷ [] → PushesEquations es mid old (equation_list xs) → PushesEquations (d ∷ []) new mid (equation_list (x ∷ [])) → PushesEquations ds new old (equation_list (xs ++ x ∷ []))
 next_equation es ds d new mid old xs x e h k =
     subst (PushesEquations ds new old) (sym (listed-append xs (x ∷ [])))
-    (subst (λ is. PushesEquations is new old (listed xs ++ listed (x ∷ []))) (sym e) (equations_more es (d ∷ []) new mid old (listed xs) (listed (x ∷ [])) h k))
+    (subst (λ is. PushesEquations is new old (equation_list xs ++ equation_list (x ∷ []))) (sym e) (equations_more es (d ∷ []) new mid old (equation_list xs) (equation_list (x ∷ [])) h k))
 
 -- A whole graph.
 
 fresh_within : (n : ℕ) (g : Graph) → IsFresh n g → (u : Subst) → ((x : ℕ) → IsWithin (u x)) → AllWithin u (forms_of g)
 fresh_within n g h u k i lt =
     let l = h.long in let b = h.numbered.stands in
-    let e : type_at (forms_of g) i ≡ types.var i = type_grown (forms_of g) g.built i ∙ ap (grown (type_at (forms_of g))) (b i (omega (arith, lt, l))) in
+    let e : type_at (forms_of g) i ≡ types.var i = type_grown (forms_of g) g.built i ∙ ap (form_type (type_at (forms_of g))) (b i (omega (arith, lt, l))) in
     subst (λ t. IsWithin (apply u t)) (sym e) (k i)
 
 -- a graph extended has fewer nodes before

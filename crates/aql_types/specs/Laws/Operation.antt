@@ -5,6 +5,7 @@ use Rattle.std.specs.Cmp.Lexicographic.{pointwise}
 use Rattle.std.proofs.lemmas.List.{length-map}
 use Rattle.std.proofs.lemmas.Bool.{eqb-true}
 use Rattle.std.specs.List.Sorted.{IsStrictlySortedBy}
+use Rattle.std.proofs.lemmas.Option.{same_Some}
 use Rattle.aql_value.specs.declared.ops.ArithOp.{ArithOp}
 use Rattle.aql_value.specs.Datum as datum
 use Rattle.aql_value.specs.Datum.{Datum, Table, data_of, list_of}
@@ -12,13 +13,13 @@ use Rattle.aql_value.specs.Laws.Datum.{list_of-data_of}
 use Rattle.aql_value.specs.Canon.{canon, IsAscending}
 use Rattle.aql_value.specs.Laws.Canon.{ascending_canon}
 use Rattle.aql_value.specs.Laws.Set.{Every-canon, ascending_below}
-use Rattle.aql_value.specs.Indices.{indices, product, cell, paired, pairs}
+use Rattle.aql_value.specs.Indices.{indices, product, cell, paired_value, pairs}
 use Rattle.aql_value.specs.Laws.Indices.{length_indices}
 use Rattle.aql_value.specs.Laws.RowMajor.{indices_lengths}
 use Rattle.aql_value.specs.Lists.{Every, below}
 use Rattle.aql_value.specs.Laws.Lists.{Every-all, Every-impl, Every-map, Every-onto, Every-append, Every-lists, Every-get, length-below}
 use Rattle.aql_value.specs.Ops.{arith_by}
-use Rattle.aql_value.specs.Operations.{as_natural, as_truth, as_tuple, as_set, as_array, in_range, tuple_of, nth, part_of, set_of, union_of, union_all, only, get_of, gen_of, arith_of, compare_of, sum_of, array_of, literal_of, index_value, walked, dims_of, dim_of, cell_of, index_numbers, as_indexed, greater_each, dims_above, values_at, indexed, index_of}
+use Rattle.aql_value.specs.Operations.{as_natural, as_truth, as_tuple, as_set, as_array, in_range, tuple_of, nth, part_of, set_of, union_of, union_all, only, get_of, gen_of, arith_of, compare_of, sum_of, array_of, literal_of, index_value, push_index, dims_of, dim_of, cell_of, index_numbers, as_indexed, greater_each, dims_above, values_at, index_array, index_of}
 use Rattle.aql_value.specs.Laws.Operations.{array_of-is, indexed-is}
 use Rattle.aql_value.specs.Partial.{◌>>=◌, each, concat}
 use Rattle.aql_value.specs.Laws.Partial.{then-is, each-values, each-length}
@@ -57,17 +58,14 @@ as-type A T v e h = subst (λ X. HasType X v) (sym e) h
 pub has-set : (T : Ty) (vs : List Datum) → Every (HasType T) vs → HasType (types.set_of T) (set_of vs)
 has-set T vs h = (canon vs, refl, ascending_canon vs, Every-canon (HasType T) vs h)
 
-pub some-list : {A : Type 0} (xs ys : A) → Some xs ≡ Some ys → xs ≡ ys
-some-list xs ys e = cc
-
 pub set-members : (T : Ty) (v : Datum) (ms : List Datum) → HasType (types.set_of T) v → as_set v ≡ Some ms → IsAscending ms × Every (HasType T) ms
 set-members T v ms h e =
-    let z : h.0 ≡ ms = some-list h.0 ms (sym (ap Some (list_of-data_of h.0)) ∙ ap as_set (sym h.1) ∙ e) in
+    let z : h.0 ≡ ms = same_Some h.0 ms (sym (ap Some (list_of-data_of h.0)) ∙ ap as_set (sym h.1) ∙ e) in
     subst (λ l. IsAscending l × Every (HasType T) l) z (h.2, h.3)
 
 pub tuple-parts : (Ts : List Ty) (v : Datum) (vs : List Datum) → HasType (types.product (tys_of Ts)) v → as_tuple v ≡ Some vs → HaveTypes Ts vs
 tuple-parts Ts v vs h e =
-    let z : h.0 ≡ vs = some-list h.0 vs (sym (ap Some (list_of-data_of h.0)) ∙ ap as_tuple (sym h.1) ∙ e) in
+    let z : h.0 ≡ vs = same_Some h.0 vs (sym (ap Some (list_of-data_of h.0)) ∙ ap as_tuple (sym h.1) ∙ e) in
     subst (HaveTypes Ts) z h.2
 
 -- an array's table: as many dimensions as the rank, a cell for each index, cells of the type
@@ -79,7 +77,7 @@ pub record TableHas (rank : ℕ) (T : Ty) (t : Table) : Type 0 where
 pub array-table : (rank : ℕ) (T : Ty) (v : Datum) (t : Table) → HasType (types.array_of rank T) v → as_array v ≡ Some t → TableHas rank T t
 array-table rank T v t h e =
     let made : Table = record { dims = h.0; cells = h.1 } in
-    let z : made ≡ t = some-list made t (ap (λ l. Some (record { dims = h.0; cells = l })) (sym (list_of-data_of h.1)) ∙ ap as_array (sym h.2) ∙ e) in
+    let z : made ≡ t = same_Some made t (ap (λ l. Some (record { dims = h.0; cells = l })) (sym (list_of-data_of h.1)) ∙ ap as_array (sym h.2) ∙ e) in
     subst (TableHas rank T) z (record { rank_is = h.3; full = h.4; cells_have = h.5 })
 
 pub has-array : (T : Ty) (ds : List ℕ) (vs : List Datum) (v : Datum) → array_of ds vs ≡ Some v → Every (HasType T) vs → HasType (types.array_of (length ds) T) v
@@ -145,7 +143,7 @@ as_indexed-sound : (rank : ℕ) (I A : Ty) (w : Datum) (p : List ℕ × Datum) �
 as_indexed-sound rank I A w p h e =
     let a = then-is (part_of 1 2 w >>= index_numbers rank) (λ at. part_of 2 2 w >>= λ x. Some (at, x)) p e in
     let b = then-is (part_of 2 2 w) (λ x. Some (a.0, x)) p a.2 in
-    let z : (a.0, b.0) ≡ p = some-list (a.0, b.0) p b.2 in
+    let z : (a.0, b.0) ≡ p = same_Some (a.0, b.0) p b.2 in
     subst (λ q. HasType A q.1) z (part-sound (I ∷ A ∷ []) 2 1 A w b.0 h refl b.1)
 
 values_at-have : (A : Ty) (at : List ℕ) (ps : List (List ℕ × Datum)) → Every (λ p. HasType A p.1) ps → Every (HasType A) (values_at at ps)
@@ -158,13 +156,13 @@ values_at-have A at (p ∷ ps) h = kept (pointwise nat_eq at p.0) (values_at-hav
 
 index_numbers-length : (rank : ℕ) (v : Datum) (at : List ℕ) → 1 ≤ rank → index_numbers rank v ≡ Some at → length at ≡ rank
 index_numbers-length zero v at l e = absurd (omega (arith, l))
-index_numbers-length (suc zero) v at l e = let a = then-is (as_natural v) (λ n. Some (n ∷ [])) at e in let z : a.0 ∷ [] ≡ at = some-list _ at a.2 in ap length (sym z)
+index_numbers-length (suc zero) v at l e = let a = then-is (as_natural v) (λ n. Some (n ∷ [])) at e in let z : a.0 ∷ [] ≡ at = same_Some _ at a.2 in ap length (sym z)
 index_numbers-length (suc (suc rank)) v at l e =
     let a = then-is (as_tuple v >>= each as_natural) (λ at. if nat_eq (length at) (suc (suc rank)) then Some at else None) at e in
     chosen a.0 (nat_eq (length a.0) (suc (suc rank))) refl a.2
   where
     chosen : (ns : List ℕ) (b : Bool) → nat_eq (length ns) (suc (suc rank)) ≡ b → (if b then Some ns else None) ≡ Some at → length at ≡ suc (suc rank)
-    chosen ns true q k = let z : ns ≡ at = some-list ns at k in ap length (sym z) ∙ eqb-true (length ns) (suc (suc rank)) q
+    chosen ns true q k = let z : ns ≡ at = same_Some ns at k in ap length (sym z) ∙ eqb-true (length ns) (suc (suc rank)) q
     chosen ns false q k = cc
 
 greater_each-length : (ms ns : List ℕ) (k : ℕ) → length ms ≡ k → length ns ≡ k → length (greater_each ms ns) ≡ k
@@ -179,7 +177,7 @@ dims_above-length rank (at ∷ ats) h = greater_each-length (map suc at) (dims_a
 
 index-sound : (rank : ℕ) (A : Ty) (w v : Datum) → 1 ≤ rank → HasType (types.set_of (types.product (tys_of (index_type rank ∷ A ∷ [])))) w → index_of rank w ≡ Some v → HasType (types.array_of rank (types.set_of A)) v
 index-sound rank A w v l h e =
-    let a = then-is (as_set w >>= each (as_indexed rank)) (λ ps. indexed (dims_above rank (map (λ p. p.0) ps)) ps) v e in
+    let a = then-is (as_set w >>= each (as_indexed rank)) (λ ps. index_array (dims_above rank (map (λ p. p.0) ps)) ps) v e in
     let b = then-is (as_set w) (each (as_indexed rank)) a.0 a.1 in
     let members = (set-members (types.product (tys_of (index_type rank ∷ A ∷ []))) w b.0 h b.1).1 in
     let have = each-values (as_indexed rank) (HasType (types.product (tys_of (index_type rank ∷ A ∷ [])))) (λ p. HasType A p.1) (λ x p k m. as_indexed-sound rank (index_type rank) A x p k m) b.0 a.0 members b.2 in
@@ -200,15 +198,15 @@ index-sound rank A w v l h e =
         let a = then-is (part_of 1 2 x >>= index_numbers rank) (λ at. part_of 2 2 x >>= λ y. Some (at, y)) p m in
         let b = then-is (part_of 2 2 x) (λ y. Some (a.0, y)) p a.2 in
         let c = then-is (part_of 1 2 x) (index_numbers rank) a.0 a.1 in
-        let z : (a.0, b.0) ≡ p = some-list (a.0, b.0) p b.2 in
+        let z : (a.0, b.0) ≡ p = same_Some (a.0, b.0) p b.2 in
         ap (λ q. length q.0) (sym z) ∙ index_numbers-length rank c.0 a.0 l c.2
 
-pub cell-found : (T : Ty) (at : List ℕ) (ixs : List (List ℕ)) (cs : List Datum) (v : Datum) → Every (HasType T) cs → paired at (zip ixs cs) ≡ Some v → HasType T v
+pub cell-found : (T : Ty) (at : List ℕ) (ixs : List (List ℕ)) (cs : List Datum) (v : Datum) → Every (HasType T) cs → paired_value at (zip ixs cs) ≡ Some v → HasType T v
 cell-found T at [] cs v h e = cc
 cell-found T at (x ∷ ixs) [] v h e = cc
 cell-found T at (x ∷ ixs) (c ∷ cs) v h e = chosen (pointwise nat_eq at x) (λ k. cell-found T at ixs cs v h.1 k) e
   where
-    chosen : (b : Bool) → (paired at (zip ixs cs) ≡ Some v → HasType T v) → cond b (Some c) (paired at (zip ixs cs)) ≡ Some v → HasType T v
+    chosen : (b : Bool) → (paired_value at (zip ixs cs) ≡ Some v → HasType T v) → cond b (Some c) (paired_value at (zip ixs cs)) ≡ Some v → HasType T v
     chosen true later k = some-has T c v k h.0
     chosen false later k = later k
 
@@ -266,7 +264,7 @@ strict-sound (Strict.dim rank) Ts T vs v r h e =
   where
     sized : (ds : List ℕ) (b : Bool) → nat_eq (length ds) rank ≡ b → (es : List ℕ) → (if b then Some ds else None) ≡ Some es → HasType (index_type rank) (index_value es)
     sized ds true q es k =
-        let z : ds ≡ es = some-list ds es k in
+        let z : ds ≡ es = same_Some ds es k in
         subst (λ l. HasType (index_type rank) (index_value l)) z (subst (λ n. HasType (index_type n) (index_value ds)) (eqb-true (length ds) rank q) (index_value-has ds))
     sized ds false q es k = cc
 strict-sound (Strict.index rank) Ts T vs v r h e =

@@ -1,10 +1,10 @@
 -- Laws on types: instances of instances, types without a variable, and parts of types within the limits.
-use Rattle.std.proofs.Common.{ℕ, ◌≡◌, ◌+◌, ◌≤◌, Bool, true, false, ◌==◌, ◌||◌, ◌&&◌, refl, sym, ap, ◌∙◌, arith, if◌then◌else◌, max}
+use Rattle.std.proofs.Common.{ℕ, ◌≡◌, ◌+◌, ◌≤◌, Bool, true, false, ◌==◌, ◌&&◌, refl, sym, ap, ◌∙◌, arith, if◌then◌else◌, max, zero, suc}
 use Rattle.std.specs.Cmp.{first_so, second_so}
 use Rattle.std.specs.Cmp.Derive.{both_true}
 use Rattle.std.proofs.Math.Dec.{leb}
-use Rattle.std.proofs.lemmas.Bool.{eqb-true, leb-true, le-leb}
-use Rattle.aql_types.specs.Types.{Ty, natural, truth, text, var, product, set_of, array_of, Tys, no_type, type, Subst, apply, apply_all, occurs, occurs_all, nodes, nodes_all, levels, levels_all, IsType, AreTypes, is_type, are_types, IsWithin, fits, count, single, append, Sort, value, macro, apply_sort}
+use Rattle.std.proofs.lemmas.Bool.{eqb-true, leb-true, le-leb, or_parts}
+use Rattle.aql_types.specs.Types.{Ty, natural, truth, text, var, product, set_of, array_of, Tys, no_type, type, Subst, apply, apply_all, occurs, occurs_all, nodes, nodes_all, levels, levels_all, IsType, AreTypes, is_type, are_types, IsWithin, fits, count, single, append, Sort, value, macro, apply_sort, index_type, natural_types}
 
 -- tuples' parts are the same where the first and the others are
 pub row_is : {a c : Ty} {b d : Tys} → a ≡ c → b ≡ d → type a b ≡ type c d
@@ -78,10 +78,6 @@ pub apply_all-append : (u : Subst) (a b : Tys) → apply_all u (append a b) ≡ 
 apply_all-append u no_type b = refl
 apply_all-append u (type t a) b = ap (type (apply u t)) (apply_all-append u a b)
 
-pub or_false : (a b : Bool) → (a || b) ≡ false → (a ≡ false) × (b ≡ false)
-or_false true b e = cc
-or_false false b e = (refl, e)
-
 mutual
   pub absent_single : (x : ℕ) (s t : Ty) → occurs x t ≡ false → apply (single x s) t ≡ t
   absent_single x s natural e = refl
@@ -95,7 +91,7 @@ mutual
   pub absent_all : (x : ℕ) (s : Ty) (ts : Tys) → occurs_all x ts ≡ false → apply_all (single x s) ts ≡ ts
   absent_all x s no_type e = refl
   absent_all x s (type t ts) e =
-      let h = or_false (occurs x t) (occurs_all x ts) e in row_is (absent_single x s t h.0) (absent_all x s ts h.1)
+      let h = or_parts (occurs x t) (occurs_all x ts) e in row_is (absent_single x s t h.0) (absent_all x s ts h.1)
 
 -- The limits.
 
@@ -225,3 +221,21 @@ mutual
 
 pub within_before : (u : Subst) (t : Ty) → IsWithin (apply u t) → IsWithin t
 within_before u t h = let k = grows u t in (omega (arith, h.0, k.0), omega (arith, h.1, k.1), type_before u t h.2)
+
+-- Numbers and indices.
+
+-- types of numbers have no variables
+natural_types-apply : (u : Subst) (n : ℕ) → apply_all u (natural_types n) ≡ natural_types n
+natural_types-apply u zero = refl
+natural_types-apply u (suc n) = ap (type natural) (natural_types-apply u n)
+
+-- nor has the type of an index
+pub index_type-apply : (u : Subst) (k : ℕ) → apply u (index_type k) ≡ index_type k
+index_type-apply u zero = refl
+index_type-apply u (suc zero) = refl
+index_type-apply u (suc (suc k)) = ap (λ ts. product (type natural (type natural ts))) (natural_types-apply u k)
+
+-- types of numbers are types of the language
+pub natural_types-are : (n : ℕ) → AreTypes (natural_types n)
+natural_types-are zero = tt
+natural_types-are (suc n) = (tt, natural_types-are n)

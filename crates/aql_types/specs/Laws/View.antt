@@ -11,7 +11,8 @@ use Rattle.aql_types.specs.declared.ty.Tys as code_tys
 use Rattle.aql_types.specs.Types.{Tys, no_type, type, product, append, count}
 use Rattle.aql_types.specs.declared.equation.Equation.{Equation}
 use Rattle.aql_types.specs.Unifiers.{Equations}
-use Rattle.aql_types.specs.View.{type_of, types_of, row_of, listed, onto, equations_of}
+use Rattle.aql_types.specs.View.{type_of, types_of, row_of, equation_list, equations_of}
+use Rattle.aql_value.specs.Lists.{onto}
 
 pub row_of-items : {n : _} (k : Row_of-Ty n) → row_of k ≡ types_of (items-the_row-Ty n k)
 row_of-items end_of-Ty = refl
@@ -55,7 +56,7 @@ count_types (t ∷ ts) = omega (arith, count_types ts)
 -- Equations, of which the last comes first.
 
 onto_last : (ps : List Equation) (p : Equation) (acc : Equations) →
-    onto (listed (ps ++ (p ∷ []))) acc ≡ (type_of p.left, type_of p.right) ∷ onto (listed ps) acc
+    onto (equation_list (ps ++ (p ∷ []))) acc ≡ (type_of p.left, type_of p.right) ∷ onto (equation_list ps) acc
 onto_last [] p acc = refl
 onto_last (q ∷ ps) p acc = onto_last ps p ((type_of q.left, type_of q.right) ∷ acc)
 

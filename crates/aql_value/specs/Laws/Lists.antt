@@ -52,7 +52,7 @@ pub Every-lists : {A : Type 0} (P : A → Type 0) (xss : List (List A)) → Ever
 Every-lists P [] h = tt
 Every-lists P (xs ∷ xss) h = Every-append P xs (concat xss) h.0 (Every-lists P xss h.1)
 
-Every-range : (P : ℕ → Type 0) (a n : ℕ) → ((j : ℕ) → a ≤ j → j < a + n → P j) → Every P (range_with_len a n)
+pub Every-range : (P : ℕ → Type 0) (a n : ℕ) → ((j : ℕ) → a ≤ j → j < a + n → P j) → Every P (range_with_len a n)
 Every-range P a zero h = tt
 Every-range P a (suc n) h = (h a (omega arith) (omega arith), Every-range P (a + 1) n (λ j l m. h j (omega (arith, l)) (omega (arith, m))))
 
@@ -74,6 +74,12 @@ pub Every-drop : {A : Type 0} (P : A → Type 0) (n : ℕ) (xs : List A) → Eve
 Every-drop P zero xs h = h
 Every-drop P (suc n) [] h = tt
 Every-drop P (suc n) (x ∷ xs) h = Every-drop P n xs h.1
+
+-- a place within a list has an element
+pub entry-there : {A : Type 0} (xs : List A) (i : ℕ) → i < length xs → (x : A) × (slice_get xs i ≡ Some x)
+entry-there [] i h = absurd (omega (arith, h))
+entry-there (x ∷ xs) zero h = (x, refl)
+entry-there (x ∷ xs) (suc i) h = entry-there xs i (omega (arith, h))
 
 pub slice_get-append_left : {A : Type 0} (xs ys : List A) (i : ℕ) → i < length xs → slice_get (xs ++ ys) i ≡ slice_get xs i
 slice_get-append_left [] ys i h = absurd (omega (arith, h))

@@ -19,7 +19,7 @@ use Rattle.aql_value.specs.Laws.Indices.{length_indices}
 use Rattle.aql_value.specs.Laws.Set.{canon_append, canon_concat}
 use Rattle.aql_value.specs.Partial.{◌>>=◌, each, concat}
 use Rattle.aql_value.specs.Laws.Partial.{each-append}
-use Rattle.aql_value.specs.Operations.{as_natural, as_set, tuple_of, part_of, set_of, union_of, union_all, array_of, index_value, index_numbers, all_in_range, values_at, indexed, as_indexed, dims_above}
+use Rattle.aql_value.specs.Operations.{as_natural, as_set, tuple_of, part_of, set_of, union_of, union_all, array_of, index_value, index_numbers, all_in_range, values_at, index_array, as_indexed, dims_above}
 use Rattle.aql_value.specs.Strict.{Strict, strict_turns}
 
 -- a tuple is undefined at fewer than two values
@@ -86,7 +86,7 @@ pub array_of-made : (ds : List ℕ) (vs : List Datum) → 1 ≤ length ds → le
 array_of-made ds vs h k e = rw (lt-ltb 0 (length ds) (omega (arith, h)), lt-ltb (length ds) 9 (omega (arith, k)), eq-eqb (product ds) (length vs) e) refl
 
 -- an index array has a cell for each of its indices
-pub indexed-is : (ds : List ℕ) (ps : List (List ℕ × Datum)) (v : Datum) → indexed ds ps ≡ Some v →
+pub indexed-is : (ds : List ℕ) (ps : List (List ℕ × Datum)) (v : Datum) → index_array ds ps ≡ Some v →
     (all_in_range ds ≡ true) × (v ≡ array ds (data_of (map (λ at. set_of (values_at at ps)) (indices ds)))) × (1 ≤ length ds) × (length ds ≤ 8)
 indexed-is ds ps v e = go (all_in_range ds) refl e
   where

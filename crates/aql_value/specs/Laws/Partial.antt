@@ -1,8 +1,8 @@
 -- Laws of computations that may be undefined, or end early.
-use Rattle.std.specs.Prelude.{◌≡◌, ℕ, zero, suc, ◌+◌, List, [], ◌∷◌, ◌++◌, length, map, take, drop, Option, Some, None, refl, Result, Ok, Err, OnOk}
+use Rattle.std.specs.Prelude.{◌≡◌, ℕ, zero, suc, ◌+◌, List, [], ◌∷◌, ◌++◌, length, map, take, drop, Option, Some, None, refl, Result, Ok, Err, OnOk, Bool, true, false, cond}
 use Rattle.std.specs.List.{slice_get}
 use Rattle.std.proofs.Common.{ap, sym, ◌∙◌, subst, arith}
-use Rattle.aql_value.specs.Partial.{◌>>=◌, each, concat, total, if_some}
+use Rattle.aql_value.specs.Partial.{◌>>=◌, each, concat, total, if_some, or_else}
 use Rattle.aql_value.specs.Lists.{Every}
 
 pub then-none : {A B : Type 0} (o : Option A) (f : A → Option B) → ((x : A) → o ≡ Some x → f x ≡ None) → (o >>= f) ≡ None
@@ -22,6 +22,10 @@ then-ext (Some x) f g h = h x refl
 pub then-is : {A B : Type 0} (o : Option A) (f : A → Option B) (y : B) → (o >>= f) ≡ Some y → (x : A) × (o ≡ Some x) × (f x ≡ Some y)
 then-is None f y e = cc
 then-is (Some x) f y e = (x, refl, e)
+
+pub or_cond : {A : Type 0} (b : Bool) (x : A) (p q : Option A) → or_else (cond b (Some x) p) q ≡ cond b (Some x) (or_else p q)
+or_cond true x p q = refl
+or_cond false x p q = refl
 
 -- what follows where a call ends well
 pub on-ok : {A B P Q : Type 0} (r : Result A B) → (P → Q) → OnOk r P → OnOk r Q

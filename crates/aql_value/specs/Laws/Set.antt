@@ -58,9 +58,6 @@ joined : (z : Datum) (xs xs' ys ys' : List Datum) → (IsMember z xs → IsMembe
 joined z xs xs' ys ys' f g m =
     elim (member_split z xs ys m) as (λ _. IsMember z (xs' ++ ys')) [ inl a ↦ member_left z xs' ys' (f a) | inr b ↦ member_right z xs' ys' (g b) ]
 
-swapped : (z : Datum) (xs ys : List Datum) → IsMember z (xs ++ ys) → IsMember z (ys ++ xs)
-swapped z xs ys m = elim (member_split z xs ys m) as (λ _. IsMember z (ys ++ xs)) [ inl a ↦ member_right z ys xs a | inr b ↦ member_left z ys xs b ]
-
 pub canon_append : (xs ys : List Datum) → canon (canon xs ++ canon ys) ≡ canon (xs ++ ys)
 canon_append xs ys =
     canon_same (canon xs ++ canon ys) (xs ++ ys)

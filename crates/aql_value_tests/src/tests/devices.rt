@@ -147,7 +147,7 @@ fn uncut_sinks(rt: HostRuntime) {
 type Answers = [Result<Option<u64>, Failed>; 4];
 
 // What is answered of a file of ten bytes and of one that isn't there.
-fn asked(files: &mut impl Files) -> Answers {
+fn ask(files: &mut impl Files) -> Answers {
     let mut piece = [0u8; 4];
     let first = files.size("ten");
     let second = files.size("none");
@@ -176,7 +176,7 @@ fn told_files(alloc: Global, fails: &[u64]) -> Result<MemFiles, Memory> {
 // What is answered of told files, and how many calls failed.
 fn answers_of(files: Result<MemFiles, Memory>) -> Result<(Answers, u64), Memory> {
     let mut files = files?;
-    let answers = asked(&mut files);
+    let answers = ask(&mut files);
     let faults = files.faults();
     drop(files);
     Ok((answers, faults))
@@ -202,7 +202,7 @@ fn files(rt: HostRuntime) {
 
 fn sure_answers(alloc: Global) -> Answers {
     let mut sure = SureFiles::new(BTreeMap::new(alloc));
-    let answers = asked(&mut sure);
+    let answers = ask(&mut sure);
     drop(sure);
     answers
 }

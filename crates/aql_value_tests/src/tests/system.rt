@@ -120,7 +120,7 @@ type Refused = ((Size, u64), (Count, u64), Size, (Size, u64));
 
 // Of a file of ten bytes: its size, what a read of four from its byte 7 on answers, the three that
 // it has there, and what a read behind them answers.
-fn told<R: rt::Files>(files: &mut FileSystem<R>, name: &str) -> Told {
+fn tell<R: rt::Files>(files: &mut FileSystem<R>, name: &str) -> Told {
     let mut piece = [0u8; 4];
     let size = files.size(name);
     let last = files.read_at(name, 7, &mut piece);
@@ -144,13 +144,13 @@ fn read_and_faults<R: rt::Files>(files: &mut FileSystem<R>, name: &str) -> (Coun
 // written and removed.
 fn of_a_file<R: rt::Files>(files: &mut FileSystem<R>, rt: &R, name: &str) -> OfAFile {
     let is_written = fs::write(rt, name, "0123456789").is_ok();
-    let there = told(files, name);
+    let there = tell(files, name);
     let is_removed = fs::remove_file(rt, name).is_ok();
     (is_written, there, is_removed, size_and_faults(files, name))
 }
 
 // What is answered of a folder, of a name with a zero byte and of a device, each of which fails.
-fn refused<R: rt::Files>(files: &mut FileSystem<R>, folder: &str) -> Refused {
+fn refuse<R: rt::Files>(files: &mut FileSystem<R>, folder: &str) -> Refused {
     let size = size_and_faults(files, folder);
     let read = read_and_faults(files, folder);
     let zero = files.size("a\0b");
@@ -160,7 +160,7 @@ fn refused<R: rt::Files>(files: &mut FileSystem<R>, folder: &str) -> Refused {
 fn answers<R: rt::Files>(rt: &R, folder: &str, name: &str) -> (OfAFile, Refused) {
     let mut files = FileSystem::new(rt);
     let of_a_file = of_a_file(&mut files, rt, name);
-    let refused = refused(&mut files, folder);
+    let refused = refuse(&mut files, folder);
     drop(files);
     (of_a_file, refused)
 }

@@ -25,7 +25,7 @@ fn array(alloc: Global, rank: u64, cell: Made) -> Made {
 }
 
 // That many sets around a variable.
-fn nested(alloc: Global, depth: u64) -> Made {
+fn nest_sets(alloc: Global, depth: u64) -> Made {
     let mut t = Ok(Ty::Var(0));
     for _ in 0..depth {
         t = set_of(alloc, t);
@@ -43,7 +43,7 @@ fn variables(alloc: Global, n: u64) -> Made {
 }
 
 // The pairs of the variables 0 to n - 1, each with itself.
-fn doubled(alloc: Global, n: u64) -> Made {
+fn double_pairs(alloc: Global, n: u64) -> Made {
     let mut items = Vec::new(alloc);
     for i in 0..n {
         items.push(pair(alloc, Ok(Ty::Var(i)), Ok(Ty::Var(i)))?)?;
@@ -94,11 +94,11 @@ fn clash_where_no_unifier_is(rt: HostRuntime) {
 }
 
 fn deep_clashes(alloc: Global, depth: u64) -> Result<bool, Memory> {
-    clashes(alloc, nested(alloc, depth), Ok(Ty::Var(1)))
+    clashes(alloc, nest_sets(alloc, depth), Ok(Ty::Var(1)))
 }
 
 fn wide_clashes(alloc: Global, n: u64) -> Result<bool, Memory> {
-    clashes(alloc, variables(alloc, n), doubled(alloc, n))
+    clashes(alloc, variables(alloc, n), double_pairs(alloc, n))
 }
 
 #[test]
@@ -150,7 +150,7 @@ fn instances(rt: HostRuntime) {
 
 // The levels and the nodes of so many sets, and whether it fits.
 fn counts_of_sets(alloc: Global, depth: u64) -> Result<(u64, u64, bool), Memory> {
-    let deep = nested(alloc, depth)?;
+    let deep = nest_sets(alloc, depth)?;
     let counts = (deep.levels(), deep.nodes(), deep.fits());
     drop(deep);
     Ok(counts)
@@ -162,7 +162,7 @@ fn counts(rt: HostRuntime) {
     assert_same(&rt, found, Ok((513, 513, false)));
 }
 
-fn copied(alloc: Global, t: Made) -> Made {
+fn copy_made(alloc: Global, t: Made) -> Made {
     let t = t?;
     let made = t.copy(alloc);
     drop(t);
@@ -171,7 +171,7 @@ fn copied(alloc: Global, t: Made) -> Made {
 
 // The levels and the nodes of a copy.
 fn counts_in_copy(alloc: Global, t: Made) -> Result<(u64, u64), Memory> {
-    let copy = copied(alloc, t)?;
+    let copy = copy_made(alloc, t)?;
     let counts = (copy.levels(), copy.nodes());
     drop(copy);
     Ok(counts)
@@ -179,6 +179,6 @@ fn counts_in_copy(alloc: Global, t: Made) -> Result<(u64, u64), Memory> {
 
 #[test]
 fn counts_of_a_copy(rt: HostRuntime) {
-    let found = counts_in_copy(rt.alloc(), doubled(rt.alloc(), 10));
+    let found = counts_in_copy(rt.alloc(), double_pairs(rt.alloc(), 10));
     assert_same(&rt, found, Ok((3, 31)));
 }

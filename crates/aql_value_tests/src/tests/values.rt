@@ -37,7 +37,7 @@ fn text(alloc: Global, all: &[u8]) -> Result<Value, Memory> {
 }
 
 // Puts what was made behind the others.
-fn pushed(all: &mut Vec<Value>, made: Result<Value, Memory>) -> Result<(), Memory> {
+fn push_made(all: &mut Vec<Value>, made: Result<Value, Memory>) -> Result<(), Memory> {
     all.push(made?)?;
     Ok(())
 }
@@ -45,7 +45,7 @@ fn pushed(all: &mut Vec<Value>, made: Result<Value, Memory>) -> Result<(), Memor
 fn texts(alloc: Global, all: &[&[u8]]) -> Result<Items, Memory> {
     let mut items = Vec::new(alloc);
     for bytes in all {
-        pushed(&mut items, text(alloc, bytes))?;
+        push_made(&mut items, text(alloc, bytes))?;
     }
     Ok(Items { items })
 }
@@ -61,7 +61,7 @@ fn set(alloc: Global, all: &[u128]) -> Result<Value, Memory> {
 fn sets(alloc: Global, all: &[&[u128]]) -> Result<Items, Memory> {
     let mut items = Vec::new(alloc);
     for members in all {
-        pushed(&mut items, set(alloc, members))?;
+        push_made(&mut items, set(alloc, members))?;
     }
     Ok(Items { items })
 }
@@ -127,7 +127,7 @@ fn numbers_end_at_128_bits(rt: HostRuntime) {
     }
 }
 
-fn merged(
+fn merge_made(
     alloc: Global,
     a: Result<Ascending, Memory>,
     b: Result<Ascending, Memory>,
@@ -166,7 +166,7 @@ fn sets_have_each_member_once(rt: HostRuntime) {
 // The squares below 10, and 2, 4 and 11.
 fn squares_and_others(alloc: Global) -> Result<Ascending, Memory> {
     let squares = members(alloc, numbers(alloc, &[9, 0, 4, 1, 4, 0]));
-    merged(alloc, squares, members(alloc, numbers(alloc, &[11, 4, 2])))
+    merge_made(alloc, squares, members(alloc, numbers(alloc, &[11, 4, 2])))
 }
 
 #[test]
@@ -175,7 +175,7 @@ fn merged_sets_have_each_member_once(rt: HostRuntime) {
     let expected = &[0, 1, 2, 4, 9, 11];
     assert_members(&rt, squares_and_others(alloc), numbers(alloc, expected));
     let none = members(alloc, numbers(alloc, &[]));
-    let all = merged(alloc, none, squares_and_others(alloc));
+    let all = merge_made(alloc, none, squares_and_others(alloc));
     assert_members(&rt, all, numbers(alloc, expected));
 }
 
@@ -234,7 +234,7 @@ const ASCENDING: &[Made] = &[
 fn ascending_values(alloc: Global) -> Result<Vec<Value>, Memory> {
     let mut all = Vec::new(alloc);
     for made in ASCENDING {
-        pushed(&mut all, make(alloc, *made))?;
+        push_made(&mut all, make(alloc, *made))?;
     }
     Ok(all)
 }
@@ -242,7 +242,7 @@ fn ascending_values(alloc: Global) -> Result<Vec<Value>, Memory> {
 // The order of two values by each call that tells it, and what each comparison of them says.
 type Compared = ([Ordering; 2], bool, [bool; 6]);
 
-fn compared(x: &Value, y: &Value) -> Compared {
+fn compare_both(x: &Value, y: &Value) -> Compared {
     let holding = [
         CompareOp::Equal.holds(x, y),
         CompareOp::Unequal.holds(x, y),
@@ -263,7 +263,7 @@ fn compared_places(i: usize, j: usize) -> Compared {
 // The order of a value with each is that of their places.
 fn assert_order(rt: &impl Abort, i: usize, x: &Value, all: &[Value]) {
     for (j, y) in all.iter().enumerate() {
-        assert_same(rt, compared(x, y), compared_places(i, j));
+        assert_same(rt, compare_both(x, y), compared_places(i, j));
     }
 }
 

@@ -2,7 +2,7 @@ use crate::tests::same::assert_same;
 use aql_words::{Options, WordFault, read_words};
 use std::alloc::{AllocError, Global};
 
-fn pushed(alloc: Global, all: &mut Vec<String>, word: &str) -> Result<(), AllocError> {
+fn push_word(alloc: Global, all: &mut Vec<String>, word: &str) -> Result<(), AllocError> {
     let word = String::from_str(alloc, word)?;
     all.push(word)?;
     Ok(())
@@ -11,9 +11,9 @@ fn pushed(alloc: Global, all: &mut Vec<String>, word: &str) -> Result<(), AllocE
 // The program's name and these words.
 fn command_line(alloc: Global, words: &[&str]) -> Result<Vec<String>, AllocError> {
     let mut all = Vec::new(alloc);
-    pushed(alloc, &mut all, "aql")?;
+    push_word(alloc, &mut all, "aql")?;
     for word in words {
-        pushed(alloc, &mut all, word)?;
+        push_word(alloc, &mut all, word)?;
     }
     Ok(all)
 }

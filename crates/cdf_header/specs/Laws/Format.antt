@@ -22,10 +22,10 @@ unless_err : (o : Option FieldFault) (r : Result Head FieldFault) (f : FieldFaul
 unless_err None r f e = inr (refl, e)
 unless_err (Some g) r f e = inl (ap Some (let p : g ≡ f = cc in p))
 
-abbrev pub answered : Head → Result Head FieldFault
-answered h = Ok h
+abbrev pub header_answer : Head → Result Head FieldFault
+header_answer h = Ok h
 
-pub ok_is : (x y : Head) → answered x ≡ answered y → x ≡ y
+pub ok_is : (x y : Head) → header_answer x ≡ header_answer y → x ≡ y
 ok_is x y e = cc
 
 abbrev stands : Kind → List ℕ → ℕ → Field

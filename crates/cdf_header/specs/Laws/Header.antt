@@ -1,59 +1,41 @@
 -- Laws on the header of a file: the function `header_of` of its bytes, and the relation of what good fields spell, say the same.
-use Rattle.std.proofs.Common.{◌≡◌, ℕ, List, length, Bool, true, false, Some, Result, Ok, Err, refl, sym, ap, subst, ◌∙◌, inl, inr, nat_eq, eq-eqb, if◌then◌else◌}
-use Rattle.std.proofs.lemmas.Bool.{cases_Bool, le-leb, leb-true, eqb-true}
-use Rattle.std.specs.Prelude.{◌⊎◌, ◌&&◌, ◌||◌}
+use Rattle.std.proofs.Common.{◌≡◌, ℕ, List, length, true, false, Some, Result, Ok, Err, refl, sym, ap, subst, ◌∙◌, inl, inr, nat_eq, eq-eqb, if◌then◌else◌}
+use Rattle.std.proofs.lemmas.Bool.{cases_Bool, le-leb, leb-true, eqb-true, and_from, and_parts, or_left, or_right, or_cases}
+use Rattle.std.specs.Prelude.{◌||◌}
 use Rattle.cdf_header.specs.declared.fault.FieldFault.{FieldFault}
 use Rattle.cdf_header.specs.declared.fault.FieldFault.TheVariants.{Short, Malformed, TooMany}
 use Rattle.cdf_header.specs.declared.fault.CdfFault.{CdfFault}
 use Rattle.cdf_header.specs.declared.fault.CdfFault.TheVariants as faults
 use Rattle.cdf_header.specs.Format.{header, done, parse, Kind, fault_at}
-use Rattle.cdf_header.specs.File.{IsClassic, IsVersion, FirstFails, HeaderAnswer, IsAnswered, is_classic, is_known, field_fault, fields_answer, fields_of, header_of, version, first}
+use Rattle.cdf_header.specs.File.{IsClassic, IsVersion, FirstFails, HeaderAnswer, AnswersIfAble, is_classic, is_known, field_fault, fields_answer, fields_of, header_of, version, first}
 use Rattle.cdf_header.specs.Header.{Head}
 use Rattle.cdf_header.specs.Laws.Format.{parse_spells, parse_fails, spells_parse, fails_parse, short_at, malformed_at}
 use Rattle.cdf_header.specs.Laws.Size.{header-bytes}
 
 -- ---- the tests of the function and of the relation
 
-both : (a b : Bool) → a ≡ true → b ≡ true → (a && b) ≡ true
-both a b e f = ap (λ x. x && b) e ∙ f
-
-split : (a b : Bool) → (a && b) ≡ true → (a ≡ true) × (b ≡ true)
-split true b e = (refl, e)
-split false b e = cc
-
 pub classic-true : (bytes : List ℕ) → IsClassic bytes → is_classic bytes ≡ true
-classic-true bytes (l, c, d, f) = both _ _ (le-leb _ _ l) (both _ _ (eq-eqb _ _ c) (both _ _ (eq-eqb _ _ d) (eq-eqb _ _ f)))
+classic-true bytes (l, c, d, f) = and_from _ _ (le-leb _ _ l) (and_from _ _ (eq-eqb _ _ c) (and_from _ _ (eq-eqb _ _ d) (eq-eqb _ _ f)))
 
 pub classic-is : (bytes : List ℕ) → is_classic bytes ≡ true → IsClassic bytes
 classic-is bytes e =
-    let a = split _ _ e in
-    let b = split _ _ a.1 in
-    let c = split _ _ b.1 in
+    let a = and_parts _ _ e in
+    let b = and_parts _ _ a.1 in
+    let c = and_parts _ _ b.1 in
     (leb-true _ _ a.0, eqb-true _ _ b.0, eqb-true _ _ c.0, eqb-true _ _ c.1)
 
 pub classic-false : (bytes : List ℕ) → (IsClassic bytes → ⊥) → is_classic bytes ≡ false
 classic-false bytes h = elim (cases_Bool (is_classic bytes)) [ inl e ↦ absurd (h (classic-is bytes e)) | inr e ↦ e ]
 
-either-left : (a b : Bool) → a ≡ true → (a || b) ≡ true
-either-left a b e = ap (λ x. x || b) e
-
-either-right : (a b : Bool) → b ≡ true → (a || b) ≡ true
-either-right true b e = refl
-either-right false b e = e
-
 pub known-true : (v : ℕ) → IsVersion v → is_known v ≡ true
-known-true v (inl e) = either-left (nat_eq v 1) (nat_eq v 2 || nat_eq v 5) (eq-eqb v 1 e)
-known-true v (inr (inl e)) = either-right (nat_eq v 1) (nat_eq v 2 || nat_eq v 5) (either-left (nat_eq v 2) (nat_eq v 5) (eq-eqb v 2 e))
-known-true v (inr (inr e)) = either-right (nat_eq v 1) (nat_eq v 2 || nat_eq v 5) (either-right (nat_eq v 2) (nat_eq v 5) (eq-eqb v 5 e))
-
-one-of : (a b : Bool) → (a || b) ≡ true → (a ≡ true) ⊎ (b ≡ true)
-one-of true b e = inl refl
-one-of false b e = inr e
+known-true v (inl e) = or_left (nat_eq v 1) (nat_eq v 2 || nat_eq v 5) (eq-eqb v 1 e)
+known-true v (inr (inl e)) = or_right (nat_eq v 1) (nat_eq v 2 || nat_eq v 5) (or_left (nat_eq v 2) (nat_eq v 5) (eq-eqb v 2 e))
+known-true v (inr (inr e)) = or_right (nat_eq v 1) (nat_eq v 2 || nat_eq v 5) (or_right (nat_eq v 2) (nat_eq v 5) (eq-eqb v 5 e))
 
 pub known-is : (v : ℕ) → is_known v ≡ true → IsVersion v
-known-is v e = elim (one-of (nat_eq v 1) (nat_eq v 2 || nat_eq v 5) e) [
+known-is v e = elim (or_cases (nat_eq v 1) (nat_eq v 2 || nat_eq v 5) e) [
   | inl f ↦ inl (eqb-true v 1 f)
-  | inr g ↦ elim (one-of (nat_eq v 2) (nat_eq v 5) g) [ inl f ↦ inr (inl (eqb-true v 2 f)) | inr f ↦ inr (inr (eqb-true v 5 f)) ]
+  | inr g ↦ elim (or_cases (nat_eq v 2) (nat_eq v 5) g) [ inl f ↦ inr (inl (eqb-true v 2 f)) | inr f ↦ inr (inr (eqb-true v 5 f)) ]
 ]
 
 pub known-false : (v : ℕ) → (IsVersion v → ⊥) → is_known v ≡ false
@@ -92,7 +74,7 @@ first-fails bytes at why f =
     header_of-fields bytes f.classic f.known ∙ ap fields_answer p.1 ∙ ap (λ g. Err (field_fault g)) same
 
 -- a header that good fields spell, and the fault of the first that fails, are answered
-pub reading-answered : (bytes : List ℕ) (r : Result Head CdfFault) → HeaderAnswer bytes r → IsAnswered (header_of bytes) r
+pub reading-answered : (bytes : List ℕ) (r : Result Head CdfFault) → HeaderAnswer bytes r → AnswersIfAble (header_of bytes) r
 reading-answered bytes (Ok h) r =
     header_of-fields bytes r.classic r.known ∙ ap fields_answer (spells_parse (header (length bytes) (version bytes) done) (first bytes) 4 r.fields h r.spells)
 reading-answered bytes (Err faults.Absent) r = absurd r
@@ -151,7 +133,7 @@ reading-header_of bytes =
     ]
 
 -- what is answered, the device and memory apart, is what the relation says
-pub answered-reading : (bytes : List ℕ) (r : Result Head CdfFault) → IsAnswered (header_of bytes) r → HeaderAnswer bytes r
+pub answered-reading : (bytes : List ℕ) (r : Result Head CdfFault) → AnswersIfAble (header_of bytes) r → HeaderAnswer bytes r
 answered-reading bytes (Ok h) a = subst (HeaderAnswer bytes) a (reading-header_of bytes)
 answered-reading bytes (Err faults.Device) a = tt
 answered-reading bytes (Err faults.Memory) a = tt

@@ -1,7 +1,7 @@
 // Headers of small files, of cut and changed ones, and over devices that fail or give few bytes.
 use crate::tests::devices::{failing, few_bytes, name_of};
 use crate::tests::netcdf_files::{
-    ONE_RECORD_VARIABLE, TEMPERATURES, TWO_RECORD_VARIABLES, VERSION_5, bytes_of, changed,
+    ONE_RECORD_VARIABLE, TEMPERATURES, TWO_RECORD_VARIABLES, VERSION_5, bytes_of, change_words,
     header_of, header_over, index_of,
 };
 use crate::tests::same::assert_same;
@@ -27,7 +27,7 @@ fn header_in(
     changes: &[(usize, u32)],
     size: usize,
 ) -> Result<Header, CdfFault> {
-    header_of(alloc, changed(alloc, words, changes, size))
+    header_of(alloc, change_words(alloc, words, changes, size))
 }
 
 fn length_in(header: &Header, name: &Str, j: u64) -> Option<u128> {
@@ -56,7 +56,7 @@ fn kind_in(header: &Header, name: &Str) -> Option<u32> {
 // The bytes of the file, and a variable's first length, kind and place of a cell.
 type Told = (u64, Option<u128>, Option<u32>, Option<u128>);
 
-fn told(alloc: Global, words: &[u32], name: &[u8], at: &[u128]) -> Result<Told, CdfFault> {
+fn tell_header(alloc: Global, words: &[u32], name: &[u8], at: &[u128]) -> Result<Told, CdfFault> {
     let header = header_in(alloc, words, &[], WHOLE)?;
     let (name, at) = both(name_of(alloc, name), index_of(alloc, at))?;
     let length = length_in(&header, &name, 0);
@@ -78,7 +78,7 @@ const PLACES: &[(&[u32], &[u8], &[u128], u64, u128, u32, u128)] = &[
 #[test]
 fn places(rt: HostRuntime) {
     for row in PLACES {
-        let found = told(rt.alloc(), row.0, row.1, row.2);
+        let found = tell_header(rt.alloc(), row.0, row.1, row.2);
         let wanted = (row.3, Some(row.4), Some(row.5), Some(row.6));
         assert_same(&rt, found, Ok(wanted));
     }
@@ -87,7 +87,7 @@ fn places(rt: HostRuntime) {
 #[test]
 fn no_places_of_other_names(rt: HostRuntime) {
     for row in PLACES {
-        let found = told(rt.alloc(), row.0, b"none", row.2);
+        let found = tell_header(rt.alloc(), row.0, b"none", row.2);
         assert_same(&rt, found, Ok((row.3, None, None, None)));
     }
 }
@@ -226,7 +226,7 @@ fn changed_fields(rt: HostRuntime) {
     meet(&rt, rt.alloc(), CHANGED_FIELDS);
 }
 
-fn streamed(
+fn stream_changed(
     alloc: Global,
     words: &[u32],
     changes: &[(usize, u32)],
@@ -254,7 +254,7 @@ const STREAMED: &[Streamed] = &[
 #[test]
 fn streaming(rt: HostRuntime) {
     for row in STREAMED {
-        let found = streamed(rt.alloc(), row.0, row.1, row.2, row.3);
+        let found = stream_changed(rt.alloc(), row.0, row.1, row.2, row.3);
         assert_same(&rt, found, Ok(Some(row.4)));
     }
 }

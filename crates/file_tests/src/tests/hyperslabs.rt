@@ -2,7 +2,7 @@
 use crate::tests::asked::{ALL, Answer, Asked, CELLS, agrees, read_sure};
 use crate::tests::devices::sure;
 use crate::tests::netcdf_files::{
-    ONE_RECORD_VARIABLE, TEMPERATURES, TWO_RECORD_VARIABLES, VERSION_5, bytes_of, changed,
+    ONE_RECORD_VARIABLE, TEMPERATURES, TWO_RECORD_VARIABLES, VERSION_5, bytes_of, change_words,
     header_of,
 };
 use crate::tests::same::assert_same;
@@ -30,8 +30,8 @@ type Case<'a> = (
 
 fn case_agrees(alloc: Global, case: &Case) -> bool {
     let (words, changes, size, variable, request, expected) = *case;
-    let files = sure(alloc, changed(alloc, words, changes, size));
-    let header = header_of(alloc, changed(alloc, words, changes, size));
+    let files = sure(alloc, change_words(alloc, words, changes, size));
+    let header = header_of(alloc, change_words(alloc, words, changes, size));
     agrees(
         &read_sure(alloc, files, header, variable, request),
         expected,

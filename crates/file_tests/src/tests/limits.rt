@@ -63,11 +63,11 @@ fn assert_long_header(rt: &impl Abort, alloc: Global, row: &LongHeader) {
     assert_same(
         rt,
         [in_last, in_attribute],
-        [malformed(row.2), malformed(64)],
+        [malformed_at(row.2), malformed_at(64)],
     );
 }
 
-fn malformed(at: u64) -> Result<Option<CdfFault>, Memory> {
+fn malformed_at(at: u64) -> Result<Option<CdfFault>, Memory> {
     Ok(Some(CdfFault::Malformed { at }))
 }
 

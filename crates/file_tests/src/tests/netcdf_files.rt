@@ -61,7 +61,7 @@ fn changed_words(
 }
 
 /// The first bytes, as many as the size says, of the words, of which some are changed.
-pub fn changed(
+pub fn change_words(
     alloc: Global,
     words: &[u32],
     changes: &[(usize, u32)],

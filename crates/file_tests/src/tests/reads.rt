@@ -137,7 +137,7 @@ fn short_at(i: u32) -> u16 {
 }
 
 // The bytes of every so many-th short from the first.
-fn spaced(alloc: Global, stride: u32, count: u32) -> Result<Vec<u8>, Memory> {
+fn space_out(alloc: Global, stride: u32, count: u32) -> Result<Vec<u8>, Memory> {
     let mut bytes = Vec::new(alloc);
     for i in 0..count {
         let short = short_at(i.wrapping_mul(stride));
@@ -155,13 +155,13 @@ fn read_row(alloc: Global, below: u32, count: u128, stride: u128) -> Result<Flat
 }
 
 fn row_agrees(alloc: Global, stride: u32, count: u32) -> Result<bool, Memory> {
-    let expected = spaced(alloc, stride, count)?;
+    let expected = space_out(alloc, stride, count)?;
     let found = read_row(alloc, 40000, u128::from(count), u128::from(stride));
     Ok(agrees(&found, Ok((16, &expected))))
 }
 
 // How many bytes are asked for, where every so many-th short is read.
-fn asked(alloc: Global, stride: u128, count: u128) -> Option<u64> {
+fn bytes_wanted(alloc: Global, stride: u128, count: u128) -> Option<u64> {
     let (count, stride) = ([count], [stride]);
     let request = Asked::Naturals(&[0], &count, &stride);
     let files = few_bytes(alloc, long_row(alloc, 40000), usize::MAX);
@@ -185,7 +185,7 @@ const ASKED_FOR: &[(u128, u128, u64)] = &[
 #[test]
 fn bytes_asked_for(rt: HostRuntime) {
     for row in ASKED_FOR {
-        let found = asked(rt.alloc(), row.0, row.1);
+        let found = bytes_wanted(rt.alloc(), row.0, row.1);
         assert_same(&rt, found, Some(row.2));
     }
 }

@@ -263,7 +263,7 @@ fn members(value: &Value) -> u64 {
 }
 
 // How many members the set of a file has, and whether the file has more than a megabyte.
-fn told(found: Result<Csv, CsvFault>) -> (u64, bool) {
+fn tell_csv(found: Result<Csv, CsvFault>) -> (u64, bool) {
     match found {
         Ok(csv) => {
             let told = (members(&csv.value), csv.bytes > 1048576);
@@ -282,6 +282,6 @@ fn large_files(rt: HostRuntime) {
     for different in [70000, 3] {
         let bytes = many(alloc, 180000, different);
         let found = read_bytes(alloc, bytes, "HNS", 50000000);
-        assert!(rt; told(found) == (different, true), "{different}");
+        assert!(rt; tell_csv(found) == (different, true), "{different}");
     }
 }

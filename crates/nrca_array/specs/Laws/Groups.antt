@@ -13,7 +13,7 @@ use Rattle.aql_value.specs.Laws.Lists.{length-below, slice_get-below, Every-belo
 use Rattle.nrca_sets.specs.Pairs.{pair_cmp}
 use Rattle.nrca_sets.specs.Runs.{count_below, run_starts}
 use Rattle.nrca_sets.specs.Laws.Runs.{firsts_rise, count_rises, count_within, run_is}
-use Rattle.nrca_array.specs.Groups.{start_of, groups_at, AreGroups, numbers_set, second_numbers, seconds_at, seconds_below, seconds_table}
+use Rattle.nrca_array.specs.Groups.{group_begin, groups_at, AreGroups, numbers_set, second_numbers, seconds_at, seconds_below, seconds_table}
 use Rattle.aql_value.specs.Indices.{IsTable}
 
 -- equal images of each element
@@ -49,21 +49,21 @@ seconds_ascend i (p ∷ ps) h = go (nat_eq p.0 i) refl (seconds_ascend i ps h.1)
     go true e k = (seconds_above i p ps e h.0, k)
     go false e k = k
 
-start_is : (n i : ℕ) (ps : List (ℕ × ℕ)) → i ≤ n → start_of (run_starts n ps) i ≡ count_below i ps
+start_is : (n i : ℕ) (ps : List (ℕ × ℕ)) → i ≤ n → group_begin (run_starts n ps) i ≡ count_below i ps
 start_is n i ps h =
     get_or_from_slice_get (run_starts n ps) i (count_below i ps) 0
     (slice_get-map (λ k. count_below k ps) (below (suc n)) i ∙ ap (option_map (λ k. count_below k ps)) (slice_get-below (suc n) i (omega (arith, h))))
 
 -- the second numbers of pairs that ascend, cut at the places where the first number changes
 module _ (n : ℕ) (ps : List (ℕ × ℕ)) (sorted : IsStrictlySortedBy pair_cmp ps) where
-  run_at : (i : ℕ) → i < n → slice_range (second_numbers ps) (start_of (run_starts n ps) i) (start_of (run_starts n ps) (suc i)) ≡ seconds_at i ps
+  run_at : (i : ℕ) → i < n → slice_range (second_numbers ps) (group_begin (run_starts n ps) i) (group_begin (run_starts n ps) (suc i)) ≡ seconds_at i ps
   run_at i h =
       (λ k. slice_range (second_numbers ps) (start_is n i ps (omega (arith, h)) k) (start_is n (suc i) ps (omega (arith, h)) k))
       ∙ sym (map-range (λ p. p.1) ps (count_below i ps) (count_below (suc i) ps))
       ∙ ap (map (λ p. p.1)) (sym (run_is i ps (firsts_rise ps sorted)))
 
   pub groups_are : groups_at n (run_starts n ps) (second_numbers ps) ≡ seconds_below n ps
-  groups_are = map-below (λ i. slice_range (second_numbers ps) (start_of (run_starts n ps) i) (start_of (run_starts n ps) (suc i))) (λ i. seconds_at i ps) n run_at
+  groups_are = map-below (λ i. slice_range (second_numbers ps) (group_begin (run_starts n ps) i) (group_begin (run_starts n ps) (suc i))) (λ i. seconds_at i ps) n run_at
 
   pub runs_group : AreGroups n (run_starts n ps) (second_numbers ps)
   runs_group = record {

@@ -8,7 +8,7 @@ use Rattle.aql_value.specs.Laws.Set.{canon_append_left, canon_append_right}
 use Rattle.aql_value.specs.Partial.{◌>>=◌}
 use Rattle.nrca_loops.specs.Laws.Run.{all_members-with}
 use Rattle.nrca_loops.specs.Runs.{all_members, list_with, sets_join, union_value}
-use Rattle.nrca_loops.specs.Scope.{set_in}
+use Rattle.nrca_loops.specs.Values.{set_in}
 
 -- the set of the members of one set more
 pub union_value-with : (vs : Option (List Datum)) (v : Option Datum) → union_value (list_with vs v) ≡ sets_join (union_value vs) (set_in v)

@@ -3,13 +3,13 @@ use Rattle.std.proofs.Common.{◌≡◌, ℕ, ◌<◌, Bool, true, false, nat_lt
 use Rattle.std.proofs.lemmas.Bool.{ltb-true, lt-ltb}
 use Rattle.std.specs.declared.cmp.Ordering.TheVariants.{Less, Greater}
 use Rattle.std.specs.Cmp.{nat_cmp_is}
+use Rattle.std.proofs.lemmas.Option.{same_Some}
 use Rattle.aql_value.specs.declared.ops.CompareOp.{CompareOp}
 use Rattle.aql_value.specs.Datum.{Datum, natural, truth}
 use Rattle.aql_value.specs.Order.{datum_cmp}
 use Rattle.aql_value.specs.Ops.{compare_by}
 use Rattle.aql_value.specs.Partial.{◌>>=◌}
 use Rattle.aql_value.specs.Laws.Partial.{then-is}
-use Rattle.aql_types.specs.Laws.Operation.{some-list}
 use Rattle.aql_value.specs.Strict.{Strict, strict_value}
 use Rattle.nrca_term.specs.Term.{Term}
 use Rattle.nrca_term.specs.Nodes.{compare_term}
@@ -39,9 +39,9 @@ numbers-decided op x y v w t g h e = at (nat_lt x.1 y.0) (nat_lt y.1 x.0) refl r
     at : (p q : Bool) → nat_lt x.1 y.0 ≡ p → nat_lt y.1 x.0 ≡ q → (if p then Some (compare_by op Less) else (if q then Some (compare_by op Greater) else None)) ≡ Some t →
         compare_by op (datum_cmp v w) ≡ t
     at true q k l z =
-        ap (compare_by op) (order ∙ sym (nat_cmp_is g.0 h.0 Less (omega (arith, ltb-true x.1 y.0 k, g.3, h.2)))) ∙ some-list (compare_by op Less) t z
+        ap (compare_by op) (order ∙ sym (nat_cmp_is g.0 h.0 Less (omega (arith, ltb-true x.1 y.0 k, g.3, h.2)))) ∙ same_Some (compare_by op Less) t z
     at false true k l z =
-        ap (compare_by op) (order ∙ sym (nat_cmp_is g.0 h.0 Greater (omega (arith, ltb-true y.1 x.0 l, g.2, h.3)))) ∙ some-list (compare_by op Greater) t z
+        ap (compare_by op) (order ∙ sym (nat_cmp_is g.0 h.0 Greater (omega (arith, ltb-true y.1 x.0 l, g.2, h.3)))) ∙ same_Some (compare_by op Greater) t z
     at false false k l z = cc
 
 -- so the comparison has the truth value, wherever the facts hold and both sides have values

@@ -1,6 +1,7 @@
 -- The cell at an index below the dimensions of an array.
-use Rattle.std.proofs.Common.{◌≡◌, ℕ, zero, suc, ◌+◌, ◌*◌, ◌<◌, true, List, [], ◌∷◌, length, map, Some, refl, sym, ap, subst, ◌∙◌, arith}
+use Rattle.std.proofs.Common.{◌≡◌, ℕ, ◌+◌, ◌*◌, ◌<◌, true, List, [], ◌∷◌, length, map, get_or, Some, refl, sym, ap, subst, ◌∙◌, arith}
 use Rattle.std.proofs.lemmas.Bool.{lt-ltb, and_parts}
+use Rattle.std.proofs.lemmas.Option.{slice_get-get_or}
 use Rattle.std.specs.List.{slice_get}
 use Rattle.aql_value.specs.Datum as datum
 use Rattle.aql_value.specs.Datum.{Datum, Data, array, Table, data_of, list_of}
@@ -34,24 +35,18 @@ index-there (i ∷ is) (b ∷ bs) (d ∷ ds) (n ∷ ns) e h k =
     let r = index-there is bs ds ns p.1 h.1 k.1 in
     (n * product ds + r.0, rw (lt-ltb n d (below-is (interval_of b) i n d p.0 (interval-is b n k.0) h.0), r.1) refl)
 
--- an entry of a list
-entry : (vs : List Datum) (k : ℕ) → k < length vs → (y : Datum) × (slice_get vs k ≡ Some y)
-entry [] k l = absurd (omega (arith, l))
-entry (v ∷ vs) zero l = (v, refl)
-entry (v ∷ vs) (suc k) l = entry vs k (omega (arith, l))
-
 -- the cell of an array that has the shape, at numbers that are always an index of one
 pub cell-there : (b : Bounds) (bs : List Bounds) (ds ns : List ℕ) (vs : List Datum) → is_index b bs ≡ true → HasShape b (array ds (data_of vs)) → HaveShapes (row_of bs) (numbers ns) → product ds ≡ length vs →
     (y : Datum) × (cell (record { dims = ds; cells = list_of (data_of vs) }) ns ≡ Some y)
 cell-there (grid is c) bs ds ns vs e h k p =
     let z : h.0 ≡ ds = sym (same-dims ds h.0 (data_of vs) h.1 h.2) in
     let o = index-there is bs ds ns e (subst (AreIn is) z h.3) k in
-    let y = entry vs o.0 (omega (arith, offset_of_within ds ns o.0 o.1, p)) in (
-      y.0,
+    let l : o.0 < length vs = omega (arith, offset_of_within ds ns o.0 o.1, p) in (
+      get_or vs o.0 (datum.natural 0),
       cell-offset_of (record { dims = ds; cells = list_of (data_of vs) }) ns
           ∙ ap (λ q. q >>= slice_get (list_of (data_of vs))) o.1
-          ∙ ap (λ l. slice_get l o.0) (list_of-data_of vs)
-          ∙ y.1,
+          ∙ ap (λ xs. slice_get xs o.0) (list_of-data_of vs)
+          ∙ slice_get-get_or vs o.0 (datum.natural 0) l,
     )
 cell-there unknown bs ds ns vs e h k p = cc
 cell-there (number i) bs ds ns vs e h k p = cc

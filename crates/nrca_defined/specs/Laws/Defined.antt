@@ -2,6 +2,7 @@
 use Rattle.std.proofs.Common.{◌≡◌, ℕ, zero, suc, ◌+◌, ◌*◌, ◌-◌, ◌<◌, ◌≤◌, ◌^◌, Bool, true, false, ◌&&◌, ◌||◌, sum, List, [], ◌∷◌, ◌++◌, length, map, Option, Some, None, unwrap_or, refl, sym, ap, subst, ◌∙◌, arith, if◌then◌else◌, eq-eqb}
 use Rattle.std.specs.List.{slice_get}
 use Rattle.std.proofs.lemmas.Bool.{lt-ltb, and_parts}
+use Rattle.std.proofs.lemmas.Option.{same_Some}
 use Rattle.aql_value.specs.Datum.{Datum}
 use Rattle.aql_value.specs.Laws.Lists.{Every-impl, Every-map}
 use Rattle.aql_value.specs.Laws.Partial.{each-total, each-length, each-values}
@@ -9,13 +10,13 @@ use Rattle.aql_value.specs.Lists.{Every}
 use Rattle.aql_value.specs.Operations.{as_natural, as_set, sum_of}
 use Rattle.aql_value.specs.Partial.{◌>>=◌, each, or_else}
 use Rattle.aql_value.specs.Strict.{strict_value}
-use Rattle.aql_types.specs.Laws.Operation.{has-append, has-length, some-list}
+use Rattle.aql_types.specs.Laws.Operation.{has-append, has-length}
 use Rattle.aql_types.specs.Types as types
 use Rattle.aql_types.specs.Types.{Ty, natural}
 use Rattle.aql_types.specs.ValueTypes.{HasType, HaveTypes}
 use Rattle.nrca_term.specs.Term.{Term, Parts, node, none, part, Form, count, WellFormed}
 use Rattle.nrca_term.specs.Meaning.{Outcomes, Part, worth, form_value, members_value, loop_values, cden, part_values}
-use Rattle.nrca_term.specs.Places.{otherwise, entered}
+use Rattle.nrca_term.specs.Places.{otherwise, entry_values}
 use Rattle.nrca_term.specs.Typing.{Arg, arg, form_rule, ctyped, parts_typed, instances, OutcomesHave}
 use Rattle.nrca_term.specs.Facts.{Context, enter_facts, FactsHold}
 use Rattle.nrca_term.specs.Firm.{wants_all, firm}
@@ -100,10 +101,10 @@ one-certain gs c t j (part k u ps) h = at (λ q. one-certain gs c t (suc j) ps q
 
 -- each part that is certain to have a value has one at each list of values with which an evaluation of the node comes to it
 abbrev pub CertainParts : List (Option Bounds) → Outcomes → Context → List Datum → Form → Parts → Type 0
-CertainParts gs V c vals f ps = (i : ℕ) → i < count ps → certain_part gs c (node f ps) 0 ps i ≡ true → Every (λ new. Valued (worth (part_values V vals ps) i new)) (entered f (part_values V vals ps) i)
+CertainParts gs V c vals f ps = (i : ℕ) → i < count ps → certain_part gs c (node f ps) 0 ps i ≡ true → Every (λ new. Valued (worth (part_values V vals ps) i new)) (entry_values f (part_values V vals ps) i)
 
 -- a default is worth its first part, and else its second
-default-valued : (V : Outcomes) (vals : List Datum) (ps : List Part) (i : ℕ) → i < 2 → Every (λ new. Valued (worth ps i new)) (entered Form.default ps i) → Valued (form_value V vals Form.default ps)
+default-valued : (V : Outcomes) (vals : List Datum) (ps : List Part) (i : ℕ) → i < 2 → Every (λ new. Valued (worth ps i new)) (entry_values Form.default ps i) → Valued (form_value V vals Form.default ps)
 default-valued V vals ps zero l h = let v = h.0 in rw v.1 (_, refl)
 default-valued V vals ps (suc zero) l h = at (worth ps 0 []) h
   where
@@ -134,7 +135,7 @@ mutual
   certain-defined G V gs g tl d (node f ps) c env vals T h st ty e =
       by-parts (firm (is_shaped gs) c (node f ps)) refl e
       (λ i l p. let w = ways-in G V g c f ps env vals T ty.1 h st (well_formed-typed G env (node f ps) T ty) ty.2 ty.3 i l in
-      Every-impl _ _ (λ new q. parts-defined G V gs g tl d (node f ps) c ps 0 env vals ty.1 h ty.3 i i w.0 (omega arith) p w.1 new q.0 q.1) (entered f (part_values V vals ps) i) w.2)
+      Every-impl _ _ (λ new q. parts-defined G V gs g tl d (node f ps) c ps 0 env vals ty.1 h ty.3 i i w.0 (omega arith) p w.1 new q.0 q.1) (entry_values f (part_values V vals ps) i) w.2)
     where
       by-parts : (b : Bool) → firm (is_shaped gs) c (node f ps) ≡ b → (b || (form_certain (is_shaped gs) f (all_bounds gs c (node f ps) 0 ps) && (if wants_all f then all_certain gs c (node f ps) 0 ps else some_certain gs c (node f ps) 0 ps))) ≡ true →
           CertainParts gs V c vals f ps → Valued (cden V vals (node f ps))
@@ -147,7 +148,7 @@ mutual
       (i n : ℕ) (a : Arg) → n ≡ j + i → certain_part gs c t j ps i ≡ true → slice_get args i ≡ Some a → (new : List Datum) → HaveTypes a.own new → FactsHold V (enter_facts c t n) (new ++ vals) → Valued (worth (part_values V vals ps) i new)
   parts-defined G V gs g tl d t c none j env vals args h ty i n a q p e new m k = cc
   parts-defined G V gs g tl d t c (part w u ps) j env vals args h ty zero n a q p e new m k =
-      let z : ty.0 ≡ a = some-list ty.0 a (ap (λ x. slice_get x 0) (sym ty.2) ∙ e) in
+      let z : ty.0 ≡ a = same_Some ty.0 a (ap (λ x. slice_get x 0) (sym ty.2) ∙ e) in
       let m' : HaveTypes ty.0.own new = subst (λ x. HaveTypes x.own new) (sym z) m in
       let y : n ≡ j = omega (arith, q) in
       let v = certain-defined G V gs g tl d u (enter_facts c t j) (ty.0.own ++ env) (new ++ vals) ty.0.has (has-append ty.0.own env new vals m' h) (subst (λ x. FactsHold V (enter_facts c t x) (new ++ vals)) y k) ty.4 p in

@@ -6,7 +6,7 @@ use Rattle.std.proofs.lemmas.Option.{slice_get_within}
 use Rattle.aql_value.specs.Canon.{canon}
 use Rattle.aql_value.specs.Datum.{Datum, natural, set, data_of}
 use Rattle.aql_value.specs.Indices.{product, indices}
-use Rattle.aql_value.specs.Operations.{walked}
+use Rattle.aql_value.specs.Operations.{push_index}
 use Rattle.aql_value.specs.Partial.{each, total}
 use Rattle.aql_value.specs.Strict.{strict_turns}
 use Rattle.nrca_array.specs.Held.{held_datum}
@@ -22,7 +22,7 @@ use Rattle.nrca_term.specs.Laws.WellFormed.{well_formed-Core}
 use Rattle.nrca_loops.specs.Parts.{numbers_in, parts_value, strict_of, strict_in, table_in}
 use Rattle.nrca_loops.specs.Laws.Run.{range_none, range_whole, each-range_more, each-range_split, total-range_more, total-range_split, sum_value-with, sum_value-join, union_value-join}
 use Rattle.nrca_loops.specs.Runs.{member_list, members_value, list_with, lists_join, sets_join, sum_value, sum_with, sums_join, union_value}
-use Rattle.nrca_loops.specs.Scope.{values, boxed_value, held_value, set_in}
+use Rattle.nrca_loops.specs.Values.{values, boxed_value, held_value, set_in}
 use Rattle.nrca_loops.specs.Within.{itself}
 use Rattle.nrca_loops.specs.Laws.Within.{err_within, same_within}
 use Rattle.nrca_blocks.specs.Laws.Union.{sets_more, sets_nothing}
@@ -49,12 +49,12 @@ evaluator::node-eval_tab-requires g t c κs within =
 pub evaluator::node-returns-in-BigUnion : goal.evaluator::node-returns-in-BigUnion
 evaluator::node-returns-in-BigUnion g t c =
     let whole = ap term_of c.in-BigUnion.is ∙ term_of-BigUnion c.in-BigUnion.over c.in-BigUnion.body ∙ (λ k. big_union_term (term_of (sym c.deref-in-BigUnion.ensures k)) (term_of (sym c.deref-in-BigUnion-2.ensures k))) in
-    same_within boxed_value c.eval_union.result c.args.budget _ _ _ _ (ap (cden c.args.scope.now.globals.now (values c.args.env.now)) (sym whole)) (ap (settle c.args.scope.now.globals.now (values c.args.env.now)) (sym whole)) c.eval_union.ensures
+    same_within boxed_value c.eval_union.result c.args.budget _ _ _ _ (ap (cden c.args.machine.now.globals.now (values c.args.env.now)) (sym whole)) (ap (settle c.args.machine.now.globals.now (values c.args.env.now)) (sym whole)) c.eval_union.ensures
 
 pub evaluator::node-returns-in-Sum : goal.evaluator::node-returns-in-Sum
 evaluator::node-returns-in-Sum g t c =
     let whole = ap term_of c.in-Sum.is ∙ term_of-Sum c.in-Sum.over c.in-Sum.body ∙ (λ k. sum_term (term_of (sym c.deref-in-Sum.ensures k)) (term_of (sym c.deref-in-Sum-2.ensures k))) in
-    same_within boxed_value c.eval_sum.result c.args.budget _ _ _ _ (ap (cden c.args.scope.now.globals.now (values c.args.env.now)) (sym whole)) (ap (settle c.args.scope.now.globals.now (values c.args.env.now)) (sym whole)) c.eval_sum.ensures
+    same_within boxed_value c.eval_sum.result c.args.budget _ _ _ _ (ap (cden c.args.machine.now.globals.now (values c.args.env.now)) (sym whole)) (ap (settle c.args.machine.now.globals.now (values c.args.env.now)) (sym whole)) c.eval_sum.ensures
 
 pub evaluator::node-eval_cell-requires : goal.evaluator::node-eval_cell-requires
 evaluator::node-eval_cell-requires g t c κs within =
@@ -63,7 +63,7 @@ evaluator::node-eval_cell-requires g t c κs within =
 
 pub evaluator::node-returns-in-Some : goal.evaluator::node-returns-in-Some
 evaluator::node-returns-in-Some g t c =
-    let V = c.args.scope.now.globals.now in
+    let V = c.args.machine.now.globals.now in
     let vals = values c.args.env.now in
     let a = term_of c.in-Sub.array.value in
     let ts = terms_of c.in-Sub.at in
@@ -81,7 +81,7 @@ evaluator::eval_all-node-requires g t c κs within =
 
 pub evaluator::eval_all-returns-in_err-done : goal.evaluator::eval_all-returns-in_err-done
 evaluator::eval_all-returns-in_err-done g t c =
-    let V = c.args.scope.now.globals.now in
+    let V = c.args.machine.now.globals.now in
     let vals = values c.args.env.now in
     let inv = c.loop-term.invariant in
     let at = term_at c.deref-term-items.result.now c.args.terms.now.0.items c.loop-term.term-index c.term-item.result c.deref-term-items.ensures.value (omega arith) c.term-item.is in
@@ -91,8 +91,8 @@ evaluator::eval_all-returns-in_err-done g t c =
 
 pub evaluator::eval_all-loop-term-preserved : goal.evaluator::eval_all-loop-term-preserved
 evaluator::eval_all-loop-term-preserved g t c =
-    let f = cden c.args.scope.now.globals.now (values c.args.env.now) in
-    let g = settle c.args.scope.now.globals.now (values c.args.env.now) in
+    let f = cden c.args.machine.now.globals.now (values c.args.env.now) in
+    let g = settle c.args.machine.now.globals.now (values c.args.env.now) in
     let inv = c.loop-term.invariant in
     let done = c.in_ok-done.ensures in
     let at = term_at c.deref-term-items.result.now c.args.terms.now.0.items c.loop-term.term-index c.term-item.result c.deref-term-items.ensures.value (omega arith) c.term-item.is in (
@@ -111,7 +111,7 @@ evaluator::eval_parts-unreachable-requires g t c =
 
 pub evaluator::eval_parts-returns-in_err-done-in-Some : goal.evaluator::eval_parts-returns-in_err-done-in-Some
 evaluator::eval_parts-returns-in_err-done-in-Some g t c =
-    let V = c.args.scope.now.globals.now in
+    let V = c.args.machine.now.globals.now in
     let vals = values c.args.env.now in
     let inv = c.loop-i.invariant in
     let ts = terms_in (parts_of (term_of c.args.term.now)) in
@@ -121,8 +121,8 @@ evaluator::eval_parts-returns-in_err-done-in-Some g t c =
 
 pub evaluator::eval_parts-loop-i-preserved : goal.evaluator::eval_parts-loop-i-preserved
 evaluator::eval_parts-loop-i-preserved g t c =
-    let f = cden c.args.scope.now.globals.now (values c.args.env.now) in
-    let g = settle c.args.scope.now.globals.now (values c.args.env.now) in
+    let f = cden c.args.machine.now.globals.now (values c.args.env.now) in
+    let g = settle c.args.machine.now.globals.now (values c.args.env.now) in
     let inv = c.loop-i.invariant in
     let done = c.in_ok-done-in-Some.ensures in
     let ts = terms_in (parts_of (term_of c.args.term.now)) in
@@ -134,7 +134,7 @@ evaluator::eval_parts-loop-i-preserved g t c =
 
 pub evaluator::eval_parts-returns : goal.evaluator::eval_parts-returns
 evaluator::eval_parts-returns g t c =
-    let V = c.args.scope.now.globals.now in
+    let V = c.args.machine.now.globals.now in
     let vals = values c.args.env.now in
     let inv = c.loop-i.invariant in
     let ts = terms_in (parts_of (term_of c.args.term.now)) in
@@ -143,7 +143,7 @@ evaluator::eval_parts-returns g t c =
 
 pub evaluator::eval_strict-returns-in_err-parts : goal.evaluator::eval_strict-returns-in_err-parts
 evaluator::eval_strict-returns-in_err-parts g t c =
-    let V = c.args.scope.now.globals.now in
+    let V = c.args.machine.now.globals.now in
     let vals = values c.args.env.now in
     let s = strict_of (form_of (term_of c.args.term.now)) in
     let form = strict_form (form_of (term_of c.args.term.now)) c.requires in
@@ -152,7 +152,7 @@ evaluator::eval_strict-returns-in_err-parts g t c =
 
 pub evaluator::eval_strict-returns : goal.evaluator::eval_strict-returns
 evaluator::eval_strict-returns g t c =
-    let V = c.args.scope.now.globals.now in
+    let V = c.args.machine.now.globals.now in
     let vals = values c.args.env.now in
     let s = strict_of (form_of (term_of c.args.term.now)) in
     let form = strict_form (form_of (term_of c.args.term.now)) c.requires in
@@ -166,7 +166,7 @@ evaluator::eval_strict-returns g t c =
 
 pub evaluator::eval_sum-returns-in_err-run : goal.evaluator::eval_sum-returns-in_err-run
 evaluator::eval_sum-returns-in_err-run g t c =
-    let V = c.args.scope.now.globals.now in
+    let V = c.args.machine.now.globals.now in
     let vals = values c.args.env.now in
     let e = term_of c.args.over.now in
     let b = term_of c.args.body.now in
@@ -181,7 +181,7 @@ evaluator::eval_sum-returns-in_err-run g t c =
 
 pub evaluator::eval_sum-returns : goal.evaluator::eval_sum-returns
 evaluator::eval_sum-returns g t c =
-    let V = c.args.scope.now.globals.now in
+    let V = c.args.machine.now.globals.now in
     let vals = values c.args.env.now in
     let e = term_of c.args.over.now in
     let b = term_of c.args.body.now in
@@ -199,7 +199,7 @@ evaluator::eval_sum-returns g t c =
 
 pub evaluator::eval_union-returns-in_err-run : goal.evaluator::eval_union-returns-in_err-run
 evaluator::eval_union-returns-in_err-run g t c =
-    let V = c.args.scope.now.globals.now in
+    let V = c.args.machine.now.globals.now in
     let vals = values c.args.env.now in
     let e = term_of c.args.over.now in
     let b = term_of c.args.body.now in
@@ -214,7 +214,7 @@ evaluator::eval_union-returns-in_err-run g t c =
 
 pub evaluator::eval_union-returns : goal.evaluator::eval_union-returns
 evaluator::eval_union-returns g t c =
-    let V = c.args.scope.now.globals.now in
+    let V = c.args.machine.now.globals.now in
     let vals = values c.args.env.now in
     let e = term_of c.args.over.now in
     let b = term_of c.args.body.now in
@@ -232,7 +232,7 @@ evaluator::eval_union-returns g t c =
 
 pub evaluator::eval_tab-returns-in_err-answer : goal.evaluator::eval_tab-returns-in_err-answer
 evaluator::eval_tab-returns-in_err-answer g t c =
-    let V = c.args.scope.now.globals.now in
+    let V = c.args.machine.now.globals.now in
     let vals = values c.args.env.now in
     let ds = terms_of c.args.bounds.now in
     let b = term_of c.args.body.now in
@@ -241,7 +241,7 @@ evaluator::eval_tab-returns-in_err-answer g t c =
 
 pub evaluator::eval_tab-returns-in_default : goal.evaluator::eval_tab-returns-in_default
 evaluator::eval_tab-returns-in_default g t c =
-    let V = c.args.scope.now.globals.now in
+    let V = c.args.machine.now.globals.now in
     let vals = values c.args.env.now in
     let ds = terms_of c.args.bounds.now in
     let b = term_of c.args.body.now in
@@ -253,7 +253,7 @@ evaluator::eval_tab-returns-in_default g t c =
 
 pub evaluator::eval_tab-returns-then-count-from : goal.evaluator::eval_tab-returns-then-count-from
 evaluator::eval_tab-returns-then-count-from g t c =
-    let V = c.args.scope.now.globals.now in
+    let V = c.args.machine.now.globals.now in
     let vals = values c.args.env.now in
     let ds = terms_of c.args.bounds.now in
     let b = term_of c.args.body.now in
@@ -267,7 +267,7 @@ evaluator::eval_tab-returns-then-count-from g t c =
 
 pub evaluator::eval_tab-returns-in_err-run : goal.evaluator::eval_tab-returns-in_err-run
 evaluator::eval_tab-returns-in_err-run g t c =
-    let V = c.args.scope.now.globals.now in
+    let V = c.args.machine.now.globals.now in
     let vals = values c.args.env.now in
     let ds = terms_of c.args.bounds.now in
     let b = term_of c.args.body.now in
@@ -284,7 +284,7 @@ evaluator::eval_tab-returns-in_err-run g t c =
 
 pub evaluator::eval_tab-returns : goal.evaluator::eval_tab-returns
 evaluator::eval_tab-returns g t c =
-    let V = c.args.scope.now.globals.now in
+    let V = c.args.machine.now.globals.now in
     let vals = values c.args.env.now in
     let ds = terms_of c.args.bounds.now in
     let b = term_of c.args.body.now in
@@ -304,7 +304,7 @@ evaluator::eval_tab-returns g t c =
 
 pub loops::sum_run-returns-in_err-done : goal.loops::sum_run-returns-in_err-done
 loops::sum_run-returns-in_err-done g t c =
-    let V = c.args.scope.now.globals.now in
+    let V = c.args.machine.now.globals.now in
     let vals = values c.args.env.now in
     let b = term_of c.args.body.now in
     let ms = member_list c.args.members.now in
@@ -316,7 +316,7 @@ loops::sum_run-returns-in_err-done g t c =
 
 pub loops::sum_run-by_blocks-preserved : goal.loops::sum_run-by_blocks-preserved
 loops::sum_run-by_blocks-preserved g t c =
-    let V = c.args.scope.now.globals.now in
+    let V = c.args.machine.now.globals.now in
     let vals = values c.args.env.now in
     let b = term_of c.args.body.now in
     let ms = member_list c.args.members.now in
@@ -334,7 +334,7 @@ loops::sum_run-by_blocks-preserved g t c =
 
 pub loops::members_run-returns-in_err-done : goal.loops::members_run-returns-in_err-done
 loops::members_run-returns-in_err-done g t c =
-    let V = c.args.scope.now.globals.now in
+    let V = c.args.machine.now.globals.now in
     let vals = values c.args.env.now in
     let b = term_of c.args.body.now in
     let ms = member_list c.args.members.now in
@@ -346,7 +346,7 @@ loops::members_run-returns-in_err-done g t c =
 
 pub loops::members_run-by_blocks-preserved : goal.loops::members_run-by_blocks-preserved
 loops::members_run-by_blocks-preserved g t c =
-    let V = c.args.scope.now.globals.now in
+    let V = c.args.machine.now.globals.now in
     let vals = values c.args.env.now in
     let b = term_of c.args.body.now in
     let ms = member_list c.args.members.now in
@@ -364,24 +364,24 @@ loops::members_run-by_blocks-preserved g t c =
 
 pub loops::cells_run-returns-in_err-done : goal.loops::cells_run-returns-in_err-done
 loops::cells_run-returns-in_err-done g t c =
-    let V = c.args.scope.now.globals.now in
+    let V = c.args.machine.now.globals.now in
     let vals = values c.args.env.now in
     let b = term_of c.args.body.now in
     let is = indices c.args.dims.now in
-    let f = λ (at : List ℕ). cden V (walked at [] ++ vals) b in
-    let g = λ (at : List ℕ). settle V (walked at [] ++ vals) b in
+    let f = λ (at : List ℕ). cden V (push_index at [] ++ vals) b in
+    let g = λ (at : List ℕ). settle V (push_index at [] ++ vals) b in
     let inv = c.by_blocks.invariant in
     err_within itself _ _ _ _ c.in_err-done.field-0.0 c.from_residual.ensures.0 c.from_residual.ensures.1
     (λ s. spent_block g is c.args.from c.by_blocks.at c.row_end.result c.args.to c.args.budget c.by_blocks.turns inv.3 (omega (arith, c.row_end.ensures)) (omega (arith, c.row_end.ensures)) inv.1 inv.2 (c.in_err-done.ensures s))
 
 pub loops::cells_run-by_blocks-preserved : goal.loops::cells_run-by_blocks-preserved
 loops::cells_run-by_blocks-preserved g t c =
-    let V = c.args.scope.now.globals.now in
+    let V = c.args.machine.now.globals.now in
     let vals = values c.args.env.now in
     let b = term_of c.args.body.now in
     let is = indices c.args.dims.now in
-    let f = λ (at : List ℕ). cden V (walked at [] ++ vals) b in
-    let g = λ (at : List ℕ). settle V (walked at [] ++ vals) b in
+    let f = λ (at : List ℕ). cden V (push_index at [] ++ vals) b in
+    let g = λ (at : List ℕ). settle V (push_index at [] ++ vals) b in
     let inv = c.by_blocks.invariant in
     let done = c.in_ok-done.ensures in
     let mid : c.by_blocks.at ≤ c.row_end.result = omega (arith, c.row_end.ensures) in (
@@ -394,7 +394,7 @@ loops::cells_run-by_blocks-preserved g t c =
 
 pub loops::sum_each-returns-in_err-done : goal.loops::sum_each-returns-in_err-done
 loops::sum_each-returns-in_err-done g t c =
-    let V = c.args.scope.now.globals.now in
+    let V = c.args.machine.now.globals.now in
     let vals = values c.args.env.now in
     let b = term_of c.args.body.now in
     let ms = member_list c.args.members.now in
@@ -408,7 +408,7 @@ loops::sum_each-returns-in_err-done g t c =
 
 pub loops::sum_each-loop-i-preserved : goal.loops::sum_each-loop-i-preserved
 loops::sum_each-loop-i-preserved g t c =
-    let V = c.args.scope.now.globals.now in
+    let V = c.args.machine.now.globals.now in
     let vals = values c.args.env.now in
     let b = term_of c.args.body.now in
     let ms = member_list c.args.members.now in
@@ -426,12 +426,12 @@ loops::sum_each-loop-i-preserved g t c =
 
 pub loops::members_run-returns-then-not-in_blocks : goal.loops::members_run-returns-then-not-in_blocks
 loops::members_run-returns-then-not-in_blocks g t c =
-    let run = run_values c.args.scope.now.globals.now (values c.args.env.now) (term_of c.args.body.now) (member_list c.args.members.now) c.args.from c.args.to in
+    let run = run_values c.args.machine.now.globals.now (values c.args.env.now) (term_of c.args.body.now) (member_list c.args.members.now) c.args.from c.args.to in
     same_within (option_map canon) c.members_each.result c.args.budget _ _ _ _ ((λ k. sets_join (option_map canon (Some (c.new.ensures k))) (union_value run)) ∙ sets_first run) refl c.members_each.ensures
 
 pub loops::members_each-returns-in_err-done : goal.loops::members_each-returns-in_err-done
 loops::members_each-returns-in_err-done g t c =
-    let V = c.args.scope.now.globals.now in
+    let V = c.args.machine.now.globals.now in
     let vals = values c.args.env.now in
     let b = term_of c.args.body.now in
     let ms = member_list c.args.members.now in
@@ -447,7 +447,7 @@ loops::members_each-returns-in_err-done g t c =
 pub loops::members_each-loop-i-preserved : goal.loops::members_each-loop-i-preserved
 loops::members_each-loop-i-preserved g t c =
     let all = option_map canon c.args.all in
-    let V = c.args.scope.now.globals.now in
+    let V = c.args.machine.now.globals.now in
     let vals = values c.args.env.now in
     let b = term_of c.args.body.now in
     let ms = member_list c.args.members.now in
@@ -468,7 +468,7 @@ loops::members_each-loop-i-preserved g t c =
 pub loops::members_each-loop-i-preserved-in-Some : goal.loops::members_each-loop-i-preserved-in-Some
 loops::members_each-loop-i-preserved-in-Some g t c =
     let all = option_map canon c.args.all in
-    let V = c.args.scope.now.globals.now in
+    let V = c.args.machine.now.globals.now in
     let vals = values c.args.env.now in
     let b = term_of c.args.body.now in
     let ms = member_list c.args.members.now in
@@ -487,11 +487,11 @@ loops::members_each-loop-i-preserved-in-Some g t c =
 
 pub loops::cells_each-returns-in_err-kept : goal.loops::cells_each-returns-in_err-kept
 loops::cells_each-returns-in_err-kept g t c =
-    let V = c.args.scope.now.globals.now in
+    let V = c.args.machine.now.globals.now in
     let vals = values c.args.env.now in
     let b = term_of c.args.body.now in
-    let f = λ (at : List ℕ). cden V (walked at [] ++ vals) b in
-    let g = λ (at : List ℕ). settle V (walked at [] ++ vals) b in
+    let f = λ (at : List ℕ). cden V (push_index at [] ++ vals) b in
+    let g = λ (at : List ℕ). settle V (push_index at [] ++ vals) b in
     let here = c.set_index.new.at in
     let inv = c.loop-place.invariant in
     let whole = written c.loop-place.at.len here (drop (length here) c.loop-place.at.items) (omega (arith, c.set_index.auto.at, c.as_mut_slice.ensures.value, c.as_mut_slice.ensures.len, c.loop-place.at.ok.0)) in
@@ -504,11 +504,11 @@ loops::cells_each-returns-in_err-kept g t c =
 
 pub loops::cells_each-loop-place-preserved : goal.loops::cells_each-loop-place-preserved
 loops::cells_each-loop-place-preserved g t c =
-    let V = c.args.scope.now.globals.now in
+    let V = c.args.machine.now.globals.now in
     let vals = values c.args.env.now in
     let b = term_of c.args.body.now in
-    let f = λ (at : List ℕ). cden V (walked at [] ++ vals) b in
-    let g = λ (at : List ℕ). settle V (walked at [] ++ vals) b in
+    let f = λ (at : List ℕ). cden V (push_index at [] ++ vals) b in
+    let g = λ (at : List ℕ). settle V (push_index at [] ++ vals) b in
     let here = c.set_index.new.at in
     let inv = c.loop-place.invariant in
     let whole = written c.loop-place.at.len here (drop (length here) c.loop-place.at.items) (omega (arith, c.set_index.auto.at, c.as_mut_slice.ensures.value, c.as_mut_slice.ensures.len, c.loop-place.at.ok.0)) in
@@ -525,7 +525,7 @@ loops::cells_each-loop-place-preserved g t c =
 
 pub loops::members_each-loop-i-init : goal.loops::members_each-loop-i-init
 loops::members_each-loop-i-init g t c =
-    let V = c.args.scope.now.globals.now in
+    let V = c.args.machine.now.globals.now in
     let vals = values c.args.env.now in
     let b = term_of c.args.body.now in
     let ms = member_list c.args.members.now in
@@ -543,11 +543,11 @@ loops::sum_members-returns-in_err-sums g t c =
     err_within itself _ _ _ _ c.in_err-sums.field-0.0 c.from_residual.ensures.0 c.from_residual.ensures.1
     (λ s. let ran = c.in_err-sums.ensures.ran s in
     let passed = ran.4 refl in
-    omega (arith, passed, total_wider (λ (m : Datum). settle c.args.scope.now.globals.now (m ∷ values c.args.env.now) (term_of c.args.body.now)) (member_list c.args.members.now) ran.0 ran.1 c.args.count (omega (arith, ran.2)) ran.3))
+    omega (arith, passed, total_wider (λ (m : Datum). settle c.args.machine.now.globals.now (m ∷ values c.args.env.now) (term_of c.args.body.now)) (member_list c.args.members.now) ran.0 ran.1 c.args.count (omega (arith, ran.2)) ran.3))
 
 pub loops::sum_members-returns : goal.loops::sum_members-returns
 loops::sum_members-returns g t c =
-    let V = c.args.scope.now.globals.now in
+    let V = c.args.machine.now.globals.now in
     let vals = values c.args.env.now in
     let b = term_of c.args.body.now in
     let ms = member_list c.args.members.now in
@@ -561,11 +561,11 @@ loops::union_members-returns-in_err-sets g t c =
     err_within itself _ _ _ _ c.in_err-sets.field-0.0 c.from_residual-in_err-sets.ensures.0 c.from_residual-in_err-sets.ensures.1
     (λ s. let ran = c.in_err-sets.ensures.ran s in
     let passed = ran.4 refl in
-    omega (arith, passed, total_wider (λ (m : Datum). settle c.args.scope.now.globals.now (m ∷ values c.args.env.now) (term_of c.args.body.now)) (member_list c.args.members.now) ran.0 ran.1 c.args.count (omega (arith, ran.2)) ran.3))
+    omega (arith, passed, total_wider (λ (m : Datum). settle c.args.machine.now.globals.now (m ∷ values c.args.env.now) (term_of c.args.body.now)) (member_list c.args.members.now) ran.0 ran.1 c.args.count (omega (arith, ran.2)) ran.3))
 
 pub loops::union_members-returns : goal.loops::union_members-returns
 loops::union_members-returns g t c =
-    let V = c.args.scope.now.globals.now in
+    let V = c.args.machine.now.globals.now in
     let vals = values c.args.env.now in
     let b = term_of c.args.body.now in
     let ms = member_list c.args.members.now in
@@ -579,16 +579,16 @@ loops::fill_cells-returns-in_err-runs g t c =
     err_within itself _ _ _ _ c.in_err-runs.field-0.0 c.from_residual.ensures.0 c.from_residual.ensures.1
     (λ s. let ran = c.in_err-runs.ensures.ran s in
     let passed = ran.4 refl in
-    omega (arith, passed, total_wider (λ (at : List ℕ). settle c.args.scope.now.globals.now (walked at [] ++ values c.args.env.now) (term_of c.args.body.now)) (indices c.args.dims.now) ran.0 ran.1 c.args.count (omega (arith, ran.2)) ran.3))
+    omega (arith, passed, total_wider (λ (at : List ℕ). settle c.args.machine.now.globals.now (push_index at [] ++ values c.args.env.now) (term_of c.args.body.now)) (indices c.args.dims.now) ran.0 ran.1 c.args.count (omega (arith, ran.2)) ran.3))
 
 pub loops::fill_cells-returns : goal.loops::fill_cells-returns
 loops::fill_cells-returns g t c =
-    let V = c.args.scope.now.globals.now in
+    let V = c.args.machine.now.globals.now in
     let vals = values c.args.env.now in
     let b = term_of c.args.body.now in
     let ds = c.args.dims.now in
-    let f = λ (at : List ℕ). cden V (walked at [] ++ vals) b in
-    whole_within itself lists_join (λ i j. cell_values V vals b ds i j) (λ (at : List ℕ). settle V (walked at [] ++ vals) b) (indices ds) c.args.budget c.args.count
+    let f = λ (at : List ℕ). cden V (push_index at [] ++ vals) b in
+    whole_within itself lists_join (λ i j. cell_values V vals b ds i j) (λ (at : List ℕ). settle V (push_index at [] ++ vals) b) (indices ds) c.args.budget c.args.count
     (λ i m j low high. each-range_split (indices ds) i m j low high f)
     (Some []) refl c.in_ok-runs.runs.items c.in_ok-runs.runs.items refl c.in_ok-runs.ensures.joined c.joined_cells.result c.joined_cells.ensures
 

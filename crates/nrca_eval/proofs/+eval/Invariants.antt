@@ -8,7 +8,7 @@ use Rattle.nrca_term.specs.Turns.{settle}
 use Rattle.nrca_term.specs.View.{term_of, terms_of}
 use Rattle.std.specs.List.{slice_range}
 use Rattle.nrca_loops.specs.Parts.{parts_value}
-use Rattle.nrca_loops.specs.Scope.{values}
+use Rattle.nrca_loops.specs.Values.{values}
 use Rattle.nrca_loops.specs.Runs.{lists_join, member_list, sets_join, sum_value, union_value}
 use Rattle.nrca_loops.specs.Walks.{IsAt}
 use Rattle.nrca_eval.specs.Runs.{run_values, run_turns, cell_values, cell_turns}
@@ -115,57 +115,57 @@ decreases-loops::cells_run-by_blocks g l = l.to - l.at
 
 abbrev pub invariant-evaluator::eval_parts-loop-i : goal.invariant-evaluator::eval_parts-loop-i
 invariant-evaluator::eval_parts-loop-i g l =
-    (parts_value l.parts ≡ each (cden l.scope.globals.now (values l.env)) (slice_range (terms_in (parts_of (term_of l.term))) 0 l.i))
-    × (l.turns ≡ total (settle l.scope.globals.now (values l.env)) (slice_range (terms_in (parts_of (term_of l.term))) 0 l.i))
+    (parts_value l.parts ≡ each (cden l.machine.globals.now (values l.env)) (slice_range (terms_in (parts_of (term_of l.term))) 0 l.i))
+    × (l.turns ≡ total (settle l.machine.globals.now (values l.env)) (slice_range (terms_in (parts_of (term_of l.term))) 0 l.i))
     × (l.turns ≤ l.budget)
 
 abbrev pub invariant-evaluator::eval_all-loop-term : goal.invariant-evaluator::eval_all-loop-term
 invariant-evaluator::eval_all-loop-term g l =
-    (parts_value l.parts ≡ each (cden l.scope.globals.now (values l.env)) (slice_range (terms_of l.terms) 0 l.term-index))
-    × (l.turns ≡ total (settle l.scope.globals.now (values l.env)) (slice_range (terms_of l.terms) 0 l.term-index))
+    (parts_value l.parts ≡ each (cden l.machine.globals.now (values l.env)) (slice_range (terms_of l.terms) 0 l.term-index))
+    × (l.turns ≡ total (settle l.machine.globals.now (values l.env)) (slice_range (terms_of l.terms) 0 l.term-index))
     × (l.turns ≤ l.budget)
 
 abbrev pub invariant-loops::sum_run-by_blocks : goal.invariant-loops::sum_run-by_blocks
 invariant-loops::sum_run-by_blocks g l =
-    (l.sum ≡ sum_value (run_values l.scope.globals.now (values l.env) (term_of l.body) (member_list l.members) l.from l.at))
-    × (l.turns ≡ run_turns l.scope.globals.now (values l.env) (term_of l.body) (member_list l.members) l.from l.at)
+    (l.sum ≡ sum_value (run_values l.machine.globals.now (values l.env) (term_of l.body) (member_list l.members) l.from l.at))
+    × (l.turns ≡ run_turns l.machine.globals.now (values l.env) (term_of l.body) (member_list l.members) l.from l.at)
     × (l.turns ≤ l.budget)
     × (l.from ≤ l.at)
     × (l.at ≤ l.to)
 
 abbrev pub invariant-loops::members_run-by_blocks : goal.invariant-loops::members_run-by_blocks
 invariant-loops::members_run-by_blocks g l =
-    (option_map canon l.all ≡ union_value (run_values l.scope.globals.now (values l.env) (term_of l.body) (member_list l.members) l.from l.at))
-    × (l.turns ≡ run_turns l.scope.globals.now (values l.env) (term_of l.body) (member_list l.members) l.from l.at)
+    (option_map canon l.all ≡ union_value (run_values l.machine.globals.now (values l.env) (term_of l.body) (member_list l.members) l.from l.at))
+    × (l.turns ≡ run_turns l.machine.globals.now (values l.env) (term_of l.body) (member_list l.members) l.from l.at)
     × (l.turns ≤ l.budget)
     × (l.from ≤ l.at)
     × (l.at ≤ l.to)
 
 abbrev pub invariant-loops::cells_run-by_blocks : goal.invariant-loops::cells_run-by_blocks
 invariant-loops::cells_run-by_blocks g l =
-    (l.cells ≡ cell_values l.scope.globals.now (values l.env) (term_of l.body) l.dims l.from l.at)
-    × (l.turns ≡ cell_turns l.scope.globals.now (values l.env) (term_of l.body) l.dims l.from l.at)
+    (l.cells ≡ cell_values l.machine.globals.now (values l.env) (term_of l.body) l.dims l.from l.at)
+    × (l.turns ≡ cell_turns l.machine.globals.now (values l.env) (term_of l.body) l.dims l.from l.at)
     × (l.turns ≤ l.budget)
     × (l.from ≤ l.at)
     × (l.at ≤ l.to)
 
 abbrev pub invariant-loops::sum_each-loop-i : goal.invariant-loops::sum_each-loop-i
 invariant-loops::sum_each-loop-i g l =
-    (l.sum ≡ sum_value (run_values l.scope.globals.now (values l.env) (term_of l.body) (member_list l.members) l.from l.i))
-    × (l.turns ≡ run_turns l.scope.globals.now (values l.env) (term_of l.body) (member_list l.members) l.from l.i)
+    (l.sum ≡ sum_value (run_values l.machine.globals.now (values l.env) (term_of l.body) (member_list l.members) l.from l.i))
+    × (l.turns ≡ run_turns l.machine.globals.now (values l.env) (term_of l.body) (member_list l.members) l.from l.i)
     × (l.turns ≤ l.budget)
     × IsAt l.members l.i l.sides
 
 abbrev pub invariant-loops::members_each-loop-i : goal.invariant-loops::members_each-loop-i
 invariant-loops::members_each-loop-i g l =
-    (option_map canon l.all ≡ sets_join (option_map canon l.initial.all) (union_value (run_values l.scope.globals.now (values l.env) (term_of l.body) (member_list l.members) l.fn.span.from l.i)))
-    × (l.turns ≡ run_turns l.scope.globals.now (values l.env) (term_of l.body) (member_list l.members) l.fn.span.from l.i)
+    (option_map canon l.all ≡ sets_join (option_map canon l.initial.all) (union_value (run_values l.machine.globals.now (values l.env) (term_of l.body) (member_list l.members) l.fn.span.from l.i)))
+    × (l.turns ≡ run_turns l.machine.globals.now (values l.env) (term_of l.body) (member_list l.members) l.fn.span.from l.i)
     × (l.turns ≤ l.budget)
     × IsAt l.members l.i l.sides
 
 abbrev pub invariant-loops::cells_each-loop-place : goal.invariant-loops::cells_each-loop-place
 invariant-loops::cells_each-loop-place g l =
-    (l.cells ≡ lists_join l.initial.cells (cell_values l.scope.globals.now (values l.env) (term_of l.body) l.dims l.fn.span.from l.place))
-    × (l.turns ≡ cell_turns l.scope.globals.now (values l.env) (term_of l.body) l.dims l.fn.span.from l.place)
+    (l.cells ≡ lists_join l.initial.cells (cell_values l.machine.globals.now (values l.env) (term_of l.body) l.dims l.fn.span.from l.place))
+    × (l.turns ≡ cell_turns l.machine.globals.now (values l.env) (term_of l.body) l.dims l.fn.span.from l.place)
     × (l.turns ≤ l.budget)
     × (length l.at.items ≡ length l.dims)

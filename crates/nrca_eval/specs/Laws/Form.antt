@@ -8,7 +8,7 @@ use Rattle.aql_value.specs.Canon.{canon}
 use Rattle.aql_value.specs.Datum.{Datum, natural, set, data_of}
 use Rattle.aql_value.specs.Indices.{product, indices}
 use Rattle.aql_value.specs.Laws.Indices.{length_indices}
-use Rattle.aql_value.specs.Operations.{as_natural, as_set, in_range, walked, union_all, sum_of, array_of}
+use Rattle.aql_value.specs.Operations.{as_natural, as_set, in_range, push_index, union_all, sum_of, array_of}
 use Rattle.aql_value.specs.Partial.{◌>>=◌, each, concat, total, if_some}
 use Rattle.aql_value.specs.Strict.{Strict, strict_value, strict_turns}
 use Rattle.nrca_term.specs.Term.{Term, Parts, node, none, part, plain, Form, form_of, parts_of, child_of, count, WellFormed, PartsWellFormed, terms_in}
@@ -101,24 +101,24 @@ module _ (V : Outcomes) (vals : List Datum) where
 
   -- a tabulation
   pub tab_none : (ds : List Term) (b : Term) → numbers_in (each (cden V vals) ds) ≡ None → cden V vals (tab_term ds b) ≡ None
-  tab_none ds b h = cden-tab V vals ds b ∙ ap (λ o. o >>= λ ms. each (λ at. cden V (walked at [] ++ vals) b) (indices ms) >>= array_of ms) h
+  tab_none ds b h = cden-tab V vals ds b ∙ ap (λ o. o >>= λ ms. each (λ at. cden V (push_index at [] ++ vals) b) (indices ms) >>= array_of ms) h
 
   pub tab_whole : (ds : List Term) (b : Term) (ms : List ℕ) → numbers_in (each (cden V vals) ds) ≡ Some ms → cden V vals (tab_term ds b) ≡ table_in ms (cell_values V vals b ms 0 (product ms))
   tab_whole ds b ms h =
       cden-tab V vals ds b
-      ∙ ap (λ o. o >>= λ ms. each (λ at. cden V (walked at [] ++ vals) b) (indices ms) >>= array_of ms) h
-      ∙ ap (λ l. each (λ at. cden V (walked at [] ++ vals) b) l >>= array_of ms) (sym (range_whole (indices ms) (product ms) (sym (length_indices ms))))
+      ∙ ap (λ o. o >>= λ ms. each (λ at. cden V (push_index at [] ++ vals) b) (indices ms) >>= array_of ms) h
+      ∙ ap (λ l. each (λ at. cden V (push_index at [] ++ vals) b) l >>= array_of ms) (sym (range_whole (indices ms) (product ms) (sym (length_indices ms))))
 
   pub tab_idle : (ds : List Term) (b : Term) → numbers_in (each (cden V vals) ds) ≡ None → settle V vals (tab_term ds b) ≡ total (settle V vals) ds
   tab_idle ds b h =
       settle-tab V vals ds b
-      ∙ ap (λ o. length (indices_of o) + total (settle V vals) ds + total (λ at. settle V (walked at [] ++ vals) b) (indices_of o)) h
+      ∙ ap (λ o. length (indices_of o) + total (settle V vals) ds + total (λ at. settle V (push_index at [] ++ vals) b) (indices_of o)) h
       ∙ omega arith
 
   pub tab_taken : (ds : List Term) (b : Term) (ms : List ℕ) → numbers_in (each (cden V vals) ds) ≡ Some ms →
       settle V vals (tab_term ds b) ≡ total (settle V vals) ds + product ms + cell_turns V vals b ms 0 (product ms)
   tab_taken ds b ms h =
       settle-tab V vals ds b
-      ∙ ap (λ o. length (indices_of o) + total (settle V vals) ds + total (λ at. settle V (walked at [] ++ vals) b) (indices_of o)) h
-      ∙ ap (λ l. length (indices ms) + total (settle V vals) ds + total (λ at. settle V (walked at [] ++ vals) b) l) (sym (range_whole (indices ms) (product ms) (sym (length_indices ms))))
+      ∙ ap (λ o. length (indices_of o) + total (settle V vals) ds + total (λ at. settle V (push_index at [] ++ vals) b) (indices_of o)) h
+      ∙ ap (λ l. length (indices ms) + total (settle V vals) ds + total (λ at. settle V (push_index at [] ++ vals) b) l) (sym (range_whole (indices ms) (product ms) (sym (length_indices ms))))
       ∙ omega (arith, length_indices ms)

@@ -7,8 +7,8 @@ use Rattle.aql_value.specs.Laws.Lists.{Every-all}
 use Rattle.aql_value.specs.Operations.{as_natural, as_tuple, as_indexed, part_of, index_numbers}
 use Rattle.aql_value.specs.Partial.{◌>>=◌, each}
 use Rattle.aql_value.specs.Laws.Partial.{each-values, then-is}
-use Rattle.nrca_forms.specs.Indexing.{pairs_run, pairs_with, AreRanked}
-use Rattle.nrca_loops.specs.Runs.{lists_join}
+use Rattle.nrca_forms.specs.Indexing.{pairs_run, AreRanked}
+use Rattle.nrca_loops.specs.Runs.{list_with, lists_join}
 use Rattle.nrca_loops.specs.Laws.Run.{each-range_split, each-more}
 use Rattle.aql_value.specs.Laws.Lists.{range_more}
 
@@ -40,7 +40,7 @@ run_ranked rank ms a b (Some ps) e =
     each-values (as_indexed rank) (λ v. Unit {0}) (λ p. length p.0 ≡ rank) (λ v p u k. pair_ranked rank v p k) (slice_range ms a b) ps (Every-all (λ v. Unit {0}) (λ v. tt) (slice_range ms a b)) e
 
 -- a member more, and runs that follow each other
-pub pairs_more : (rank : ℕ) (ms : List Datum) (a i : ℕ) (m : Datum) → a ≤ i → slice_get ms i ≡ Some m → pairs_run rank ms a (i + 1) ≡ pairs_with (pairs_run rank ms a i) (as_indexed rank m)
+pub pairs_more : (rank : ℕ) (ms : List Datum) (a i : ℕ) (m : Datum) → a ≤ i → slice_get ms i ≡ Some m → pairs_run rank ms a (i + 1) ≡ list_with (pairs_run rank ms a i) (as_indexed rank m)
 pairs_more rank ms a i m h e = ap (each (as_indexed rank)) (range_more ms a i m h e) ∙ each-more (as_indexed rank) (slice_range ms a i) m
 
 pub pairs_split : (rank : ℕ) (ms : List Datum) (a m b : ℕ) → a ≤ m → m ≤ b → lists_join (pairs_run rank ms a m) (pairs_run rank ms m b) ≡ pairs_run rank ms a b

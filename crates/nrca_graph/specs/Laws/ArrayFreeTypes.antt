@@ -1,5 +1,5 @@
 -- Each type of a term, encoded, is a type of its array-free form.
-use Rattle.std.proofs.Common.{◌≡◌, ℕ, zero, suc, List, [], ◌∷◌, ◌++◌, length, map, take, drop, replicate, Some, refl, sym, ap, subst, ◌∙◌, arith}
+use Rattle.std.proofs.Common.{◌≡◌, ℕ, zero, suc, List, [], ◌∷◌, ◌++◌, map, take, drop, replicate, Some, refl, sym, ap, subst, ◌∙◌, arith}
 use Rattle.std.proofs.lemmas.List.{length-map, map-append, length-replicate}
 use Rattle.std.proofs.lemmas.Option.{slice_get-map}
 use Rattle.std.specs.List.{slice_get}
@@ -7,17 +7,18 @@ use Rattle.std.specs.Option.{option_map}
 use Rattle.aql_value.specs.Lists.{Every}
 use Rattle.aql_value.specs.Strict.{Strict}
 use Rattle.aql_types.specs.Types as types
-use Rattle.aql_types.specs.Types.{Ty, IsType, IsRank, Subst, apply, tys_of, index_type}
+use Rattle.aql_types.specs.Types.{Ty, IsType, tys_of, index_type}
 use Rattle.aql_types.specs.OperationTypes.{strict_rule}
 use Rattle.nrca_term.specs.Term.{Term, Parts, node, none, part, Form, terms_in}
 use Rattle.nrca_term.specs.Meaning.{at_position}
 use Rattle.nrca_term.specs.Typing.{Arg, arg, form_rule, ctyped, parts_typed, instances}
+use Rattle.nrca_term.specs.Laws.TypedLists.{TermsTyped, terms-length}
 use Rattle.nrca_graph.specs.Encoding.{pair_type, array_type, encoding_type, encoding_types}
 use Rattle.nrca_graph.specs.ArrayFree.{term_at, array_free_node, array_free, array_free_parts}
 use Rattle.nrca_graph.specs.Laws.EncodedTypes.{encoding-is_type, encoding-apply, index-is}
 use Rattle.nrca_graph.specs.StrictForms.{IsPlain}
 use Rattle.nrca_graph.specs.NoArrays.{IsKeptForm}
-use Rattle.nrca_graph.specs.Laws.TypedTerms.{TypedAll, naturals, first-typed}
+use Rattle.nrca_graph.specs.Laws.TypedTerms.{naturals, first-typed}
 use Rattle.nrca_graph.specs.Laws.TypedForms.{index-graph-typed, subscript-graph-typed, literal-graph-typed, tabulation-graph-typed}
 
 -- an argument with encoded types
@@ -88,7 +89,7 @@ rule-kept G H g env (Form.tab rank) args T k r = absurd k
 rule-kept G H g env (Form.strict s) args T k r = (map encoding_type r.0, ap (map encoded_arg) r.1 ∙ args-encoded r.0, strict-kept s r.0 T k r.2)
 
 -- typed parts that bind nothing, as terms
-parts-all : (G : ℕ → Ty → Type 0) (env : List Ty) (Ts : List Ty) (qs : Parts) → parts_typed G env qs (map (arg []) Ts) → TypedAll G env (terms_in qs) Ts
+parts-all : (G : ℕ → Ty → Type 0) (env : List Ty) (Ts : List Ty) (qs : Parts) → parts_typed G env qs (map (arg []) Ts) → TermsTyped G env (terms_in qs) Ts
 parts-all G env [] none h = tt
 parts-all G env (T ∷ Ts) none h = cc
 parts-all G env [] (part k t qs) h = let z : [] ≡ h.0 ∷ h.1 = h.2 in cc
@@ -99,7 +100,7 @@ parts-all G env (T ∷ Ts) (part k t qs) h =
     (subst (λ x. ctyped G (x.own ++ env) t x.has) (sym a) h.4, parts-all G env Ts qs (subst (parts_typed G env qs) (sym b) h.5))
 
 -- the first parts, which are numbers
-parts-first : (G : ℕ → Ty → Type 0) (env : List Ty) (n : ℕ) (args : List Arg) (qs : Parts) → parts_typed G env qs (replicate n (arg [] types.natural) ++ args) → TypedAll G env (take n (terms_in qs)) (naturals n)
+parts-first : (G : ℕ → Ty → Type 0) (env : List Ty) (n : ℕ) (args : List Arg) (qs : Parts) → parts_typed G env qs (replicate n (arg [] types.natural) ++ args) → TermsTyped G env (take n (terms_in qs)) (naturals n)
 parts-first G env zero args qs h = tt
 parts-first G env (suc n) args none h = let z : arg [] types.natural ∷ (replicate n (arg [] types.natural) ++ args) ≡ [] = h in cc
 parts-first G env (suc n) args (part k t qs) h =
@@ -109,7 +110,7 @@ parts-first G env (suc n) args (part k t qs) h =
     (subst (λ x. ctyped G (x.own ++ env) t x.has) (sym a) h.4, parts-first G env n args qs (subst (parts_typed G env qs) (sym b) h.5))
 
 -- the parts behind them
-parts-rest : (G : ℕ → Ty → Type 0) (env : List Ty) (n : ℕ) (x : Arg) (Ts : List Ty) (qs : Parts) → parts_typed G env qs (replicate n x ++ map (arg []) Ts) → TypedAll G env (drop n (terms_in qs)) Ts
+parts-rest : (G : ℕ → Ty → Type 0) (env : List Ty) (n : ℕ) (x : Arg) (Ts : List Ty) (qs : Parts) → parts_typed G env qs (replicate n x ++ map (arg []) Ts) → TermsTyped G env (drop n (terms_in qs)) Ts
 parts-rest G env zero x Ts qs h = parts-all G env Ts qs h
 parts-rest G env (suc n) x Ts none h = let z : x ∷ (replicate n x ++ map (arg []) Ts) ≡ [] = h in cc
 parts-rest G env (suc n) x Ts (part k t qs) h =
@@ -130,15 +131,8 @@ parts-body G env (suc n) x a (part k t qs) h =
     let b : replicate n x ++ a ∷ [] ≡ h.1 = cc in
     parts-body G env n x a qs (subst (parts_typed G env qs) (sym b) h.5)
 
--- as many terms as types
-typed-length : (G : ℕ → Ty → Type 0) (env : List Ty) (ts : List Term) (Ts : List Ty) → TypedAll G env ts Ts → length ts ≡ length Ts
-typed-length G env [] [] h = refl
-typed-length G env [] (T ∷ Ts) h = absurd h
-typed-length G env (t ∷ ts) [] h = absurd h
-typed-length G env (t ∷ ts) (T ∷ Ts) h = ap suc (typed-length G env ts Ts h.1)
-
 -- terms of one type
-typed-every : (G : ℕ → Ty → Type 0) (env : List Ty) (A : Ty) (n : ℕ) (ts : List Term) → TypedAll G env ts (replicate n A) → Every (λ c. ctyped G env c A) ts
+typed-every : (G : ℕ → Ty → Type 0) (env : List Ty) (A : Ty) (n : ℕ) (ts : List Term) → TermsTyped G env ts (replicate n A) → Every (λ c. ctyped G env c A) ts
 typed-every G env A n [] h = tt
 typed-every G env A zero (t ∷ ts) h = absurd h
 typed-every G env A (suc n) (t ∷ ts) h = (h.0, typed-every G env A n ts h.1)
@@ -211,7 +205,7 @@ strict-node-typed G H g env (Strict.literal rank) args T qs i r h =
     let ds = parts-first H (map encoding_type env) rank (map (arg []) (replicate n A)) qs p in
     subst (ctyped H (map encoding_type env) (array_free_node (Form.strict (Strict.literal rank)) qs)) (sym (ap encoding_type r.2.4))
     (literal-graph-typed H (map encoding_type env) rank A (take rank (terms_in qs)) (drop rank (terms_in qs)) r.2.2.0 (encoding-is_type r.2.0 j.1)
-    (typed-length H (map encoding_type env) (take rank (terms_in qs)) (naturals rank) ds ∙ length-replicate rank types.natural) ds
+    (terms-length H (map encoding_type env) (take rank (terms_in qs)) (naturals rank) ds ∙ length-replicate rank types.natural) ds
     (typed-every H (map encoding_type env) A n (drop rank (terms_in qs)) (parts-rest H (map encoding_type env) rank (arg [] types.natural) (replicate n A) qs p)))
 
 -- a node of any form
@@ -236,7 +230,7 @@ node-typed G H g env (Form.tab rank) args T qs i r h =
     let ds = parts-first H E rank (a ∷ []) qs p in
     subst (ctyped H E (array_free_node (Form.tab rank) qs)) (sym (ap encoding_type r.3))
     (tabulation-graph-typed H E rank A (take rank (terms_in qs)) (term_at (terms_in qs) rank) r.1.0 (encoding-is_type r.0 j.1)
-    (typed-length H E (take rank (terms_in qs)) (naturals rank) ds ∙ length-replicate rank types.natural) ds (parts-body H E rank (arg [] types.natural) a qs p))
+    (terms-length H E (take rank (terms_in qs)) (naturals rank) ds ∙ length-replicate rank types.natural) ds (parts-body H E rank (arg [] types.natural) a qs p))
 
 mutual
   -- each type of a term, encoded, is a type of its array-free form

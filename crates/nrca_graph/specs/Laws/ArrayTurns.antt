@@ -10,10 +10,10 @@ use Rattle.aql_value.specs.Datum.{Datum, set, array, data_of}
 use Rattle.aql_value.specs.Indices.{indices, prefix_products}
 use Rattle.aql_value.specs.Laws.Datum.{list_of-data_of}
 use Rattle.aql_value.specs.Laws.Indices.{length_indices}
-use Rattle.aql_value.specs.Lists.{Every, below}
+use Rattle.aql_value.specs.Lists.{Every, below, onto}
 use Rattle.aql_value.specs.Laws.Lists.{Every-impl, Every-all, length-below}
 use Rattle.aql_value.specs.Laws.RowMajor.{indices_lengths}
-use Rattle.aql_value.specs.Operations.{part_of, as_array, as_truth, as_indexed, index_value, is_rank, walked, array_of, set_of, values_at, all_in_range, dims_above, indexed}
+use Rattle.aql_value.specs.Operations.{part_of, as_array, as_truth, as_indexed, index_value, is_rank, push_index, array_of, set_of, values_at, all_in_range, dims_above, index_array}
 use Rattle.aql_value.specs.Laws.Operations.{array_of-made}
 use Rattle.aql_value.specs.Partial.{◌>>=◌, each, total, if_some}
 use Rattle.aql_value.specs.Laws.Partial.{total-map}
@@ -27,10 +27,10 @@ use Rattle.nrca_term.specs.Typing.{arg}
 use Rattle.nrca_term.specs.Meaning.{Outcomes, Part, here, cden, part_values}
 use Rattle.nrca_term.specs.Turns.{settle}
 use Rattle.nrca_term.specs.Rules.{sizes_term, index_variables}
-use Rattle.nrca_term.specs.Laws.Lets.{onto, onto-naturals, walked-append, walked-past}
+use Rattle.nrca_term.specs.Laws.Lets.{onto-naturals, walked-append, walked-past}
 use Rattle.nrca_term.specs.Laws.Sound.{AllSound}
 use Rattle.nrca_term.specs.Laws.Variants.{settle-strict, settle-let, settle-if}
-use Rattle.nrca_graph.specs.Encoding.{graph, encoding, encoded, pair_type}
+use Rattle.nrca_graph.specs.Encoding.{graph, encoding, encode_outcome, pair_type}
 use Rattle.nrca_graph.specs.GraphTurns.{subscript_graph_turns, index_graph_turns}
 use Rattle.nrca_graph.specs.ArrayFree.{equal_term, term_at, paired_with, subscript_graph, greater, greatest, dimension_above, index_graph, number_at}
 use Rattle.nrca_graph.specs.Tabulation.{table_term}
@@ -72,7 +72,7 @@ subscript-turns W l rank T (p ∷ ps) (part k a qs) r s m b w =
     both : Option (List Datum)
     both = each (cden W l) (a ∷ sizes_term is ∷ [])
 
-    array-value : cden W l a ≡ encoded (p [])
+    array-value : cden W l a ≡ encode_outcome (p [])
     array-value = sym (part-is W l k a [] b.0) ∙ m.0 [] tt
 
     index-values : each (cden W l) is ≡ (each here ps >>= λ vs. Some (map encoding vs))
@@ -93,18 +93,18 @@ subscript-turns W l rank T (p ∷ ps) (part k a qs) r s m b w =
     of : (o : Option Datum) (c : Option (List Datum)) → p [] ≡ o → each here ps ≡ c →
         if_some both K ≤ if_some (p [] >>= λ y. each here ps >>= λ ys. Some (y ∷ ys)) subscript_graph_turns
     of None c e f =
-        omega (arith, ap (λ x. if_some (x >>= λ y. (cden W l (sizes_term is) >>= λ z. Some [] >>= λ zs. Some (z ∷ zs)) >>= λ ys. Some (y ∷ ys)) K) (array-value ∙ ap encoded e))
+        omega (arith, ap (λ x. if_some (x >>= λ y. (cden W l (sizes_term is) >>= λ z. Some [] >>= λ zs. Some (z ∷ zs)) >>= λ ys. Some (y ∷ ys)) K) (array-value ∙ ap encode_outcome e))
     of (Some v) None e f =
         omega (
           arith,
-          ap (λ x. if_some (x >>= λ y. (cden W l (sizes_term is) >>= λ z. Some [] >>= λ zs. Some (z ∷ zs)) >>= λ ys. Some (y ∷ ys)) K) (array-value ∙ ap encoded e)
+          ap (λ x. if_some (x >>= λ y. (cden W l (sizes_term is) >>= λ z. Some [] >>= λ zs. Some (z ∷ zs)) >>= λ ys. Some (y ∷ ys)) K) (array-value ∙ ap encode_outcome e)
               ∙ ap (λ x. if_some ((x >>= λ z. Some [] >>= λ zs. Some (z ∷ zs)) >>= λ ys. Some (encoding v ∷ ys)) K) (sizes-none W l is (index-values ∙ ap (λ c. c >>= λ vs. Some (map encoding vs)) f)),
         )
     of (Some v) (Some ws) e f =
         let n = numbers-of rank ws (here-types (replicate rank types.natural) ps ws s.1 f) in
         omega (
           arith,
-          ap (λ x. if_some (x >>= λ y. (cden W l (sizes_term is) >>= λ z. Some [] >>= λ zs. Some (z ∷ zs)) >>= λ ys. Some (y ∷ ys)) K) (array-value ∙ ap encoded e)
+          ap (λ x. if_some (x >>= λ y. (cden W l (sizes_term is) >>= λ z. Some [] >>= λ zs. Some (z ∷ zs)) >>= λ ys. Some (y ∷ ys)) K) (array-value ∙ ap encode_outcome e)
               ∙ ap (λ x. if_some ((x >>= λ z. Some [] >>= λ zs. Some (z ∷ zs)) >>= λ ys. Some (encoding v ∷ ys)) K)
               (sizes-value W l is n.0 (omega (arith, n.2, r.0)) (index-values ∙ ap (λ c. c >>= λ vs. Some (map encoding vs)) f ∙ ap (λ us. Some (map encoding us)) n.1 ∙ ap Some (numbers-kept n.0))),
           found v (index_value n.0) (s.0 [] v tt e),
@@ -173,7 +173,7 @@ total-few f n xs h = omega (arith, total-le f (λ x. n) xs (Every-all _ h xs), t
 -- what stands under the let of the operand, over the encoded set of entries
 table-turns-at : (W : Outcomes) (l : List Datum) (rank : ℕ) (es : List (List ℕ × Datum)) → IsRank rank → Every (λ e. length e.0 ≡ rank) es → Every WellFormed (map (λ j. dimension_above rank (suc j)) (below rank)) →
     settle W (set (data_of (map entry (map encoded_entry es))) ∷ l) (index_table rank)
-    ≤ rank * (length es + length es * length es) + if_some (indexed (dims_above rank (indices_in es)) es >>= as_array) (λ t. 2 * prefix_products t.dims + length t.cells * length es)
+    ≤ rank * (length es + length es * length es) + if_some (index_array (dims_above rank (indices_in es)) es >>= as_array) (λ t. 2 * prefix_products t.dims + length t.cells * length es)
 table-turns-at W l rank es r ls wf =
     omega (
       arith,
@@ -217,26 +217,26 @@ table-turns-at W l rank es r ls wf =
     known : (length ds ≡ rank) × (each (cden W env) sizes ≡ (if all_in_range ds then Some (map datum.natural ds) else None))
     known = dims-value W l rank es ls
 
-    at_index : (at : List ℕ) → length at ≡ rank → settle W (walked at (walked ds env)) selected ≡ length es
+    at_index : (at : List ℕ) → length at ≡ rank → settle W (push_index at (push_index ds env)) selected ≡ length es
     at_index at n =
-        paired-turns W (walked at (walked ds env)) (variable (2 * rank)) (sizes_term (index_variables rank)) ms
-        ((let z : 2 * rank ≡ length at + (length ds + 0) = omega (arith, n, known.0) in ap (slice_get (walked at (walked ds env))) z)
-        ∙ walked-past at (walked ds env) (length ds + 0) ∙ walked-past ds env 0)
-        refl (sizes-formed (index_variables rank) (variables-formed rank)) (quiet-sizes W (index_variables rank) (quiet-variables W rank) (walked at (walked ds env)))
+        paired-turns W (push_index at (push_index ds env)) (variable (2 * rank)) (sizes_term (index_variables rank)) ms
+        ((let z : 2 * rank ≡ length at + (length ds + 0) = omega (arith, n, known.0) in ap (slice_get (push_index at (push_index ds env))) z)
+        ∙ walked-past at (push_index ds env) (length ds + 0) ∙ walked-past ds env 0)
+        refl (sizes-formed (index_variables rank) (variables-formed rank)) (quiet-sizes W (index_variables rank) (quiet-variables W rank) (push_index at (push_index ds env)))
         ∙ many
 
-    table : settle W (walked ds env) body ≡ 2 * prefix_products ds + length (indices ds) * length es
+    table : settle W (push_index ds env) body ≡ 2 * prefix_products ds + length (indices ds) * length es
     table =
-        ap (λ k. settle W (walked ds env) (table_term k selected)) (sym known.0)
+        ap (λ k. settle W (push_index ds env) (table_term k selected)) (sym known.0)
         ∙ table-turns W selected env ds
         ∙ ap (λ n. 2 * prefix_products ds + n)
-        (total-same (λ at. settle W (walked at (walked ds env)) selected) (length es) (indices ds)
+        (total-same (λ at. settle W (push_index at (push_index ds env)) selected) (length es) (indices ds)
         (Every-impl (λ at. length at ≡ length ds) _ (λ at k. at_index at (k ∙ known.0)) (indices ds) (indices_lengths ds)))
 
     cells : List Datum
     cells = map (λ at. set_of (values_at at es)) (indices ds)
 
-    of : (b : Bool) → all_in_range ds ≡ b → if_some (each (cden W env) sizes) K ≤ if_some (indexed ds es >>= as_array) (λ t. 2 * prefix_products t.dims + length t.cells * length es)
+    of : (b : Bool) → all_in_range ds ≡ b → if_some (each (cden W env) sizes) K ≤ if_some (index_array ds es >>= as_array) (λ t. 2 * prefix_products t.dims + length t.cells * length es)
     of false e =
         omega (arith, ap (λ o. if_some o K) known.1 ∙ ap (λ b. if_some (if b then Some (map datum.natural ds) else None) K) e)
     of true e =
@@ -267,8 +267,8 @@ index-node-turns W l rank A (p ∷ []) (part k a qs) r s m b wf =
     rank-is : is_rank rank ≡ true
     rank-is = grind (arith, r.0, r.1)
 
-    of : (o : Option Datum) → p [] ≡ o → if_some (encoded (p [])) (λ w. settle W (w ∷ l) inner) ≤ if_some (p [] >>= λ y. Some [] >>= λ ys. Some (y ∷ ys)) (index_graph_turns rank)
-    of None e = omega (arith, ap (λ o. if_some (encoded o) (λ w. settle W (w ∷ l) inner)) e)
+    of : (o : Option Datum) → p [] ≡ o → if_some (encode_outcome (p [])) (λ w. settle W (w ∷ l) inner) ≤ if_some (p [] >>= λ y. Some [] >>= λ ys. Some (y ∷ ys)) (index_graph_turns rank)
+    of None e = omega (arith, ap (λ o. if_some (encode_outcome o) (λ w. settle W (w ∷ l) inner)) e)
     of (Some v) e =
         let h = s.0 [] v tt e in
         let es = entries-of-type rank A h.0 r.0 h.3 in
@@ -276,14 +276,14 @@ index-node-turns W l rank A (p ∷ []) (part k a qs) r s m b wf =
         let n : length h.0 ≡ length es.0 = ap length es.1.listed ∙ length-map es.0 entry in
         omega (
           arith,
-          ap (λ o. if_some (encoded o) (λ w. settle W (w ∷ l) inner)) e
+          ap (λ o. if_some (encode_outcome o) (λ w. settle W (w ∷ l) inner)) e
               ∙ ap (λ w. settle W (w ∷ l) inner) (ap encoding h.1 ∙ encoding-set M (encoding-order M) h.0 h.3 h.2 ∙ ap (λ ms. set (data_of ms)) (ap (map encoding) es.1.listed ∙ entries-encoded es.0))
               ∙ ap (λ t. settle W (set (data_of (map entry (map encoded_entry es.0))) ∷ l) (if t then index_table rank else bottom_term)) rank-is,
           table-turns-at W l rank es.0 r es.1.ranks wf,
           ap (λ o. if_some (o >>= λ y. Some [] >>= λ ys. Some (y ∷ ys)) (index_graph_turns rank)) e
               ∙ ap (λ x. index_graph_turns rank (x ∷ [])) h.1
-              ∙ ap (λ xs. rank * (length xs + length xs * length xs) + if_some ((each (as_indexed rank) xs >>= λ ys. indexed (dims_above rank (indices_in ys)) ys) >>= as_array) (λ t. 2 * prefix_products t.dims + length t.cells * length xs)) (list_of-data_of h.0)
-              ∙ ap (λ k. rank * (k + k * k) + if_some ((each (as_indexed rank) h.0 >>= λ ys. indexed (dims_above rank (indices_in ys)) ys) >>= as_array) (λ t. 2 * prefix_products t.dims + length t.cells * k)) n
-              ∙ ap (λ xs. rank * (length es.0 + length es.0 * length es.0) + if_some ((each (as_indexed rank) xs >>= λ ys. indexed (dims_above rank (indices_in ys)) ys) >>= as_array) (λ t. 2 * prefix_products t.dims + length t.cells * length es.0)) es.1.listed
-              ∙ ap (λ o. rank * (length es.0 + length es.0 * length es.0) + if_some ((o >>= λ ys. indexed (dims_above rank (indices_in ys)) ys) >>= as_array) (λ t. 2 * prefix_products t.dims + length t.cells * length es.0)) (entries-read rank es.0 r.0 es.1.ranks),
+              ∙ ap (λ xs. rank * (length xs + length xs * length xs) + if_some ((each (as_indexed rank) xs >>= λ ys. index_array (dims_above rank (indices_in ys)) ys) >>= as_array) (λ t. 2 * prefix_products t.dims + length t.cells * length xs)) (list_of-data_of h.0)
+              ∙ ap (λ k. rank * (k + k * k) + if_some ((each (as_indexed rank) h.0 >>= λ ys. index_array (dims_above rank (indices_in ys)) ys) >>= as_array) (λ t. 2 * prefix_products t.dims + length t.cells * k)) n
+              ∙ ap (λ xs. rank * (length es.0 + length es.0 * length es.0) + if_some ((each (as_indexed rank) xs >>= λ ys. index_array (dims_above rank (indices_in ys)) ys) >>= as_array) (λ t. 2 * prefix_products t.dims + length t.cells * length es.0)) es.1.listed
+              ∙ ap (λ o. rank * (length es.0 + length es.0 * length es.0) + if_some ((o >>= λ ys. index_array (dims_above rank (indices_in ys)) ys) >>= as_array) (λ t. 2 * prefix_products t.dims + length t.cells * length es.0)) (entries-read rank es.0 r.0 es.1.ranks),
         )

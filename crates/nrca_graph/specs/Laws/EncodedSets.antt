@@ -14,7 +14,7 @@ use Rattle.std.proofs.lemmas.List.{map-append}
 use Rattle.aql_types.specs.Types as types
 use Rattle.aql_types.specs.Types.{Ty}
 use Rattle.aql_types.specs.ValueTypes.{HasType}
-use Rattle.nrca_graph.specs.Encoding.{encoding, encoded}
+use Rattle.nrca_graph.specs.Encoding.{encoding, encode_outcome}
 use Rattle.nrca_graph.specs.Laws.EncodingOrder.{encoding-order, encoding-set, encodings-ascend}
 
 -- an encoded member
@@ -63,18 +63,18 @@ map-concat [] = refl
 map-concat (ms ∷ mss) = ap (λ l. map encoding ms ++ l) (map-concat mss) ∙ sym (map-append encoding ms (concat mss))
 
 -- the union of encoded sets is the encoded union
-pub union_all-encoded : (T : Ty) (rs : List Datum) → Every (HasType (types.set_of T)) rs → union_all (map encoding rs) ≡ encoded (union_all rs)
+pub union_all-encoded : (T : Ty) (rs : List Datum) → Every (HasType (types.set_of T)) rs → union_all (map encoding rs) ≡ encode_outcome (union_all rs)
 union_all-encoded T rs h =
     let k = members-of T rs h in
     ap (λ o. o >>= λ sets. Some (set_of (concat sets))) k.2 ∙ ap (λ l. Some (set_of l)) (map-concat k.0) ∙ ap Some (set_of-encoded T (concat k.0) (Every-lists (HasType T) k.0 k.3))
-    ∙ sym (ap (λ o. encoded (o >>= λ sets. Some (set_of (concat sets)))) k.1)
+    ∙ sym (ap (λ o. encode_outcome (o >>= λ sets. Some (set_of (concat sets)))) k.1)
 
 -- A big union: over the encoded members, the bodies being encoded.
-pub big_union-encoded : (T : Ty) (ms : List Datum) (f g : Datum → Option Datum) → Every (λ m. g (encoding m) ≡ encoded (f m)) ms → Every (λ m. (v : Datum) → f m ≡ Some v → HasType (types.set_of T) v) ms →
-    (each g (map encoding ms) >>= union_all) ≡ encoded (each f ms >>= union_all)
+pub big_union-encoded : (T : Ty) (ms : List Datum) (f g : Datum → Option Datum) → Every (λ m. g (encoding m) ≡ encode_outcome (f m)) ms → Every (λ m. (v : Datum) → f m ≡ Some v → HasType (types.set_of T) v) ms →
+    (each g (map encoding ms) >>= union_all) ≡ encode_outcome (each f ms >>= union_all)
 big_union-encoded T ms f g h t =
-    ap (λ o. o >>= union_all) (each-map g encoding ms ∙ each-ext (λ m. g (encoding m)) (λ m. encoded (f m)) ms h ∙ each-then f encoding ms) ∙ of (each f ms) refl
+    ap (λ o. o >>= union_all) (each-map g encoding ms ∙ each-ext (λ m. g (encoding m)) (λ m. encode_outcome (f m)) ms h ∙ each-then f encoding ms) ∙ of (each f ms) refl
   where
-    of : (o : Option (List Datum)) → each f ms ≡ o → ((o >>= λ rs. Some (map encoding rs)) >>= union_all) ≡ encoded (o >>= union_all)
+    of : (o : Option (List Datum)) → each f ms ≡ o → ((o >>= λ rs. Some (map encoding rs)) >>= union_all) ≡ encode_outcome (o >>= union_all)
     of None e = refl
     of (Some rs) e = union_all-encoded T rs (each-values f (λ m. (v : Datum) → f m ≡ Some v → HasType (types.set_of T) v) (HasType (types.set_of T)) (λ m v k q. k v q) ms rs t e)

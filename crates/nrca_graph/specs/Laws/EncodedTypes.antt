@@ -1,5 +1,5 @@
 -- The types of encoded values.
-use Rattle.std.proofs.Common.{◌≡◌, ℕ, zero, suc, ◌+◌, ◌≤◌, List, [], ◌∷◌, length, map, replicate, refl, sym, ap, subst, ◌∙◌, arith}
+use Rattle.std.proofs.Common.{◌≡◌, ℕ, zero, suc, ◌+◌, ◌≤◌, List, [], ◌∷◌, length, map, refl, sym, ap, subst, ◌∙◌, arith}
 use Rattle.aql_value.specs.Datum as datum
 use Rattle.aql_value.specs.Datum.{Datum, data_of}
 use Rattle.aql_value.specs.Indices.{indices}
@@ -7,9 +7,10 @@ use Rattle.aql_value.specs.Lists.{Every}
 use Rattle.aql_value.specs.Laws.RowMajor.{indices_lengths}
 use Rattle.aql_value.specs.Operations.{index_value}
 use Rattle.aql_types.specs.Types as types
-use Rattle.aql_types.specs.Types.{Ty, Tys, no_type, type, truth, text, IsType, AreTypes, Subst, apply, apply_all, count, tys_of, index_type}
+use Rattle.aql_types.specs.Types.{Ty, Tys, no_type, type, truth, text, IsType, AreTypes, Subst, apply, apply_all, count, index_type}
 use Rattle.aql_types.specs.Laws.Operation.{index_value-has}
 use Rattle.aql_types.specs.ValueTypes.{HasType, AllHaveTypes}
+use Rattle.aql_types.specs.Laws.Types.{index_type-apply, natural_types-are}
 use Rattle.nrca_graph.specs.Encoding.{pair, graph, encoding, pair_type, array_type, encoding_type, encoding_types}
 use Rattle.nrca_graph.specs.Laws.IndexOrder.{indices-ascend}
 use Rattle.nrca_graph.specs.Laws.EncodingOrder.{encoding-order, encoding-set, encoding-array, encodings-ascend, encodings-list, graph-ascends}
@@ -67,16 +68,11 @@ mutual
   parts-typed (type T Ts) [] h = absurd h
   parts-typed (type T Ts) (v ∷ vs) h = (encoding-typed T v h.0, parts-typed Ts vs h.1)
 
--- the types of a tuple of numbers
-numbers-types : (n : ℕ) → AreTypes (tys_of (replicate n types.natural))
-numbers-types zero = tt
-numbers-types (suc n) = (tt, numbers-types n)
-
 -- the type of an index of rank 1 or more
 pub index-is : (k : ℕ) → 1 ≤ k → IsType (index_type k)
 index-is zero h = absurd (omega (arith, h))
 index-is (suc zero) h = tt
-index-is (suc (suc k)) h = (omega arith, (tt, (tt, numbers-types k)))
+index-is (suc (suc k)) h = (omega arith, (tt, (tt, natural_types-are k)))
 
 -- as many encoded types
 count-encoded : (Ts : Tys) → count (encoding_types Ts) ≡ count Ts
@@ -99,17 +95,6 @@ mutual
   encoding-are_types no_type h = tt
   encoding-are_types (type T Ts) h = (encoding-is_type T h.0, encoding-are_types Ts h.1)
 
--- numbers have no variables
-numbers-apply : (u : Subst) (n : ℕ) → apply_all u (tys_of (replicate n types.natural)) ≡ tys_of (replicate n types.natural)
-numbers-apply u zero = refl
-numbers-apply u (suc n) = ap (type types.natural) (numbers-apply u n)
-
--- nor has the type of an index
-index-apply : (u : Subst) (k : ℕ) → apply u (index_type k) ≡ index_type k
-index-apply u zero = refl
-index-apply u (suc zero) = refl
-index-apply u (suc (suc k)) = ap (λ Ts. types.product (type types.natural (type types.natural Ts))) (numbers-apply u k)
-
 mutual
   -- the encoding of an instance is the instance by encoded types
   pub encoding-apply : (u : Subst) (T : Ty) → encoding_type (apply u T) ≡ apply (λ x. encoding_type (u x)) (encoding_type T)
@@ -121,7 +106,7 @@ mutual
   encoding-apply u (types.set_of T) = ap types.set_of (encoding-apply u T)
   encoding-apply u (types.array_of rank T) =
       ap (array_type rank) (encoding-apply u T)
-      ∙ ap (λ I. pair_type I (types.set_of (pair_type I (apply (λ x. encoding_type (u x)) (encoding_type T))))) (sym (index-apply (λ x. encoding_type (u x)) rank))
+      ∙ ap (λ I. pair_type I (types.set_of (pair_type I (apply (λ x. encoding_type (u x)) (encoding_type T))))) (sym (index_type-apply (λ x. encoding_type (u x)) rank))
 
   encoding-apply_all : (u : Subst) (Ts : Tys) → encoding_types (apply_all u Ts) ≡ apply_all (λ x. encoding_type (u x)) (encoding_types Ts)
   encoding-apply_all u no_type = refl

@@ -16,14 +16,14 @@ use Rattle.aql_value.specs.Lists.{Every}
 use Rattle.aql_value.specs.Laws.Lists.{Every-impl, Every-join, Every-onto}
 use Rattle.aql_value.specs.Operations.{index_value, set_of}
 use Rattle.aql_value.specs.Order.{datum_cmp, data_cmp}
-use Rattle.aql_value.specs.Laws.Order.{datum_cmp-total}
+use Rattle.aql_value.specs.Laws.Order.{datum_cmp-total, then_equal}
 use Rattle.aql_value.specs.Laws.RowMajor.{indices_lengths}
 use Rattle.std.specs.FinSet.{nat_cmp-IsAntisymmetric, slice_cmp-IsAntisymmetric}
 use Rattle.aql_types.specs.Types as types
 use Rattle.aql_types.specs.Types.{Ty, Tys, no_type, type, truth, text}
 use Rattle.aql_types.specs.ValueTypes.{HasType, AllHaveTypes}
 use Rattle.nrca_graph.specs.Encoding.{pair, graph, encoding, encodings}
-use Rattle.nrca_graph.specs.Laws.IndexOrder.{then-equal, index-order, indices-ascend}
+use Rattle.nrca_graph.specs.Laws.IndexOrder.{index-order, indices-ascend}
 use Rattle.nrca_graph.specs.EncodingOrder.{KeepsOrder, IsOrderedAs}
 
 -- as many encodings as values
@@ -75,7 +75,7 @@ graphs-order (at ∷ ats) [] es m n = absurd (omega (arith, m))
 graphs-order (at ∷ ats) (c ∷ cs) [] m n = absurd (omega (arith, n))
 graphs-order (at ∷ ats) (c ∷ cs) (e ∷ es) m n =
     ap (λ o. ordering_then (ordering_then o (ordering_then (datum_cmp c e) Equal)) (data_cmp (data_of (graph ats cs)) (data_of (graph ats es)))) (tied_itself datum_cmp-total (index_value at))
-    ∙ ap (λ o. ordering_then o (data_cmp (data_of (graph ats cs)) (data_of (graph ats es)))) (then-equal (datum_cmp c e))
+    ∙ ap (λ o. ordering_then o (data_cmp (data_of (graph ats cs)) (data_of (graph ats es)))) (then_equal (datum_cmp c e))
     ∙ ap (ordering_then (datum_cmp c e)) (graphs-order ats cs es (omega (arith, m)) (omega (arith, n)))
 
 -- lists of values of a type keep their order
@@ -109,7 +109,7 @@ arrays-order T k ds es vs ws n p q h g =
     ap (λ x. datum_cmp x (encoding (array es (data_of ws)))) (encoding-array ds vs) ∙ ap (λ y. datum_cmp (pair (index_value ds) (set (data_of (graph (indices ds) (map encoding vs))))) y) (encoding-array es ws)
     ∙ ap (λ o. ordering_then o (ordering_then (data_cmp (data_of (graph (indices ds) (map encoding vs))) (data_of (graph (indices es) (map encoding ws)))) Equal)) (index-order ds es n)
     ∙ then-when (slice_cmp nat_cmp ds es) (ordering_then (data_cmp (data_of (graph (indices ds) (map encoding vs))) (data_of (graph (indices es) (map encoding ws)))) Equal) (data_cmp (data_of vs) (data_of ws))
-    (λ e. then-equal (data_cmp (data_of (graph (indices ds) (map encoding vs))) (data_of (graph (indices es) (map encoding ws)))) ∙ cells (slice_cmp-IsAntisymmetric nat_cmp-IsAntisymmetric ds es e))
+    (λ e. then_equal (data_cmp (data_of (graph (indices ds) (map encoding vs))) (data_of (graph (indices es) (map encoding ws)))) ∙ cells (slice_cmp-IsAntisymmetric nat_cmp-IsAntisymmetric ds es e))
   where
     cells : ds ≡ es → data_cmp (data_of (graph (indices ds) (map encoding vs))) (data_of (graph (indices es) (map encoding ws))) ≡ data_cmp (data_of vs) (data_of ws)
     cells e =

@@ -12,7 +12,7 @@ use Rattle.aql_value.specs.Datum.{Datum, natural, truth}
 use Rattle.aql_value.specs.Indices.{indices, product, offset_of}
 use Rattle.aql_value.specs.Laws.Indices.{length_indices}
 use Rattle.aql_value.specs.Lists.{Every}
-use Rattle.aql_value.specs.Operations.{as_truth, walked}
+use Rattle.aql_value.specs.Operations.{as_truth, push_index}
 use Rattle.aql_value.specs.Laws.Operations.{equal-naturals}
 use Rattle.aql_value.specs.Partial.{◌>>=◌, each}
 use Rattle.aql_value.specs.Laws.RowMajor.{row_major}
@@ -32,9 +32,9 @@ NumbersAre W env (t ∷ ts) [] = ⊥
 NumbersAre W env (t ∷ ts) (n ∷ ns) = (cden W env t ≡ Some (natural n)) × NumbersAre W env ts ns
 
 -- so do the variables of an index
-pub variables-are : (W : Outcomes) (ns : List ℕ) (l : List Datum) → NumbersAre W (walked ns l) (index_variables (length ns)) ns
+pub variables-are : (W : Outcomes) (ns : List ℕ) (l : List Datum) → NumbersAre W (push_index ns l) (index_variables (length ns)) ns
 variables-are W [] l = tt
-variables-are W (n ∷ ns) l = ((let z : length ns ≡ length ns + 0 = omega arith in ap (slice_get (walked ns (natural n ∷ l))) z) ∙ walked-past ns (natural n ∷ l) 0, variables-are W ns (natural n ∷ l))
+variables-are W (n ∷ ns) l = ((let z : length ns ≡ length ns + 0 = omega arith in ap (slice_get (push_index ns (natural n ∷ l))) z) ∙ walked-past ns (natural n ∷ l) 0, variables-are W ns (natural n ∷ l))
 
 -- terms that have these numbers, together
 pub numbers-together : (W : Outcomes) (env : List Datum) (ts : List Term) (ns : List ℕ) → NumbersAre W env ts ns → each (cden W env) ts ≡ Some (map natural ns)

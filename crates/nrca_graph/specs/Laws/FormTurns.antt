@@ -7,26 +7,27 @@ use Rattle.aql_value.specs.Datum as datum
 use Rattle.aql_value.specs.Datum.{Datum, set, data_of}
 use Rattle.aql_value.specs.Indices.{indices, prefix_products}
 use Rattle.aql_value.specs.Laws.Datum.{list_of-data_of}
-use Rattle.aql_value.specs.Lists.{Every}
+use Rattle.aql_value.specs.Lists.{Every, onto}
 use Rattle.aql_value.specs.Laws.Lists.{Every-impl, Every-all}
 use Rattle.aql_value.specs.Laws.RowMajor.{indices_lengths}
-use Rattle.aql_value.specs.Operations.{as_set, as_truth, walked}
+use Rattle.aql_value.specs.Operations.{as_set, as_truth, push_index}
 use Rattle.aql_value.specs.Partial.{◌>>=◌, each, total, if_some}
 use Rattle.aql_value.specs.Laws.Partial.{each-length, total-ext, total-map}
 use Rattle.aql_value.specs.Strict.{Strict}
-use Rattle.nrca_term.specs.Term.{Term, Parts, none, part, plain, Form, WellFormed, PartsWellFormed, terms_in}
+use Rattle.nrca_term.specs.Term.{Term, Parts, none, part, plain, Form, WellFormed, terms_in}
 use Rattle.nrca_term.specs.Nodes.{variable, number, truth_term, bottom_term, tuple_term, proj_term, single_term, gen_term, empty_term, if_term, big_union_term}
 use Rattle.nrca_term.specs.Meaning.{Outcomes, Part, cden, bounds_value}
-use Rattle.nrca_term.specs.Places.{entered, indices_of}
+use Rattle.nrca_term.specs.Places.{entry_values, indices_of}
 use Rattle.nrca_term.specs.Turns.{settle, parts_settle}
 use Rattle.nrca_term.specs.Subst.{shift_term}
 use Rattle.nrca_term.specs.Rules.{lets, sizes_term, index_variables}
 use Rattle.nrca_term.specs.Laws.Entering.{length-walked}
-use Rattle.nrca_term.specs.Laws.Lets.{onto, onto-naturals, walked-append}
+use Rattle.nrca_term.specs.Laws.Lets.{onto-naturals, walked-append}
 use Rattle.nrca_term.specs.Laws.Shifting.{cden-shift_term}
 use Rattle.nrca_term.specs.Laws.TurnsShift.{settle-shift_term}
 use Rattle.nrca_term.specs.Laws.Variants.{settle-strict, settle-let, settle-if, settle-big_union, parts_settle-plain}
-use Rattle.nrca_graph.specs.ArrayFree.{equal_term, paired_with, product_term, is_filled, index_of_cell, cell_pairs, united_neighbours, united, literal_graph}
+use Rattle.nrca_term.specs.Laws.WellFormed.{strict-plain}
+use Rattle.nrca_graph.specs.ArrayFree.{equal_term, paired_with, product_term, is_filled, index_of_cell, cell_pairs, united_neighbours, union_tree, literal_graph}
 use Rattle.nrca_graph.specs.Tabulation.{nest, table_term, tabulation_graph}
 use Rattle.nrca_graph.specs.Laws.NestTurns.{nest-turns}
 use Rattle.nrca_graph.specs.Laws.Paired.{selection}
@@ -68,33 +69,33 @@ same-indices (at ∷ ats) = ap (λ l. at ∷ l) (same-indices ats)
 
 -- the dimensions and the pairs of each index and the body
 pub table-turns : (V : Outcomes) (b : Term) (l : List Datum) (ns : List ℕ) →
-    settle V (walked ns l) (table_term (length ns) b) ≡ 2 * prefix_products ns + total (λ at. settle V (walked at (walked ns l)) b) (indices ns)
+    settle V (push_index ns l) (table_term (length ns) b) ≡ 2 * prefix_products ns + total (λ at. settle V (push_index at (push_index ns l)) b) (indices ns)
 table-turns V b l ns =
     let vs = index_variables (length ns) in
     let inner = nest (length ns) (gen_term (variable (length ns - 1))) (single_term (tuple_term (sizes_term vs ∷ b ∷ []))) in
     omega (
       arith,
-      settle-strict V (walked ns l) Strict.tuple (sizes_term vs ∷ inner ∷ []),
-      quiet-sizes V vs (quiet-variables V (length ns)) (walked ns l),
+      settle-strict V (push_index ns l) Strict.tuple (sizes_term vs ∷ inner ∷ []),
+      quiet-sizes V vs (quiet-variables V (length ns)) (push_index ns l),
       nest-turns V b l [] [] ns refl,
-      ap (total (λ at. settle V (walked at (walked ns l)) b)) (same-indices (indices ns)),
+      ap (total (λ at. settle V (push_index at (push_index ns l)) b)) (same-indices (indices ns)),
     )
 
 -- the body of a tabulation under the lets of its bounds
 body-turns : (V : Outcomes) (l : List Datum) (b : Term) (ns at : List ℕ) → WellFormed b → length at ≡ length ns →
-    settle V (walked at (walked ns l)) (shift_term (length ns) (length ns) b) ≡ settle V (walked at [] ++ l) b
+    settle V (push_index at (push_index ns l)) (shift_term (length ns) (length ns) b) ≡ settle V (push_index at [] ++ l) b
 body-turns V l b ns at w e =
-    let m : length ns ≡ length (walked at []) = omega (arith, length-walked at [], e) in
-    let n : length ns ≡ length (walked ns []) = omega (arith, length-walked ns []) in
-    ap (λ x. settle V (walked at x) (shift_term (length ns) (length ns) b)) (sym (walked-append ns [] l))
-    ∙ ap (λ x. settle V x (shift_term (length ns) (length ns) b)) (sym (walked-append at [] (walked ns [] ++ l)))
-    ∙ ap (λ k. settle V (walked at [] ++ (walked ns [] ++ l)) (shift_term k (length ns) b)) m
-    ∙ ap (λ k. settle V (walked at [] ++ (walked ns [] ++ l)) (shift_term (length (walked at [])) k b)) n
-    ∙ settle-shift_term V (walked at []) (walked ns []) l b w
+    let m : length ns ≡ length (push_index at []) = omega (arith, length-walked at [], e) in
+    let n : length ns ≡ length (push_index ns []) = omega (arith, length-walked ns []) in
+    ap (λ x. settle V (push_index at x) (shift_term (length ns) (length ns) b)) (sym (walked-append ns [] l))
+    ∙ ap (λ x. settle V x (shift_term (length ns) (length ns) b)) (sym (walked-append at [] (push_index ns [] ++ l)))
+    ∙ ap (λ k. settle V (push_index at [] ++ (push_index ns [] ++ l)) (shift_term k (length ns) b)) m
+    ∙ ap (λ k. settle V (push_index at [] ++ (push_index ns [] ++ l)) (shift_term (length (push_index at [])) k b)) n
+    ∙ settle-shift_term V (push_index at []) (push_index ns []) l b w
 
 -- a tabulation whose bounds have values
 tabulated-turns : (V : Outcomes) (l : List Datum) (ds : List Term) (b : Term) (ns : List ℕ) → Every WellFormed ds → WellFormed b → each (cden V l) ds ≡ Some (map datum.natural ns) → length ds ≡ length ns →
-    settle V l (tabulation_graph ds b) ≤ 2 * prefix_products ns + (total (settle V l) ds + total (λ at. settle V (walked at [] ++ l) b) (indices ns))
+    settle V l (tabulation_graph ds b) ≤ 2 * prefix_products ns + (total (settle V l) ds + total (λ at. settle V (push_index at [] ++ l) b) (indices ns))
 tabulated-turns V l ds b ns h w e n =
     let K = λ (ws : List Datum). settle V (onto ws [] ++ l) (table_term (length ds) (shift_term (length ds) (length ds) b)) in
     omega (
@@ -103,25 +104,25 @@ tabulated-turns V l ds b ns h w e n =
       ap (λ o. if_some o K) e
           ∙ ap (λ x. settle V (x ++ l) (table_term (length ds) (shift_term (length ds) (length ds) b))) (onto-naturals ns [])
           ∙ ap (λ x. settle V x (table_term (length ds) (shift_term (length ds) (length ds) b))) (walked-append ns [] l)
-          ∙ ap (λ k. settle V (walked ns l) (table_term k (shift_term k k b))) n
+          ∙ ap (λ k. settle V (push_index ns l) (table_term k (shift_term k k b))) n
           ∙ table-turns V (shift_term (length ns) (length ns) b) l ns,
-      total-ext (λ at. settle V (walked at (walked ns l)) (shift_term (length ns) (length ns) b)) (λ at. settle V (walked at [] ++ l) b) (indices ns)
+      total-ext (λ at. settle V (push_index at (push_index ns l)) (shift_term (length ns) (length ns) b)) (λ at. settle V (push_index at [] ++ l) b) (indices ns)
           (Every-impl (λ at. length at ≡ length ns) _ (λ at k. body-turns V l b ns at w k) (indices ns) (indices_lengths ns)),
     )
 
 -- the parts of a tabulation: the bounds once, and the body at each index
 tabulation-parts : (V : Outcomes) (l : List Datum) (ds : List Term) (b : Term) (w : List Part) →
     parts_settle V l (Form.tab (length ds)) w 0 (plain ds (part (length ds) b none))
-    ≡ total (settle V l) ds + total (λ at. settle V (walked at [] ++ l) b) (indices_of (bounds_value (length ds) w))
+    ≡ total (settle V l) ds + total (λ at. settle V (push_index at [] ++ l) b) (indices_of (bounds_value (length ds) w))
 tabulation-parts V l ds b w =
     let z : 0 + length ds ≡ length ds = omega arith in
-    let body : entered (Form.tab (length ds)) w (0 + length ds) ≡ map (λ at. walked at []) (indices_of (bounds_value (length ds) w)) =
-    ap (entered (Form.tab (length ds)) w) z ∙ rw (le-ltb (length ds) (length ds) (omega arith)) refl in
+    let body : entry_values (Form.tab (length ds)) w (0 + length ds) ≡ map (λ at. push_index at []) (indices_of (bounds_value (length ds) w)) =
+    ap (entry_values (Form.tab (length ds)) w) z ∙ rw (le-ltb (length ds) (length ds) (omega arith)) refl in
     omega (
       arith,
-      parts_settle-plain V l (Form.tab (length ds)) w 0 ds (part (length ds) b none) (λ j k. (let y : 0 + j ≡ j = omega arith in ap (entered (Form.tab (length ds)) w) y) ∙ rw (lt-ltb j (length ds) k) refl),
+      parts_settle-plain V l (Form.tab (length ds)) w 0 ds (part (length ds) b none) (λ j k. (let y : 0 + j ≡ j = omega arith in ap (entry_values (Form.tab (length ds)) w) y) ∙ rw (lt-ltb j (length ds) k) refl),
       ap (total (λ new. settle V (new ++ l) b)) body,
-      total-map (λ new. settle V (new ++ l) b) (λ at. walked at []) (indices_of (bounds_value (length ds) w)),
+      total-map (λ new. settle V (new ++ l) b) (λ at. push_index at []) (indices_of (bounds_value (length ds) w)),
     )
 
 -- a tabulation by its parts
@@ -140,7 +141,7 @@ tabulation-turns V l ds b w (Some ns) h k e f n =
       arith,
       tabulated-turns V l ds b ns h k f (n ns refl),
       tabulation-parts V l ds b w,
-      ap (λ o. total (λ at. settle V (walked at [] ++ l) b) (indices_of o)) e,
+      ap (λ o. total (λ at. settle V (push_index at [] ++ l) b) (indices_of o)) e,
     )
 
 -- the selection by an index at one pair takes no turns, where the index takes none
@@ -197,7 +198,7 @@ neighbours-turns V env [] = refl
 neighbours-turns V env (t ∷ []) = refl
 neighbours-turns V env (t ∷ u ∷ ts) = omega (arith, settle-strict V env Strict.union (t ∷ u ∷ []), neighbours-turns V env ts)
 
-united-turns : (V : Outcomes) (env : List Datum) (n : ℕ) (ts : List Term) → settle V env (united n ts) ≤ total (settle V env) ts
+united-turns : (V : Outcomes) (env : List Datum) (n : ℕ) (ts : List Term) → settle V env (union_tree n ts) ≤ total (settle V env) ts
 united-turns V env zero [] = omega arith
 united-turns V env zero (t ∷ ts) = omega arith
 united-turns V env (suc n) ts = omega (arith, united-turns V env n (united_neighbours ts), neighbours-turns V env ts)
@@ -221,7 +222,7 @@ literal-turns V l ds cs h k = omega (arith, lets-turns V [] l ds body h, of (eac
     xs = map (shift_term 0 (length ds)) cs
 
     table : Term
-    table = tuple_term (sizes_term vs ∷ united (length cs) (cell_pairs 0 vs xs) ∷ [])
+    table = tuple_term (sizes_term vs ∷ union_tree (length cs) (cell_pairs 0 vs xs) ∷ [])
 
     body : Term
     body = if_term (is_filled vs (length cs)) table bottom_term
@@ -230,7 +231,7 @@ literal-turns V l ds cs h k = omega (arith, lets-turns V [] l ds body h, of (eac
     table-at env =
         omega (
           arith,
-          settle-strict V env Strict.tuple (sizes_term vs ∷ united (length cs) (cell_pairs 0 vs xs) ∷ []),
+          settle-strict V env Strict.tuple (sizes_term vs ∷ union_tree (length cs) (cell_pairs 0 vs xs) ∷ []),
           quiet-sizes V vs (quiet-variables V (length ds)) env,
           united-turns V env (length cs) (cell_pairs 0 vs xs),
           pairs-turns V env 0 vs xs (quiet-variables V (length ds)),
@@ -274,14 +275,10 @@ sizes-turns V l [] = refl
 sizes-turns V l (t ∷ []) = omega arith
 sizes-turns V l (t ∷ u ∷ ts) = omega (arith, settle-strict V l Strict.tuple (t ∷ u ∷ ts))
 
-plain-formed : (s : Strict) (i : ℕ) (ts : List Term) → Every WellFormed ts → PartsWellFormed (Form.strict s) i (plain ts none)
-plain-formed s i [] h = tt
-plain-formed s i (t ∷ ts) h = (refl, h.0, plain-formed s (suc i) ts h.1)
-
 pub sizes-formed : (ts : List Term) → Every WellFormed ts → WellFormed (sizes_term ts)
 sizes-formed [] h = (tt, tt)
 sizes-formed (t ∷ []) h = h.0
-sizes-formed (t ∷ u ∷ ts) h = (tt, plain-formed Strict.tuple 0 (t ∷ u ∷ ts) h)
+sizes-formed (t ∷ u ∷ ts) h = (tt, strict-plain Strict.tuple 0 (t ∷ u ∷ ts) none h tt)
 
 pub variables-formed : (k : ℕ) → Every WellFormed (index_variables k)
 variables-formed zero = tt

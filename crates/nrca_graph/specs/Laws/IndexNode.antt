@@ -8,9 +8,9 @@ use Rattle.aql_value.specs.Datum.{Datum, tuple, set, data_of}
 use Rattle.aql_value.specs.Laws.Datum.{list_of-data_of}
 use Rattle.aql_value.specs.Indices.{indices}
 use Rattle.aql_value.specs.Laws.Indices.{length_indices}
-use Rattle.aql_value.specs.Lists.{Every, below}
+use Rattle.aql_value.specs.Lists.{Every, below, onto}
 use Rattle.aql_value.specs.Laws.Lists.{Every-impl, Every-onto, Every-below, length-below}
-use Rattle.aql_value.specs.Operations.{in_range, index_value, set_of, array_of, is_rank, walked, index_numbers, as_indexed, dims_above, values_at, all_in_range, indexed, index_of}
+use Rattle.aql_value.specs.Operations.{in_range, index_value, set_of, array_of, is_rank, push_index, index_numbers, as_indexed, dims_above, values_at, all_in_range, index_array, index_of}
 use Rattle.aql_value.specs.Laws.Operations.{index_numbers-value, array_of-made}
 use Rattle.aql_value.specs.Partial.{◌>>=◌, each, concat}
 use Rattle.aql_value.specs.Laws.Partial.{each-map, each-ext, each-defined}
@@ -25,16 +25,16 @@ use Rattle.nrca_term.specs.Typing.{arg}
 use Rattle.nrca_term.specs.Meaning.{Outcomes, Part, here, cden, part_values}
 use Rattle.nrca_term.specs.Rules.{lets, sizes_term, index_variables}
 use Rattle.nrca_term.specs.Laws.Sound.{AllSound}
-use Rattle.nrca_graph.specs.Encoding.{pair, graph, encoding, encoded, pair_type}
+use Rattle.nrca_graph.specs.Encoding.{pair, graph, encoding, encode_outcome, pair_type}
 use Rattle.nrca_graph.specs.ArrayFree.{term_at, paired_with, dimension_above, index_graph}
 use Rattle.nrca_graph.specs.Tabulation.{table_term}
 use Rattle.nrca_graph.specs.Laws.EncodingOrder.{encoding-order, encoding-set, encodings-list}
 use Rattle.nrca_graph.specs.Laws.EncodedSets.{set_of-encoded}
 use Rattle.nrca_graph.specs.Laws.KeptForms.{AllMirror}
-use Rattle.nrca_term.specs.Laws.Lets.{onto, onto-naturals, lets-value, walked-append, walked-past, index-value}
+use Rattle.nrca_term.specs.Laws.Lets.{onto-naturals, lets-value, walked-append, walked-past, index-value}
 use Rattle.nrca_graph.specs.Laws.Nests.{pair_at}
 use Rattle.nrca_graph.specs.Laws.Tabulated.{table-value}
-use Rattle.nrca_graph.specs.Laws.Paired.{pair_of, chosen, paired-value, equal-indices}
+use Rattle.nrca_graph.specs.Laws.Paired.{pair_of, second_if, paired-value, equal-indices}
 use Rattle.nrca_graph.specs.Laws.Greatest.{above, column, dims-columns, each-in_range}
 use Rattle.nrca_graph.specs.Laws.Dimensions.{entry, indices_in, dimension-value}
 use Rattle.nrca_graph.specs.Laws.SubscriptNode.{index-kept}
@@ -111,10 +111,10 @@ entries-keyed (e ∷ es) = ap (λ l. entry e ∷ l) (entries-keyed es)
 
 -- the values that are chosen are those at the index
 chosen-values : (at : List ℕ) (es : List (List ℕ × Datum)) → Every (λ e. length e.0 ≡ length at) es →
-    concat (map (chosen (index_value at)) (map keyed_entry (map encoded_entry es))) ≡ map encoding (values_at at es)
+    concat (map (second_if (index_value at)) (map keyed_entry (map encoded_entry es))) ≡ map encoding (values_at at es)
 chosen-values at [] h = refl
 chosen-values at (e ∷ es) h =
-    ap (λ b. (if b then encoding e.1 ∷ [] else []) ++ concat (map (chosen (index_value at)) (map keyed_entry (map encoded_entry es)))) (equal-indices e.0 at h.0)
+    ap (λ b. (if b then encoding e.1 ∷ [] else []) ++ concat (map (second_if (index_value at)) (map keyed_entry (map encoded_entry es)))) (equal-indices e.0 at h.0)
     ∙ ap (λ l. (if pointwise nat_eq at e.0 then encoding e.1 ∷ [] else []) ++ l) (chosen-values at es h.1)
     ∙ of (pointwise nat_eq at e.0)
   where
@@ -174,7 +174,7 @@ dims-value W around rank es ls = (many, sizes)
 
 -- over the encoded set of entries it is the encoded array
 table-encoded : (W : Outcomes) (around : List Datum) (rank : ℕ) (A : Ty) (es : List (List ℕ × Datum)) → IsRank rank → Every (λ e. length e.0 ≡ rank) es → Every (λ e. HasType A e.1) es →
-    cden W (set (data_of (map entry (map encoded_entry es))) ∷ around) (index_table rank) ≡ encoded (indexed (dims_above rank (indices_in es)) es)
+    cden W (set (data_of (map entry (map encoded_entry es))) ∷ around) (index_table rank) ≡ encode_outcome (index_array (dims_above rank (indices_in es)) es)
 table-encoded W around rank A es r ls hs =
     lets-value W [] env (map (λ j. dimension_above rank (suc j)) (below rank)) body
     ∙ ap (λ o. o >>= λ ws. cden W (onto ws [] ++ env) body) sizes
@@ -210,44 +210,44 @@ table-encoded W around rank A es r ls hs =
     sizes : each (cden W env) (map (λ j. dimension_above rank (suc j)) (below rank)) ≡ (if all_in_range ds then Some (map datum.natural ds) else None)
     sizes = known.1
 
-    at_index : (at : List ℕ) → length at ≡ rank → pair_at W (walked ds env) selected at ≡ Some (pair (index_value at) (encoding (F at)))
+    at_index : (at : List ℕ) → length at ≡ rank → pair_at W (push_index ds env) selected at ≡ Some (pair (index_value at) (encoding (F at)))
     at_index at l =
         ap (λ o. o >>= λ w. Some (pair (index_value at) w))
-        (paired-value W (walked at (walked ds env)) (variable (2 * rank)) (sizes_term (index_variables rank)) (index_value at) (map keyed_entry fs)
-        ((let z : 2 * rank ≡ length at + (length ds + 0) = omega (arith, l, many) in ap (slice_get (walked at (walked ds env))) z)
-        ∙ walked-past at (walked ds env) (length ds + 0) ∙ walked-past ds env 0 ∙ ap (λ ms. Some (set (data_of ms))) (entries-keyed fs))
-        (ap (λ k. cden W (walked at (walked ds env)) (sizes_term (index_variables k))) (sym l) ∙ index-value W at (walked ds env) (omega (arith, l, r.0))))
+        (paired-value W (push_index at (push_index ds env)) (variable (2 * rank)) (sizes_term (index_variables rank)) (index_value at) (map keyed_entry fs)
+        ((let z : 2 * rank ≡ length at + (length ds + 0) = omega (arith, l, many) in ap (slice_get (push_index at (push_index ds env))) z)
+        ∙ walked-past at (push_index ds env) (length ds + 0) ∙ walked-past ds env 0 ∙ ap (λ ms. Some (set (data_of ms))) (entries-keyed fs))
+        (ap (λ k. cden W (push_index at (push_index ds env)) (sizes_term (index_variables k))) (sym l) ∙ index-value W at (push_index ds env) (omega (arith, l, r.0))))
         ∙ ap (λ vs. Some (pair (index_value at) (set_of vs))) (chosen-values at es (Every-impl (λ e. length e.0 ≡ rank) (λ e. length e.0 ≡ length at) (λ e k. k ∙ sym l) es ls))
         ∙ ap (λ w. Some (pair (index_value at) w)) (set_of-encoded A (values_at at es) (values-typed A at es hs))
 
-    table : cden W (walked ds env) body ≡ Some (pair (index_value ds) (set_of (graph (indices ds) (map encoding cells))))
+    table : cden W (push_index ds env) body ≡ Some (pair (index_value ds) (set_of (graph (indices ds) (map encoding cells))))
     table =
-        ap (λ k. cden W (walked ds env) (table_term k selected)) (sym many)
+        ap (λ k. cden W (push_index ds env) (table_term k selected)) (sym many)
         ∙ table-value W selected env ds (omega (arith, many, r.0))
         ∙ ap (λ o. o >>= λ ms. Some (pair (index_value ds) (set_of ms)))
-        (each-ext (pair_at W (walked ds env) selected) (λ at. Some (pair (index_value at) (encoding (F at)))) (indices ds)
-        (Every-impl (λ at. length at ≡ length ds) (λ at. pair_at W (walked ds env) selected at ≡ Some (pair (index_value at) (encoding (F at)))) (λ at l. at_index at (l ∙ many)) (indices ds) (indices_lengths ds))
+        (each-ext (pair_at W (push_index ds env) selected) (λ at. Some (pair (index_value at) (encoding (F at)))) (indices ds)
+        (Every-impl (λ at. length at ≡ length ds) (λ at. pair_at W (push_index ds env) selected at ≡ Some (pair (index_value at) (encoding (F at)))) (λ at l. at_index at (l ∙ many)) (indices ds) (indices_lengths ds))
         ∙ each-defined (λ at. pair (index_value at) (encoding (F at))) (indices ds))
         ∙ ap (λ ms. Some (pair (index_value ds) (set_of ms))) (graph-made F (indices ds))
 
-    of : (b : Bool) → all_in_range ds ≡ b → ((if all_in_range ds then Some (map datum.natural ds) else None) >>= λ ws. cden W (onto ws [] ++ env) body) ≡ encoded (indexed ds es)
+    of : (b : Bool) → all_in_range ds ≡ b → ((if all_in_range ds then Some (map datum.natural ds) else None) >>= λ ws. cden W (onto ws [] ++ env) body) ≡ encode_outcome (index_array ds es)
     of false e =
         ap (λ b. (if b then Some (map datum.natural ds) else None) >>= λ ws. cden W (onto ws [] ++ env) body) e
-        ∙ sym (ap (λ b. encoded (if b then array_of ds cells else None)) e)
+        ∙ sym (ap (λ b. encode_outcome (if b then array_of ds cells else None)) e)
     of true e =
         ap (λ b. (if b then Some (map datum.natural ds) else None) >>= λ ws. cden W (onto ws [] ++ env) body) e
         ∙ ap (λ l. cden W (l ++ env) body) (onto-naturals ds [])
         ∙ ap (λ l. cden W l body) (walked-append ds [] env)
         ∙ table
-        ∙ sym (ap (λ b. encoded (if b then array_of ds cells else None)) e
-        ∙ ap encoded (array_of-made ds cells (omega (arith, many, r.0)) (omega (arith, many, r.1)) (omega (arith, length_indices ds, length-map (indices ds) F)))
+        ∙ sym (ap (λ b. encode_outcome (if b then array_of ds cells else None)) e
+        ∙ ap encode_outcome (array_of-made ds cells (omega (arith, many, r.0)) (omega (arith, many, r.1)) (omega (arith, length_indices ds, length-map (indices ds) F)))
         ∙ ap (λ vs. Some (pair (index_value ds) (set_of (graph (indices ds) vs)))) (encodings-list cells))
 
 -- the node of an index whose part is translated
 pub index-node : (W : Outcomes) (around : List Datum) (rank : ℕ) (A : Ty) (ps : List Part) (qs : Parts) → IsRank rank →
     AllSound (map (arg []) (types.set_of (pair_type (index_type rank) A) ∷ [])) ps → AllMirror (map (arg []) (types.set_of (pair_type (index_type rank) A) ∷ [])) ps (part_values W around qs) →
     BindersFit (map (arg []) (types.set_of (pair_type (index_type rank) A) ∷ [])) qs →
-    cden W around (index_graph rank (term_at (terms_in qs) 0)) ≡ encoded (each here ps >>= strict_value (Strict.index rank))
+    cden W around (index_graph rank (term_at (terms_in qs) 0)) ≡ encode_outcome (each here ps >>= strict_value (Strict.index rank))
 index-node W around rank A ps none r s m b = absurd b
 index-node W around rank A [] (part k a qs) r s m b = absurd s
 index-node W around rank A (p ∷ q ∷ ps) (part k a qs) r s m b = absurd s.1
@@ -260,18 +260,18 @@ index-node W around rank A (p ∷ []) (part k a qs) r s m b =
     rank-is : is_rank rank ≡ true
     rank-is = grind (arith, r.0, r.1)
 
-    of : (o : Option Datum) → p [] ≡ o → (encoded (p []) >>= λ w. cden W (w ∷ around) inner) ≡ encoded ((p [] >>= λ y. Some [] >>= λ ys. Some (y ∷ ys)) >>= strict_value (Strict.index rank))
+    of : (o : Option Datum) → p [] ≡ o → (encode_outcome (p []) >>= λ w. cden W (w ∷ around) inner) ≡ encode_outcome ((p [] >>= λ y. Some [] >>= λ ys. Some (y ∷ ys)) >>= strict_value (Strict.index rank))
     of None e =
-        ap (λ o. encoded o >>= λ w. cden W (w ∷ around) inner) e ∙ sym (ap (λ o. encoded ((o >>= λ y. Some [] >>= λ ys. Some (y ∷ ys)) >>= strict_value (Strict.index rank))) e)
+        ap (λ o. encode_outcome o >>= λ w. cden W (w ∷ around) inner) e ∙ sym (ap (λ o. encode_outcome ((o >>= λ y. Some [] >>= λ ys. Some (y ∷ ys)) >>= strict_value (Strict.index rank))) e)
     of (Some v) e =
         let h = s.0 [] v tt e in
         let es = entries-of-type rank A h.0 r.0 h.3 in
         let M : Ty = pair_type (index_type rank) A in
-        ap (λ o. encoded o >>= λ w. cden W (w ∷ around) inner) e
+        ap (λ o. encode_outcome o >>= λ w. cden W (w ∷ around) inner) e
         ∙ ap (λ w. cden W (w ∷ around) inner) (ap encoding h.1 ∙ encoding-set M (encoding-order M) h.0 h.3 h.2 ∙ ap (λ ms. set (data_of ms)) (ap (map encoding) es.1.listed ∙ entries-encoded es.0))
         ∙ ap (λ t. cden W (set (data_of (map entry (map encoded_entry es.0))) ∷ around) (if t then index_table rank else bottom_term)) rank-is
         ∙ table-encoded W around rank A es.0 r es.1.ranks es.1.values
-        ∙ sym (ap (λ o. encoded ((o >>= λ y. Some [] >>= λ ys. Some (y ∷ ys)) >>= strict_value (Strict.index rank))) e
-        ∙ ap (λ x. encoded (index_of rank x)) h.1
-        ∙ ap (λ ms. encoded (each (as_indexed rank) ms >>= λ ys. indexed (dims_above rank (indices_in ys)) ys)) (list_of-data_of h.0 ∙ es.1.listed)
-        ∙ ap (λ o. encoded (o >>= λ ys. indexed (dims_above rank (indices_in ys)) ys)) (entries-read rank es.0 r.0 es.1.ranks))
+        ∙ sym (ap (λ o. encode_outcome ((o >>= λ y. Some [] >>= λ ys. Some (y ∷ ys)) >>= strict_value (Strict.index rank))) e
+        ∙ ap (λ x. encode_outcome (index_of rank x)) h.1
+        ∙ ap (λ ms. encode_outcome (each (as_indexed rank) ms >>= λ ys. index_array (dims_above rank (indices_in ys)) ys)) (list_of-data_of h.0 ∙ es.1.listed)
+        ∙ ap (λ o. encode_outcome (o >>= λ ys. index_array (dims_above rank (indices_in ys)) ys)) (entries-read rank es.0 r.0 es.1.ranks))

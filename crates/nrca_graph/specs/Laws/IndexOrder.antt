@@ -1,7 +1,7 @@
 -- The order of the indices of an array, as lists and as values. It speaks of aql_value alone, and its place would be there.
-use Rattle.std.proofs.Common.{◌≡◌, ℕ, zero, suc, ◌+◌, ◌<◌, ◌≤◌, List, [], ◌∷◌, ◌++◌, length, map, refl, sym, ap, subst, ◌∙◌, arith}
+use Rattle.std.proofs.Common.{◌≡◌, ℕ, zero, suc, ◌+◌, ◌<◌, List, [], ◌∷◌, ◌++◌, length, map, refl, sym, ap, subst, ◌∙◌, arith}
 use Rattle.std.specs.declared.cmp.Ordering.{Ordering}
-use Rattle.std.specs.declared.cmp.Ordering.TheVariants.{Less, Equal, Greater}
+use Rattle.std.specs.declared.cmp.Ordering.TheVariants.{Less, Equal}
 use Rattle.std.specs.Ordering.{nat_cmp, ordering_then}
 use Rattle.std.specs.Cmp.Lexicographic.{slice_cmp}
 use Rattle.std.specs.List.{range_with_len}
@@ -9,17 +9,12 @@ use Rattle.std.specs.List.Sorted.{IsStrictlySortedBy}
 use Rattle.aql_value.specs.Datum.{natural, data_of}
 use Rattle.aql_value.specs.Indices.{indices}
 use Rattle.aql_value.specs.Lists.{Every}
-use Rattle.aql_value.specs.Laws.Lists.{Every-all, Every-impl, Every-onto, Every-append, Every-nested}
+use Rattle.aql_value.specs.Laws.Lists.{Every-all, Every-impl, Every-onto, Every-append, Every-nested, Every-range}
 use Rattle.aql_value.specs.Operations.{index_value}
 use Rattle.aql_value.specs.Order.{datum_cmp, data_cmp}
+use Rattle.aql_value.specs.Laws.Order.{then_equal}
 use Rattle.aql_value.specs.Partial.{concat}
 use Rattle.aql_value.specs.Laws.RowMajor.{indices-cons}
-
--- a comparison with nothing behind it
-pub then-equal : (o : Ordering) → ordering_then o Equal ≡ o
-then-equal Less = refl
-then-equal Equal = refl
-then-equal Greater = refl
 
 -- lists of numbers as parts of a tuple are compared number by number
 naturals-order : (ms ns : List ℕ) → data_cmp (data_of (map natural ms)) (data_of (map natural ns)) ≡ slice_cmp nat_cmp ms ns
@@ -33,7 +28,7 @@ pub index-order : (ms ns : List ℕ) → length ms ≡ length ns → datum_cmp (
 index-order [] [] e = refl
 index-order [] (n ∷ ns) e = absurd (omega (arith, e))
 index-order (m ∷ ms) [] e = absurd (omega (arith, e))
-index-order (m ∷ []) (n ∷ []) e = sym (then-equal (nat_cmp m n))
+index-order (m ∷ []) (n ∷ []) e = sym (then_equal (nat_cmp m n))
 index-order (m ∷ []) (n ∷ k ∷ ns) e = absurd (omega (arith, e))
 index-order (m ∷ l ∷ ms) (n ∷ []) e = absurd (omega (arith, e))
 index-order (m ∷ l ∷ ms) (n ∷ k ∷ ns) e = naturals-order (m ∷ l ∷ ms) (n ∷ k ∷ ns)
@@ -56,11 +51,6 @@ sorted-first i (at ∷ ats) h = (Every-onto (λ y. slice_cmp nat_cmp (i ∷ at) 
         same : (n : ℕ) → nat_cmp n n ≡ Equal
         same n = grind (arith)
 
--- what holds of each number of a range
-every-range : (P : ℕ → Type 0) (a n : ℕ) → ((j : ℕ) → a ≤ j → j < a + n → P j) → Every P (range_with_len a n)
-every-range P a zero h = tt
-every-range P a (suc n) h = (h a (omega arith) (omega arith), every-range P (a + 1) n (λ j l m. h j (omega (arith, l)) (omega (arith, m))))
-
 -- the comparison of a lower number
 less-is : (m a : ℕ) → m < a → nat_cmp m a ≡ Less
 less-is m a h = grind (arith, h)
@@ -69,7 +59,7 @@ less-is m a h = grind (arith, h)
 rows-above : (ats : List (List ℕ)) (m : ℕ) (at : List ℕ) (a n : ℕ) → m < a → Every (λ y. slice_cmp nat_cmp (m ∷ at) y ≡ Less) (concat (map (λ i. map (λ b. i ∷ b) ats) (range_with_len a n)))
 rows-above ats m at a n l =
     Every-nested (λ y. slice_cmp nat_cmp (m ∷ at) y ≡ Less) (λ i. map (λ b. i ∷ b) ats) (range_with_len a n)
-    (every-range (λ i. Every (λ y. slice_cmp nat_cmp (m ∷ at) y ≡ Less) (map (λ b. i ∷ b) ats)) a n
+    (Every-range (λ i. Every (λ y. slice_cmp nat_cmp (m ∷ at) y ≡ Less) (map (λ b. i ∷ b) ats)) a n
     (λ i h k. Every-onto (λ y. slice_cmp nat_cmp (m ∷ at) y ≡ Less) (λ b. i ∷ b) ats (Every-all _ (λ b. ap (λ o. ordering_then o (slice_cmp nat_cmp at b)) (less-is m i (omega (arith, h, l)))) ats)))
 
 -- the rows from number a on ascend

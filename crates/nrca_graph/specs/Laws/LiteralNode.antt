@@ -11,8 +11,8 @@ use Rattle.aql_value.specs.declared.ops.ArithOp.TheVariants.{Quotient, Remainder
 use Rattle.aql_value.specs.Datum.{Datum, natural, truth, array, data_of}
 use Rattle.aql_value.specs.Indices.{indices, product}
 use Rattle.aql_value.specs.Laws.Indices.{length_indices}
-use Rattle.aql_value.specs.Lists.{Every}
-use Rattle.aql_value.specs.Operations.{as_natural, as_truth, index_value, set_of, array_of, is_rank, literal_of, walked}
+use Rattle.aql_value.specs.Lists.{Every, onto}
+use Rattle.aql_value.specs.Operations.{as_natural, as_truth, index_value, set_of, array_of, is_rank, literal_of, push_index}
 use Rattle.aql_value.specs.Laws.Operations.{each-naturals, array_of-made}
 use Rattle.aql_value.specs.Partial.{◌>>=◌, each, concat}
 use Rattle.aql_value.specs.Laws.Partial.{each-append, each-length}
@@ -28,12 +28,12 @@ use Rattle.nrca_term.specs.Laws.Entering.{length-walked}
 use Rattle.nrca_term.specs.Laws.Sound.{AllSound}
 use Rattle.nrca_term.specs.Subst.{shift_term}
 use Rattle.nrca_term.specs.Laws.Shifting.{cden-shift_term}
-use Rattle.nrca_graph.specs.Encoding.{pair, graph, encoding, encoded}
-use Rattle.nrca_graph.specs.ArrayFree.{product_term, is_filled, over_rest, further_numbers, index_of_cell, cell_pairs, united, literal_graph}
+use Rattle.nrca_graph.specs.Encoding.{pair, graph, encoding, encode_outcome}
+use Rattle.nrca_graph.specs.ArrayFree.{product_term, is_filled, over_rest, further_numbers, index_of_cell, cell_pairs, union_tree, literal_graph}
 use Rattle.nrca_graph.specs.Laws.EncodingOrder.{encodings-list}
 use Rattle.nrca_graph.specs.Laws.KeptForms.{AllMirror}
 use Rattle.nrca_graph.specs.Laws.StrictForms.{numbers-kept}
-use Rattle.nrca_term.specs.Laws.Lets.{onto, onto-naturals, lets-value, walked-append, index-value}
+use Rattle.nrca_term.specs.Laws.Lets.{onto-naturals, lets-value, walked-append, index-value}
 use Rattle.nrca_graph.specs.Laws.Nests.{pair-value, single-value}
 use Rattle.nrca_graph.specs.Laws.SubscriptNode.{sizes-value}
 use Rattle.nrca_graph.specs.Laws.Unions.{united-value, united-none}
@@ -161,7 +161,7 @@ literal-none ns bs e = ap (λ b. if is_rank (length ns) && b then Some (array ns
 
 -- the union of the pairs of the cells, under the dimensions
 abbrev pub cells_term : ℕ → List Term → Term
-cells_term k cs = united (length cs) (cell_pairs 0 (index_variables k) (map (shift_term 0 k) cs))
+cells_term k cs = union_tree (length cs) (cell_pairs 0 (index_variables k) (map (shift_term 0 k) cs))
 
 -- what stands under the lets of the dimensions
 abbrev pub literal_table : ℕ → List Term → Term
@@ -169,12 +169,12 @@ literal_table k cs = if_term (is_filled (index_variables k) (length cs)) (tuple_
 
 -- the pairs of all cells, where they are as many as the indices
 cells-each : (W : Outcomes) (around : List Datum) (ns : List ℕ) (cs : List Term) → 1 ≤ length ns → length cs < 2 ^ 128 → product ns ≡ length cs →
-    each (cden W (walked ns around)) (cell_pairs 0 (index_variables (length ns)) (map (shift_term 0 (length ns)) cs)) ≡ (each (cden W around) cs >>= λ ws. Some (map singleton (graph (indices ns) ws)))
+    each (cden W (push_index ns around)) (cell_pairs 0 (index_variables (length ns)) (map (shift_term 0 (length ns)) cs)) ≡ (each (cden W around) cs >>= λ ws. Some (map singleton (graph (indices ns) ws)))
 cells-each W around ns cs some few full =
     pairs-value W env around (length ns) 0 (index_variables (length ns)) cs (indices ns) (omega (arith, length_indices ns, full)) (λ j at e. index-value-of j at e) shifted
   where
     env : List Datum
-    env = walked ns around
+    env = push_index ns around
 
     index-value-of : (j : ℕ) (at : List ℕ) → slice_get (indices ns) j ≡ Some at → cden W env (sizes_term (index_of_cell (0 + j) (index_variables (length ns)))) ≡ Some (index_value at)
     index-value-of j at e =
@@ -187,16 +187,16 @@ cells-each W around ns cs some few full =
     shifted : (c : Term) → cden W env (shift_term 0 (length ns) c) ≡ cden W around c
     shifted c =
         ap (λ l. cden W l (shift_term 0 (length ns) c)) (sym (walked-append ns [] around))
-        ∙ (let q : length ns ≡ length (walked ns []) = omega (arith, length-walked ns []) in ap (λ k. cden W (walked ns [] ++ around) (shift_term 0 k c)) q)
-        ∙ cden-shift_term W [] (walked ns []) around c
+        ∙ (let q : length ns ≡ length (push_index ns []) = omega (arith, length-walked ns []) in ap (λ k. cden W (push_index ns [] ++ around) (shift_term 0 k c)) q)
+        ∙ cden-shift_term W [] (push_index ns []) around c
 
 -- under dimensions that have these numbers it is the encoded array
 table-of-cells : (W : Outcomes) (around : List Datum) (ns : List ℕ) (cs : List Term) (o : Option (List Datum)) → 1 ≤ length ns → length ns ≤ 8 → length cs < 2 ^ 128 →
-    each (cden W around) cs ≡ (o >>= λ vs. Some (map encoding vs)) → cden W (walked ns around) (literal_table (length ns) cs) ≡ encoded (o >>= array_of ns)
+    each (cden W around) cs ≡ (o >>= λ vs. Some (map encoding vs)) → cden W (push_index ns around) (literal_table (length ns) cs) ≡ encode_outcome (o >>= array_of ns)
 table-of-cells W around ns cs o some many few e = of (nat_eq (product ns) (length cs)) refl (filled-value W env (index_variables (length ns)) ns (length cs) few (variables-are W ns around))
   where
     env : List Datum
-    env = walked ns around
+    env = push_index ns around
 
     test : Term
     test = is_filled (index_variables (length ns)) (length cs)
@@ -207,7 +207,7 @@ table-of-cells W around ns cs o some many few e = of (nat_eq (product ns) (lengt
     left : Option Datum → Option Datum
     left t = t >>= as_truth >>= λ b. if b then cden W env table else None
 
-    filled : (q : Option (List Datum)) → o ≡ q → product ns ≡ length cs → cden W env table ≡ encoded (q >>= array_of ns)
+    filled : (q : Option (List Datum)) → o ≡ q → product ns ≡ length cs → cden W env table ≡ encode_outcome (q >>= array_of ns)
     filled None k full =
         pair-value W env (sizes_term (index_variables (length ns))) (cells_term (length ns) cs) (index_value ns) (index-value W ns around some)
         ∙ ap (λ u. u >>= λ w. Some (pair (index_value ns) w))
@@ -224,16 +224,16 @@ table-of-cells W around ns cs o some many few e = of (nat_eq (product ns) (lengt
         (cells-each W around ns cs some few full ∙ ap (λ r. r >>= λ ws. Some (map singleton (graph (indices ns) ws))) (e ∙ ap (λ r. r >>= λ vs. Some (map encoding vs)) k)
         ∙ ap Some (singles G).0)
         ∙ ap (λ ys. Some (set_of ys)) (singles G).1)
-        ∙ sym (ap encoded (array_of-made ns bs some many (full ∙ sym l)) ∙ ap (λ vs. Some (pair (index_value ns) (set_of (graph (indices ns) vs)))) (encodings-list bs))
+        ∙ sym (ap encode_outcome (array_of-made ns bs some many (full ∙ sym l)) ∙ ap (λ vs. Some (pair (index_value ns) (set_of (graph (indices ns) vs)))) (encodings-list bs))
 
-    unfilled : (q : Option (List Datum)) → o ≡ q → nat_eq (product ns) (length cs) ≡ false → None ≡ encoded (q >>= array_of ns)
+    unfilled : (q : Option (List Datum)) → o ≡ q → nat_eq (product ns) (length cs) ≡ false → None ≡ encode_outcome (q >>= array_of ns)
     unfilled None k f = refl
     unfilled (Some bs) k f =
         let l : length bs ≡ length cs = omega (arith, length-map bs encoding, each-length (cden W around) cs (map encoding bs) (e ∙ ap (λ r. r >>= λ vs. Some (map encoding vs)) k)) in
-        sym (ap encoded (literal-none ns bs (ap (nat_eq (product ns)) l ∙ f)))
+        sym (ap encode_outcome (literal-none ns bs (ap (nat_eq (product ns)) l ∙ f)))
 
     of : (b : Bool) → nat_eq (product ns) (length cs) ≡ b → (cden W env test ≡ Some (truth (nat_eq (product ns) (length cs)))) ⊎ ((cden W env test ≡ None) × (nat_eq (product ns) (length cs) ≡ false)) →
-        left (cden W env test) ≡ encoded (o >>= array_of ns)
+        left (cden W env test) ≡ encode_outcome (o >>= array_of ns)
     of true f (inl t) = ap left (t ∙ ap (λ b. Some (truth b)) f) ∙ filled o refl (eqb-true (product ns) (length cs) f)
     of true f (inr t) = cc
     of false f (inl t) = ap left (t ∙ ap (λ b. Some (truth b)) f) ∙ unfilled o refl f
@@ -251,7 +251,7 @@ literal-args (suc rank) n A = ap (λ l. arg [] types.natural ∷ l) (literal-arg
 -- the node of a literal whose parts are translated
 pub literal-node : (W : Outcomes) (around : List Datum) (rank n : ℕ) (A : Ty) (ps : List Part) (qs : Parts) → IsRank rank → length (terms_in qs) < 2 ^ 128 → AllSound (literal_args rank n A) ps →
     AllMirror (literal_args rank n A) ps (part_values W around qs) → BindersFit (literal_args rank n A) qs →
-    cden W around (literal_graph (take rank (terms_in qs)) (drop rank (terms_in qs))) ≡ encoded (each here ps >>= strict_value (Strict.literal rank))
+    cden W around (literal_graph (take rank (terms_in qs)) (drop rank (terms_in qs))) ≡ encode_outcome (each here ps >>= strict_value (Strict.literal rank))
 literal-node W around rank n A ps qs r few s m b = of (each here (take rank ps)) refl
   where
     ds : List Term
@@ -279,12 +279,12 @@ literal-node W around rank n A ps qs r few s m b = of (each here (take rank ps))
     K ws = cden W (onto ws [] ++ around) (literal_table (length ds) cs)
 
     right : Option (List Datum) → Option Datum
-    right o = encoded ((o >>= λ vs. each here (drop rank ps) >>= λ bs. Some (vs ++ bs)) >>= literal_of rank)
+    right o = encode_outcome ((o >>= λ vs. each here (drop rank ps) >>= λ bs. Some (vs ++ bs)) >>= literal_of rank)
 
-    of : (o : Option (List Datum)) → each here (take rank ps) ≡ o → cden W around (lets 0 ds (literal_table (length ds) cs)) ≡ encoded (each here ps >>= literal_of rank)
+    of : (o : Option (List Datum)) → each here (take rank ps) ≡ o → cden W around (lets 0 ds (literal_table (length ds) cs)) ≡ encode_outcome (each here ps >>= literal_of rank)
     of None e =
         lets-value W [] around ds (literal_table (length ds) cs) ∙ ap (λ o. o >>= K) (bounds ∙ ap (λ o. o >>= λ vs. Some (map encoding vs)) e)
-        ∙ sym (ap (λ o. encoded (o >>= literal_of rank)) whole ∙ ap right e)
+        ∙ sym (ap (λ o. encode_outcome (o >>= literal_of rank)) whole ∙ ap right e)
     of (Some vs) e =
         let ns = numbers-of rank vs (first-types rank types.natural rests ps vs s e) in
         let k : each (cden W around) ds ≡ Some (map natural ns.0) = bounds ∙ ap (λ o. o >>= λ us. Some (map encoding us)) e ∙ ap (λ us. Some (map encoding us)) ns.1 ∙ ap Some (numbers-kept ns.0) in
@@ -292,11 +292,11 @@ literal-node W around rank n A ps qs r few s m b = of (each here (take rank ps))
         ∙ ap (λ o. o >>= K) k
         ∙ ap (λ l. cden W (l ++ around) (literal_table (length ds) cs)) (onto-naturals ns.0 [])
         ∙ ap (λ l. cden W l (literal_table (length ds) cs)) (walked-append ns.0 [] around)
-        ∙ (let z : length ds ≡ length ns.0 = omega (arith, each-length (cden W around) ds (map natural ns.0) k, length-map ns.0 natural) in ap (λ i. cden W (walked ns.0 around) (literal_table i cs)) z)
+        ∙ (let z : length ds ≡ length ns.0 = omega (arith, each-length (cden W around) ds (map natural ns.0) k, length-map ns.0 natural) in ap (λ i. cden W (push_index ns.0 around) (literal_table i cs)) z)
         ∙ table-of-cells W around ns.0 cs (each here (drop rank ps)) (omega (arith, ns.2, r.0)) (omega (arith, ns.2, r.1)) fewer cells
         ∙ made ns.0 (each here (drop rank ps))
-        ∙ sym (ap (λ o. encoded (o >>= literal_of rank)) whole ∙ ap right (e ∙ ap Some ns.1) ∙ ap (λ i. encoded ((each here (drop rank ps) >>= λ bs. Some (map natural ns.0 ++ bs)) >>= literal_of i)) (sym ns.2))
+        ∙ sym (ap (λ o. encode_outcome (o >>= literal_of rank)) whole ∙ ap right (e ∙ ap Some ns.1) ∙ ap (λ i. encode_outcome ((each here (drop rank ps) >>= λ bs. Some (map natural ns.0 ++ bs)) >>= literal_of i)) (sym ns.2))
       where
-        made : (ns : List ℕ) (o : Option (List Datum)) → encoded (o >>= array_of ns) ≡ encoded ((o >>= λ bs. Some (map natural ns ++ bs)) >>= literal_of (length ns))
+        made : (ns : List ℕ) (o : Option (List Datum)) → encode_outcome (o >>= array_of ns) ≡ encode_outcome ((o >>= λ bs. Some (map natural ns ++ bs)) >>= literal_of (length ns))
         made ns None = refl
-        made ns (Some bs) = ap encoded (sym (literal-made ns bs))
+        made ns (Some bs) = ap encode_outcome (sym (literal-made ns bs))

@@ -7,15 +7,15 @@ use Rattle.aql_value.specs.Laws.Lists.{length-below}
 use Rattle.aql_value.specs.Operations.{is_rank}
 use Rattle.aql_value.specs.Strict.{Strict}
 use Rattle.aql_types.specs.Types as types
-use Rattle.aql_types.specs.Types.{Ty, index_type}
+use Rattle.aql_types.specs.Types.{Ty}
 use Rattle.nrca_term.specs.Term.{Term, Parts, node, none, part, plain, Form, terms_in}
 use Rattle.nrca_term.specs.Typing.{Arg, arg, ctyped, parts_typed, form_rule}
 use Rattle.nrca_term.specs.Nodes.{variable, gen_term, single_term, number, truth_term, bottom_term, if_term, tuple_term, proj_term, get_term, arith_term}
 use Rattle.nrca_term.specs.Subst.{shift_form, shift_term, shift_parts}
 use Rattle.nrca_term.specs.Rules.{lets, sizes_term, index_variables}
-use Rattle.nrca_graph.specs.Counts.{loop_weight, loops_of, parts_loops, sums_of, big_unions_of, own_rank, ranks_of, parts_ranks}
+use Rattle.nrca_graph.specs.Counts.{loop_number, loops_of, parts_loops, sums_of, big_unions_of, own_rank, ranks_of, parts_ranks}
 use Rattle.nrca_graph.specs.Tabulation.{nest, table_term}
-use Rattle.nrca_graph.specs.ArrayFree.{equal_term, term_at, paired_with, subscript_graph, number_at, dimension_above, index_graph, times, product_term, where_zero, is_filled, over_rest, further_numbers, index_of_cell, cell_pairs, united_neighbours, united, literal_graph, array_free_node, array_free, array_free_parts}
+use Rattle.nrca_graph.specs.ArrayFree.{equal_term, term_at, paired_with, subscript_graph, number_at, dimension_above, index_graph, times, product_term, where_zero, is_filled, over_rest, further_numbers, index_of_cell, cell_pairs, united_neighbours, union_tree, literal_graph, array_free_node, array_free, array_free_parts}
 
 -- so many times a weight
 abbrev copies : ℕ → ℕ → ℕ
@@ -31,21 +31,21 @@ list_loops a b (t ∷ ts) = loops_of a b t + list_loops a b ts
 abbrev NoLoop : (a b : ℕ) → Term → Type 0
 NoLoop a b t = loops_of a b t ≡ 0
 
-weight-shift : (a b from by : ℕ) (f : Form) → loop_weight a b (shift_form from by f) ≡ loop_weight a b f
-weight-shift a b from by (Form.var i) = refl
-weight-shift a b from by (Form.global n) = refl
-weight-shift a b from by Form.bind = refl
-weight-shift a b from by Form.choose = refl
-weight-shift a b from by Form.default = refl
-weight-shift a b from by Form.big_union = refl
-weight-shift a b from by Form.sum = refl
-weight-shift a b from by (Form.tab rank) = refl
-weight-shift a b from by (Form.strict s) = refl
+loop_number-shift : (a b from by : ℕ) (f : Form) → loop_number a b (shift_form from by f) ≡ loop_number a b f
+loop_number-shift a b from by (Form.var i) = refl
+loop_number-shift a b from by (Form.global n) = refl
+loop_number-shift a b from by Form.bind = refl
+loop_number-shift a b from by Form.choose = refl
+loop_number-shift a b from by Form.default = refl
+loop_number-shift a b from by Form.big_union = refl
+loop_number-shift a b from by Form.sum = refl
+loop_number-shift a b from by (Form.tab rank) = refl
+loop_number-shift a b from by (Form.strict s) = refl
 
 mutual
   -- a shifted term
   loops-shift : (a b from by : ℕ) (t : Term) → loops_of a b (shift_term from by t) ≡ loops_of a b t
-  loops-shift a b from by (node f ps) = omega (arith, weight-shift a b from by f, loops-shift_parts a b from by ps)
+  loops-shift a b from by (node f ps) = omega (arith, loop_number-shift a b from by f, loops-shift_parts a b from by ps)
 
   loops-shift_parts : (a b from by : ℕ) (ps : Parts) → parts_loops a b (shift_parts from by ps) ≡ parts_loops a b ps
   loops-shift_parts a b from by none = refl
@@ -197,7 +197,7 @@ neighbours-fewer zero (t ∷ u ∷ v ∷ ts) h = absurd (omega (arith, h))
 neighbours-fewer (suc n) (t ∷ u ∷ ts) h = omega (arith, neighbours-fewer n ts (omega (arith, h)))
 
 -- all rounds
-loops-united : (a b n : ℕ) (ts : List Term) → length ts ≤ suc n → loops_of a b (united n ts) ≡ list_loops a b ts
+loops-united : (a b n : ℕ) (ts : List Term) → length ts ≤ suc n → loops_of a b (union_tree n ts) ≡ list_loops a b ts
 loops-united a b zero [] h = refl
 loops-united a b zero (t ∷ []) h = omega arith
 loops-united a b zero (t ∷ u ∷ ts) h = absurd (omega (arith, h))
@@ -215,7 +215,7 @@ loops-literal a b ds cs =
     let xs = map (shift_term 0 (length ds)) cs in
     omega (
       arith,
-      loops-lets a b 0 ds (if_term (is_filled vs (length cs)) (tuple_term (sizes_term vs ∷ united (length cs) (cell_pairs 0 vs xs) ∷ [])) bottom_term),
+      loops-lets a b 0 ds (if_term (is_filled vs (length cs)) (tuple_term (sizes_term vs ∷ union_tree (length cs) (cell_pairs 0 vs xs) ∷ [])) bottom_term),
       loops-where_zero a b vs (truth_term (nat_le (length cs) 0)) (equal_term (product_term vs) (number (length cs))) refl,
       loops-product a b vs,
       loops-variables a b (length ds),
@@ -289,7 +289,7 @@ loops-strict a b (Strict.index rank) ps h = omega (arith, loops-index a b rank (
 loops-strict a b (Strict.literal rank) ps h = omega (arith, loops-literal a b (take rank (terms_in ps)) (drop rank (terms_in ps)), loops-split a b rank (terms_in ps), loops-terms a b ps)
 
 -- a node of any form
-loops-node : (a b : ℕ) (f : Form) (ps : Parts) → HasItsParts f (length (terms_in ps)) → loops_of a b (array_free_node f ps) ≡ loop_weight a b f + made_loops b f + parts_loops a b ps
+loops-node : (a b : ℕ) (f : Form) (ps : Parts) → HasItsParts f (length (terms_in ps)) → loops_of a b (array_free_node f ps) ≡ loop_number a b f + made_loops b f + parts_loops a b ps
 loops-node a b (Form.var i) ps h = omega arith
 loops-node a b (Form.global n) ps h = omega arith
 loops-node a b Form.bind ps h = omega arith

@@ -7,7 +7,7 @@ use Rattle.aql_value.specs.Laws.Datum.{list_of-data_of}
 use Rattle.aql_value.specs.Indices.{indices, prefix_products}
 use Rattle.aql_value.specs.Lists.{below}
 use Rattle.aql_value.specs.Laws.Lists.{Every-all, length-below}
-use Rattle.aql_value.specs.Operations.{as_set, walked}
+use Rattle.aql_value.specs.Operations.{as_set, push_index}
 use Rattle.aql_value.specs.Partial.{◌>>=◌, concat, total, if_some}
 use Rattle.aql_value.specs.Laws.Partial.{total-ext, total-map, total-append}
 use Rattle.aql_value.specs.Laws.RowMajor.{indices-cons}
@@ -65,13 +65,13 @@ total-rows g L (x ∷ xs) = omega (arith, total-rows g L xs, total-append g (L x
 
 -- Twice the prefix products, and the body's turns at each index that begins with those so far.
 pub nest-turns : (V : Outcomes) (b : Term) (l : List Datum) (done before rest : List ℕ) → length done ≡ length before →
-    settle V (walked done (walked (before ++ rest) l))
+    settle V (push_index done (push_index (before ++ rest) l))
     (nest (length rest) (gen_term (variable (length (before ++ rest) - 1))) (single_term (tuple_term (sizes_term (index_variables (length (before ++ rest))) ∷ b ∷ []))))
-    ≡ 2 * prefix_products rest + total (λ at. settle V (walked at (walked (before ++ rest) l)) b) (map (λ at. done ++ at) (indices rest))
+    ≡ 2 * prefix_products rest + total (λ at. settle V (push_index at (push_index (before ++ rest) l)) b) (map (λ at. done ++ at) (indices rest))
 nest-turns V b l done before [] e =
-    single-turns V (walked done (walked (before ++ []) l)) (length (before ++ [])) b
-    ∙ ap (λ at. settle V (walked at (walked (before ++ []) l)) b) (sym (append-nil done))
-    ∙ (let z = ap (λ ats. total (λ at. settle V (walked at (walked (before ++ []) l)) b) (map (λ at. done ++ at) ats)) no_indices in omega (arith, z))
+    single-turns V (push_index done (push_index (before ++ []) l)) (length (before ++ [])) b
+    ∙ ap (λ at. settle V (push_index at (push_index (before ++ []) l)) b) (sym (append-nil done))
+    ∙ (let z = ap (λ ats. total (λ at. settle V (push_index at (push_index (before ++ []) l)) b) (map (λ at. done ++ at) ats)) no_indices in omega (arith, z))
 nest-turns V b l done before (d ∷ rest) e =
     gen-loop-turns V env (variable (length ns - 1)) inner d bound refl
     ∙ (let a = total-ext (λ i. settle V (natural i ∷ env) inner) (λ i. 2 * prefix_products rest + total T (map (λ at. (done ++ i ∷ []) ++ at) (indices rest))) (below d)
@@ -87,33 +87,33 @@ nest-turns V b l done before (d ∷ rest) e =
     ns = before ++ d ∷ rest
 
     env : List Datum
-    env = walked done (walked ns l)
+    env = push_index done (push_index ns l)
 
     inner : Term
     inner = nest (length rest) (gen_term (variable (length ns - 1))) (single_term (tuple_term (sizes_term (index_variables (length ns)) ∷ b ∷ [])))
 
     T : List ℕ → ℕ
-    T at = settle V (walked at (walked ns l)) b
+    T at = settle V (push_index at (push_index ns l)) b
 
-    found : (xs ys : List ℕ) (k : List Datum) → slice_get (walked (xs ++ d ∷ ys) k) (length ys) ≡ Some (natural d)
-    found [] ys k = (let z : length ys ≡ length ys + 0 = omega arith in ap (slice_get (walked ys (natural d ∷ k))) z) ∙ walked-past ys (natural d ∷ k) 0
+    found : (xs ys : List ℕ) (k : List Datum) → slice_get (push_index (xs ++ d ∷ ys) k) (length ys) ≡ Some (natural d)
+    found [] ys k = (let z : length ys ≡ length ys + 0 = omega arith in ap (slice_get (push_index ys (natural d ∷ k))) z) ∙ walked-past ys (natural d ∷ k) 0
     found (x ∷ xs) ys k = found xs ys (natural x ∷ k)
 
     bound : cden V env (variable (length ns - 1)) ≡ Some (natural d)
     bound = (let z : length ns - 1 ≡ length done + length rest = omega (arith, e, length-append before (d ∷ rest)) in ap (slice_get env) z)
-        ∙ walked-past done (walked ns l) (length rest) ∙ found before rest l
+        ∙ walked-past done (push_index ns l) (length rest) ∙ found before rest l
 
     regroup : before ++ d ∷ rest ≡ (before ++ d ∷ []) ++ rest
     regroup = sym (append_assoc before (d ∷ []) rest)
 
     further : (i : ℕ) →
-        settle V (walked (done ++ i ∷ []) (walked ((before ++ d ∷ []) ++ rest) l)) (nest (length rest) (gen_term (variable (length ((before ++ d ∷ []) ++ rest) - 1))) (single_term (tuple_term (sizes_term (index_variables (length ((before ++ d ∷ []) ++ rest))) ∷ b ∷ []))))
-        ≡ 2 * prefix_products rest + total (λ at. settle V (walked at (walked ((before ++ d ∷ []) ++ rest) l)) b) (map (λ at. (done ++ i ∷ []) ++ at) (indices rest)) →
+        settle V (push_index (done ++ i ∷ []) (push_index ((before ++ d ∷ []) ++ rest) l)) (nest (length rest) (gen_term (variable (length ((before ++ d ∷ []) ++ rest) - 1))) (single_term (tuple_term (sizes_term (index_variables (length ((before ++ d ∷ []) ++ rest))) ∷ b ∷ []))))
+        ≡ 2 * prefix_products rest + total (λ at. settle V (push_index at (push_index ((before ++ d ∷ []) ++ rest) l)) b) (map (λ at. (done ++ i ∷ []) ++ at) (indices rest)) →
         settle V (natural i ∷ env) inner ≡ 2 * prefix_products rest + total T (map (λ at. (done ++ i ∷ []) ++ at) (indices rest))
     further i ih =
-        ap (λ x. settle V x inner) (walked-snoc done i (walked ns l))
-        ∙ subst (λ ms. settle V (walked (done ++ i ∷ []) (walked ms l)) (nest (length rest) (gen_term (variable (length ms - 1))) (single_term (tuple_term (sizes_term (index_variables (length ms)) ∷ b ∷ []))))
-        ≡ 2 * prefix_products rest + total (λ at. settle V (walked at (walked ms l)) b) (map (λ at. (done ++ i ∷ []) ++ at) (indices rest))) (sym regroup) ih
+        ap (λ x. settle V x inner) (walked-snoc done i (push_index ns l))
+        ∙ subst (λ ms. settle V (push_index (done ++ i ∷ []) (push_index ms l)) (nest (length rest) (gen_term (variable (length ms - 1))) (single_term (tuple_term (sizes_term (index_variables (length ms)) ∷ b ∷ []))))
+        ≡ 2 * prefix_products rest + total (λ at. settle V (push_index at (push_index ms l)) b) (map (λ at. (done ++ i ∷ []) ++ at) (indices rest))) (sym regroup) ih
 
     map-twice : (i : ℕ) (ats : List (List ℕ)) → map (λ at. done ++ at) (map (λ at. i ∷ at) ats) ≡ map (λ at. (done ++ i ∷ []) ++ at) ats
     map-twice i [] = refl

@@ -7,7 +7,7 @@ use Rattle.aql_value.specs.Laws.Datum.{list_of-data_of}
 use Rattle.aql_value.specs.Indices.{indices}
 use Rattle.aql_value.specs.Lists.{below}
 use Rattle.aql_value.specs.Laws.Lists.{Every-all}
-use Rattle.aql_value.specs.Operations.{as_set, tuple_of, index_value, set_of, union_all, walked}
+use Rattle.aql_value.specs.Operations.{as_set, tuple_of, index_value, set_of, union_all, push_index}
 use Rattle.aql_value.specs.Laws.Operations.{union_all-sets}
 use Rattle.aql_value.specs.Partial.{◌>>=◌, each, concat}
 use Rattle.aql_value.specs.Laws.Partial.{each-ext, each-map, each-append, then-assoc, then-ext}
@@ -84,13 +84,13 @@ sets-together F L xs =
 
 -- an index and the body there, where the body has a value
 abbrev pub pair_at : Outcomes → List Datum → Term → List ℕ → Option Datum
-pair_at V l b at = cden V (walked at l) b >>= λ w. Some (pair (index_value at) w)
+pair_at V l b at = cden V (push_index at l) b >>= λ w. Some (pair (index_value at) w)
 
 -- The nest over the dimensions that are left gives the pairs of all indices that begin with those so far.
 pub nest-value : (V : Outcomes) (b : Term) (l : List Datum) (done before rest : List ℕ) → length done ≡ length before → 1 ≤ length (before ++ rest) →
-    cden V (walked done (walked (before ++ rest) l))
+    cden V (push_index done (push_index (before ++ rest) l))
     (nest (length rest) (gen_term (variable (length (before ++ rest) - 1))) (single_term (tuple_term (sizes_term (index_variables (length (before ++ rest))) ∷ b ∷ []))))
-    ≡ (each (pair_at V (walked (before ++ rest) l) b) (map (λ at. done ++ at) (indices rest)) >>= λ ms. Some (set_of ms))
+    ≡ (each (pair_at V (push_index (before ++ rest) l) b) (map (λ at. done ++ at) (indices rest)) >>= λ ms. Some (set_of ms))
 nest-value V b l done before [] e h = innermost
   where
     all : length (before ++ []) ≡ length done
@@ -103,14 +103,14 @@ nest-value V b l done before [] e h = innermost
     ends None = refl
     ends (Some w) = refl
 
-    innermost : cden V (walked done (walked (before ++ []) l)) (single_term (tuple_term (sizes_term (index_variables (length (before ++ []))) ∷ b ∷ [])))
-        ≡ (each (pair_at V (walked (before ++ []) l) b) (map (λ at. done ++ at) (indices [])) >>= λ ms. Some (set_of ms))
+    innermost : cden V (push_index done (push_index (before ++ []) l)) (single_term (tuple_term (sizes_term (index_variables (length (before ++ []))) ∷ b ∷ [])))
+        ≡ (each (pair_at V (push_index (before ++ []) l) b) (map (λ at. done ++ at) (indices [])) >>= λ ms. Some (set_of ms))
     innermost =
-        ap (λ n. cden V (walked done (walked (before ++ []) l)) (single_term (tuple_term (sizes_term (index_variables n) ∷ b ∷ [])))) all
-        ∙ single-value V (walked done (walked (before ++ []) l)) (sizes_term (index_variables (length done))) b (index_value done) (index-value V done (walked (before ++ []) l) (omega (arith, h, all)))
-        ∙ ends (cden V (walked done (walked (before ++ []) l)) b)
-        ∙ ap (λ at. each (pair_at V (walked (before ++ []) l) b) (at ∷ []) >>= λ ms. Some (set_of ms)) (sym at_end)
-        ∙ ap (λ ats. each (pair_at V (walked (before ++ []) l) b) (map (λ at. done ++ at) ats) >>= λ ms. Some (set_of ms)) (sym no_indices)
+        ap (λ n. cden V (push_index done (push_index (before ++ []) l)) (single_term (tuple_term (sizes_term (index_variables n) ∷ b ∷ [])))) all
+        ∙ single-value V (push_index done (push_index (before ++ []) l)) (sizes_term (index_variables (length done))) b (index_value done) (index-value V done (push_index (before ++ []) l) (omega (arith, h, all)))
+        ∙ ends (cden V (push_index done (push_index (before ++ []) l)) b)
+        ∙ ap (λ at. each (pair_at V (push_index (before ++ []) l) b) (at ∷ []) >>= λ ms. Some (set_of ms)) (sym at_end)
+        ∙ ap (λ ats. each (pair_at V (push_index (before ++ []) l) b) (map (λ at. done ++ at) ats) >>= λ ms. Some (set_of ms)) (sym no_indices)
 nest-value V b l done before (d ∷ rest) e h =
     ap (λ o. ((((o >>= λ y. Some (y ∷ [])) >>= strict_value Strict.gen) >>= as_set) >>= each (λ m. cden V (m ∷ env) inner)) >>= union_all) bound
     ∙ ap (λ ms. each (λ m. cden V (m ∷ env) inner) ms >>= union_all) (list_of-data_of (map natural (below d)))
@@ -123,33 +123,33 @@ nest-value V b l done before (d ∷ rest) e h =
     ns = before ++ d ∷ rest
 
     env : List Datum
-    env = walked done (walked ns l)
+    env = push_index done (push_index ns l)
 
     inner : Term
     inner = nest (length rest) (gen_term (variable (length ns - 1))) (single_term (tuple_term (sizes_term (index_variables (length ns)) ∷ b ∷ [])))
 
     F : List ℕ → Option Datum
-    F = pair_at V (walked ns l) b
+    F = pair_at V (push_index ns l) b
 
-    found : (xs ys : List ℕ) (k : List Datum) → slice_get (walked (xs ++ d ∷ ys) k) (length ys) ≡ Some (natural d)
-    found [] ys k = (let z : length ys ≡ length ys + 0 = omega arith in ap (slice_get (walked ys (natural d ∷ k))) z) ∙ walked-past ys (natural d ∷ k) 0
+    found : (xs ys : List ℕ) (k : List Datum) → slice_get (push_index (xs ++ d ∷ ys) k) (length ys) ≡ Some (natural d)
+    found [] ys k = (let z : length ys ≡ length ys + 0 = omega arith in ap (slice_get (push_index ys (natural d ∷ k))) z) ∙ walked-past ys (natural d ∷ k) 0
     found (x ∷ xs) ys k = found xs ys (natural x ∷ k)
 
     bound : cden V env (variable (length ns - 1)) ≡ Some (natural d)
     bound = (let z : length ns - 1 ≡ length done + length rest = omega (arith, e, length-append before (d ∷ rest)) in ap (slice_get env) z)
-        ∙ walked-past done (walked ns l) (length rest) ∙ found before rest l
+        ∙ walked-past done (push_index ns l) (length rest) ∙ found before rest l
 
     regroup : before ++ d ∷ rest ≡ (before ++ d ∷ []) ++ rest
     regroup = sym (append_assoc before (d ∷ []) rest)
 
     further : (i : ℕ) →
-        cden V (walked (done ++ i ∷ []) (walked ((before ++ d ∷ []) ++ rest) l)) (nest (length rest) (gen_term (variable (length ((before ++ d ∷ []) ++ rest) - 1))) (single_term (tuple_term (sizes_term (index_variables (length ((before ++ d ∷ []) ++ rest))) ∷ b ∷ []))))
-        ≡ (each (pair_at V (walked ((before ++ d ∷ []) ++ rest) l) b) (map (λ at. (done ++ i ∷ []) ++ at) (indices rest)) >>= λ us. Some (set_of us)) →
+        cden V (push_index (done ++ i ∷ []) (push_index ((before ++ d ∷ []) ++ rest) l)) (nest (length rest) (gen_term (variable (length ((before ++ d ∷ []) ++ rest) - 1))) (single_term (tuple_term (sizes_term (index_variables (length ((before ++ d ∷ []) ++ rest))) ∷ b ∷ []))))
+        ≡ (each (pair_at V (push_index ((before ++ d ∷ []) ++ rest) l) b) (map (λ at. (done ++ i ∷ []) ++ at) (indices rest)) >>= λ us. Some (set_of us)) →
         cden V (natural i ∷ env) inner ≡ (each F (map (λ at. (done ++ i ∷ []) ++ at) (indices rest)) >>= λ ms. Some (set_of ms))
     further i ih =
-        ap (λ x. cden V x inner) (walked-snoc done i (walked ns l))
-        ∙ subst (λ ms. cden V (walked (done ++ i ∷ []) (walked ms l)) (nest (length rest) (gen_term (variable (length ms - 1))) (single_term (tuple_term (sizes_term (index_variables (length ms)) ∷ b ∷ []))))
-        ≡ (each (pair_at V (walked ms l) b) (map (λ at. (done ++ i ∷ []) ++ at) (indices rest)) >>= λ us. Some (set_of us))) (sym regroup) ih
+        ap (λ x. cden V x inner) (walked-snoc done i (push_index ns l))
+        ∙ subst (λ ms. cden V (push_index (done ++ i ∷ []) (push_index ms l)) (nest (length rest) (gen_term (variable (length ms - 1))) (single_term (tuple_term (sizes_term (index_variables (length ms)) ∷ b ∷ []))))
+        ≡ (each (pair_at V (push_index ms l) b) (map (λ at. (done ++ i ∷ []) ++ at) (indices rest)) >>= λ us. Some (set_of us))) (sym regroup) ih
 
     map-twice : (i : ℕ) (ats : List (List ℕ)) → map (λ at. done ++ at) (map (λ at. i ∷ at) ats) ≡ map (λ at. (done ++ i ∷ []) ++ at) ats
     map-twice i [] = refl

@@ -9,7 +9,7 @@ use Rattle.nrca_term.specs.Nodes.{variable, bottom_term, proj_term, get_term}
 use Rattle.nrca_term.specs.Subst.{shift_form, shift_term, shift_parts}
 use Rattle.nrca_term.specs.Rules.{lets, sizes_term, index_variables}
 use Rattle.nrca_graph.specs.Tabulation.{nest, table_term}
-use Rattle.nrca_graph.specs.ArrayFree.{term_at, paired_with, subscript_graph, number_at, greater, greatest, dimension_above, index_graph, times, product_term, where_zero, over_rest, further_numbers, index_of_cell, cell_pairs, united_neighbours, united, literal_graph, array_free_node, array_free, array_free_parts}
+use Rattle.nrca_graph.specs.ArrayFree.{term_at, paired_with, subscript_graph, number_at, greater, greatest, dimension_above, index_graph, times, product_term, where_zero, over_rest, further_numbers, index_of_cell, cell_pairs, united_neighbours, union_tree, literal_graph, array_free_node, array_free, array_free_parts}
 use Rattle.nrca_graph.specs.NoArrays.{IsKeptForm, HasNoArrays, PartsHaveNoArrays}
 
 -- a shifted form
@@ -158,7 +158,7 @@ without-neighbours (t ∷ []) h = h
 without-neighbours (t ∷ u ∷ ts) h = ((tt, (h.0, (h.1.0, tt))), without-neighbours ts h.1.1)
 
 -- all rounds
-without-united : (n : ℕ) (ts : List Term) → Every HasNoArrays ts → HasNoArrays (united n ts)
+without-united : (n : ℕ) (ts : List Term) → Every HasNoArrays ts → HasNoArrays (union_tree n ts)
 without-united zero [] h = (tt, tt)
 without-united zero (t ∷ ts) h = h.0
 without-united (suc n) ts h = without-united n (united_neighbours ts) (without-neighbours ts h)

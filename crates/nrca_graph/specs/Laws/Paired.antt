@@ -10,7 +10,7 @@ use Rattle.aql_value.specs.Datum.{Datum, truth, set, nil, data_of}
 use Rattle.aql_value.specs.Laws.Datum.{list_of-data_of}
 use Rattle.aql_value.specs.Canon.{canon}
 use Rattle.std.proofs.lemmas.Bool.{eqb-true}
-use Rattle.aql_value.specs.Indices.{paired}
+use Rattle.aql_value.specs.Indices.{paired_value}
 use Rattle.aql_value.specs.Lists.{Every}
 use Rattle.aql_value.specs.Laws.Lists.{Every-impl, Every-all}
 use Rattle.aql_value.specs.Operations.{as_set, as_truth, index_value, set_of, union_all, only}
@@ -25,7 +25,7 @@ use Rattle.nrca_term.specs.Nodes.{variable, proj_term, single_term, empty_term, 
 use Rattle.nrca_term.specs.Meaning.{Outcomes, cden}
 use Rattle.nrca_term.specs.Subst.{shift_term}
 use Rattle.nrca_term.specs.Laws.Shifting.{cden-shift_term}
-use Rattle.nrca_graph.specs.Encoding.{pair, graph, encoding, encoded}
+use Rattle.nrca_graph.specs.Encoding.{pair, graph, encoding, encode_outcome}
 use Rattle.nrca_graph.specs.ArrayFree.{equal_term, paired_with}
 use Rattle.nrca_graph.specs.Laws.IndexOrder.{index-order}
 
@@ -34,8 +34,8 @@ abbrev pub pair_of : Datum × Datum → Datum
 pair_of p = pair p.0 p.1
 
 -- the second part of a pair whose first part is this value
-abbrev pub chosen : Datum → Datum × Datum → List Datum
-chosen x p = if compare_by compare_op.Equal (datum_cmp p.0 x) then p.1 ∷ [] else []
+abbrev pub second_if : Datum → Datum × Datum → List Datum
+second_if x p = if compare_by compare_op.Equal (datum_cmp p.0 x) then p.1 ∷ [] else []
 
 -- the selection at one pair
 abbrev pub selection : Term → Term
@@ -43,7 +43,7 @@ selection index = if_term (equal_term (proj_term 1 2 (variable 0)) (shift_term 0
 
 -- it is the set of what is chosen
 selection-value : (W : Outcomes) (env : List Datum) (i : Term) (x : Datum) (p : Datum × Datum) → cden W env i ≡ Some x →
-    cden W (pair_of p ∷ env) (selection i) ≡ Some (set_of (chosen x p))
+    cden W (pair_of p ∷ env) (selection i) ≡ Some (set_of (second_if x p))
 selection-value W env i x p e =
     ap (λ o. (((o >>= λ y. Some (y ∷ [])) >>= λ ys. Some (p.0 ∷ ys)) >>= strict) >>= as_truth >>= branch) (cden-shift_term W [] (pair_of p ∷ []) env i ∙ e)
     ∙ of (compare_by compare_op.Equal (datum_cmp p.0 x))
@@ -60,28 +60,28 @@ selection-value W env i x p e =
 
 -- the selection over a set of pairs: the set of the second parts of those that are chosen
 pub paired-value : (W : Outcomes) (env : List Datum) (s i : Term) (x : Datum) (ps : List (Datum × Datum)) → cden W env s ≡ Some (set (data_of (map pair_of ps))) → cden W env i ≡ Some x →
-    cden W env (paired_with s i) ≡ Some (set_of (concat (map (chosen x) ps)))
+    cden W env (paired_with s i) ≡ Some (set_of (concat (map (second_if x) ps)))
 paired-value W env s i x ps e h =
     ap (λ o. (o >>= as_set >>= each (λ m. cden W (m ∷ env) (selection i))) >>= union_all) e
     ∙ ap (λ ms. each (λ m. cden W (m ∷ env) (selection i)) ms >>= union_all) (list_of-data_of (map pair_of ps))
     ∙ ap (λ o. o >>= union_all) (each-map (λ m. cden W (m ∷ env) (selection i)) pair_of ps
-    ∙ each-ext (λ p. cden W (pair_of p ∷ env) (selection i)) (λ p. Some (set_of (chosen x p))) ps (Every-all _ (λ p. selection-value W env i x p h) ps)
-    ∙ each-defined (λ p. set_of (chosen x p)) ps)
+    ∙ each-ext (λ p. cden W (pair_of p ∷ env) (selection i)) (λ p. Some (set_of (second_if x p))) ps (Every-all _ (λ p. selection-value W env i x p h) ps)
+    ∙ each-defined (λ p. set_of (second_if x p)) ps)
     ∙ ap union_all (sym (map-twice ps))
-    ∙ union_all-sets (map (chosen x) ps)
+    ∙ union_all-sets (map (second_if x) ps)
   where
-    map-twice : (qs : List (Datum × Datum)) → map set_of (map (chosen x) qs) ≡ map (λ p. set_of (chosen x p)) qs
+    map-twice : (qs : List (Datum × Datum)) → map set_of (map (second_if x) qs) ≡ map (λ p. set_of (second_if x p)) qs
     map-twice [] = refl
-    map-twice (q ∷ qs) = ap (λ l. set_of (chosen x q) ∷ l) (map-twice qs)
+    map-twice (q ∷ qs) = ap (λ l. set_of (second_if x q) ∷ l) (map-twice qs)
 
 -- the graph as pairs of two parts
-abbrev pub keyed : List (List ℕ) → List Datum → List (Datum × Datum)
-keyed [] cs = []
-keyed (at ∷ ats) [] = []
-keyed (at ∷ ats) (c ∷ cs) = (index_value at, c) ∷ keyed ats cs
+abbrev pub key_cells : List (List ℕ) → List Datum → List (Datum × Datum)
+key_cells [] cs = []
+key_cells (at ∷ ats) [] = []
+key_cells (at ∷ ats) (c ∷ cs) = (index_value at, c) ∷ key_cells ats cs
 
 -- both are one list
-pub graph-keyed : (ats : List (List ℕ)) (cs : List Datum) → graph ats cs ≡ map pair_of (keyed ats cs)
+pub graph-keyed : (ats : List (List ℕ)) (cs : List Datum) → graph ats cs ≡ map pair_of (key_cells ats cs)
 graph-keyed [] cs = refl
 graph-keyed (at ∷ ats) [] = refl
 graph-keyed (at ∷ ats) (c ∷ cs) = ap (λ l. pair (index_value at) c ∷ l) (graph-keyed ats cs)
@@ -135,30 +135,30 @@ same-index (m ∷ at) (n ∷ b) e = of (same-index at b) (nat_eq m n) refl e
 
 -- where no index is the one, nothing is chosen
 none-chosen : (at : List ℕ) (ats : List (List ℕ)) (cs : List Datum) → Every (λ b. length b ≡ length at) ats → Every (λ b. pointwise nat_eq at b ≡ false) ats →
-    concat (map (chosen (index_value at)) (keyed ats cs)) ≡ []
+    concat (map (second_if (index_value at)) (key_cells ats cs)) ≡ []
 none-chosen at [] cs n h = refl
 none-chosen at (b ∷ ats) [] n h = refl
 none-chosen at (b ∷ ats) (c ∷ cs) n h =
-    ap (λ t. (if t then c ∷ [] else []) ++ concat (map (chosen (index_value at)) (keyed ats cs))) (equal-indices b at n.0 ∙ h.0) ∙ none-chosen at ats cs n.1 h.1
+    ap (λ t. (if t then c ∷ [] else []) ++ concat (map (second_if (index_value at)) (key_cells ats cs))) (equal-indices b at n.0 ∙ h.0) ∙ none-chosen at ats cs n.1 h.1
 
 -- the one that is chosen among the pairs of an array is the cell
 pub cell-chosen : (at : List ℕ) (ats : List (List ℕ)) (cs : List Datum) → Every (λ b. length b ≡ length at) ats → IsStrictlySortedBy (slice_cmp nat_cmp) ats →
-    only (canon (concat (map (chosen (index_value at)) (keyed ats (map encoding cs))))) ≡ encoded (paired at (zip ats cs))
+    only (canon (concat (map (second_if (index_value at)) (key_cells ats (map encoding cs))))) ≡ encode_outcome (paired_value at (zip ats cs))
 unfolding IsStrictlySortedBy
 cell-chosen at [] cs n s = refl
 cell-chosen at (b ∷ ats) [] n s = refl
 cell-chosen at (b ∷ ats) (c ∷ cs) n s = of (pointwise nat_eq at b) refl (cell-chosen at ats cs n.1 s.1)
   where
     rest : List Datum
-    rest = concat (map (chosen (index_value at)) (keyed ats (map encoding cs)))
+    rest = concat (map (second_if (index_value at)) (key_cells ats (map encoding cs)))
 
-    of : (t : Bool) → pointwise nat_eq at b ≡ t → only (canon rest) ≡ encoded (paired at (zip ats cs)) →
-        only (canon (chosen (index_value at) (index_value b, encoding c) ++ rest)) ≡ encoded (cond (pointwise nat_eq at b) (Some c) (paired at (zip ats cs)))
+    of : (t : Bool) → pointwise nat_eq at b ≡ t → only (canon rest) ≡ encode_outcome (paired_value at (zip ats cs)) →
+        only (canon (second_if (index_value at) (index_value b, encoding c) ++ rest)) ≡ encode_outcome (cond (pointwise nat_eq at b) (Some c) (paired_value at (zip ats cs)))
     of true e ih =
         ap (λ u. only (canon ((if u then encoding c ∷ [] else []) ++ rest))) (equal-indices b at n.0 ∙ e)
         ∙ ap (λ l. only (canon (encoding c ∷ l))) (none-chosen at ats (map encoding cs) n.1
         (Every-impl (λ y. slice_cmp nat_cmp b y ≡ Less) (λ y. pointwise nat_eq at y ≡ false) (λ y l. less-differs at y (ap (λ x. slice_cmp nat_cmp x y) (same-index at b e) ∙ l)) ats s.0))
-        ∙ sym (ap (λ u. encoded (cond u (Some c) (paired at (zip ats cs)))) e)
+        ∙ sym (ap (λ u. encode_outcome (cond u (Some c) (paired_value at (zip ats cs)))) e)
     of false e ih =
         ap (λ u. only (canon ((if u then encoding c ∷ [] else []) ++ rest))) (equal-indices b at n.0 ∙ e) ∙ ih
-        ∙ sym (ap (λ u. encoded (cond u (Some c) (paired at (zip ats cs)))) e)
+        ∙ sym (ap (λ u. encode_outcome (cond u (Some c) (paired_value at (zip ats cs)))) e)

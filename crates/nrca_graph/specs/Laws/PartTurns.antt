@@ -4,7 +4,7 @@ use Rattle.std.proofs.lemmas.List.{length-map}
 use Rattle.aql_value.specs.Datum.{Datum}
 use Rattle.aql_value.specs.Laws.Datum.{list_of-data_of}
 use Rattle.aql_value.specs.Lists.{Every}
-use Rattle.aql_value.specs.Operations.{as_natural, as_truth, as_set, walked}
+use Rattle.aql_value.specs.Operations.{as_natural, as_truth, as_set, push_index}
 use Rattle.aql_value.specs.Partial.{◌>>=◌, each, total, if_some}
 use Rattle.aql_value.specs.Strict.{Strict, gen_turns}
 use Rattle.aql_types.specs.Types as types
@@ -13,10 +13,10 @@ use Rattle.aql_types.specs.ValueTypes.{HasType, HaveTypes}
 use Rattle.nrca_term.specs.Term.{Form}
 use Rattle.nrca_term.specs.Typing.{Arg, arg, form_rule}
 use Rattle.nrca_term.specs.Meaning.{Part, here, worth, members_value, bounds_value}
-use Rattle.nrca_term.specs.Places.{entered, branch, otherwise, indices_of}
+use Rattle.nrca_term.specs.Places.{entry_values, branch, otherwise, indices_of}
 use Rattle.nrca_term.specs.Turns.{own_turns}
 use Rattle.nrca_term.specs.Laws.Sound.{AllSound, sound-get, sounds}
-use Rattle.nrca_graph.specs.Encoding.{encoding, encoded}
+use Rattle.nrca_graph.specs.Encoding.{encoding, encode_outcome}
 use Rattle.nrca_graph.specs.GraphTurns.{own_graph_turns}
 use Rattle.nrca_graph.specs.NoArrays.{IsKeptForm}
 use Rattle.nrca_graph.specs.Laws.EncodingOrder.{encoding-order, encoding-set}
@@ -25,7 +25,7 @@ use Rattle.nrca_graph.specs.Laws.TranslatedParts.{first-mirror, here-mirror, wal
 use Rattle.nrca_graph.specs.Laws.TabulationNode.{tab_args}
 
 -- the first argument's part
-first-mirrors : (a : Arg) (args : List Arg) (ps qs : List Part) → a.own ≡ [] → AllMirror (a ∷ args) ps qs → worth qs 0 [] ≡ encoded (worth ps 0 [])
+first-mirrors : (a : Arg) (args : List Arg) (ps qs : List Part) → a.own ≡ [] → AllMirror (a ∷ args) ps qs → worth qs 0 [] ≡ encode_outcome (worth ps 0 [])
 first-mirrors a args ps qs e m = mirror-get (a ∷ args) ps qs 0 a m refl [] (subst (λ ts. HaveTypes ts []) (sym e) tt)
 
 -- the members of an encoded operand
@@ -35,7 +35,7 @@ members-encoded A args ps qs s m =
     ap (λ o. o >>= as_set) (first-mirrors (arg [] (types.set_of A)) args ps qs refl m)
     ∙ of (worth ps 0 []) (λ v e. sound-get (arg [] (types.set_of A) ∷ args) ps 0 (arg [] (types.set_of A)) s refl [] v tt e)
   where
-    of : (o : Option Datum) → ((v : Datum) → o ≡ Some v → HasType (types.set_of A) v) → (encoded o >>= as_set) ≡ ((o >>= as_set) >>= λ ms. Some (map encoding ms))
+    of : (o : Option Datum) → ((v : Datum) → o ≡ Some v → HasType (types.set_of A) v) → (encode_outcome o >>= as_set) ≡ ((o >>= as_set) >>= λ ms. Some (map encoding ms))
     of None k = refl
     of (Some v) k =
         let t = k v refl in
@@ -63,9 +63,9 @@ members-entered None = refl
 members-entered (Some ms) = ones-encoded ms
 
 -- indices are their own encodings
-indices-entered : (ats : List (List ℕ)) → map (λ at. walked at []) ats ≡ map (map encoding) (map (λ at. walked at []) ats)
+indices-entered : (ats : List (List ℕ)) → map (λ at. push_index at []) ats ≡ map (map encoding) (map (λ at. push_index at []) ats)
 indices-entered [] = refl
-indices-entered (at ∷ ats) = ap (λ x. x ∷ map (λ b. walked b []) ats) (sym (walked-encoded at [])) ∙ ap (λ l. map encoding (walked at []) ∷ l) (indices-entered ats)
+indices-entered (at ∷ ats) = ap (λ x. x ∷ map (λ b. push_index b []) ats) (sym (walked-encoded at [])) ∙ ap (λ l. map encoding (push_index at []) ∷ l) (indices-entered ats)
 
 branch-entered : (b : Bool) (o : Option Bool) → branch b o ≡ map (map encoding) (branch b o)
 branch-entered b None = refl
@@ -75,20 +75,20 @@ branch-entered false (Some true) = refl
 branch-entered false (Some false) = refl
 
 -- a test of an encoded value
-test-encoded : (o : Option Datum) → (encoded o >>= as_truth) ≡ (o >>= as_truth)
+test-encoded : (o : Option Datum) → (encode_outcome o >>= as_truth) ≡ (o >>= as_truth)
 test-encoded None = refl
 test-encoded (Some v) = truth-encoded v
 
 -- a part is entered with the encoded values of those with which its counterpart is
 pub entered-encoded : (G : ℕ → Ty → Type 0) (env : List Ty) (f : Form) (args : List Arg) (T : Ty) (ps qs : List Part) (i : ℕ) → form_rule G env f args T → AllSound args ps → AllMirror args ps qs →
-    entered f qs i ≡ map (map encoding) (entered f ps i)
+    entry_values f qs i ≡ map (map encoding) (entry_values f ps i)
 entered-encoded G env (Form.var n) args T ps qs i r s m = refl
 entered-encoded G env (Form.global n) args T ps qs i r s m = refl
 entered-encoded G env Form.bind args T ps qs zero r s m = refl
 entered-encoded G env Form.bind args T ps qs (suc i) r s m =
     ap (λ o. map (λ v. v ∷ []) (option_to_list o)) (first-mirrors (arg [] r.0) (arg (r.0 ∷ []) T ∷ []) ps qs refl (subst (λ x. AllMirror x ps qs) r.1 m)) ∙ of (worth ps 0 [])
   where
-    of : (o : Option Datum) → map (λ v. v ∷ []) (option_to_list (encoded o)) ≡ map (map encoding) (map (λ v. v ∷ []) (option_to_list o))
+    of : (o : Option Datum) → map (λ v. v ∷ []) (option_to_list (encode_outcome o)) ≡ map (map encoding) (map (λ v. v ∷ []) (option_to_list o))
     of None = refl
     of (Some v) = refl
 entered-encoded G env Form.choose args T ps qs zero r s m = refl
@@ -102,7 +102,7 @@ entered-encoded G env Form.default args T ps qs zero r s m = refl
 entered-encoded G env Form.default args T ps qs (suc i) r s m =
     ap otherwise (first-mirrors (arg [] T) (arg [] T ∷ []) ps qs refl (subst (λ x. AllMirror x ps qs) r m)) ∙ of (worth ps 0 [])
   where
-    of : (o : Option Datum) → otherwise (encoded o) ≡ map (map encoding) (otherwise o)
+    of : (o : Option Datum) → otherwise (encode_outcome o) ≡ map (map encoding) (otherwise o)
     of None = refl
     of (Some v) = refl
 entered-encoded G env Form.big_union args T ps qs zero r s m = refl
@@ -112,10 +112,10 @@ entered-encoded G env Form.sum args T ps qs zero r s m = refl
 entered-encoded G env Form.sum args T ps qs (suc i) r s m =
     ap (λ o. map (λ v. v ∷ []) (unwrap_or o [])) (members-encoded r.0 (arg (r.0 ∷ []) types.natural ∷ []) ps qs (sounds args _ ps r.1 s) (subst (λ x. AllMirror x ps qs) r.1 m)) ∙ members-entered (members_value ps)
 entered-encoded G env (Form.tab rank) args T ps qs i r s m =
-    ap (λ o. if nat_lt i rank then [] ∷ [] else map (λ at. walked at []) (indices_of o)) (bounds-encoded rank r.0 ps qs (subst (λ x. AllMirror x ps qs) r.2 m))
+    ap (λ o. if nat_lt i rank then [] ∷ [] else map (λ at. push_index at []) (indices_of o)) (bounds-encoded rank r.0 ps qs (subst (λ x. AllMirror x ps qs) r.2 m))
     ∙ of (nat_lt i rank)
   where
-    of : (c : Bool) → (if c then [] ∷ [] else map (λ at. walked at []) (indices_of (bounds_value rank ps))) ≡ map (map encoding) (if c then [] ∷ [] else map (λ at. walked at []) (indices_of (bounds_value rank ps)))
+    of : (c : Bool) → (if c then [] ∷ [] else map (λ at. push_index at []) (indices_of (bounds_value rank ps))) ≡ map (map encoding) (if c then [] ∷ [] else map (λ at. push_index at []) (indices_of (bounds_value rank ps)))
     of true = refl
     of false = indices-entered (indices_of (bounds_value rank ps))
 entered-encoded G env (Form.strict c) args T ps qs i r s m = refl

@@ -15,68 +15,68 @@ use Rattle.aql_types.specs.Types as types
 use Rattle.aql_types.specs.Types.{Ty, tys_of}
 use Rattle.aql_types.specs.OperationTypes.{strict_rule}
 use Rattle.aql_types.specs.ValueTypes.{HasType, HaveTypes}
-use Rattle.nrca_graph.specs.Encoding.{encoding, encoded}
+use Rattle.nrca_graph.specs.Encoding.{encoding, encode_outcome}
 use Rattle.nrca_graph.specs.Laws.EncodingOrder.{length-encoded, encoding-order, encoding-set, encodings-list}
 use Rattle.nrca_graph.specs.Laws.EncodedSets.{set_of-encoded}
 use Rattle.nrca_graph.specs.Laws.KeptForms.{natural-encoded, get-encoded}
 use Rattle.nrca_graph.specs.StrictForms.{IsPlain}
 
 -- a form without parts
-nullary-mirror : (o : Option Datum) (vs : List Datum) → o ≡ encoded o → nullary o (map encoding vs) ≡ encoded (nullary o vs)
+nullary-mirror : (o : Option Datum) (vs : List Datum) → o ≡ encode_outcome o → nullary o (map encoding vs) ≡ encode_outcome (nullary o vs)
 nullary-mirror o [] e = e
 nullary-mirror o (v ∷ vs) e = refl
 
 -- a form of one part
-unary-mirror : (A : Ty) (f : Datum → Option Datum) (vs : List Datum) → HaveTypes (A ∷ []) vs → ((v : Datum) → HasType A v → f (encoding v) ≡ encoded (f v)) → unary f (map encoding vs) ≡ encoded (unary f vs)
+unary-mirror : (A : Ty) (f : Datum → Option Datum) (vs : List Datum) → HaveTypes (A ∷ []) vs → ((v : Datum) → HasType A v → f (encoding v) ≡ encode_outcome (f v)) → unary f (map encoding vs) ≡ encode_outcome (unary f vs)
 unary-mirror A f [] h k = absurd h
 unary-mirror A f (v ∷ []) h k = k v h.0
 unary-mirror A f (v ∷ w ∷ vs) h k = absurd h.1
 
 -- a form of two parts
-binary-mirror : (A B : Ty) (f : Datum → Datum → Option Datum) (vs : List Datum) → HaveTypes (A ∷ B ∷ []) vs → ((v w : Datum) → HasType A v → HasType B w → f (encoding v) (encoding w) ≡ encoded (f v w)) →
-    binary f (map encoding vs) ≡ encoded (binary f vs)
+binary-mirror : (A B : Ty) (f : Datum → Datum → Option Datum) (vs : List Datum) → HaveTypes (A ∷ B ∷ []) vs → ((v w : Datum) → HasType A v → HasType B w → f (encoding v) (encoding w) ≡ encode_outcome (f v w)) →
+    binary f (map encoding vs) ≡ encode_outcome (binary f vs)
 binary-mirror A B f [] h k = absurd h
 binary-mirror A B f (v ∷ []) h k = absurd h.1
 binary-mirror A B f (v ∷ w ∷ []) h k = k v w h.0 h.1.0
 binary-mirror A B f (v ∷ w ∷ x ∷ vs) h k = absurd h.1.1
 
 -- a tuple of encoded values
-tuple-mirror : (vs : List Datum) → tuple_of (map encoding vs) ≡ encoded (tuple_of vs)
+tuple-mirror : (vs : List Datum) → tuple_of (map encoding vs) ≡ encode_outcome (tuple_of vs)
 tuple-mirror [] = refl
 tuple-mirror (v ∷ []) = refl
 tuple-mirror (v ∷ w ∷ vs) = ap (λ xs. Some (tuple (data_of xs))) (sym (encodings-list (v ∷ w ∷ vs)))
 
 -- an element of encoded values
-nth-mirror : (j : ℕ) (ws : List Datum) → nth j (map encoding ws) ≡ encoded (nth j ws)
+nth-mirror : (j : ℕ) (ws : List Datum) → nth j (map encoding ws) ≡ encode_outcome (nth j ws)
 nth-mirror zero ws = refl
 nth-mirror (suc j) ws = get-encoded ws j
 
 -- a part of an encoded tuple
-part-mirror : (j n : ℕ) (As : List Ty) (v : Datum) → HasType (types.product (tys_of As)) v → part_of j n (encoding v) ≡ encoded (part_of j n v)
+part-mirror : (j n : ℕ) (As : List Ty) (v : Datum) → HasType (types.product (tys_of As)) v → part_of j n (encoding v) ≡ encode_outcome (part_of j n v)
 part-mirror j n As v h =
     ap (λ x. part_of j n (encoding x)) h.1
     ∙ ap (λ xs. part_of j n (tuple (data_of xs))) (encodings-list h.0)
     ∙ ap (λ xs. if nat_eq (length xs) n then nth j xs else None) (list_of-data_of (map encoding h.0))
     ∙ ap (λ m. if nat_eq m n then nth j (map encoding h.0) else None) (length-encoded h.0)
     ∙ at (nat_eq (length h.0) n)
-    ∙ sym (ap (λ x. encoded (part_of j n x)) h.1 ∙ ap (λ xs. encoded (if nat_eq (length xs) n then nth j xs else None)) (list_of-data_of h.0))
+    ∙ sym (ap (λ x. encode_outcome (part_of j n x)) h.1 ∙ ap (λ xs. encode_outcome (if nat_eq (length xs) n then nth j xs else None)) (list_of-data_of h.0))
   where
-    at : (b : Bool) → (if b then nth j (map encoding h.0) else None) ≡ encoded (if b then nth j h.0 else None)
+    at : (b : Bool) → (if b then nth j (map encoding h.0) else None) ≡ encode_outcome (if b then nth j h.0 else None)
     at true = nth-mirror j h.0
     at false = refl
 
 -- arithmetic on encoded numbers
-arith-mirror : (op : ArithOp) (v w : Datum) → arith_of op (encoding v) (encoding w) ≡ encoded (arith_of op v w)
+arith-mirror : (op : ArithOp) (v w : Datum) → arith_of op (encoding v) (encoding w) ≡ encode_outcome (arith_of op v w)
 arith-mirror op v w =
     ap (λ o. o >>= λ m. as_natural (encoding w) >>= λ n. arith_by op m n >>= λ k. Some (natural k)) (natural-encoded v)
     ∙ ap (λ o. as_natural v >>= λ m. o >>= λ n. arith_by op m n >>= λ k. Some (natural k)) (natural-encoded w)
     ∙ of (as_natural v) (as_natural w)
   where
-    last : (o : Option ℕ) → (o >>= λ k. Some (natural k)) ≡ encoded (o >>= λ k. Some (natural k))
+    last : (o : Option ℕ) → (o >>= λ k. Some (natural k)) ≡ encode_outcome (o >>= λ k. Some (natural k))
     last None = refl
     last (Some k) = refl
 
-    of : (o p : Option ℕ) → (o >>= λ m. p >>= λ n. arith_by op m n >>= λ k. Some (natural k)) ≡ encoded (o >>= λ m. p >>= λ n. arith_by op m n >>= λ k. Some (natural k))
+    of : (o p : Option ℕ) → (o >>= λ m. p >>= λ n. arith_by op m n >>= λ k. Some (natural k)) ≡ encode_outcome (o >>= λ m. p >>= λ n. arith_by op m n >>= λ k. Some (natural k))
     of None p = refl
     of (Some m) None = refl
     of (Some m) (Some n) = last (arith_by op m n)
@@ -90,23 +90,23 @@ plain-members : (A : Ty) (v : Datum) (h : HasType (types.set_of A) v) → as_set
 plain-members A v h = ap as_set h.1 ∙ ap Some (list_of-data_of h.0)
 
 -- the union of two encoded sets
-union-mirror : (A : Ty) (v w : Datum) → HasType (types.set_of A) v → HasType (types.set_of A) w → union_of (encoding v) (encoding w) ≡ encoded (union_of v w)
+union-mirror : (A : Ty) (v w : Datum) → HasType (types.set_of A) v → HasType (types.set_of A) w → union_of (encoding v) (encoding w) ≡ encode_outcome (union_of v w)
 union-mirror A v w h k =
     ap (λ o. o >>= λ vs. as_set (encoding w) >>= λ ws. Some (set_of (vs ++ ws))) (coded-members A v h)
     ∙ ap (λ o. o >>= λ ws. Some (set_of (map encoding h.0 ++ ws))) (coded-members A w k)
     ∙ ap (λ xs. Some (set_of xs)) (sym (map-append encoding h.0 k.0))
     ∙ ap Some (set_of-encoded A (h.0 ++ k.0) (Every-append (HasType A) h.0 k.0 h.3 k.3))
-    ∙ sym (ap (λ o. encoded (o >>= λ vs. as_set w >>= λ ws. Some (set_of (vs ++ ws)))) (plain-members A v h) ∙ ap (λ o. encoded (o >>= λ ws. Some (set_of (h.0 ++ ws)))) (plain-members A w k))
+    ∙ sym (ap (λ o. encode_outcome (o >>= λ vs. as_set w >>= λ ws. Some (set_of (vs ++ ws)))) (plain-members A v h) ∙ ap (λ o. encode_outcome (o >>= λ ws. Some (set_of (h.0 ++ ws)))) (plain-members A w k))
 
 -- the encoded element of a list of one
-only-mirror : (vs : List Datum) → only (map encoding vs) ≡ encoded (only vs)
+only-mirror : (vs : List Datum) → only (map encoding vs) ≡ encode_outcome (only vs)
 only-mirror [] = refl
 only-mirror (v ∷ []) = refl
 only-mirror (v ∷ w ∷ vs) = refl
 
 -- the member of an encoded set of one
-get-mirror : (A : Ty) (v : Datum) → HasType (types.set_of A) v → get_of (encoding v) ≡ encoded (get_of v)
-get-mirror A v h = ap (λ o. o >>= only) (coded-members A v h) ∙ only-mirror h.0 ∙ sym (ap (λ o. encoded (o >>= only)) (plain-members A v h))
+get-mirror : (A : Ty) (v : Datum) → HasType (types.set_of A) v → get_of (encoding v) ≡ encode_outcome (get_of v)
+get-mirror A v h = ap (λ o. o >>= only) (coded-members A v h) ∙ only-mirror h.0 ∙ sym (ap (λ o. encode_outcome (o >>= only)) (plain-members A v h))
 
 -- numbers are their own encodings
 pub numbers-kept : (ns : List ℕ) → map encoding (map natural ns) ≡ map natural ns
@@ -114,16 +114,16 @@ numbers-kept [] = refl
 numbers-kept (n ∷ ns) = ap (λ l. natural n ∷ l) (numbers-kept ns)
 
 -- the set of the numbers below an encoded one
-gen-mirror : (v : Datum) → gen_of (encoding v) ≡ encoded (gen_of v)
+gen-mirror : (v : Datum) → gen_of (encoding v) ≡ encode_outcome (gen_of v)
 gen-mirror v = ap (λ o. o >>= λ n. Some (set (data_of (map natural (below n))))) (natural-encoded v) ∙ of (as_natural v)
   where
-    of : (o : Option ℕ) → (o >>= λ n. Some (set (data_of (map natural (below n))))) ≡ encoded (o >>= λ n. Some (set (data_of (map natural (below n)))))
+    of : (o : Option ℕ) → (o >>= λ n. Some (set (data_of (map natural (below n))))) ≡ encode_outcome (o >>= λ n. Some (set (data_of (map natural (below n)))))
     of None = refl
     of (Some n) = ap Some (sym (encoding-set types.natural (encoding-order types.natural) (map natural (below n)) (Every-onto (HasType types.natural) natural (below n) (Every-all _ (λ k. (k, refl)) (below n))) (ascending_below n)
         ∙ ap (λ xs. set (data_of xs)) (numbers-kept (below n))))
 
 -- a kept form that evaluates every part, at encoded values under its type rule
-pub strict-mirror : (s : Strict) (Ts : List Ty) (T : Ty) (vs : List Datum) → IsPlain s → strict_rule s Ts T → HaveTypes Ts vs → strict_value s (map encoding vs) ≡ encoded (strict_value s vs)
+pub strict-mirror : (s : Strict) (Ts : List Ty) (T : Ty) (vs : List Datum) → IsPlain s → strict_rule s Ts T → HaveTypes Ts vs → strict_value s (map encoding vs) ≡ encode_outcome (strict_value s vs)
 strict-mirror (Strict.nat n) Ts T vs p r h = nullary-mirror (Some (natural n)) vs refl
 strict-mirror (Strict.bool b) Ts T vs p r h = nullary-mirror (Some (truth b)) vs refl
 strict-mirror (Strict.text s) Ts T vs p r h = nullary-mirror (Some (text s)) vs refl

@@ -6,13 +6,13 @@ use Rattle.aql_value.specs.Laws.Lists.{Every-all, Every-onto, Every-take, Every-
 use Rattle.aql_value.specs.Operations.{is_rank}
 use Rattle.aql_value.specs.Strict.{Strict}
 use Rattle.nrca_term.specs.Term.{Term, Parts, node, none, part, plain, Form, count, form_weight, weight_of, parts_weight, terms_in}
-use Rattle.nrca_term.specs.Laws.Measure.{form-positive}
+use Rattle.nrca_term.specs.Laws.Measure.{form-positive, parts_weight-count, weight_of-positive}
 use Rattle.nrca_term.specs.Nodes.{variable, gen_term, single_term, number, truth_term, bottom_term, if_term, tuple_term, proj_term, get_term}
 use Rattle.nrca_term.specs.Subst.{shift_term, form_top, top_var, parts_top}
 use Rattle.nrca_term.specs.Laws.Shift.{top_var-shift_le}
 use Rattle.nrca_term.specs.Rules.{lets, sizes_term, index_variables}
 use Rattle.nrca_graph.specs.Tabulation.{nest, table_term}
-use Rattle.nrca_graph.specs.ArrayFree.{equal_term, term_at, paired_with, subscript_graph, number_at, dimension_above, index_graph, times, product_term, where_zero, is_filled, over_rest, further_numbers, index_of_cell, cell_pairs, united_neighbours, united, literal_graph, array_free_node, array_free, array_free_parts}
+use Rattle.nrca_graph.specs.ArrayFree.{equal_term, term_at, paired_with, subscript_graph, number_at, dimension_above, index_graph, times, product_term, where_zero, is_filled, over_rest, further_numbers, index_of_cell, cell_pairs, united_neighbours, union_tree, literal_graph, array_free_node, array_free, array_free_parts}
 use Rattle.nrca_graph.specs.Laws.TranslatedParts.{length-terms}
 
 -- no variable of the term is above n
@@ -28,11 +28,6 @@ higher m n (t ∷ ts) l h = (omega (arith, l, h.0), higher m n ts l h.1)
 shifted-tops : (n from by : ℕ) (ts : List Term) → Every (TopAtMost n) ts → Every (TopAtMost (n + by)) (map (shift_term from by) ts)
 shifted-tops n from by [] h = tt
 shifted-tops n from by (t ∷ ts) h = (omega (arith, h.0, top_var-shift_le from by t), shifted-tops n from by ts h.1)
-
--- the terms of parts
-tops-terms : (n : ℕ) (ps : Parts) → parts_top ps ≤ n → Every (TopAtMost n) (terms_in ps)
-tops-terms n none h = tt
-tops-terms n (part k t ps) h = (omega (arith, h), tops-terms n ps (omega (arith, h)))
 
 -- parts whose terms are bounded
 tops-parts : (n : ℕ) (ps : Parts) → Every (TopAtMost n) (terms_in ps) → parts_top ps ≤ n
@@ -161,7 +156,7 @@ tops-neighbours n (t ∷ []) h = h
 tops-neighbours n (t ∷ u ∷ ts) h = (omega (arith, h.0, h.1.0), tops-neighbours n ts h.1.1)
 
 -- all rounds
-tops-united : (n m : ℕ) (ts : List Term) → Every (TopAtMost n) ts → TopAtMost n (united m ts)
+tops-united : (n m : ℕ) (ts : List Term) → Every (TopAtMost n) ts → TopAtMost n (union_tree m ts)
 tops-united n zero [] h = omega arith
 tops-united n zero (t ∷ ts) h = h.0
 tops-united n (suc m) ts h = tops-united n m (united_neighbours ts) (tops-neighbours n ts h)
@@ -174,7 +169,7 @@ tops-literal n ds cs h k =
     let u = tops-united (n + length ds) (length cs) (cell_pairs 0 (index_variables (length ds)) (map (shift_term 0 (length ds)) cs)) (tops-pairs (n + length ds) 0 (index_variables (length ds)) (map (shift_term 0 (length ds)) cs) vs (shifted-tops n 0 (length ds) cs k)) in
     let p = tops-product (n + length ds) (index_variables (length ds)) vs in
     let w = tops-where_zero (n + length ds) (index_variables (length ds)) (truth_term (nat_le (length cs) 0)) (equal_term (product_term (index_variables (length ds))) (number (length cs))) vs (omega arith) (omega (arith, p)) in
-    omega (arith, tops-lets n 0 ds (if_term (is_filled (index_variables (length ds)) (length cs)) (tuple_term (sizes_term (index_variables (length ds)) ∷ united (length cs) (cell_pairs 0 (index_variables (length ds)) (map (shift_term 0 (length ds)) cs)) ∷ [])) bottom_term) h (omega (arith, v, u, w)))
+    omega (arith, tops-lets n 0 ds (if_term (is_filled (index_variables (length ds)) (length cs)) (tuple_term (sizes_term (index_variables (length ds)) ∷ union_tree (length cs) (cell_pairs 0 (index_variables (length ds)) (map (shift_term 0 (length ds)) cs)) ∷ [])) bottom_term) h (omega (arith, v, u, w)))
 
 -- a node of a form that evaluates every part
 tops-strict : (n : ℕ) (s : Strict) (ps : Parts) → Every (TopAtMost n) (terms_in ps) → TopAtMost (n + 24 + length (terms_in ps)) (array_free_node (Form.strict s) ps)
@@ -214,15 +209,6 @@ tops-node n (Form.tab rank) ps l h =
     let t = tops-table (n + length ds) (length ds) (shift_term (length ds) (length ds) b) (omega arith) (omega (arith, s, tops-at n (terms_in ps) rank h)) in
     omega (arith, length-take rank (terms_in ps), tops-lets n 0 ds (table_term (length ds) (shift_term (length ds) (length ds) b)) (Every-take (TopAtMost n) rank (terms_in ps) h) (omega (arith, t)))
 
--- a term weighs something
-weight-positive : (t : Term) → 1 ≤ weight_of t
-weight-positive (node f ps) = omega (arith, form-positive f)
-
--- each part weighs something
-count-weight : (ps : Parts) → count ps ≤ parts_weight ps
-count-weight none = omega arith
-count-weight (part k (node f us) ps) = omega (arith, form-positive f, count-weight ps)
-
 mutual
   -- the variables of the array-free form are at most those of the term and 25 for each unit of its weight
   pub array_free-top : (t : Term) → top_var (array_free t) ≤ top_var t + 25 * weight_of t
@@ -231,7 +217,7 @@ mutual
       omega (
         arith,
         form-positive f,
-        count-weight ps,
+        parts_weight-count ps,
         length-terms ps,
         tops-node n f (array_free_parts ps) (omega arith) (higher (parts_top ps + 25 * parts_weight ps + 1 - count ps) n _ (omega arith) (parts-tops ps)),
       )
@@ -239,8 +225,8 @@ mutual
   parts-tops : (ps : Parts) → Every (TopAtMost (parts_top ps + 25 * parts_weight ps + 1 - count ps)) (terms_in (array_free_parts ps))
   parts-tops none = tt
   parts-tops (part k t ps) = (
-    omega (arith, array_free-top t, count-weight ps),
-    higher (parts_top ps + 25 * parts_weight ps + 1 - count ps) (max (top_var t) (parts_top ps) + 25 * (weight_of t + parts_weight ps) + 1 - suc (count ps)) _ (omega (arith, weight-positive t, count-weight ps)) (parts-tops ps),
+    omega (arith, array_free-top t, parts_weight-count ps),
+    higher (parts_top ps + 25 * parts_weight ps + 1 - count ps) (max (top_var t) (parts_top ps) + 25 * (weight_of t + parts_weight ps) + 1 - suc (count ps)) _ (omega (arith, weight_of-positive t, parts_weight-count ps)) (parts-tops ps),
   )
 
 -- the parts of a term whose parts are translated

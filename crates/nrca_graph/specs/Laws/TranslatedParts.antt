@@ -1,19 +1,19 @@
 -- The terms of parts that are translated, beside what the parts are worth.
 use Rattle.std.proofs.Common.{◌≡◌, ℕ, zero, suc, true, nat_eq, List, [], ◌∷◌, ◌++◌, length, map, take, drop, replicate, Option, Some, None, refl, sym, ap, subst, ◌∙◌, if◌then◌else◌, arith}
+use Rattle.std.proofs.lemmas.Option.{same_Some}
 use Rattle.aql_value.specs.Datum as datum
 use Rattle.aql_value.specs.Datum.{Datum}
-use Rattle.aql_value.specs.Operations.{walked}
+use Rattle.aql_value.specs.Operations.{push_index}
 use Rattle.aql_value.specs.Partial.{◌>>=◌, each}
 use Rattle.aql_value.specs.Laws.Partial.{then-is}
 use Rattle.aql_types.specs.Types as types
 use Rattle.aql_types.specs.Types.{Ty}
-use Rattle.aql_types.specs.Laws.Operation.{some-list}
 use Rattle.aql_types.specs.ValueTypes.{HaveTypes}
 use Rattle.nrca_term.specs.Term.{Term, Parts, none, part, count, terms_in}
 use Rattle.nrca_term.specs.Typing.{Arg, arg, parts_typed}
 use Rattle.nrca_term.specs.Meaning.{Outcomes, Part, here, worth, cden, part_values}
 use Rattle.nrca_term.specs.Laws.Sound.{AllSound, has-here}
-use Rattle.nrca_graph.specs.Encoding.{encoding, encoded}
+use Rattle.nrca_graph.specs.Encoding.{encoding, encode_outcome}
 use Rattle.nrca_graph.specs.ArrayFree.{term_at, array_free_parts}
 use Rattle.nrca_graph.specs.Laws.KeptForms.{AllMirror}
 
@@ -69,10 +69,10 @@ first-mirror zero T args ps qs m = refl
 first-mirror (suc n) T args [] qs m = absurd m
 first-mirror (suc n) T args (p ∷ ps) [] m = absurd m
 first-mirror (suc n) T args (p ∷ ps) (q ∷ qs) m =
-    ap (λ o. o >>= λ y. each here (take n qs) >>= λ ys. Some (y ∷ ys)) (m.0 [] tt) ∙ ap (λ r. encoded (p []) >>= λ y. r >>= λ ys. Some (y ∷ ys)) (first-mirror n T args ps qs m.1)
+    ap (λ o. o >>= λ y. each here (take n qs) >>= λ ys. Some (y ∷ ys)) (m.0 [] tt) ∙ ap (λ r. encode_outcome (p []) >>= λ y. r >>= λ ys. Some (y ∷ ys)) (first-mirror n T args ps qs m.1)
     ∙ of (p []) (each here (take n ps))
   where
-    of : (o : Option Datum) (r : Option (List Datum)) → (encoded o >>= λ y. (r >>= λ vs. Some (map encoding vs)) >>= λ ys. Some (y ∷ ys)) ≡ ((o >>= λ y. r >>= λ ys. Some (y ∷ ys)) >>= λ vs. Some (map encoding vs))
+    of : (o : Option Datum) (r : Option (List Datum)) → (encode_outcome o >>= λ y. (r >>= λ vs. Some (map encoding vs)) >>= λ ys. Some (y ∷ ys)) ≡ ((o >>= λ y. r >>= λ ys. Some (y ∷ ys)) >>= λ vs. Some (map encoding vs))
     of None r = refl
     of (Some v) None = refl
     of (Some v) (Some vs) = refl
@@ -84,7 +84,7 @@ first-types (suc n) T args [] vs s e = absurd s
 first-types (suc n) T args (p ∷ ps) vs s e =
     let a = then-is (p []) (λ y. each here (take n ps) >>= λ ys. Some (y ∷ ys)) vs e in
     let b = then-is (each here (take n ps)) (λ ys. Some (a.0 ∷ ys)) vs a.2 in
-    let z : a.0 ∷ b.0 ≡ vs = some-list (a.0 ∷ b.0) vs b.2 in
+    let z : a.0 ∷ b.0 ≡ vs = same_Some (a.0 ∷ b.0) vs b.2 in
     subst (HaveTypes (replicate (suc n) T)) z (s.0 [] a.0 tt a.1, first-types n T args ps b.0 s.1 b.1)
 
 -- values of the type of numbers are numbers
@@ -96,7 +96,7 @@ numbers-of (suc n) (v ∷ vs) h =
     let r = numbers-of n vs h.1 in (h.0.0 ∷ r.0, ap (λ x. x ∷ vs) h.0.1 ∙ ap (λ xs. datum.natural h.0.0 ∷ xs) r.1, ap suc r.2)
 
 -- the numbers of an index before other values are their own encodings
-pub walked-encoded : (at : List ℕ) (l : List Datum) → map encoding (walked at l) ≡ walked at (map encoding l)
+pub walked-encoded : (at : List ℕ) (l : List Datum) → map encoding (push_index at l) ≡ push_index at (map encoding l)
 walked-encoded [] l = refl
 walked-encoded (i ∷ at) l = walked-encoded at (datum.natural i ∷ l)
 
@@ -108,9 +108,9 @@ here-mirror [] (p ∷ ps) qs m = absurd m
 here-mirror (T ∷ Ts) [] qs m = absurd m
 here-mirror (T ∷ Ts) (p ∷ ps) [] m = absurd m
 here-mirror (T ∷ Ts) (p ∷ ps) (q ∷ qs) m =
-    ap (λ o. o >>= λ y. each here qs >>= λ ys. Some (y ∷ ys)) (m.0 [] tt) ∙ ap (λ r. encoded (p []) >>= λ y. r >>= λ ys. Some (y ∷ ys)) (here-mirror Ts ps qs m.1) ∙ of (p []) (each here ps)
+    ap (λ o. o >>= λ y. each here qs >>= λ ys. Some (y ∷ ys)) (m.0 [] tt) ∙ ap (λ r. encode_outcome (p []) >>= λ y. r >>= λ ys. Some (y ∷ ys)) (here-mirror Ts ps qs m.1) ∙ of (p []) (each here ps)
   where
-    of : (o : Option Datum) (r : Option (List Datum)) → (encoded o >>= λ y. (r >>= λ vs. Some (map encoding vs)) >>= λ ys. Some (y ∷ ys)) ≡ ((o >>= λ y. r >>= λ ys. Some (y ∷ ys)) >>= λ vs. Some (map encoding vs))
+    of : (o : Option Datum) (r : Option (List Datum)) → (encode_outcome o >>= λ y. (r >>= λ vs. Some (map encoding vs)) >>= λ ys. Some (y ∷ ys)) ≡ ((o >>= λ y. r >>= λ ys. Some (y ∷ ys)) >>= λ vs. Some (map encoding vs))
     of None r = refl
     of (Some v) None = refl
     of (Some v) (Some vs) = refl

@@ -19,12 +19,12 @@ use Rattle.nrca_term.specs.Term.{Term, Parts, node, none, part, plain, Form, Wel
 use Rattle.nrca_term.specs.Nodes.{variable}
 use Rattle.nrca_term.specs.Typing.{Arg, arg, form_rule, ctyped, parts_typed, OutcomesHave}
 use Rattle.nrca_term.specs.Meaning.{Outcomes, Part, here, cden, part_values, bounds_value}
-use Rattle.nrca_term.specs.Places.{entered}
+use Rattle.nrca_term.specs.Places.{entry_values}
 use Rattle.nrca_term.specs.Turns.{settle, parts_settle}
 use Rattle.nrca_term.specs.Laws.Sound.{AllSound, parts-sound, sounds}
 use Rattle.nrca_term.specs.Laws.TypedPlaces.{entered-own}
 use Rattle.nrca_term.specs.Laws.Variants.{settle-strict}
-use Rattle.nrca_graph.specs.Encoding.{encoding, encoded, pair_type}
+use Rattle.nrca_graph.specs.Encoding.{encoding, encode_outcome, pair_type}
 use Rattle.nrca_graph.specs.ArrayFree.{term_at, number_at, greater, greatest, dimension_above, array_free, array_free_parts, array_free_node}
 use Rattle.nrca_graph.specs.NoArrays.{IsKeptForm}
 use Rattle.nrca_graph.specs.GraphTurns.{own_graph_turns, graph_turns, parts_graph_turns}
@@ -194,33 +194,33 @@ mutual
   -- the array-free form of a typed term takes at most the turns of the bound
   pub array_free-turns : (G : ℕ → Ty → Type 0) (V : Outcomes) → OutcomesHave G V → ((env : List Ty) (t : Term) (T : Ty) → ctyped G env t T → WellFormed (array_free t)) →
       (t : Term) → weight_of t < 2 ^ 128 → (env : List Ty) (vals : List Datum) (T : Ty) → HaveTypes env vals → ctyped G env t T →
-      settle (map encoded V) (map encoding vals) (array_free t) ≤ graph_turns V vals t
+      settle (map encode_outcome V) (map encoding vals) (array_free t) ≤ graph_turns V vals t
   array_free-turns G V g wf (node f ps) s env vals T h t =
       let sound = parts-sound G V g ps env vals t.1 h t.3 in
       let mirror = parts-mean G V g ps (omega (arith, s)) env vals t.1 h t.3 in
       omega (
         arith,
-        node-turns G (map encoded V) (map encoding vals) env f t.1 T (part_values V vals ps) (array_free_parts ps) t.2 sound mirror (typed-binders G env ps t.1 t.3) (parts-formed G wf env ps t.1 t.3),
-        parts-turns G V g wf f t.1 T env vals h (part_values V vals ps) (part_values (map encoded V) (map encoding vals) (array_free_parts ps)) t.2 sound mirror 0 ps (omega (arith, s)) t.1 t.3
+        node-turns G (map encode_outcome V) (map encoding vals) env f t.1 T (part_values V vals ps) (array_free_parts ps) t.2 sound mirror (typed-binders G env ps t.1 t.3) (parts-formed G wf env ps t.1 t.3),
+        parts-turns G V g wf f t.1 T env vals h (part_values V vals ps) (part_values (map encode_outcome V) (map encoding vals) (array_free_parts ps)) t.2 sound mirror 0 ps (omega (arith, s)) t.1 t.3
             (λ j a e. (let z : 0 + j ≡ j = omega arith in ap (slice_get t.1) z) ∙ e),
       )
 
   parts-turns : (G : ℕ → Ty → Type 0) (V : Outcomes) → OutcomesHave G V → ((env : List Ty) (t : Term) (T : Ty) → ctyped G env t T → WellFormed (array_free t)) →
       (f : Form) (args : List Arg) (T : Ty) (env : List Ty) (vals : List Datum) → HaveTypes env vals → (ws vs : List Part) → form_rule G env f args T → AllSound args ws → AllMirror args ws vs →
       (i : ℕ) (ps : Parts) → parts_weight ps < 2 ^ 128 → (rest : List Arg) → parts_typed G env ps rest → ((j : ℕ) (a : Arg) → slice_get rest j ≡ Some a → slice_get args (i + j) ≡ Some a) →
-      parts_settle (map encoded V) (map encoding vals) f vs i (array_free_parts ps) ≤ parts_graph_turns V vals f ws i ps
+      parts_settle (map encode_outcome V) (map encoding vals) f vs i (array_free_parts ps) ≤ parts_graph_turns V vals f ws i ps
   parts-turns G V g wf f args T env vals h ws vs r s m i none l rest t at = omega arith
   parts-turns G V g wf f args T env vals h ws vs r s m i (part k u ps) l rest t at =
       let found : slice_get args i ≡ Some t.0 = (let z : i ≡ i + 0 = omega arith in ap (slice_get args) z) ∙ at 0 t.0 (ap (λ x. slice_get x 0) t.2) in
       let own = entered-own G env f args T ws i t.0 r s found in
-      let F = λ (new : List Datum). settle (map encoded V) (new ++ map encoding vals) (array_free u) in
+      let F = λ (new : List Datum). settle (map encode_outcome V) (new ++ map encoding vals) (array_free u) in
       omega (
         arith,
-        ap (total F) (entered-encoded G env f args T ws vs i r s m) ∙ total-map F (map encoding) (entered f ws i),
-        total-le (λ new. F (map encoding new)) (λ new. graph_turns V (new ++ vals) u) (entered f ws i)
+        ap (total F) (entered-encoded G env f args T ws vs i r s m) ∙ total-map F (map encoding) (entry_values f ws i),
+        total-le (λ new. F (map encoding new)) (λ new. graph_turns V (new ++ vals) u) (entry_values f ws i)
             (Every-impl (HaveTypes t.0.own) (λ new. F (map encoding new) ≤ graph_turns V (new ++ vals) u)
-            (λ new n. subst (λ x. settle (map encoded V) x (array_free u) ≤ graph_turns V (new ++ vals) u) (map-append encoding new vals)
-            (array_free-turns G V g wf u (omega (arith, l)) (t.0.own ++ env) (new ++ vals) t.0.has (has-append t.0.own env new vals n h) t.4)) (entered f ws i) own),
+            (λ new n. subst (λ x. settle (map encode_outcome V) x (array_free u) ≤ graph_turns V (new ++ vals) u) (map-append encoding new vals)
+            (array_free-turns G V g wf u (omega (arith, l)) (t.0.own ++ env) (new ++ vals) t.0.has (has-append t.0.own env new vals n h) t.4)) (entry_values f ws i) own),
         parts-turns G V g wf f args T env vals h ws vs r s m (suc i) ps (omega (arith, l)) t.1 t.5
             (λ j a e. (let z : suc i + j ≡ i + suc j = omega arith in ap (slice_get args) z) ∙ at (suc j) a (ap (λ x. slice_get x (suc j)) t.2 ∙ e)),
       )

@@ -16,11 +16,12 @@ use Rattle.nrca_term.specs.Rules.{lets, sizes_term, index_variables}
 use Rattle.nrca_term.specs.Subst.{shift_term}
 use Rattle.nrca_term.specs.Typing.{ctyped}
 use Rattle.nrca_term.specs.Laws.TypingShift.{ctyped-shift_term}
+use Rattle.nrca_term.specs.Laws.TypedLists.{TermsTyped}
 use Rattle.nrca_graph.specs.Encoding.{pair_type, array_type}
 use Rattle.nrca_graph.specs.Tabulation.{table_term, tabulation_graph}
-use Rattle.nrca_graph.specs.ArrayFree.{equal_term, paired_with, subscript_graph, number_at, greater, greatest, dimension_above, index_graph, times, product_term, where_zero, is_filled, over_rest, further_numbers, index_of_cell, cell_pairs, united_neighbours, united, literal_graph}
+use Rattle.nrca_graph.specs.ArrayFree.{equal_term, paired_with, subscript_graph, number_at, greater, greatest, dimension_above, index_graph, times, product_term, where_zero, is_filled, over_rest, further_numbers, index_of_cell, cell_pairs, united_neighbours, union_tree, literal_graph}
 use Rattle.nrca_graph.specs.Laws.EncodedTypes.{index-is}
-use Rattle.nrca_graph.specs.Laws.TypedTerms.{TypedAll, strict-typed, variable-typed, let-typed, if-typed, union-typed, number-typed, bottom-typed, empty-typed, arith-typed, compare-typed, single-typed, both-typed, get-typed, pair-is, pair-term-typed, first-typed, second-typed, lets-typed, naturals, onto-numbers, variables-typed, sizes-typed, table-typed, paired-typed, past-numbers}
+use Rattle.nrca_graph.specs.Laws.TypedTerms.{strict-typed, variable-typed, let-typed, if-typed, union-typed, number-typed, bottom-typed, empty-typed, arith-typed, compare-typed, single-typed, both-typed, get-typed, pair-is, pair-term-typed, first-typed, second-typed, lets-typed, naturals, onto-numbers, variables-typed, sizes-typed, table-typed, paired-typed, past-numbers}
 
 -- one of so many numbers
 in-numbers : (n i : ℕ) → i < n → slice_get (naturals n) i ≡ Some types.natural
@@ -75,12 +76,12 @@ dimension-typed G env rank j A a h =
 
 -- all of them
 dimensions-typed : (G : ℕ → Ty → Type 0) (env : List Ty) (rank : ℕ) (A : Ty) (js : List ℕ) → IsType A → Every (λ j. j < rank) js →
-    TypedAll G (types.set_of (pair_type (index_type rank) A) ∷ env) (map (λ j. dimension_above rank (suc j)) js) (naturals (length js))
+    TermsTyped G (types.set_of (pair_type (index_type rank) A) ∷ env) (map (λ j. dimension_above rank (suc j)) js) (naturals (length js))
 dimensions-typed G env rank A [] a h = tt
 dimensions-typed G env rank A (j ∷ js) a h = (dimension-typed G env rank j A a h.0, dimensions-typed G env rank A js a h.1)
 
 -- lets of numbers
-pub lets-of-numbers : (G : ℕ → Ty → Type 0) (env : List Ty) (n : ℕ) (ts : List Term) (b : Term) (T : Ty) → IsType T → TypedAll G env ts (naturals n) → ctyped G (naturals n ++ env) b T → ctyped G env (lets 0 ts b) T
+pub lets-of-numbers : (G : ℕ → Ty → Type 0) (env : List Ty) (n : ℕ) (ts : List Term) (b : Term) (T : Ty) → IsType T → TermsTyped G env ts (naturals n) → ctyped G (naturals n ++ env) b T → ctyped G env (lets 0 ts b) T
 lets-of-numbers G env n ts b T i h k =
     lets-typed G [] env ts (naturals n) b T i h (subst (λ l. ctyped G (l ++ env) b T) (sym (onto-numbers n [] ∙ append-nil (naturals n))) k)
 
@@ -108,8 +109,8 @@ index-graph-typed G env rank A s l a h = let-typed G env s (if is_rank rank then
     table : Term
     table = lets 0 (map (λ j. dimension_above rank (suc j)) (below rank)) (table_term rank inner)
 
-    sizes : TypedAll G E (map (λ j. dimension_above rank (suc j)) (below rank)) (naturals rank)
-    sizes = subst (λ n. TypedAll G E (map (λ j. dimension_above rank (suc j)) (below rank)) (naturals n)) (length-below rank)
+    sizes : TermsTyped G E (map (λ j. dimension_above rank (suc j)) (below rank)) (naturals rank)
+    sizes = subst (λ n. TermsTyped G E (map (λ j. dimension_above rank (suc j)) (below rank)) (naturals n)) (length-below rank)
         (dimensions-typed G env rank A (below rank) a (Every-below (λ j. j < rank) rank (λ j k. k)))
 
     typed : ctyped G E table (array_type rank (types.set_of A))
@@ -126,7 +127,7 @@ index-graph-typed G env rank A s l a h = let-typed G env s (if is_rank rank then
     of false = bottom-typed G E (array_type rank (types.set_of A)) t
 
 -- a subscript
-pub subscript-graph-typed : (G : ℕ → Ty → Type 0) (env : List Ty) (rank : ℕ) (A : Ty) (ts : List Term) → 1 ≤ rank → IsType A → TypedAll G env ts (array_type rank A ∷ naturals rank) → ctyped G env (subscript_graph ts) A
+pub subscript-graph-typed : (G : ℕ → Ty → Type 0) (env : List Ty) (rank : ℕ) (A : Ty) (ts : List Term) → 1 ≤ rank → IsType A → TermsTyped G env ts (array_type rank A ∷ naturals rank) → ctyped G env (subscript_graph ts) A
 subscript-graph-typed G env rank A [] l a h = absurd h
 subscript-graph-typed G env rank A (t ∷ ts) l a h =
     let I : Ty = index_type rank in
@@ -139,45 +140,45 @@ subscript-graph-typed G env rank A (t ∷ ts) l a h =
     (variable-typed G E 0 I (index-is rank l) refl)))
 
 -- a product of factors
-times-typed : (G : ℕ → Ty → Type 0) (env : List Ty) (n : ℕ) (p : Term) (ts : List Term) → ctyped G env p types.natural → TypedAll G env ts (naturals n) → ctyped G env (times p ts) types.natural
+times-typed : (G : ℕ → Ty → Type 0) (env : List Ty) (n : ℕ) (p : Term) (ts : List Term) → ctyped G env p types.natural → TermsTyped G env ts (naturals n) → ctyped G env (times p ts) types.natural
 times-typed G env n p [] h k = h
 times-typed G env zero p (t ∷ ts) h k = absurd k
 times-typed G env (suc n) p (t ∷ ts) h k = times-typed G env n (arith_term Mul p t) ts (arith-typed G env Mul p t h k.0) k.1
 
 -- the product of all
-product-typed : (G : ℕ → Ty → Type 0) (env : List Ty) (n : ℕ) (ts : List Term) → TypedAll G env ts (naturals n) → ctyped G env (product_term ts) types.natural
+product-typed : (G : ℕ → Ty → Type 0) (env : List Ty) (n : ℕ) (ts : List Term) → TermsTyped G env ts (naturals n) → ctyped G env (product_term ts) types.natural
 product-typed G env n [] h = number-typed G env 1
 product-typed G env zero (t ∷ ts) h = absurd h
 product-typed G env (suc n) (t ∷ ts) h = times-typed G env n t ts h.0 h.1
 
 -- the test of a literal
-where_zero-typed : (G : ℕ → Ty → Type 0) (env : List Ty) (n : ℕ) (ts : List Term) (z t : Term) → TypedAll G env ts (naturals n) → ctyped G env z types.truth → ctyped G env t types.truth → ctyped G env (where_zero ts z t) types.truth
+where_zero-typed : (G : ℕ → Ty → Type 0) (env : List Ty) (n : ℕ) (ts : List Term) (z t : Term) → TermsTyped G env ts (naturals n) → ctyped G env z types.truth → ctyped G env t types.truth → ctyped G env (where_zero ts z t) types.truth
 where_zero-typed G env n [] z t h k l = l
 where_zero-typed G env zero (d ∷ ts) z t h k l = absurd h
 where_zero-typed G env (suc n) (d ∷ ts) z t h k l =
     if-typed G env (equal_term d (number 0)) z (where_zero ts z t) types.truth tt (compare-typed G env compare_op.Equal d (number 0) types.natural h.0 (number-typed G env 0)) k (where_zero-typed G env n ts z t h.1 k l)
 
 -- the first number of the index of a cell
-over-typed : (G : ℕ → Ty → Type 0) (env : List Ty) (n m : ℕ) (ts : List Term) → TypedAll G env ts (naturals n) → ctyped G env (over_rest m ts) types.natural
+over-typed : (G : ℕ → Ty → Type 0) (env : List Ty) (n m : ℕ) (ts : List Term) → TermsTyped G env ts (naturals n) → ctyped G env (over_rest m ts) types.natural
 over-typed G env n m [] h = number-typed G env m
 over-typed G env n m (t ∷ ts) h = arith-typed G env Quotient (number m) (product_term (t ∷ ts)) (number-typed G env m) (product-typed G env n (t ∷ ts) h)
 
 -- its further numbers
-further-typed : (G : ℕ → Ty → Type 0) (env : List Ty) (n m : ℕ) (ts : List Term) → TypedAll G env ts (naturals n) → TypedAll G env (further_numbers m ts) (naturals n)
+further-typed : (G : ℕ → Ty → Type 0) (env : List Ty) (n m : ℕ) (ts : List Term) → TermsTyped G env ts (naturals n) → TermsTyped G env (further_numbers m ts) (naturals n)
 further-typed G env zero m [] h = tt
 further-typed G env (suc n) m [] h = absurd h
 further-typed G env zero m (t ∷ ts) h = absurd h
 further-typed G env (suc n) m (t ∷ ts) h = (arith-typed G env Remainder (over_rest m ts) t (over-typed G env n m ts h.1) h.0, further-typed G env n m ts h.1)
 
 -- all its numbers
-index_of_cell-typed : (G : ℕ → Ty → Type 0) (env : List Ty) (n m : ℕ) (ts : List Term) → TypedAll G env ts (naturals n) → TypedAll G env (index_of_cell m ts) (naturals n)
+index_of_cell-typed : (G : ℕ → Ty → Type 0) (env : List Ty) (n m : ℕ) (ts : List Term) → TermsTyped G env ts (naturals n) → TermsTyped G env (index_of_cell m ts) (naturals n)
 index_of_cell-typed G env zero m [] h = tt
 index_of_cell-typed G env (suc n) m [] h = absurd h
 index_of_cell-typed G env zero m (t ∷ ts) h = absurd h
 index_of_cell-typed G env (suc n) m (t ∷ ts) h = (over-typed G env n m ts h.1, further-typed G env n m ts h.1)
 
 -- the pairs of a literal
-pairs-typed : (G : ℕ → Ty → Type 0) (env : List Ty) (rank m : ℕ) (A : Ty) (ts cs : List Term) → 1 ≤ rank → IsType A → TypedAll G env ts (naturals rank) → Every (λ c. ctyped G env c A) cs →
+pairs-typed : (G : ℕ → Ty → Type 0) (env : List Ty) (rank m : ℕ) (A : Ty) (ts cs : List Term) → 1 ≤ rank → IsType A → TermsTyped G env ts (naturals rank) → Every (λ c. ctyped G env c A) cs →
     Every (λ s. ctyped G env s (types.set_of (pair_type (index_type rank) A))) (cell_pairs m ts cs)
 pairs-typed G env rank m A ts [] l a h k = tt
 pairs-typed G env rank m A ts (c ∷ cs) l a h k = (
@@ -193,19 +194,19 @@ neighbours-typed G env M (t ∷ []) m h = h
 neighbours-typed G env M (t ∷ u ∷ ts) m h = (both-typed G env t u M m h.0 h.1.0, neighbours-typed G env M ts m h.1.1)
 
 -- all rounds
-united-typed : (G : ℕ → Ty → Type 0) (env : List Ty) (M : Ty) (n : ℕ) (ts : List Term) → IsType M → Every (λ s. ctyped G env s (types.set_of M)) ts → ctyped G env (united n ts) (types.set_of M)
+united-typed : (G : ℕ → Ty → Type 0) (env : List Ty) (M : Ty) (n : ℕ) (ts : List Term) → IsType M → Every (λ s. ctyped G env s (types.set_of M)) ts → ctyped G env (union_tree n ts) (types.set_of M)
 united-typed G env M zero [] m h = empty-typed G env M m
 united-typed G env M zero (t ∷ ts) m h = h.0
 united-typed G env M (suc n) ts m h = united-typed G env M n (united_neighbours ts) m (neighbours-typed G env M ts m h)
 
 -- a literal
-pub literal-graph-typed : (G : ℕ → Ty → Type 0) (env : List Ty) (rank : ℕ) (A : Ty) (ds cs : List Term) → 1 ≤ rank → IsType A → length ds ≡ rank → TypedAll G env ds (naturals rank) → Every (λ c. ctyped G env c A) cs →
+pub literal-graph-typed : (G : ℕ → Ty → Type 0) (env : List Ty) (rank : ℕ) (A : Ty) (ds cs : List Term) → 1 ≤ rank → IsType A → length ds ≡ rank → TermsTyped G env ds (naturals rank) → Every (λ c. ctyped G env c A) cs →
     ctyped G env (literal_graph ds cs) (array_type rank A)
 literal-graph-typed G env rank A ds cs l a e h k =
     lets-of-numbers G env rank ds (body (length ds)) (array_type rank A) (array-is rank A l a) h (subst (λ n. ctyped G (naturals rank ++ env) (body n) (array_type rank A)) (sym e) typed)
   where
     body : ℕ → Term
-    body n = if_term (is_filled (index_variables n) (length cs)) (tuple_term (sizes_term (index_variables n) ∷ united (length cs) (cell_pairs 0 (index_variables n) (map (shift_term 0 n) cs)) ∷ [])) bottom_term
+    body n = if_term (is_filled (index_variables n) (length cs)) (tuple_term (sizes_term (index_variables n) ∷ union_tree (length cs) (cell_pairs 0 (index_variables n) (map (shift_term 0 n) cs)) ∷ [])) bottom_term
 
     E : List Ty
     E = naturals rank ++ env
@@ -216,7 +217,7 @@ literal-graph-typed G env rank A ds cs l a e h k =
     m : IsType M
     m = pair-is (index_type rank) A (index-is rank l) a
 
-    vs : TypedAll G E (index_variables rank) (naturals rank)
+    vs : TermsTyped G E (index_variables rank) (naturals rank)
     vs = variables-typed G rank rank env (omega arith)
 
     shifted : (us : List Term) → Every (λ c. ctyped G env c A) us → Every (λ c. ctyped G E c A) (map (shift_term 0 rank) us)
@@ -230,15 +231,15 @@ literal-graph-typed G env rank A ds cs l a e h k =
 
     typed : ctyped G E (body rank) (array_type rank A)
     typed =
-        if-typed G E (is_filled (index_variables rank) (length cs)) (tuple_term (sizes_term (index_variables rank) ∷ united (length cs) (cell_pairs 0 (index_variables rank) (map (shift_term 0 rank) cs)) ∷ [])) bottom_term
+        if-typed G E (is_filled (index_variables rank) (length cs)) (tuple_term (sizes_term (index_variables rank) ∷ union_tree (length cs) (cell_pairs 0 (index_variables rank) (map (shift_term 0 rank) cs)) ∷ [])) bottom_term
         (array_type rank A) (array-is rank A l a) test
-        (pair-term-typed G E (sizes_term (index_variables rank)) (united (length cs) (cell_pairs 0 (index_variables rank) (map (shift_term 0 rank) cs))) (index_type rank) (types.set_of M) (index-is rank l) m
+        (pair-term-typed G E (sizes_term (index_variables rank)) (union_tree (length cs) (cell_pairs 0 (index_variables rank) (map (shift_term 0 rank) cs))) (index_type rank) (types.set_of M) (index-is rank l) m
         (sizes-typed G E rank (index_variables rank) l vs)
         (united-typed G E M (length cs) (cell_pairs 0 (index_variables rank) (map (shift_term 0 rank) cs)) m (pairs-typed G E rank 0 A (index_variables rank) (map (shift_term 0 rank) cs) l a vs (shifted cs k))))
         (bottom-typed G E (array_type rank A) (array-is rank A l a))
 
 -- a tabulation
-pub tabulation-graph-typed : (G : ℕ → Ty → Type 0) (env : List Ty) (rank : ℕ) (A : Ty) (ds : List Term) (b : Term) → 1 ≤ rank → IsType A → length ds ≡ rank → TypedAll G env ds (naturals rank) → ctyped G (naturals rank ++ env) b A →
+pub tabulation-graph-typed : (G : ℕ → Ty → Type 0) (env : List Ty) (rank : ℕ) (A : Ty) (ds : List Term) (b : Term) → 1 ≤ rank → IsType A → length ds ≡ rank → TermsTyped G env ds (naturals rank) → ctyped G (naturals rank ++ env) b A →
     ctyped G env (tabulation_graph ds b) (array_type rank A)
 tabulation-graph-typed G env rank A ds b l a e h k =
     lets-of-numbers G env rank ds (table_term (length ds) (shift_term (length ds) (length ds) b)) (array_type rank A) (array-is rank A l a) h

@@ -6,36 +6,31 @@ use Rattle.aql_value.specs.declared.ops.ArithOp.{ArithOp}
 use Rattle.aql_value.specs.declared.ops.CompareOp.{CompareOp}
 use Rattle.aql_value.specs.declared.ops.CompareOp.TheVariants as compare_op
 use Rattle.aql_value.specs.Strict.{Strict}
+use Rattle.aql_value.specs.Lists.{onto}
 use Rattle.aql_types.specs.Types as types
-use Rattle.aql_types.specs.Types.{Ty, IsType, AreTypes, tys_of, index_type}
+use Rattle.aql_types.specs.Types.{Ty, IsType, index_type}
 use Rattle.aql_types.specs.OperationTypes.{strict_rule}
 use Rattle.nrca_term.specs.Term.{Term, node, none, plain, Form}
 use Rattle.nrca_term.specs.Nodes.{variable, number, bottom_term, let_term, if_term, tuple_term, proj_term, arith_term, compare_term, empty_term, single_term, union_term, big_union_term, gen_term, get_term}
 use Rattle.nrca_term.specs.Rules.{lets, sizes_term, index_variables}
 use Rattle.nrca_term.specs.Subst.{shift_term}
 use Rattle.nrca_term.specs.Typing.{arg, ctyped, parts_typed}
+use Rattle.nrca_term.specs.Laws.TypedLists.{TermsTyped}
 use Rattle.nrca_term.specs.Laws.TypingShift.{ctyped-shift_term}
 use Rattle.nrca_graph.specs.Encoding.{pair_type}
 use Rattle.nrca_graph.specs.Tabulation.{nest, table_term}
 use Rattle.nrca_graph.specs.ArrayFree.{equal_term, paired_with}
 use Rattle.nrca_graph.specs.Laws.EncodedTypes.{index-is}
 
--- the terms have these types
-abbrev pub TypedAll : (ℕ → Ty → Type 0) → List Ty → List Term → List Ty → Type 0
-TypedAll G env [] [] = Unit {0}
-TypedAll G env [] (T ∷ Ts) = ⊥
-TypedAll G env (t ∷ ts) [] = ⊥
-TypedAll G env (t ∷ ts) (T ∷ Ts) = ctyped G env t T × TypedAll G env ts Ts
-
 -- as parts that bind nothing
-pub plain-typed : (G : ℕ → Ty → Type 0) (env : List Ty) (ts : List Term) (Ts : List Ty) → TypedAll G env ts Ts → parts_typed G env (plain ts none) (map (arg []) Ts)
+pub plain-typed : (G : ℕ → Ty → Type 0) (env : List Ty) (ts : List Term) (Ts : List Ty) → TermsTyped G env ts Ts → parts_typed G env (plain ts none) (map (arg []) Ts)
 plain-typed G env [] [] h = refl
 plain-typed G env [] (T ∷ Ts) h = absurd h
 plain-typed G env (t ∷ ts) [] h = absurd h
 plain-typed G env (t ∷ ts) (T ∷ Ts) h = (arg [] T, map (arg []) Ts, refl, refl, h.0, plain-typed G env ts Ts h.1)
 
 -- a form that evaluates every part
-pub strict-typed : (G : ℕ → Ty → Type 0) (env : List Ty) (s : Strict) (ts : List Term) (Ts : List Ty) (T : Ty) → IsType T → strict_rule s Ts T → TypedAll G env ts Ts →
+pub strict-typed : (G : ℕ → Ty → Type 0) (env : List Ty) (s : Strict) (ts : List Term) (Ts : List Ty) (T : Ty) → IsType T → strict_rule s Ts T → TermsTyped G env ts Ts →
     ctyped G env (node (Form.strict s) (plain ts none)) T
 strict-typed G env s ts Ts T i r h = (i, map (arg []) Ts, (Ts, refl, r), plain-typed G env ts Ts h)
 
@@ -113,13 +108,8 @@ first-typed G env p A B i h = strict-typed G env (Strict.proj 1 2) (p ∷ []) (p
 pub second-typed : (G : ℕ → Ty → Type 0) (env : List Ty) (p : Term) (A B : Ty) → IsType B → ctyped G env p (pair_type A B) → ctyped G env (proj_term 2 2 p) B
 second-typed G env p A B i h = strict-typed G env (Strict.proj 2 2) (p ∷ []) (pair_type A B ∷ []) B i (A ∷ B ∷ [], 1, refl, refl, refl, refl) (h, tt)
 
--- types put on a list one after another
-abbrev pub types_onto : List Ty → List Ty → List Ty
-types_onto [] l = l
-types_onto (T ∷ Ts) l = types_onto Ts (T ∷ l)
-
 -- lets put the types of their terms before those around
-pub lets-typed : (G : ℕ → Ty → Type 0) (pre env : List Ty) (ts : List Term) (Ts : List Ty) (b : Term) (T : Ty) → IsType T → TypedAll G env ts Ts → ctyped G (types_onto Ts pre ++ env) b T →
+pub lets-typed : (G : ℕ → Ty → Type 0) (pre env : List Ty) (ts : List Term) (Ts : List Ty) (b : Term) (T : Ty) → IsType T → TermsTyped G env ts Ts → ctyped G (onto Ts pre ++ env) b T →
     ctyped G (pre ++ env) (lets (length pre) ts b) T
 lets-typed G pre env [] [] b T i h k = k
 lets-typed G pre env [] (A ∷ Ts) b T i h k = absurd h
@@ -137,7 +127,7 @@ numbers-past zero l = refl
 numbers-past (suc n) l = ap (λ x. types.natural ∷ x) (numbers-past n l)
 
 -- numbers put on numbers
-pub onto-numbers : (n : ℕ) (l : List Ty) → types_onto (naturals n) l ≡ naturals n ++ l
+pub onto-numbers : (n : ℕ) (l : List Ty) → onto (naturals n) l ≡ naturals n ++ l
 onto-numbers zero l = refl
 onto-numbers (suc n) l = onto-numbers n (types.natural ∷ l) ∙ numbers-past n l
 
@@ -148,12 +138,12 @@ below-numbers (suc n) zero l h = refl
 below-numbers (suc n) (suc i) l h = below-numbers n i l (omega (arith, h))
 
 -- the variables of an index are numbers
-pub variables-typed : (G : ℕ → Ty → Type 0) (k n : ℕ) (l : List Ty) → n ≤ k → TypedAll G (naturals k ++ l) (index_variables n) (naturals n)
+pub variables-typed : (G : ℕ → Ty → Type 0) (k n : ℕ) (l : List Ty) → n ≤ k → TermsTyped G (naturals k ++ l) (index_variables n) (naturals n)
 variables-typed G k zero l h = tt
 variables-typed G k (suc n) l h = (variable-typed G (naturals k ++ l) n types.natural tt (below-numbers k n l (omega (arith, h))), variables-typed G k n l (omega (arith, h)))
 
 -- numbers as one index
-pub sizes-typed : (G : ℕ → Ty → Type 0) (env : List Ty) (n : ℕ) (ts : List Term) → 1 ≤ n → TypedAll G env ts (naturals n) → ctyped G env (sizes_term ts) (index_type n)
+pub sizes-typed : (G : ℕ → Ty → Type 0) (env : List Ty) (n : ℕ) (ts : List Term) → 1 ≤ n → TermsTyped G env ts (naturals n) → ctyped G env (sizes_term ts) (index_type n)
 sizes-typed G env zero ts l h = absurd (omega (arith, l))
 sizes-typed G env (suc zero) [] l h = absurd h
 sizes-typed G env (suc zero) (t ∷ []) l h = h.0

@@ -8,7 +8,7 @@ use Rattle.aql_value.specs.Laws.Partial.{each-cons_is, each-length}
 use Rattle.aql_value.specs.Strict.{Strict, strict_value}
 use Rattle.nrca_term.specs.Term.{Term}
 use Rattle.nrca_term.specs.Meaning.{Outcomes, cden}
-use Rattle.nrca_graph.specs.ArrayFree.{united_neighbours, united}
+use Rattle.nrca_graph.specs.ArrayFree.{united_neighbours, union_tree}
 
 -- neighbours one after another
 abbrev pub neighbours : List (List Datum) → List (List Datum)
@@ -68,7 +68,7 @@ round-none W env (t ∷ u ∷ ts) e = of (cden W env t) (cden W env u) (each (cd
 
 -- the union of sets that are defined
 pub united-value : (W : Outcomes) (env : List Datum) (n : ℕ) (ts : List Term) (xss : List (List Datum)) → length ts ≤ suc n → each (cden W env) ts ≡ Some (map set_of xss) →
-    cden W env (united n ts) ≡ Some (set_of (concat xss))
+    cden W env (union_tree n ts) ≡ Some (set_of (concat xss))
 united-value W env zero [] [] l e = refl
 united-value W env zero [] (xs ∷ xss) l e = cc
 united-value W env zero (t ∷ []) [] l e = absurd (omega (arith, each-length (cden W env) (t ∷ []) [] e))
@@ -82,7 +82,7 @@ united-value W env (suc n) ts xss l e =
     united-value W env n (united_neighbours ts) (neighbours xss) (omega (arith, l, neighbours-length ts)) (round-value W env ts xss e) ∙ ap (λ ys. Some (set_of ys)) (neighbours-concat xss)
 
 -- the union of sets one of which is undefined
-pub united-none : (W : Outcomes) (env : List Datum) (n : ℕ) (ts : List Term) → length ts ≤ suc n → each (cden W env) ts ≡ None → cden W env (united n ts) ≡ None
+pub united-none : (W : Outcomes) (env : List Datum) (n : ℕ) (ts : List Term) → length ts ≤ suc n → each (cden W env) ts ≡ None → cden W env (union_tree n ts) ≡ None
 united-none W env zero [] l e = cc
 united-none W env zero (t ∷ []) l e = of (cden W env t) e
   where

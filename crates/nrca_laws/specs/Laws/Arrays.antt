@@ -9,7 +9,7 @@ use Rattle.aql_value.specs.Laws.Datum.{list_of-data_of}
 use Rattle.aql_value.specs.Indices.{indices, product, cell, offset_of}
 use Rattle.aql_value.specs.Lists.{Every, below}
 use Rattle.aql_value.specs.Laws.Lists.{Every-concat, Every-map, Every-append_parts, Every-get, slice_get-below}
-use Rattle.aql_value.specs.Operations.{as_natural, walked, array_of, cell_of, dim_of, literal_of, tuple_of, index_value}
+use Rattle.aql_value.specs.Operations.{as_natural, push_index, array_of, cell_of, dim_of, literal_of, tuple_of, index_value}
 use Rattle.aql_value.specs.Laws.Operations.{array_of-made, array_of-is, each-naturals, part_of-tuple}
 use Rattle.aql_value.specs.Partial.{◌>>=◌, each, concat}
 use Rattle.aql_value.specs.Laws.Partial.{then-assoc, then-ext, then-none, each-append, each-map, each-get, each-length, each-total, each-defined}
@@ -23,24 +23,23 @@ use Rattle.nrca_term.specs.Laws.Variants.{child_of-plain_past, child_of-plain_be
 use Rattle.nrca_term.specs.Rules.{IsDefined, DefinedAt, in_first, others, sizes_term, constant_literal}
 use Rattle.nrca_laws.specs.Laws.Beta.{Numeric, cden-sub}
 use Rattle.std.proofs.Math.Seq.{take-append_seam, drop-append_seam}
-use Rattle.aql_types.specs.Laws.Operation.{some-list}
-use Rattle.std.proofs.lemmas.Option.{slice_get_within}
+use Rattle.std.proofs.lemmas.Option.{slice_get_within, same_Some}
 use Rattle.nrca_laws.specs.Laws.Operations.{full-cells}
 
 -- the body of a tabulation that is the first part of an operation is reached at each index below the bounds
 pub domain-defined : (V : Outcomes) (vals : List Datum) (s : Strict) (ds : List Term) (b : Term) (rest : Parts) → DefinedAt V vals (node (Form.strict s) (part 0 (tab_term ds b) rest)) (0 ∷ length ds ∷ []) →
-    (ms : List ℕ) → numbers_of V vals ds ≡ Some ms → Every (λ at. IsDefined V (walked at [] ++ vals) b) (indices ms)
+    (ms : List ℕ) → numbers_of V vals ds ≡ Some ms → Every (λ at. IsDefined V (push_index at [] ++ vals) b) (indices ms)
 domain-defined V vals s ds b rest h ms e =
     let here : child_of (plain ds (part (length ds) b none)) (length ds) ≡ Some b = (let z : length ds ≡ length ds + 0 = omega arith in ap (child_of (plain ds (part (length ds) b none))) z) ∙ child_of-plain_past ds (part (length ds) b none) 0 in
     let all = h b (ap (λ o. o >>= λ u. Some u) here) in
     let inner = (Every-append_parts (λ there. IsDefined V there b) (reach V vals (tab_term ds b) (length ds ∷ [])) [] all).0 in
-    let k1 = subst (λ o. Every (λ there. IsDefined V there b) (reach_each o (λ u. concat (map (λ new. (new ++ vals) ∷ []) (if nat_lt (length ds) (length ds) then [] ∷ [] else map (λ at. walked at []) (indices_of (bounds_value (length ds) (part_values V vals (parts_of (tab_term ds b)))))))))) here inner in
-    let k2 = subst (λ c. Every (λ there. IsDefined V there b) (concat (map (λ new. (new ++ vals) ∷ []) (if c then [] ∷ [] else map (λ at. walked at []) (indices_of (bounds_value (length ds) (part_values V vals (parts_of (tab_term ds b))))))))) (le-ltb (length ds) (length ds) (omega arith)) k1 in
-    let k3 = subst (λ o. Every (λ there. IsDefined V there b) (concat (map (λ new. (new ++ vals) ∷ []) (map (λ at. walked at []) (indices_of o))))) (bounds_value-tab V vals ds b ∙ e) k2 in
+    let k1 = subst (λ o. Every (λ there. IsDefined V there b) (reach_each o (λ u. concat (map (λ new. (new ++ vals) ∷ []) (if nat_lt (length ds) (length ds) then [] ∷ [] else map (λ at. push_index at []) (indices_of (bounds_value (length ds) (part_values V vals (parts_of (tab_term ds b)))))))))) here inner in
+    let k2 = subst (λ c. Every (λ there. IsDefined V there b) (concat (map (λ new. (new ++ vals) ∷ []) (if c then [] ∷ [] else map (λ at. push_index at []) (indices_of (bounds_value (length ds) (part_values V vals (parts_of (tab_term ds b))))))))) (le-ltb (length ds) (length ds) (omega arith)) k1 in
+    let k3 = subst (λ o. Every (λ there. IsDefined V there b) (concat (map (λ new. (new ++ vals) ∷ []) (map (λ at. push_index at []) (indices_of o))))) (bounds_value-tab V vals ds b ∙ e) k2 in
     singles (λ new. IsDefined V (new ++ vals) b) (indices ms)
-    (Every-map (λ new. Every (λ there. IsDefined V there b) ((new ++ vals) ∷ [])) (λ at. walked at []) (indices ms) (Every-concat (λ there. IsDefined V there b) (λ new. (new ++ vals) ∷ []) (map (λ at. walked at []) (indices ms)) k3))
+    (Every-map (λ new. Every (λ there. IsDefined V there b) ((new ++ vals) ∷ [])) (λ at. push_index at []) (indices ms) (Every-concat (λ there. IsDefined V there b) (λ new. (new ++ vals) ∷ []) (map (λ at. push_index at []) (indices ms)) k3))
   where
-    singles : (P : List Datum → Type 0) (xs : List (List ℕ)) → Every (λ at. P (walked at []) × Unit {0}) xs → Every (λ at. P (walked at [])) xs
+    singles : (P : List Datum → Type 0) (xs : List (List ℕ)) → Every (λ at. P (push_index at []) × Unit {0}) xs → Every (λ at. P (push_index at [])) xs
     singles P [] k = tt
     singles P (x ∷ xs) k = (k.0.0, singles P xs k.1)
 
@@ -81,7 +80,7 @@ each-but {A} {B} f xs j h x g e = at (f x) refl
         here = (let n : k ≡ k + 0 = omega arith in ap (slice_get xs) n) ∙ s 0 z refl
 
         first : (b : Bool) → nat_eq k j ≡ b → (w : B) × (f z ≡ Some w)
-        first true r = let m : z ≡ x = some-list z x (sym here ∙ ap (slice_get xs) (eqb-true k j r) ∙ g) in (y, ap f m ∙ q)
+        first true r = let m : z ≡ x = same_Some z x (sym here ∙ ap (slice_get xs) (eqb-true k j r) ∙ g) in (y, ap f m ∙ q)
         first false r = h k z (eqb-false k j r) here
 
     at : (o : Option B) → f x ≡ o → f x ≡ None
@@ -211,7 +210,7 @@ numeric-each V vals (d ∷ ds) h = by (cden V vals d) h.0 (each (cden V vals) ds
       where
         more : (n : ℕ) (q : Option (List ℕ)) → Some vs ≡ (q >>= λ ms. Some (map natural ms)) → Some (natural n ∷ vs) ≡ ((q >>= λ ms. Some (n ∷ ms)) >>= λ ms. Some (map natural ms))
         more n None e = cc
-        more n (Some ms) e = ap (λ l. Some (natural n ∷ l)) (some-list vs (map natural ms) e)
+        more n (Some ms) e = ap (λ l. Some (natural n ∷ l)) (same_Some vs (map natural ms) e)
 
 -- the sizes of a tabulation are the index value of its bounds
 pub cden-sizes : (V : Outcomes) (vals : List Datum) (ds : List Term) → 1 ≤ length ds → Every (Numeric V vals) ds → cden V vals (sizes_term ds) ≡ (numbers_of V vals ds >>= λ ms. Some (index_value ms))
@@ -237,7 +236,7 @@ pub dims-made : (k : ℕ) (ms : List ℕ) (vs : List Datum) → length ms ≡ k 
 dims-made k ms vs e = ap (λ b. (if b then Some ms else None) >>= λ ds. Some (index_value ds)) (eq-eqb (length ms) k e)
 
 -- the dimensions of a tabulation
-pub keeps-a3 : (V : Outcomes) (vals : List Datum) (ds : List Term) (b : Term) → 1 ≤ length ds → length ds ≤ 8 → Every (Numeric V vals) ds → ((ms : List ℕ) → numbers_of V vals ds ≡ Some ms → Every (λ at. IsDefined V (walked at [] ++ vals) b) (indices ms)) →
+pub keeps-a3 : (V : Outcomes) (vals : List Datum) (ds : List Term) (b : Term) → 1 ≤ length ds → length ds ≤ 8 → Every (Numeric V vals) ds → ((ms : List ℕ) → numbers_of V vals ds ≡ Some ms → Every (λ at. IsDefined V (push_index at [] ++ vals) b) (indices ms)) →
     cden V vals (dim_term (length ds) (tab_term ds b)) ≡ cden V vals (sizes_term ds)
 keeps-a3 V vals ds b some few hd total =
     cden-strict V vals (Strict.dim (length ds)) (tab_term ds b ∷ [])
@@ -246,12 +245,12 @@ keeps-a3 V vals ds b some few hd total =
     ∙ sym (cden-sizes V vals ds some hd)
   where
     by : (o : Option (List ℕ)) → numbers_of V vals ds ≡ o →
-        (((o >>= λ ms. each (λ at. cden V (walked at [] ++ vals) b) (indices ms) >>= array_of ms) >>= λ y. Some (y ∷ [])) >>= strict_value (Strict.dim (length ds))) ≡ (o >>= λ ms. Some (index_value ms))
+        (((o >>= λ ms. each (λ at. cden V (push_index at [] ++ vals) b) (indices ms) >>= array_of ms) >>= λ y. Some (y ∷ [])) >>= strict_value (Strict.dim (length ds))) ≡ (o >>= λ ms. Some (index_value ms))
     by None k = refl
     by (Some ms) k =
-        let cells = each-total (λ at. cden V (walked at [] ++ vals) b) (indices ms) (total ms k) in
+        let cells = each-total (λ at. cden V (push_index at [] ++ vals) b) (indices ms) (total ms k) in
         let many = numbers_of-length V vals ds ms k in
-        let full : product ms ≡ length cells.0 = full-cells (λ at. cden V (walked at [] ++ vals) b) ms cells.0 cells.1 in
+        let full : product ms ≡ length cells.0 = full-cells (λ at. cden V (push_index at [] ++ vals) b) ms cells.0 cells.1 in
         ap (λ o. ((o >>= array_of ms) >>= λ y. Some (y ∷ [])) >>= strict_value (Strict.dim (length ds))) cells.1
         ∙ ap (λ o. (o >>= λ y. Some (y ∷ [])) >>= strict_value (Strict.dim (length ds))) (array_of-made ms cells.0 (omega (arith, many, some)) (omega (arith, many, few)) full)
         ∙ dims-made (length ds) ms cells.0 many
@@ -272,4 +271,4 @@ keeps-a6 V vals ns cs full some few h =
 
     numeric : (ns : List ℕ) → Every (Numeric V vals) (map number ns)
     numeric [] = tt
-    numeric (n ∷ ns) = ((λ v e. (n, sym (some-list (natural n) v e))), numeric ns)
+    numeric (n ∷ ns) = ((λ v e. (n, sym (same_Some (natural n) v e))), numeric ns)

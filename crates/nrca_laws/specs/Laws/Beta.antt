@@ -8,7 +8,7 @@ use Rattle.aql_value.specs.Datum.{Datum, natural, truth, data_of, list_of}
 use Rattle.aql_value.specs.Laws.Datum.{list_of-data_of}
 use Rattle.aql_value.specs.Indices.{indices, product, cell}
 use Rattle.aql_value.specs.Lists.{Every}
-use Rattle.aql_value.specs.Operations.{as_natural, as_truth, walked, array_of, cell_of}
+use Rattle.aql_value.specs.Operations.{as_natural, as_truth, push_index, array_of, cell_of}
 use Rattle.aql_value.specs.Laws.Operations as operations
 use Rattle.aql_value.specs.Laws.Operations.{array_of-made}
 use Rattle.aql_value.specs.Partial.{◌>>=◌, each}
@@ -23,7 +23,7 @@ use Rattle.nrca_term.specs.Laws.Shifting.{cden-shifted}
 use Rattle.nrca_term.specs.Laws.Entering.{length-walked}
 use Rattle.nrca_term.specs.Laws.Facts.{walked-first}
 use Rattle.nrca_term.specs.Laws.Variants.{cden-strict, numbers_of, numbers_of-length, cden-tab}
-use Rattle.nrca_term.specs.Rules.{lets, guarded, beta, IsDefined}
+use Rattle.nrca_term.specs.Rules.{lets, guard, beta, IsDefined}
 use Rattle.nrca_laws.specs.Laws.Operations.{full-cells}
 
 -- each value of the term is a number
@@ -45,27 +45,27 @@ prepended F n (Some ns) = refl
 
 -- the lets of terms that are numbers bind these numbers
 cden-lets : (V : Outcomes) (vals : List Datum) (is : List Term) → Every (Numeric V vals) is → (new : List Datum) (body : Term) →
-    cden V (new ++ vals) (lets (length new) is body) ≡ (each (number_at V vals) is >>= λ ns. cden V (walked ns new ++ vals) body)
+    cden V (new ++ vals) (lets (length new) is body) ≡ (each (number_at V vals) is >>= λ ns. cden V (push_index ns new ++ vals) body)
 cden-lets V vals [] h new body = refl
 cden-lets V vals (i ∷ is) h new body =
     ap (λ o. o >>= λ v. cden V (v ∷ (new ++ vals)) (lets (suc (length new)) is body)) (cden-shifted V new vals i)
     ∙ named (λ n. cden-lets V vals is h.1 (natural n ∷ new) body) (cden V vals i) h.0
   where
-    named : ((n : ℕ) → cden V (natural n ∷ (new ++ vals)) (lets (suc (length new)) is body) ≡ (each (number_at V vals) is >>= λ ns. cden V (walked ns (natural n ∷ new) ++ vals) body)) →
+    named : ((n : ℕ) → cden V (natural n ∷ (new ++ vals)) (lets (suc (length new)) is body) ≡ (each (number_at V vals) is >>= λ ns. cden V (push_index ns (natural n ∷ new) ++ vals) body)) →
         (o : Option Datum) → ((v : Datum) → o ≡ Some v → (n : ℕ) × (v ≡ natural n)) →
-        (o >>= λ v. cden V (v ∷ (new ++ vals)) (lets (suc (length new)) is body)) ≡ (((o >>= as_natural) >>= λ n. each (number_at V vals) is >>= λ ns. Some (n ∷ ns)) >>= λ ns. cden V (walked ns new ++ vals) body)
+        (o >>= λ v. cden V (v ∷ (new ++ vals)) (lets (suc (length new)) is body)) ≡ (((o >>= as_natural) >>= λ n. each (number_at V vals) is >>= λ ns. Some (n ∷ ns)) >>= λ ns. cden V (push_index ns new ++ vals) body)
     named ih None k = refl
     named ih (Some v) k =
         let m = k v refl in
-        subst (λ w. cden V (w ∷ (new ++ vals)) (lets (suc (length new)) is body) ≡ ((as_natural w >>= λ n. each (number_at V vals) is >>= λ ns. Some (n ∷ ns)) >>= λ ns. cden V (walked ns new ++ vals) body))
+        subst (λ w. cden V (w ∷ (new ++ vals)) (lets (suc (length new)) is body) ≡ ((as_natural w >>= λ n. each (number_at V vals) is >>= λ ns. Some (n ∷ ns)) >>= λ ns. cden V (push_index ns new ++ vals) body))
         (sym m.1)
-        (ih m.0 ∙ sym (prepended (λ ns. cden V (walked ns new ++ vals) body) m.0 (each (number_at V vals) is)))
+        (ih m.0 ∙ sym (prepended (λ ns. cden V (push_index ns new ++ vals) body) m.0 (each (number_at V vals) is)))
 
 -- the value behind tests that each number is below its bound
-abbrev pub tested : List (Option ℕ) → List ℕ → Option Datum → Option Datum
-tested [] ns r = r
-tested (o ∷ os) [] r = None
-tested (o ∷ os) (n ∷ ns) r = o >>= λ d. if nat_lt n d then tested os ns r else None
+abbrev pub test_below : List (Option ℕ) → List ℕ → Option Datum → Option Datum
+test_below [] ns r = r
+test_below (o ∷ os) [] r = None
+test_below (o ∷ os) (n ∷ ns) r = o >>= λ d. if nat_lt n d then test_below os ns r else None
 
 -- one test
 test-number : (n : ℕ) (o : Option Datum) → ((v : Datum) → o ≡ Some v → (m : ℕ) × (v ≡ natural m)) → (r : Option Datum) →
@@ -78,23 +78,23 @@ test-number n (Some v) h r =
     (ap (λ b. if b then r else None) (operations.less-naturals n m.0))
 
 -- a guarded body is its body behind the tests
-cden-guarded : (V : Outcomes) (vals : List Datum) (k : ℕ) (b : Term) (ds : List Term) (ns : List ℕ) (front : List Datum) → Every (Numeric V vals) ds → length ds ≡ length ns → length (walked ns front) ≡ k →
-    cden V (walked ns front ++ vals) (guarded k ds b) ≡ tested (map (number_at V vals) ds) ns (cden V (walked ns front ++ vals) b)
+cden-guarded : (V : Outcomes) (vals : List Datum) (k : ℕ) (b : Term) (ds : List Term) (ns : List ℕ) (front : List Datum) → Every (Numeric V vals) ds → length ds ≡ length ns → length (push_index ns front) ≡ k →
+    cden V (push_index ns front ++ vals) (guard k ds b) ≡ test_below (map (number_at V vals) ds) ns (cden V (push_index ns front ++ vals) b)
 cden-guarded V vals k b [] ns front h e l = refl
 cden-guarded V vals k b (d ∷ ds) [] front h e l = absurd (omega (arith, e))
 cden-guarded V vals k b (d ∷ ds) (n ∷ ns) front h e l =
-    let around : List Datum = walked (n ∷ ns) front ++ vals in
+    let around : List Datum = push_index (n ∷ ns) front ++ vals in
     let len : length ds ≡ length ns = omega (arith, e) in
     let here : slice_get around (length ds) ≡ Some (natural n) = ap (slice_get around) len ∙ walked-first n ns front vals in
-    let bound : cden V around (shift_term 0 k d) ≡ cden V vals d = ap (λ j. cden V around (shift_term 0 j d)) (sym l) ∙ cden-shifted V (walked (n ∷ ns) front) vals d in
-    ap (λ o. (o >>= as_truth) >>= λ t. if t then cden V around (guarded k ds b) else None) (cden-strict V around (Strict.compare Less) (variable (length ds) ∷ shift_term 0 k d ∷ []))
-    ∙ ap (λ o. (((o >>= λ y. (cden V around (shift_term 0 k d) >>= λ z. Some (z ∷ [])) >>= λ ys. Some (y ∷ ys)) >>= strict_value (Strict.compare Less)) >>= as_truth) >>= λ t. if t then cden V around (guarded k ds b) else None) here
-    ∙ ap (λ o. (((Some (natural n) >>= λ y. (o >>= λ z. Some (z ∷ [])) >>= λ ys. Some (y ∷ ys)) >>= strict_value (Strict.compare Less)) >>= as_truth) >>= λ t. if t then cden V around (guarded k ds b) else None) bound
-    ∙ test-number n (cden V vals d) h.0 (cden V around (guarded k ds b))
+    let bound : cden V around (shift_term 0 k d) ≡ cden V vals d = ap (λ j. cden V around (shift_term 0 j d)) (sym l) ∙ cden-shifted V (push_index (n ∷ ns) front) vals d in
+    ap (λ o. (o >>= as_truth) >>= λ t. if t then cden V around (guard k ds b) else None) (cden-strict V around (Strict.compare Less) (variable (length ds) ∷ shift_term 0 k d ∷ []))
+    ∙ ap (λ o. (((o >>= λ y. (cden V around (shift_term 0 k d) >>= λ z. Some (z ∷ [])) >>= λ ys. Some (y ∷ ys)) >>= strict_value (Strict.compare Less)) >>= as_truth) >>= λ t. if t then cden V around (guard k ds b) else None) here
+    ∙ ap (λ o. (((Some (natural n) >>= λ y. (o >>= λ z. Some (z ∷ [])) >>= λ ys. Some (y ∷ ys)) >>= strict_value (Strict.compare Less)) >>= as_truth) >>= λ t. if t then cden V around (guard k ds b) else None) bound
+    ∙ test-number n (cden V vals d) h.0 (cden V around (guard k ds b))
     ∙ ap (λ r. number_at V vals d >>= λ m. if nat_lt n m then r else None) (cden-guarded V vals k b ds ns (natural n ∷ front) h.1 len l)
 
 -- all tests together, where the bounds are numbers
-tested-all : (ms ns : List ℕ) (r : Option Datum) → length ms ≡ length ns → tested (map Some ms) ns r ≡ cond (pointwise nat_lt ns ms) r None
+tested-all : (ms ns : List ℕ) (r : Option Datum) → length ms ≡ length ns → test_below (map Some ms) ns r ≡ cond (pointwise nat_lt ns ms) r None
 tested-all [] [] r e = refl
 tested-all [] (n ∷ ns) r e = absurd (omega (arith, e))
 tested-all (m ∷ ms) [] r e = absurd (omega (arith, e))
@@ -105,7 +105,7 @@ tested-all (m ∷ ms) (n ∷ ns) r e = ap (λ x. if nat_lt n m then x else None)
     inside false b = refl
 
 -- where a bound has no value
-tested-none : {A : Type 0} (f : A → Option ℕ) (ds : List A) (ns : List ℕ) (r : Option Datum) → length ds ≡ length ns → each f ds ≡ None → tested (map f ds) ns r ≡ None
+tested-none : {A : Type 0} (f : A → Option ℕ) (ds : List A) (ns : List ℕ) (r : Option Datum) → length ds ≡ length ns → each f ds ≡ None → test_below (map f ds) ns r ≡ None
 tested-none f [] ns r e n = cc
 tested-none f (d ∷ ds) [] r e n = refl
 tested-none f (d ∷ ds) (m ∷ ns) r e n = by (f d) (each f ds) n (λ k. tested-none f ds ns r (omega (arith, e)) k)
@@ -114,7 +114,7 @@ tested-none f (d ∷ ds) (m ∷ ns) r e n = by (f d) (each f ds) n (λ k. tested
     neither true = refl
     neither false = refl
 
-    by : (o : Option ℕ) (q : Option (List ℕ)) → (o >>= λ y. q >>= λ ys. Some (y ∷ ys)) ≡ None → (q ≡ None → tested (map f ds) ns r ≡ None) → (o >>= λ x. if nat_lt m x then tested (map f ds) ns r else None) ≡ None
+    by : (o : Option ℕ) (q : Option (List ℕ)) → (o >>= λ y. q >>= λ ys. Some (y ∷ ys)) ≡ None → (q ≡ None → test_below (map f ds) ns r ≡ None) → (o >>= λ x. if nat_lt m x then test_below (map f ds) ns r else None) ≡ None
     by None q k h = refl
     by (Some x) None k h = ap (λ y. if nat_lt m x then y else None) (h refl) ∙ neither (nat_lt m x)
     by (Some x) (Some xs) k h = cc
@@ -130,7 +130,7 @@ cden-sub V vals a is = cden-strict V vals Strict.sub (a ∷ is) ∙ by (cden V v
 
 -- a subscript of a tabulation whose body is defined at each index below the bounds
 pub cden-beta : (V : Outcomes) (vals : List Datum) (ds : List Term) (b : Term) (is : List Term) → length ds ≡ length is → 1 ≤ length ds → length ds ≤ 8 → Every (Numeric V vals) ds → Every (Numeric V vals) is →
-    ((ms : List ℕ) → numbers_of V vals ds ≡ Some ms → Every (λ at. IsDefined V (walked at [] ++ vals) b) (indices ms)) →
+    ((ms : List ℕ) → numbers_of V vals ds ≡ Some ms → Every (λ at. IsDefined V (push_index at [] ++ vals) b) (indices ms)) →
     cden V vals (sub_term (tab_term ds b) is) ≡ cden V vals (beta ds b is)
 cden-beta V vals ds b is e some few hd hi total =
     cden-sub V vals (tab_term ds b) is
@@ -138,31 +138,31 @@ cden-beta V vals ds b is e some few hd hi total =
     ∙ ap (λ q. (numbers_of V vals ds >>= made) >>= λ v. q >>= cell_of v) (numbers-each V vals is)
     ∙ by_bounds (numbers_of V vals ds) refl
     ∙ sym (right (each (number_at V vals) is) refl)
-    ∙ sym (cden-lets V vals is hi [] (guarded (length ds) ds b))
+    ∙ sym (cden-lets V vals is hi [] (guard (length ds) ds b))
   where
     body : List ℕ → Option Datum
-    body at = cden V (walked at [] ++ vals) b
+    body at = cden V (push_index at [] ++ vals) b
 
     made : List ℕ → Option Datum
-    made ms = each (λ at. cden V (walked at [] ++ vals) b) (indices ms) >>= array_of ms
+    made ms = each (λ at. cden V (push_index at [] ++ vals) b) (indices ms) >>= array_of ms
 
     right : (o : Option (List ℕ)) → each (number_at V vals) is ≡ o →
-        (o >>= λ ns. cden V (walked ns [] ++ vals) (guarded (length ds) ds b)) ≡ (o >>= λ ns. tested (map (number_at V vals) ds) ns (cden V (walked ns [] ++ vals) b))
+        (o >>= λ ns. cden V (push_index ns [] ++ vals) (guard (length ds) ds b)) ≡ (o >>= λ ns. test_below (map (number_at V vals) ds) ns (cden V (push_index ns [] ++ vals) b))
     right None k = refl
     right (Some ns) k = let l = each-length (number_at V vals) is ns k in cden-guarded V vals (length ds) b ds ns [] hd (omega (arith, e, l)) (omega (arith, length-walked ns [], e, l))
 
     by_bounds : (o : Option (List ℕ)) → numbers_of V vals ds ≡ o →
-        ((o >>= λ ms. each (λ at. cden V (walked at [] ++ vals) b) (indices ms) >>= array_of ms) >>= λ v. each (number_at V vals) is >>= cell_of v)
-        ≡ (each (number_at V vals) is >>= λ ns. tested (map (number_at V vals) ds) ns (cden V (walked ns [] ++ vals) b))
+        ((o >>= λ ms. each (λ at. cden V (push_index at [] ++ vals) b) (indices ms) >>= array_of ms) >>= λ v. each (number_at V vals) is >>= cell_of v)
+        ≡ (each (number_at V vals) is >>= λ ns. test_below (map (number_at V vals) ds) ns (cden V (push_index ns [] ++ vals) b))
     by_bounds None k =
-        sym (then-none (each (number_at V vals) is) (λ ns. tested (map (number_at V vals) ds) ns (cden V (walked ns [] ++ vals) b))
-        (λ ns l. tested-none (number_at V vals) ds ns (cden V (walked ns [] ++ vals) b) (omega (arith, e, each-length (number_at V vals) is ns l)) (sym (numbers-each V vals ds) ∙ k)))
+        sym (then-none (each (number_at V vals) is) (λ ns. test_below (map (number_at V vals) ds) ns (cden V (push_index ns [] ++ vals) b))
+        (λ ns l. tested-none (number_at V vals) ds ns (cden V (push_index ns [] ++ vals) b) (omega (arith, e, each-length (number_at V vals) is ns l)) (sym (numbers-each V vals ds) ∙ k)))
     by_bounds (Some ms) k =
-        let cells = each-total (λ at. cden V (walked at [] ++ vals) b) (indices ms) (total ms k) in
+        let cells = each-total (λ at. cden V (push_index at [] ++ vals) b) (indices ms) (total ms k) in
         let many = numbers_of-length V vals ds ms k in
-        let full : product ms ≡ length cells.0 = full-cells (λ at. cden V (walked at [] ++ vals) b) ms cells.0 cells.1 in
+        let full : product ms ≡ length cells.0 = full-cells (λ at. cden V (push_index at [] ++ vals) b) ms cells.0 cells.1 in
         ap (λ o. (o >>= array_of ms) >>= λ v. each (number_at V vals) is >>= cell_of v) cells.1
         ∙ ap (λ o. o >>= λ v. each (number_at V vals) is >>= cell_of v) (array_of-made ms cells.0 (omega (arith, many, some)) (omega (arith, many, few)) full)
-        ∙ then-ext (each (number_at V vals) is) (cell_of (datum.array ms (data_of cells.0))) (λ ns. tested (map (number_at V vals) ds) ns (cden V (walked ns [] ++ vals) b))
-        (λ ns l. ap (λ c. cell (record { dims = ms; cells = c }) ns) (list_of-data_of cells.0) ∙ cell_made (λ at. cden V (walked at [] ++ vals) b) ms cells.0 ns cells.1
-        ∙ sym (ap (λ os. tested os ns (cden V (walked ns [] ++ vals) b)) (each-some (number_at V vals) ds ms (sym (numbers-each V vals ds) ∙ k)) ∙ tested-all ms ns (cden V (walked ns [] ++ vals) b) (omega (arith, many, e, each-length (number_at V vals) is ns l))))
+        ∙ then-ext (each (number_at V vals) is) (cell_of (datum.array ms (data_of cells.0))) (λ ns. test_below (map (number_at V vals) ds) ns (cden V (push_index ns [] ++ vals) b))
+        (λ ns l. ap (λ c. cell (record { dims = ms; cells = c }) ns) (list_of-data_of cells.0) ∙ cell_made (λ at. cden V (push_index at [] ++ vals) b) ms cells.0 ns cells.1
+        ∙ sym (ap (λ os. test_below os ns (cden V (push_index ns [] ++ vals) b)) (each-some (number_at V vals) ds ms (sym (numbers-each V vals ds) ∙ k)) ∙ tested-all ms ns (cden V (push_index ns [] ++ vals) b) (omega (arith, many, e, each-length (number_at V vals) is ns l))))

@@ -14,7 +14,7 @@ use Rattle.nrca_term.specs.Nodes.{number, sub_term}
 use Rattle.nrca_term.specs.Places.{place_of, on_child, put_at}
 use Rattle.nrca_term.specs.Subst.{shift_form, shift_term, shift_parts, subst_var, subst_node, subst_term, subst_parts}
 use Rattle.nrca_term.specs.Laws.Measure.{through}
-use Rattle.nrca_term.specs.Rules.{Way, Redex, Folds, arithmetic, numbers, truths, texts, generated, member, misshapen, Subscript, inside, outside, LoopOf, lets, guarded, sizes_term, is_dim_of, replace_dims, replace_dims_parts, number_or_bottom, constant_literal, dimension_terms, index_variables}
+use Rattle.nrca_term.specs.Rules.{Way, Redex, Folds, arithmetic, numbers, truths, texts, generated, member, misshapen, Subscript, inside, outside, LoopOf, lets, guard, sizes_term, is_dim_of, replace_dims, replace_dims_parts, number_or_bottom, constant_literal, dimension_terms, index_variables}
 use Rattle.nrca_term.specs.Valid.{FormConstant, HasConstants, PartsHaveConstants}
 use Rattle.nrca_term.specs.Laws.Valid.{child-constants}
 
@@ -108,7 +108,7 @@ lets-constants : (n : ℕ) (is : List Term) (body : Term) → Every HasConstants
 lets-constants n [] body h k = k
 lets-constants n (i ∷ is) body h k = (tt, (constants-shift 0 n i h.0, (lets-constants (suc n) is body h.1 k, tt)))
 
-guarded-constants : (k : ℕ) (ds : List Term) (b : Term) → Every HasConstants ds → HasConstants b → HasConstants (guarded k ds b)
+guarded-constants : (k : ℕ) (ds : List Term) (b : Term) → Every HasConstants ds → HasConstants b → HasConstants (guard k ds b)
 guarded-constants k [] b h c = c
 guarded-constants k (d ∷ ds) b h c = (tt, ((tt, ((tt, tt), (constants-shift 0 k d h.0, tt))), (guarded-constants k ds b h.1 c, ((tt, tt), tt))))
 
@@ -197,7 +197,7 @@ rule-constants S9 l r ws x h =
 rule-constants A1 l r ws x h =
     let k = subst HasConstants x.4 h in
     let t = constants-plain x.0 (part (length x.0) x.1 none) k.1.0.1 in
-    subst HasConstants (sym x.5) (lets-constants 0 x.2 (guarded (length x.0) x.0 x.1) (constants-plain x.2 none k.1.1).0 (guarded-constants (length x.0) x.0 x.1 t.0 t.1.0))
+    subst HasConstants (sym x.5) (lets-constants 0 x.2 (guard (length x.0) x.0 x.1) (constants-plain x.2 none k.1.1).0 (guarded-constants (length x.0) x.0 x.1 t.0 t.1.0))
 rule-constants A2 l r ws x h =
     let k = subst HasConstants x.2 h in
     let t = constants-plain (dimension_terms x.0 r) (part (length (dimension_terms x.0 r)) (sub_term (shift_term 0 x.0 r) (index_variables x.0)) none) k.1 in

@@ -9,7 +9,7 @@ use Rattle.aql_value.specs.Laws.Indices.{length_indices}
 use Rattle.aql_value.specs.Laws.RowMajor.{cell-offset_of, place_of_index, indices_lengths}
 use Rattle.aql_value.specs.Lists.{Every, below}
 use Rattle.aql_value.specs.Laws.Lists.{Every-impl, length-below, slice_get-below, slice_get-append_left}
-use Rattle.aql_value.specs.Operations.{as_natural, walked, array_of, cell_of, dim_of, part_of, index_value}
+use Rattle.aql_value.specs.Operations.{as_natural, push_index, array_of, cell_of, dim_of, part_of, index_value}
 use Rattle.aql_value.specs.Laws.Operations.{array_of-made, array_of-is, part_of-tuple}
 use Rattle.aql_value.specs.Partial.{◌>>=◌, each}
 use Rattle.aql_value.specs.Laws.Partial.{then-is, then-ext, each-map, each-none, each-each, each-ext}
@@ -31,8 +31,7 @@ use Rattle.nrca_laws.specs.Laws.Arrays.{cden-sizes, dims-made}
 use Rattle.nrca_term.specs.Laws.Entering.{length-walked}
 use Rattle.nrca_laws.specs.Laws.Meanings.{cden-unary}
 use Rattle.nrca_laws.specs.Laws.Typed.{dim-is, dim-rank, get-past}
-use Rattle.aql_types.specs.Laws.Operation.{some-list}
-use Rattle.std.proofs.lemmas.Option.{slice_get_within}
+use Rattle.std.proofs.lemmas.Option.{slice_get_within, same_Some}
 
 -- what is known of the variable whose dimensions are replaced: the array that it is, and its dimensions' value, which the size has
 abbrev pub Sized : Outcomes → List Datum → (at rank : ℕ) → Term → Type 0
@@ -73,8 +72,8 @@ keeps-a4 G V vals env ds c b A T some hd ty =
   where
     sized : (w : Datum) → cden V vals (tab_term ds c) ≡ Some w → Sized V (w ∷ vals) 0 (length ds) (shift_term 0 1 (sizes_term ds))
     sized w e =
-        let r = then-is (numbers_of V vals ds) (λ ms. each (λ at. cden V (walked at [] ++ vals) c) (indices ms) >>= array_of ms) w (sym (cden-tab V vals ds c) ∙ e) in
-        let s = then-is (each (λ at. cden V (walked at [] ++ vals) c) (indices r.0)) (array_of r.0) w r.2 in
+        let r = then-is (numbers_of V vals ds) (λ ms. each (λ at. cden V (push_index at [] ++ vals) c) (indices ms) >>= array_of ms) w (sym (cden-tab V vals ds c) ∙ e) in
+        let s = then-is (each (λ at. cden V (push_index at [] ++ vals) c) (indices r.0)) (array_of r.0) w r.2 in
         let a = array_of-is r.0 s.0 w s.2 in (
           w,
           index_value r.0,
@@ -97,18 +96,18 @@ cells-again ms vs full =
     (λ p at e. ap (λ c. cell (record { dims = ms; cells = c }) at) (list_of-data_of vs) ∙ cell-offset_of (record { dims = ms; cells = vs }) at ∙ ap (λ o. o >>= slice_get vs) (place_of_index ms at p e))
 
 -- the variables of an index are worth the index
-pub indices-named : (V : Outcomes) (at : List ℕ) (front vals : List Datum) → numbers_of V (walked at front ++ vals) (index_variables (length at)) ≡ Some at
-indices-named V at front vals = each-each (cden V (walked at front ++ vals)) as_natural (index_variables (length at)) ∙ go at front
+pub indices-named : (V : Outcomes) (at : List ℕ) (front vals : List Datum) → numbers_of V (push_index at front ++ vals) (index_variables (length at)) ≡ Some at
+indices-named V at front vals = each-each (cden V (push_index at front ++ vals)) as_natural (index_variables (length at)) ∙ go at front
   where
-    first : (i : ℕ) (at : List ℕ) (front : List Datum) → slice_get (walked (i ∷ at) front ++ vals) (length at) ≡ Some (natural i)
+    first : (i : ℕ) (at : List ℕ) (front : List Datum) → slice_get (push_index (i ∷ at) front ++ vals) (length at) ≡ Some (natural i)
     first i at front =
-        slice_get-append_left (walked at (natural i ∷ front)) vals (length at) (omega (arith, length-walked at (natural i ∷ front)))
-        ∙ (let e : length at ≡ length at + 0 = omega arith in ap (slice_get (walked at (natural i ∷ front))) e) ∙ walked-past at (natural i ∷ front) 0
+        slice_get-append_left (push_index at (natural i ∷ front)) vals (length at) (omega (arith, length-walked at (natural i ∷ front)))
+        ∙ (let e : length at ≡ length at + 0 = omega arith in ap (slice_get (push_index at (natural i ∷ front))) e) ∙ walked-past at (natural i ∷ front) 0
 
-    go : (at : List ℕ) (front : List Datum) → each (number_at V (walked at front ++ vals)) (index_variables (length at)) ≡ Some at
+    go : (at : List ℕ) (front : List Datum) → each (number_at V (push_index at front ++ vals)) (index_variables (length at)) ≡ Some at
     go [] front = refl
     go (i ∷ at) front =
-        ap (λ o. (o >>= as_natural) >>= λ n. each (number_at V (walked (i ∷ at) front ++ vals)) (index_variables (length at)) >>= λ ns. Some (n ∷ ns)) (first i at front)
+        ap (λ o. (o >>= as_natural) >>= λ n. each (number_at V (push_index (i ∷ at) front ++ vals)) (index_variables (length at)) >>= λ ns. Some (n ∷ ns)) (first i at front)
         ∙ ap (λ o. o >>= λ ns. Some (i ∷ ns)) (go at (natural i ∷ front))
 
 -- dimension j of an array as a number
@@ -138,7 +137,7 @@ pub keeps-a2 : (V : Outcomes) (vals : List Datum) (k : ℕ) (r : Term) (A : Ty) 
 keeps-a2 V vals k r A some few h = cden-tab V vals (dimension_terms k r) (sub_term (shift_term 0 k r) (index_variables k)) ∙ by (cden V vals r) refl
   where
     body : List ℕ → Option Datum
-    body at = cden V (walked at [] ++ vals) (sub_term (shift_term 0 k r) (index_variables k))
+    body at = cden V (push_index at [] ++ vals) (sub_term (shift_term 0 k r) (index_variables k))
 
     nowhere : cden V vals r ≡ None → numbers_of V vals (dimension_terms k r) ≡ None
     nowhere e = ap (λ o. o >>= each as_natural) (each-none (cden V vals) (dimension_terms k r) 0 (dimension_term k r 1) (first k some) (missing k))
@@ -152,7 +151,7 @@ keeps-a2 V vals k r A some few h = cden-tab V vals (dimension_terms k r) (sub_te
         missing (suc zero) = cden-unary V vals (Strict.dim 1) r ∙ ap (λ o. o >>= dim_of 1) e
         missing (suc (suc k)) = cden-unary V vals (Strict.proj 1 (suc (suc k))) (dim_term (suc (suc k)) r) ∙ ap (λ o. o >>= part_of 1 (suc (suc k))) (cden-unary V vals (Strict.dim (suc (suc k))) r ∙ ap (λ o. o >>= dim_of (suc (suc k))) e)
 
-    by : (o : Option Datum) → cden V vals r ≡ o → (numbers_of V vals (dimension_terms k r) >>= λ ms. each (λ at. cden V (walked at [] ++ vals) (sub_term (shift_term 0 k r) (index_variables k))) (indices ms) >>= array_of ms) ≡ o
+    by : (o : Option Datum) → cden V vals r ≡ o → (numbers_of V vals (dimension_terms k r) >>= λ ms. each (λ at. cden V (push_index at [] ++ vals) (sub_term (shift_term 0 k r) (index_variables k))) (indices ms) >>= array_of ms) ≡ o
     by None e = ap (λ o. o >>= λ ms. each body (indices ms) >>= array_of ms) (nowhere e)
     by (Some w) e =
         let t = h w e in
@@ -176,7 +175,7 @@ keeps-a2 V vals k r A some few h = cden-tab V vals (dimension_terms k r) (sub_te
             at : (p j : ℕ) → slice_get (below (length ms)) p ≡ Some j → number_at V vals (dimension_term (length ms) r (suc j)) ≡ slice_get ms p
             at p j e =
                 let l = within (length ms) p j e in
-                let z : j ≡ p = some-list j p (sym e ∙ slice_get-below (length ms) p l) in
+                let z : j ≡ p = same_Some j p (sym e ∙ slice_get-below (length ms) p l) in
                 g j (omega (arith, z, l)) ∙ ap (slice_get ms) z
 
         same_bodies : (ms : List ℕ) (vs : List Datum) → length ms ≡ k → cden V vals r ≡ Some (datum.array ms (data_of vs)) → each body (indices ms) ≡ each (cell_of (datum.array ms (data_of vs))) (indices ms)
@@ -184,7 +183,7 @@ keeps-a2 V vals k r A some few h = cden-tab V vals (dimension_terms k r) (sub_te
           where
             one : (at : List ℕ) → length at ≡ k → body at ≡ cell_of (datum.array ms (data_of vs)) at
             one at n =
-                cden-sub V (walked at [] ++ vals) (shift_term 0 k r) (index_variables k)
-                ∙ ap (λ o. o >>= λ v. numbers_of V (walked at [] ++ vals) (index_variables k) >>= cell_of v)
-                ((let z : k ≡ length (walked at []) = omega (arith, length-walked at [], n) in ap (λ j. cden V (walked at [] ++ vals) (shift_term 0 j r)) z) ∙ cden-shifted V (walked at []) vals r ∙ v)
-                ∙ ap (λ o. o >>= cell_of (datum.array ms (data_of vs))) (ap (λ j. numbers_of V (walked at [] ++ vals) (index_variables j)) (sym n) ∙ indices-named V at [] vals)
+                cden-sub V (push_index at [] ++ vals) (shift_term 0 k r) (index_variables k)
+                ∙ ap (λ o. o >>= λ v. numbers_of V (push_index at [] ++ vals) (index_variables k) >>= cell_of v)
+                ((let z : k ≡ length (push_index at []) = omega (arith, length-walked at [], n) in ap (λ j. cden V (push_index at [] ++ vals) (shift_term 0 j r)) z) ∙ cden-shifted V (push_index at []) vals r ∙ v)
+                ∙ ap (λ o. o >>= cell_of (datum.array ms (data_of vs))) (ap (λ j. numbers_of V (push_index at [] ++ vals) (index_variables j)) (sym n) ∙ indices-named V at [] vals)

@@ -3,6 +3,7 @@ use Rattle.std.proofs.Common.{◌≡◌, ℕ, zero, suc, ◌+◌, ◌*◌, ◌-�
 use Rattle.std.specs.List.{slice_get}
 use Rattle.std.proofs.lemmas.Bool.{cases_Bool, lt-ltb, le-ltb, ltb-true, eqb-true, eq-eqb, and_parts}
 use Rattle.std.proofs.lemmas.Nat.{mul-le}
+use Rattle.std.proofs.lemmas.Option.{same_Some}
 use Rattle.aql_value.specs.declared.ops.ArithOp.{ArithOp}
 use Rattle.aql_value.specs.declared.ops.ArithOp.TheVariants.{Add, Monus, Mul, Quotient, Remainder}
 use Rattle.aql_value.specs.Arith.{if_fits}
@@ -12,7 +13,7 @@ use Rattle.aql_value.specs.Datum.{Datum, data_of}
 use Rattle.aql_value.specs.Indices.{indices, product}
 use Rattle.aql_value.specs.Lists.{Every}
 use Rattle.aql_value.specs.Laws.Lists.{Every-impl, Every-join, Every-map}
-use Rattle.aql_value.specs.Operations.{as_natural, as_truth, as_set, union_all, array_of, walked}
+use Rattle.aql_value.specs.Operations.{as_natural, as_truth, as_set, union_all, array_of, push_index}
 use Rattle.aql_value.specs.Laws.Operations.{array_of-made}
 use Rattle.aql_value.specs.Partial.{◌>>=◌, each, or_else}
 use Rattle.aql_value.specs.Laws.Partial.{then-is, each-total}
@@ -20,10 +21,10 @@ use Rattle.aql_value.specs.Strict.{Strict, strict_value}
 use Rattle.aql_types.specs.Types as types
 use Rattle.aql_types.specs.Types.{Ty, natural, truth}
 use Rattle.aql_types.specs.ValueTypes.{HasType, HaveTypes}
-use Rattle.aql_types.specs.Laws.Operation.{has-append, has-length, some-list}
+use Rattle.aql_types.specs.Laws.Operation.{has-append, has-length}
 use Rattle.nrca_term.specs.Term.{Term, Parts, node, none, part, Form, child_of, count, WellFormed}
 use Rattle.nrca_term.specs.Meaning.{Outcomes, outcome, Part, worth, here, form_value, test_value, members_value, loop_values, bounds_value, cden, part_values}
-use Rattle.nrca_term.specs.Places.{branch, otherwise, indices_of, entered}
+use Rattle.nrca_term.specs.Places.{branch, otherwise, indices_of, entry_values}
 use Rattle.nrca_term.specs.Typing.{Arg, arg, form_rule, ctyped, parts_typed, OutcomesHave}
 use Rattle.nrca_term.specs.Laws.Entering.{bounds-length, length-part_values}
 use Rattle.nrca_term.specs.Laws.Sound.{AllSound, sound-get, sounds, sound-length, length-tab, loop-sound, parts-sound, sound, has-here}
@@ -44,7 +45,7 @@ PositionsAre D V = (n : ℕ) → D n ≡ true → Valued (outcome V n)
 
 -- each part has a value at each list of values with which an evaluation of the node comes to it
 abbrev pub PartsDefined : Form → List Part → Type 0
-PartsDefined f ps = (i : ℕ) → i < length ps → Every (λ new. Valued (worth ps i new)) (entered f ps i)
+PartsDefined f ps = (i : ℕ) → i < length ps → Every (λ new. Valued (worth ps i new)) (entry_values f ps i)
 
 -- a partial function after a value that is there
 then-valued : {A : Type 0} (f : A → Option Datum) (o : Option A) (x : A) → o ≡ Some x → Valued (f x) → Valued (o >>= f)
@@ -82,7 +83,7 @@ numbers-total (p ∷ ps) vs e h =
     let b = then-is (each here ps) (λ ys. Some (a.0 ∷ ys)) vs a.2 in
     let n = h 0 a.0 (omega arith) a.1 in
     let r = numbers-total ps b.0 b.1 (λ i v l k. h (suc i) v (omega (arith, l)) k) in
-    let z : vs ≡ a.0 ∷ b.0 = sym (some-list (a.0 ∷ b.0) vs b.2) in
+    let z : vs ≡ a.0 ∷ b.0 = sym (same_Some (a.0 ∷ b.0) vs b.2) in
     (n.0 ∷ r.0, ap (each as_natural) z ∙ each-both a.0 n.0 b.0 r.0 (ap as_natural n.1) r.1)
 
 -- a node that wants all its parts has a value where each part has one wherever it is entered
@@ -130,11 +131,11 @@ form-defined G V D env vals d h (Form.tab rank) args T ps f w r s k =
     (sym (worth-take rank ps j [] (omega (arith, q, n))) ∙ m)) in
     let e : bounds_value rank ps ≡ Some ns.0 = ap (λ o. o >>= each as_natural) bs.1 ∙ ns.1 in
     let many : length ns.0 ≡ rank = bounds-length rank ps ns.0 (omega (arith, l)) e in
-    let body = subst (λ o. Every (λ new. Valued (worth ps rank new)) (map (λ at. walked at []) (indices_of o))) e (rw (le-ltb rank rank (omega arith)) at (k rank (omega (arith, l)))) in
-    let cells = each-total (λ at. worth ps rank (walked at [])) (indices ns.0) (Every-map (λ new. Valued (worth ps rank new)) (λ at. walked at []) (indices ns.0) body) in
-    let full : product ns.0 ≡ length cells.0 = full-cells (λ at. worth ps rank (walked at [])) ns.0 cells.0 cells.1 in
-    then-valued (λ ds. each (λ at. worth ps rank (walked at [])) (indices ds) >>= array_of ds) (bounds_value rank ps) ns.0 e
-    (then-valued (array_of ns.0) (each (λ at. worth ps rank (walked at [])) (indices ns.0)) cells.0 cells.1 (datum.array ns.0 (data_of cells.0), array_of-made ns.0 cells.0 (omega (arith, many, r.1.0)) (omega (arith, many, r.1.1)) full))
+    let body = subst (λ o. Every (λ new. Valued (worth ps rank new)) (map (λ at. push_index at []) (indices_of o))) e (rw (le-ltb rank rank (omega arith)) at (k rank (omega (arith, l)))) in
+    let cells = each-total (λ at. worth ps rank (push_index at [])) (indices ns.0) (Every-map (λ new. Valued (worth ps rank new)) (λ at. push_index at []) (indices ns.0) body) in
+    let full : product ns.0 ≡ length cells.0 = full-cells (λ at. worth ps rank (push_index at [])) ns.0 cells.0 cells.1 in
+    then-valued (λ ds. each (λ at. worth ps rank (push_index at [])) (indices ds) >>= array_of ds) (bounds_value rank ps) ns.0 e
+    (then-valued (array_of ns.0) (each (λ at. worth ps rank (push_index at [])) (indices ns.0)) cells.0 cells.1 (datum.array ns.0 (data_of cells.0), array_of-made ns.0 cells.0 (omega (arith, many, r.1.0)) (omega (arith, many, r.1.1)) full))
 form-defined G V D env vals d h (Form.strict c) args T ps f w r s k =
     let v = here-valued ps (λ i l. (k i l).0) in
     then-valued (strict_value c) (each here ps) v.0 v.1 (strict-defined c r.0 T v.0 f r.2 (has-here r.0 ps v.0 (sounds args (map (arg []) r.0) ps r.1 s) v.1))
@@ -179,7 +180,7 @@ sides-defined : (V : Outcomes) (vals : List Datum) (c : Context) → FactsHold V
 sides-defined V vals c h op a b m n x y f =
     let k = arith-defined op (span c a) (span c b) (number_of b) m n f
     (λ s e. number-is m s (span-sound V vals c h a s (datum.natural m) e x)) (λ s e. number-is n s (span-sound V vals c h b s (datum.natural n) e y))
-    (λ j e. some-list j n (ap as_natural' (sym (numeral-value V vals b j (datum.natural n) e y)))) in
+    (λ j e. same_Some j n (ap as_natural' (sym (numeral-value V vals b j (datum.natural n) e y)))) in
     rw (x, y) (rw k.1 (_, refl))
   where
     as_natural' : Datum → Option ℕ
@@ -254,7 +255,7 @@ firm-cases X f g (Strict.arith op) = f op
 firm-cases X f g s = g s (λ o ps. refl)
 
 -- a default is worth its first part, and else its second
-default-valued : (ps : List Part) (i : ℕ) → i < 2 → Every (λ new. Valued (worth ps i new)) (entered Form.default ps i) → Valued (form_value [] [] Form.default ps)
+default-valued : (ps : List Part) (i : ℕ) → i < 2 → Every (λ new. Valued (worth ps i new)) (entry_values Form.default ps i) → Valued (form_value [] [] Form.default ps)
 default-valued ps zero l h = let v = h.0 in rw v.1 (_, refl)
 default-valued ps (suc zero) l h = at (worth ps 0 []) h
   where
@@ -265,20 +266,20 @@ default-valued ps (suc (suc i)) l h = absurd (omega (arith, l))
 
 -- the types and the facts with which a part is entered
 pub ways-in : (G : ℕ → Ty → Type 0) (V : Outcomes) → OutcomesHave G V → (c : Context) (f : Form) (ps : Parts) (env : List Ty) (vals : List Datum) (T : Ty) (args : List Arg) → HaveTypes env vals → FactsHold V c vals → WellFormed (node f ps) →
-    form_rule G env f args T → parts_typed G env ps args → (i : ℕ) → i < count ps → (a : Arg) × (slice_get args i ≡ Some a) × Every (λ new. HaveTypes a.own new × FactsHold V (enter_facts c (node f ps) i) (new ++ vals)) (entered f (part_values V vals ps) i)
+    form_rule G env f args T → parts_typed G env ps args → (i : ℕ) → i < count ps → (a : Arg) × (slice_get args i ≡ Some a) × Every (λ new. HaveTypes a.own new × FactsHold V (enter_facts c (node f ps) i) (new ++ vals)) (entry_values f (part_values V vals ps) i)
 ways-in G V g c f ps env vals T args h st wf r t i l =
     let s = parts-sound G V g ps env vals args h t in
     let a = arg-there args (part_values V vals ps) i s (omega (arith, l, length-part_values V vals ps)) in
     let u = part-there ps i l in (
       a.0,
       a.1,
-      Every-join (HaveTypes a.0.own) (λ new. FactsHold V (enter_facts c (node f ps) i) (new ++ vals)) _ (λ new p q. (p, q)) (entered f (part_values V vals ps) i)
+      Every-join (HaveTypes a.0.own) (λ new. FactsHold V (enter_facts c (node f ps) i) (new ++ vals)) _ (λ new p q. (p, q)) (entry_values f (part_values V vals ps) i)
           (entered-own G env f args T (part_values V vals ps) i a.0 r s a.1) (stands-enter V c vals (node f ps) i u.0 wf u.1 st),
     )
 
 -- each firm part has a value at each list of values with which an evaluation of the node comes to it
 abbrev pub FirmParts : (ℕ → Bool) → Outcomes → Context → List Datum → Form → Parts → Type 0
-FirmParts D V c vals f ps = (i : ℕ) → i < count ps → firm_part D c (node f ps) 0 ps i ≡ true → Every (λ new. Valued (worth (part_values V vals ps) i new)) (entered f (part_values V vals ps) i)
+FirmParts D V c vals f ps = (i : ℕ) → i < count ps → firm_part D c (node f ps) 0 ps i ≡ true → Every (λ new. Valued (worth (part_values V vals ps) i new)) (entry_values f (part_values V vals ps) i)
 
 -- a firm node that wants all its parts
 all-defined : (G : ℕ → Ty → Type 0) (V : Outcomes) (D : ℕ → Bool) → OutcomesHave G V → PositionsAre D V → (f : Form) (ps : Parts) (c : Context) (env : List Ty) (vals : List Datum) (T : Ty) (args : List Arg) → HaveTypes env vals →
@@ -346,14 +347,14 @@ mutual
   firm-defined G V D g d (node f ps) c env vals T h st ty e =
       node-defined G V D g d f ps c env vals T ty.1 h st ty.2 ty.3
       (λ i l p. let w = ways-in G V g c f ps env vals T ty.1 h st (well_formed-typed G env (node f ps) T ty) ty.2 ty.3 i l in
-      Every-impl _ _ (λ new q. parts-defined G V D g d (node f ps) c ps 0 env vals ty.1 h ty.3 i i w.0 (omega arith) p w.1 new q.0 q.1) (entered f (part_values V vals ps) i) w.2)
+      Every-impl _ _ (λ new q. parts-defined G V D g d (node f ps) c ps 0 env vals ty.1 h ty.3 i i w.0 (omega arith) p w.1 new q.0 q.1) (entry_values f (part_values V vals ps) i) w.2)
       e
 
   parts-defined : (G : ℕ → Ty → Type 0) (V : Outcomes) (D : ℕ → Bool) → OutcomesHave G V → PositionsAre D V → (t : Term) (c : Context) (ps : Parts) (j : ℕ) (env : List Ty) (vals : List Datum) (args : List Arg) → HaveTypes env vals → parts_typed G env ps args →
       (i n : ℕ) (a : Arg) → n ≡ j + i → firm_part D c t j ps i ≡ true → slice_get args i ≡ Some a → (new : List Datum) → HaveTypes a.own new → FactsHold V (enter_facts c t n) (new ++ vals) → Valued (worth (part_values V vals ps) i new)
   parts-defined G V D g d t c none j env vals args h ty i n a q p e new m k = cc
   parts-defined G V D g d t c (part w u ps) j env vals args h ty zero n a q p e new m k =
-      let z : ty.0 ≡ a = some-list ty.0 a (ap (λ x. slice_get x 0) (sym ty.2) ∙ e) in
+      let z : ty.0 ≡ a = same_Some ty.0 a (ap (λ x. slice_get x 0) (sym ty.2) ∙ e) in
       let m' : HaveTypes ty.0.own new = subst (λ x. HaveTypes x.own new) (sym z) m in
       let y : n ≡ j = omega (arith, q) in
       let v = firm-defined G V D g d u (enter_facts c t j) (ty.0.own ++ env) (new ++ vals) ty.0.has (has-append ty.0.own env new vals m' h) (subst (λ x. FactsHold V (enter_facts c t x) (new ++ vals)) y k) ty.4 p in

@@ -31,13 +31,10 @@ use Rattle.nrca_laws.specs.Laws.Beta.{Numeric, cden-beta}
 use Rattle.nrca_laws.specs.Laws.Arrays.{domain-defined, inner-defined, others-hold, keeps-p1, keeps-misshapen, keeps-a5_inside, keeps-a5_outside, keeps-a3, keeps-a6}
 use Rattle.nrca_laws.specs.Laws.Sets.{IsSet, keeps-s2, keeps-s3, keeps-s5, keeps-s6, keeps-s7, keeps-s8}
 use Rattle.nrca_laws.specs.Laws.Dims.{keeps-a2, keeps-a4}
-use Rattle.nrca_laws.specs.Laws.Typed.{TermsTyped, terms-length, strict-typed, let-typed, union-typed, sum-typed, tab-typed, one-typed, single-typed, sub-typed, dim-typed, literal-rank}
+use Rattle.nrca_term.specs.Laws.TypedLists.{TermsTyped, terms-length}
+use Rattle.nrca_laws.specs.Laws.Typed.{strict-typed, let-typed, union-typed, sum-typed, tab-typed, one-typed, single-typed, sub-typed, dim-typed, literal-rank}
 use Rattle.std.proofs.lemmas.Option.{slice_get_within}
 use Rattle.nrca_laws.specs.Keeping.{Given}
-
--- the same of an equal term
-pub given-as : (G : ℕ → Ty → Type 0) (V : Outcomes) (c : Context) (env : List Ty) (vals : List Datum) (l m : Term) (T : Ty) → l ≡ m → Given G V c env vals l T → Given G V c env vals m T
-given-as G V c env vals l m T e h = subst (λ x. Given G V c env vals x T) e h
 
 -- both sides by equal terms, and ways from an equal term
 sides : (V : Outcomes) (vals : List Datum) (l m r s : Term) → l ≡ m → r ≡ s → cden V vals m ≡ cden V vals s → cden V vals l ≡ cden V vals r
@@ -104,14 +101,6 @@ cells-of V vals s ns cs rest (j ∷ js) h = ((λ x e. cell-defined V vals s ns c
 zeros : (G : ℕ → Ty → Type 0) (k : ℕ) → HaveTypes (replicate k types.natural) (replicate k (natural 0))
 zeros G zero = tt
 zeros G (suc k) = ((0, refl), zeros G k)
-
--- equal array types have equal ranks
-array_inj : (k n : ℕ) (A B : Ty) → types.array_of k A ≡ types.array_of n B → k ≡ n
-array_inj k n A B e = ap rank e
-  where
-    rank : Ty → ℕ
-    rank (types.array_of m C) = m
-    rank _ = 0
 
 -- an index has as many variables as its rank
 pub index_variables-length : (k : ℕ) → length (index_variables k) ≡ k

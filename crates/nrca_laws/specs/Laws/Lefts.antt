@@ -5,12 +5,9 @@ use Rattle.nrca_term.specs.declared.trace.Rule.{Rule}
 use Rattle.nrca_term.specs.declared.trace.Rule.TheVariants.{B1, K1, I1, I2, L1, L2, L3, P1, P2, S1, S2, S3, S4, S5, S6, S7, S8, S9, A1, A2, A3, A4, A5, A6, A7, C1, C2, C3, C4, N1, N2}
 use Rattle.nrca_term.specs.Term.{Term, Form, form_of}
 use Rattle.nrca_term.specs.Rules.{Way, Redex, Folds, arithmetic, numbers, truths, texts, generated, member, misshapen, Subscript, inside, outside, LoopOf}
+use Rattle.nrca_laws.specs.Lets.{is_bind}
 
--- whether a form is a let, an if, a default, a big union, a sum, a loop of either kind, a tabulation
-abbrev pub is_bind : Form → Bool
-is_bind Form.bind = true
-is_bind _ = false
-
+-- whether a form is an if, a default, a big union, a sum, a loop of either kind, a tabulation
 abbrev pub is_choose : Form → Bool
 is_choose Form.choose = true
 is_choose _ = false

@@ -6,7 +6,7 @@ use Rattle.aql_value.specs.Strict.{Strict}
 use Rattle.nrca_term.specs.declared.trace.Rule.{Rule}
 use Rattle.nrca_term.specs.declared.trace.Rule.TheVariants.{B1, K1, I1, I2, L1, L2, L3, P1, P2, S1, S2, S3, S4, S5, S6, S7, S8, S9, A1, A2, A3, A4, A5, A6, A7, C1, C2, C3, C4, N1, N2}
 use Rattle.aql_types.specs.Types as types
-use Rattle.aql_types.specs.Types.{Ty, natural}
+use Rattle.aql_types.specs.Types.{Ty}
 use Rattle.nrca_term.specs.Typing.{ctyped}
 use Rattle.nrca_term.specs.Laws.TypedForm.{well_formed-typed}
 use Rattle.nrca_term.specs.Term.{Term, Parts, node, none, part, plain, Form, weight_of, parts_weight, form_weight, list_weight, WellFormed}
@@ -14,10 +14,10 @@ use Rattle.nrca_term.specs.Nodes.{number, truth_term, bottom_term, let_term, if_
 use Rattle.nrca_term.specs.Subst.{shift_form, shift_term, shift_parts, subst_term, uses_of}
 use Rattle.nrca_term.specs.Laws.Variants.{parts_weight-plain}
 use Rattle.nrca_term.specs.Measure.{nodes_of, parts_nodes, pairs_of, parts_pairs, has_operand, own_pairs, first_nodes, Lowers}
-use Rattle.nrca_term.specs.Laws.Measure.{weight_of-child}
+use Rattle.nrca_term.specs.Laws.Measure.{weight_of-child, weight_of-positive, list_weight-get}
 use Rattle.nrca_term.specs.Rules.{Way, Redex, Folds, arithmetic, numbers, truths, texts, generated, member, misshapen, Subscript, inside, outside, LoopOf, Atom, sizes_term, replace_dims, dims_of_var, number_or_bottom, constant_literal, IsComparison, IsVariableOrNumber, dimension_terms, index_variables}
 use Rattle.nrca_laws.specs.Laws.Typed.{let-typed, literal-rank}
-use Rattle.nrca_laws.specs.Laws.Weights.{weight-shift, weight-subst, weight-tab, weight-sub, weight-beta, weight-sizes, weight-literal, weight-replaced, weights-shifted, term-positive, list-get, numbers-weight}
+use Rattle.nrca_laws.specs.Laws.Weights.{weight-shift, weight-subst, weight-tab, weight-sub, weight-beta, weight-sizes, weight-literal, weight-replaced, weights-shifted, numbers-weight}
 
 -- a shift changes neither nodes nor pairs
 has_operand-shift : (from by : ℕ) (f : Form) → has_operand (shift_form from by f) ≡ has_operand f
@@ -110,10 +110,6 @@ loop-answer Form.big_union z h = (ap weight_of h, ap nodes_of h, ap pairs_of h, 
 loop-answer Form.sum z h = (ap weight_of h, ap nodes_of h, ap pairs_of h, refl, refl)
 loop-answer _ z h = absurd h
 
--- a right side of less weight
-lower : (l r : Term) (m n : ℕ) → weight_of l ≡ m → weight_of r ≡ n → n < m → Lowers l r
-lower l r m n e k h = inl (omega (arith, e, k, h))
-
 -- the same of equal terms
 pub lowers-as : (l l' r r' : Term) → l ≡ l' → r ≡ r' → Lowers l' r' → Lowers l r
 lowers-as l l' r r' e k h = subst (λ x. Lowers x r) (sym e) (subst (Lowers l') (sym k) h)
@@ -154,7 +150,7 @@ folds-lower l r k (misshapen ns cs e h q) = inl (omega (arith, ap weight_of e, a
 
 -- a constant subscript of a literal
 subscript-lowers : (l r : Term) (ws : List Way) → Subscript l r ws → Lowers l r
-subscript-lowers l r ws (inside ns cs is p e a b c d) = inl (omega (arith, ap weight_of e, weight-sub (constant_literal ns cs) (map number is), weight-literal (map number ns) cs, list-get cs p r c))
+subscript-lowers l r ws (inside ns cs is p e a b c d) = inl (omega (arith, ap weight_of e, weight-sub (constant_literal ns cs) (map number is), weight-literal (map number ns) cs, list_weight-get cs p r c))
 subscript-lowers l r ws (outside ns cs is e a b c d f) = inl (omega (arith, ap weight_of e, ap weight_of d, weight-sub (constant_literal ns cs) (map number is), weight-literal (map number ns) cs))
 
 -- a let whose bound term weighs 1 or is used once
@@ -169,7 +165,7 @@ cases-weight false a b = omega arith
 
 -- a comparison becomes a truth value
 compared-weight : (l r : Term) (c : Bool) → IsComparison l → r ≡ truth_term c → Lowers l r
-compared-weight l r c h e = inl (omega (arith, ap weight_of h.3, ap weight_of e, term-positive h.1, term-positive h.2))
+compared-weight l r c h e = inl (omega (arith, ap weight_of h.3, ap weight_of e, weight_of-positive h.1, weight_of-positive h.2))
 
 -- the dimensions of a bound tabulation
 lowers-a4 : (G : ℕ → Ty → Type 0) (env : List Ty) (ds : List Term) (c b : Term) (T : Ty) → ctyped G env (let_term (tab_term ds c) b) T → Every IsVariableOrNumber ds → 1 ≤ dims_of_var 0 b →
@@ -198,7 +194,7 @@ lowers G env T L2 l r ws ty h =
     let t = let-typed G env h.0 h.1 T (subst (λ x. ctyped G env x T) h.4 ty) in
     inl (omega (arith, ap weight_of h.4, ap weight_of h.5, lowers-let h.0 h.1 (well_formed-typed G (t.0 ∷ env) h.1 T t.2) (inr h.2)))
 lowers G env T L3 l r ws ty h = inl (omega (arith, ap weight_of h.1, weight-shift 0 1 r))
-lowers G env T P1 l r ws ty h = inl (omega (arith, ap weight_of h.2, parts_weight-plain h.1 none, list-get h.1 h.0 r h.3))
+lowers G env T P1 l r ws ty h = inl (omega (arith, ap weight_of h.2, parts_weight-plain h.1 none, list_weight-get h.1 h.0 r h.3))
 lowers G env T P2 l r ws ty h = lowers-as l (proj_term h.0 h.1 (let_term h.2 h.3)) r (let_term h.2 (proj_term h.0 h.1 h.3)) h.4 h.5 (inr (omega arith, omega arith, omega arith))
 lowers G env T S1 l r ws ty h = inl (omega (arith, ap weight_of h.1, ap weight_of h.2))
 lowers G env T S2 l r ws ty h = inl (omega (arith, ap weight_of h.2, ap weight_of h.3))

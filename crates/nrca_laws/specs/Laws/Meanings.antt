@@ -1,15 +1,15 @@
 -- The rules B1, I1, I2, L1 to L3, P2, S1, S4, S9, A7, N1, N2, C1 to C3 and K1 on numbers: both sides have one value.
 use Rattle.std.proofs.Common.{◌≡◌, ℕ, zero, suc, Bool, true, false, ◌⊎◌, nat_eq, List, [], ◌∷◌, ◌++◌, length, map, Option, Some, None, refl, sym, ap, ◌∙◌, arith, if◌then◌else◌, inl, inr}
+use Rattle.std.proofs.lemmas.Option.{same_Some}
 use Rattle.aql_value.specs.Datum as datum
-use Rattle.aql_value.specs.Datum.{Datum, natural, truth, data_of, list_of}
-use Rattle.aql_value.specs.Laws.Datum.{list_of-data_of}
+use Rattle.aql_value.specs.Datum.{Datum, natural, truth, data_of}
 use Rattle.aql_value.specs.Laws.Lists.{Every-all}
 use Rattle.aql_value.specs.Operations.{as_truth, as_set, union_all, sum_of}
 use Rattle.aql_value.specs.Partial.{◌>>=◌, each, or_else}
 use Rattle.aql_value.specs.Laws.Partial.{then-assoc, then-ext, each-ext, each-map}
 use Rattle.aql_value.specs.Strict.{Strict, strict_value}
 use Rattle.nrca_term.specs.Term.{Term, Parts, node, none, part, Form, form_of, parts_of, child_of}
-use Rattle.nrca_term.specs.Nodes.{number, truth_term, bottom_term, let_term, if_term, default_term, loop_term, big_union_term, sum_term, empty_term, sub_term, text_term, arith_term, compare_term}
+use Rattle.nrca_term.specs.Nodes.{number, truth_term, bottom_term, let_term, if_term, default_term, loop_term, empty_term, sub_term, text_term, arith_term, compare_term}
 use Rattle.nrca_term.specs.Meaning.{Outcomes, worth, at_length, cden, part_values}
 use Rattle.nrca_term.specs.Subst.{shift_term, subst_term, is_strict, strict_uses}
 use Rattle.nrca_term.specs.Laws.Shifting.{cden-shift_term, cden-shifted}
@@ -24,7 +24,6 @@ use Rattle.aql_value.specs.declared.ops.ArithOp.{ArithOp}
 use Rattle.aql_value.specs.declared.ops.CompareOp.{CompareOp}
 use Rattle.aql_value.specs.Ops.{arith_by, compare_by}
 use Rattle.aql_value.specs.Order.{datum_cmp}
-use Rattle.aql_types.specs.Laws.Operation.{some-list}
 
 -- an operation on one part
 pub cden-unary : (V : Outcomes) (vals : List Datum) (s : Strict) (a : Term) → cden V vals (node (Form.strict s) (part 0 a none)) ≡ (cden V vals a >>= λ v. strict_value s (v ∷ []))
@@ -37,7 +36,7 @@ cden-unary V vals s a = cden-strict V vals s (a ∷ []) ∙ by (cden V vals a)
 -- a part that is bottom has no value
 worth-bottom : (V : Outcomes) (vals : List Datum) (ps : Parts) (i : ℕ) → child_of ps i ≡ Some bottom_term → Worthless (worth (part_values V vals ps) i)
 worth-bottom V vals none i e new = cc
-worth-bottom V vals (part k t ps) zero e new = let z : t ≡ bottom_term = some-list t bottom_term e in ap (λ u. at_length k (λ new. cden V (new ++ vals) u) new) z ∙ nothing (nat_eq (length new) k)
+worth-bottom V vals (part k t ps) zero e new = let z : t ≡ bottom_term = same_Some t bottom_term e in ap (λ u. at_length k (λ new. cden V (new ++ vals) u) new) z ∙ nothing (nat_eq (length new) k)
   where
     nothing : (b : Bool) → ◌≡◌ {A = Option Datum} (if b then None else None) None
     nothing true = refl
@@ -86,14 +85,6 @@ keeps-l2 V vals e b u = by (cden V vals e) refl
 -- a let whose variable is not used
 pub keeps-l3 : (V : Outcomes) (vals : List Datum) (e r : Term) → IsDefined V vals e → cden V vals (let_term e (shift_term 0 1 r)) ≡ cden V vals r
 keeps-l3 V vals e r d = ap (λ o. o >>= λ x. cden V (x ∷ vals) (shift_term 0 1 r)) d.1 ∙ cden-shifted V (d.0 ∷ []) vals r
-
--- a big union over the empty set
-pub keeps-s1 : (V : Outcomes) (vals : List Datum) (b : Term) → cden V vals (big_union_term empty_term b) ≡ cden V vals empty_term
-keeps-s1 V vals b = refl
-
--- a sum over the empty set
-pub keeps-s4 : (V : Outcomes) (vals : List Datum) (b : Term) → cden V vals (sum_term empty_term b) ≡ cden V vals (number 0)
-keeps-s4 V vals b = refl
 
 -- a loop over a let
 over-let : (V : Outcomes) (vals : List Datum) (e m b : Term) (g : List Datum → Option Datum) → ((((cden V vals e >>= λ v. cden V (v ∷ vals) m) >>= as_set) >>= each (λ x. cden V (x ∷ vals) b)) >>= g)

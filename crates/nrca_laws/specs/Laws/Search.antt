@@ -1,13 +1,13 @@
 -- What follows from the definitions of `Search`.
 use Rattle.std.proofs.Common.{◌≡◌, ℕ, zero, suc, ◌+◌, ◌-◌, ◌<◌, ◌≤◌, ◌⊎◌, List, [], ◌∷◌, ◌++◌, Option, Some, None, refl, sym, ap, subst, ◌∙◌, arith, inl, inr}
+use Rattle.std.proofs.lemmas.Option.{same_Some}
 use Rattle.aql_value.specs.Partial.{◌>>=◌}
 use Rattle.nrca_term.specs.Term.{Term, Parts, node, none, part, Form, parts_of, child_of, binders_of}
 use Rattle.nrca_term.specs.Nodes.{variable, less_term}
 use Rattle.nrca_term.specs.Subst.{shift_term}
 use Rattle.nrca_term.specs.Places.{place_of, put_at, on_child}
 use Rattle.nrca_term.specs.Laws.Measure.{through}
-use Rattle.nrca_term.specs.Facts.{Context, Known, domain, test, denied, fact, test_fact, loop_fact, bound_facts, tab_facts, added, enter_facts, context_below, context_at}
-use Rattle.aql_types.specs.Laws.Operation.{some-list}
+use Rattle.nrca_term.specs.Facts.{Context, Known, domain, test, denied, fact, test_fact, loop_fact, bound_facts, tab_facts, part_facts, enter_facts, context_below, context_at}
 use Rattle.nrca_laws.specs.Search.{ComesBefore, AllPlaces, AllBefore, FirstParts}
 
 -- the context at a place of a part
@@ -16,7 +16,7 @@ context-child c t i u path e = ap (λ o. context_below c o (λ u. context_at ent
 
 -- N at the node and at each place of its first n parts, where it has no more, is N at all places
 pub all-node : (N : Context → Term → Type 0) (c : Context) (t : Term) (n : ℕ) → N c t → FirstParts N c t n → ((i : ℕ) (u : Term) → child_of (parts_of t) i ≡ Some u → i < n) → AllPlaces N c t
-all-node N c t n h k l [] s e = subst (N c) (some-list t s e) h
+all-node N c t n h k l [] s e = subst (N c) (same_Some t s e) h
 all-node N c t n h k l (i ∷ path) s e =
     let r = through (parts_of t) i path s e in
     subst (λ x. N x s) (sym (context-child c t i r.0 path r.1)) (k i r.0 (l i r.0 r.1) r.1 path s r.2)
@@ -33,7 +33,7 @@ all-more N c t n u h e k i v l f = at (order i n l)
 
     at : (i < n) ⊎ (i ≡ n) → AllPlaces N (enter_facts c t i) v
     at (inl x) = h i v x f
-    at (inr x) = let z : u ≡ v = some-list u v (sym e ∙ ap (child_of (parts_of t)) (sym x) ∙ f) in subst (λ j. AllPlaces N (enter_facts c t j) v) (sym x) (subst (AllPlaces N (enter_facts c t n)) z k)
+    at (inr x) = let z : u ≡ v = same_Some u v (sym e ∙ ap (child_of (parts_of t)) (sym x) ∙ f) in subst (λ j. AllPlaces N (enter_facts c t j) v) (sym x) (subst (AllPlaces N (enter_facts c t n)) z k)
 
 -- what holds before a place in part j holds in each part before j
 pub before-parts : (N : Context → Term → Type 0) (c : Context) (t : Term) (j : ℕ) (p : List ℕ) → AllBefore N c t (j ∷ p) → FirstParts N c t j
@@ -52,7 +52,7 @@ before-node N c t j p u e h k (i ∷ q) s (inl l) f =
     let r = through (parts_of t) i q s f in subst (λ x. N x s) (sym (context-child c t i r.0 q r.1)) (h i r.0 l r.1 q s r.2)
 before-node N c t j p u e h k (i ∷ q) s (inr b) f =
     let r = through (parts_of t) i q s f in
-    let z : r.0 ≡ u = some-list r.0 u (sym r.1 ∙ ap (child_of (parts_of t)) b.0 ∙ e) in
+    let z : r.0 ≡ u = same_Some r.0 u (sym r.1 ∙ ap (child_of (parts_of t)) b.0 ∙ e) in
     subst (λ x. N x s) (sym (context-child c t i r.0 q r.1))
     (subst (λ n. N (context_at enter_facts (enter_facts c t n) r.0 q) s) (sym b.0) (subst (λ x. N (context_at enter_facts (enter_facts c t j) x q) s) (sym z) (k q s b.1 (ap (λ x. place_of x q) (sym z) ∙ r.2))))
 
@@ -102,7 +102,7 @@ tab_facts-on zero rank ps j g d l = bound_facts-on rank rank ps j g d (l refl)
 tab_facts-on (suc left) rank ps j g d l = refl
 
 -- the facts that a node adds for part i are of parts before i
-pub added-on : (d : ℕ) (f : Form) (ps : Parts) (i j : ℕ) (g : Term → Term) → i ≤ j → added d f (on_child ps j g) i ≡ added d f ps i
+pub added-on : (d : ℕ) (f : Form) (ps : Parts) (i j : ℕ) (g : Term → Term) → i ≤ j → part_facts d f (on_child ps j g) i ≡ part_facts d f ps i
 added-on d Form.choose ps zero j g l = refl
 added-on d Form.choose ps (suc i) zero g l = absurd (omega (arith, l))
 added-on d Form.choose ps (suc zero) (suc j) g l = test_fact-on ps j g test d
@@ -127,7 +127,7 @@ added-on d (Form.strict s) ps i j g l = refl
 pub enter-on : (c : Context) (f : Form) (ps : Parts) (i j : ℕ) (g : Term → Term) → i ≤ j → enter_facts c (node f (on_child ps j g)) i ≡ enter_facts c (node f ps) i
 enter-on c f ps i j g l =
     ap (λ F. record { facts = c.facts ++ F; depth = c.depth + binders_of (on_child ps j g) i }) (added-on c.depth f ps i j g l)
-    ∙ ap (λ n. record { facts = c.facts ++ added c.depth f ps i; depth = c.depth + n }) (binders-on ps i j g)
+    ∙ ap (λ n. record { facts = c.facts ++ part_facts c.depth f ps i; depth = c.depth + n }) (binders-on ps i j g)
 
 -- a place that comes before the one rewritten: the same part, in the same context
 pub place-before : (q p : List ℕ) (t u : Term) → ComesBefore q p → place_of (put_at t p u) q ≡ place_of t q

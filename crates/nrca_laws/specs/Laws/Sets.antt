@@ -2,8 +2,9 @@
 use Rattle.std.proofs.Common.{◌≡◌, ℕ, ◌<◌, ◌^◌, List, [], ◌∷◌, ◌++◌, map, sum, Option, Some, None, refl, sym, ap, subst, ◌∙◌, arith, if◌then◌else◌, inl, inr, append_assoc}
 use Rattle.std.proofs.lemmas.Bool.{lt-ltb}
 use Rattle.std.proofs.lemmas.List.{append-nil}
+use Rattle.std.proofs.lemmas.Option.{same_Some}
 use Rattle.aql_value.specs.Datum as datum
-use Rattle.aql_value.specs.Datum.{Datum, natural, data_of, list_of}
+use Rattle.aql_value.specs.Datum.{Datum, natural, data_of}
 use Rattle.aql_value.specs.Laws.Datum.{list_of-data_of}
 use Rattle.aql_value.specs.Canon.{IsAscending, IsMember, canon}
 use Rattle.aql_value.specs.Laws.Canon.{canon_ascending, member_canon, member_from_canon}
@@ -22,7 +23,6 @@ use Rattle.nrca_term.specs.Laws.Shifting.{cden-shift_term}
 use Rattle.nrca_term.specs.Laws.Variants.{cden-strict}
 use Rattle.nrca_laws.specs.Laws.Meanings.{cden-unary}
 use Rattle.std.proofs.lemmas.Simd.{map-map}
-use Rattle.aql_types.specs.Laws.Operation.{some-list}
 
 -- a set of the language
 abbrev pub IsSet : Datum → Type 0
@@ -42,19 +42,6 @@ as-set v h = ap as_set h.1 ∙ ap Some (list_of-data_of h.0)
 
 set-same : (v : Datum) (h : IsSet v) → set_of h.0 ≡ v
 set-same v h = ap (λ l. datum.set (data_of l)) (canon_ascending h.0 h.2) ∙ sym h.1
-
--- a loop over one member
-over-one : (V : Outcomes) (vals : List Datum) (a b : Term) (g : List Datum → Option Datum) → ((v w : Datum) → cden V (v ∷ vals) b ≡ Some w → g (w ∷ []) ≡ Some w) →
-    (((cden V vals (single_term a) >>= as_set) >>= each (λ m. cden V (m ∷ vals) b)) >>= g) ≡ (cden V vals a >>= λ v. cden V (v ∷ vals) b)
-over-one V vals a b g h = ap (λ o. ((o >>= as_set) >>= each (λ m. cden V (m ∷ vals) b)) >>= g) (cden-unary V vals Strict.single a) ∙ by (cden V vals a)
-  where
-    body : (v : Datum) (o : Option Datum) → cden V (v ∷ vals) b ≡ o → ((o >>= λ y. Some (y ∷ [])) >>= g) ≡ o
-    body v None e = refl
-    body v (Some w) e = h v w e
-
-    by : (o : Option Datum) → ((((o >>= λ v. Some (set_of (v ∷ []))) >>= as_set) >>= each (λ m. cden V (m ∷ vals) b)) >>= g) ≡ (o >>= λ v. cden V (v ∷ vals) b)
-    by None = refl
-    by (Some v) = body v (cden V (v ∷ vals) b) refl
 
 -- a big union over one member is a let
 pub keeps-s2 : (V : Outcomes) (vals : List Datum) (a b : Term) → ((v : Datum) → cden V vals a ≡ Some v → GivesSets V (v ∷ vals) b) → cden V vals (big_union_term (single_term a) b) ≡ cden V vals (let_term a b)
@@ -143,7 +130,7 @@ keeps-s6 V vals r h = by (cden V vals r) refl
 
 -- a member of what a loop gives comes from some member of its set
 found-in : (g : Datum → Option (List Datum)) (ys : List Datum) (ss : List (List Datum)) (z : Datum) → each g ys ≡ Some ss → IsMember z (concat ss) → (y : Datum) × (s : List Datum) × IsMember y ys × (g y ≡ Some s) × IsMember z s
-found-in g [] ss z e m = let q : [] ≡ ss = some-list [] ss e in absurd (subst (λ l. IsMember z (concat l)) (sym q) m)
+found-in g [] ss z e m = let q : [] ≡ ss = same_Some [] ss e in absurd (subst (λ l. IsMember z (concat l)) (sym q) m)
 found-in g (y ∷ ys) ss z e m =
     let r = each-cons_is g y ys ss e in
     elim (member_split z r.0 (concat r.1) (subst (λ l. IsMember z (concat l)) r.4 m)) [
@@ -156,7 +143,7 @@ found-of : (g : Datum → Option (List Datum)) (ys : List Datum) (ss : List (Lis
 found-of g [] ss y z s e m k n = absurd m
 found-of g (x ∷ ys) ss y z s e (inl a) k n =
     let r = each-cons_is g x ys ss e in
-    let q : r.0 ≡ s = some-list r.0 s (sym r.2 ∙ ap g a ∙ k) in
+    let q : r.0 ≡ s = same_Some r.0 s (sym r.2 ∙ ap g a ∙ k) in
     subst (λ l. IsMember z (concat l)) (sym r.4) (member_left z r.0 (concat r.1) (subst (IsMember z) (sym q) n))
 found-of g (x ∷ ys) ss y z s e (inr b) k n =
     let r = each-cons_is g x ys ss e in subst (λ l. IsMember z (concat l)) (sym r.4) (member_right z r.0 (concat r.1) (found-of g ys r.1 y z s r.3 b k n))

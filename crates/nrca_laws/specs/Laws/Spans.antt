@@ -3,7 +3,7 @@ use Rattle.std.proofs.Common.{◌≡◌, ℕ, zero, suc, ◌+◌, ◌*◌, ◌-�
 use Rattle.std.specs.List.{slice_get}
 use Rattle.std.proofs.lemmas.Bool.{eqb-true, ltb-true}
 use Rattle.std.proofs.lemmas.Nat.{mul-le}
-use Rattle.std.proofs.lemmas.Option.{cond_some}
+use Rattle.std.proofs.lemmas.Option.{cond_some, same_Some}
 use Rattle.std.proofs.Math.Nat.{div-le_self}
 use Rattle.aql_value.specs.declared.ops.ArithOp.{ArithOp}
 use Rattle.aql_value.specs.declared.ops.ArithOp.TheVariants.{Add, Monus, Mul, Quotient, Remainder}
@@ -26,7 +26,6 @@ use Rattle.nrca_term.specs.Facts.{Known, domain, test, denied, truth_of, Fact, C
 use Rattle.nrca_term.specs.Laws.Facts.{natural-is}
 use Rattle.nrca_term.specs.Firm.{Span, number_of, as_variable, as_less, within_range, arith_span, is_domain, bounded_variable, fact_span, or_span, variable_span, span}
 use Rattle.nrca_term.specs.Laws.Variants.{cden-strict}
-use Rattle.aql_types.specs.Laws.Operation.{some-list}
 use Rattle.nrca_laws.specs.Spans.{IsInSpan, Between}
 
 -- the values of two parts, and what is made of them
@@ -46,23 +45,23 @@ two-numbers op w x v e =
     let p = then-is (as_natural w) (λ m. as_natural x >>= λ n. arith_by op m n >>= λ k. Some (natural k)) v e in
     let q = then-is (as_natural x) (λ n. arith_by op p.0 n >>= λ k. Some (natural k)) v p.2 in
     let r = then-is (arith_by op p.0 q.0) (λ k. Some (natural k)) v q.2 in
-    (p.0, q.0, r.0, natural-is w p.0 p.1, natural-is x q.0 q.1, r.1, sym (some-list (natural r.0) v r.2))
+    (p.0, q.0, r.0, natural-is w p.0 p.1, natural-is x q.0 q.1, r.1, sym (same_Some (natural r.0) v r.2))
 
 -- a number in an interval is between its ends
 pub number-is : (m : ℕ) (x : ℕ × ℕ) → IsInSpan x (natural m) → (x.0 ≤ m) × (m ≤ x.1)
-number-is m x h = let y : m ≡ h.0 = some-list m h.0 (ap as_natural h.1) in (omega (arith, h.2, y), omega (arith, h.3, y))
+number-is m x h = let y : m ≡ h.0 = same_Some m h.0 (ap as_natural h.1) in (omega (arith, h.2, y), omega (arith, h.3, y))
 
 -- an interval that stays below 2^128
 pub range-is : (low high : ℕ) (x : ℕ × ℕ) → within_range low high ≡ Some x → (low, high) ≡ x
 range-is low high x e = at (nat_lt high (2 ^ 128)) e
   where
     at : (b : Bool) → (if b then Some (low, high) else None) ≡ Some x → (low, high) ≡ x
-    at true k = some-list (low, high) x k
+    at true k = same_Some (low, high) x k
     at false k = cc
 
 -- the value of a number written as a term
 pub numeral-value : (V : Outcomes) (vals : List Datum) (t : Term) (n : ℕ) (v : Datum) → number_of t ≡ Some n → cden V vals t ≡ Some v → v ≡ natural n
-numeral-value V vals (node (Form.strict (Strict.nat m)) none) n v e h = let z : m ≡ n = cc in sym (some-list (natural m) v h) ∙ ap natural z
+numeral-value V vals (node (Form.strict (Strict.nat m)) none) n v e h = let z : m ≡ n = cc in sym (same_Some (natural m) v h) ∙ ap natural z
 numeral-value V vals _ n v e h = cc
 
 -- a sum or product in range, a quotient or remainder by a number other than 0
@@ -74,7 +73,7 @@ divides-is n q k e = at (nat_eq n 0) e
   where
     at : (b : Bool) → cond b None (Some q) ≡ Some k → k ≡ q
     at true h = cc
-    at false h = sym (some-list q k h)
+    at false h = sym (same_Some q k h)
 
 -- an arithmetic result is within the span computed from the spans of its sides
 arith-within : (op : ArithOp) (a b : Span) (c : Option ℕ) (x : ℕ × ℕ) (m n k : ℕ) → arith_span op a b c ≡ Some x → Between m a → Between n b → ((j : ℕ) → c ≡ Some j → j ≡ n) →
@@ -93,18 +92,18 @@ arith-within Mul a b c x m n k e ha hb hc h =
     (omega (arith, ap (λ y. y.0) r, mul-le p.0.0 q.0.0 m n s.0 t.0, z), omega (arith, ap (λ y. y.1) r, mul-le m n p.0.1 q.0.1 s.1 t.1, z))
 arith-within Monus a b c x m n k e ha hb hc h =
     let p = then-is a (λ x. Some (0, x.1)) x e in
-    let r = some-list (0, p.0.1) x p.2 in let z = some-list (m - n) k h in
+    let r = same_Some (0, p.0.1) x p.2 in let z = same_Some (m - n) k h in
     (omega (arith, ap (λ y. y.0) r), omega (arith, ap (λ y. y.1) r, (ha p.0 p.1).1, z))
 arith-within Quotient a b None x m n k e ha hb hc h = cc
 arith-within Quotient a b (Some zero) x m n k e ha hb hc h = cc
 arith-within Quotient a b (Some (suc j)) x m n k e ha hb hc h =
     let p = then-is a (λ x. Some (0, x.1)) x e in
-    let r = some-list (0, p.0.1) x p.2 in let z = divides-is n (m / n) k h in
+    let r = same_Some (0, p.0.1) x p.2 in let z = divides-is n (m / n) k h in
     (omega (arith, ap (λ y. y.0) r), omega (arith, ap (λ y. y.1) r, (ha p.0 p.1).1, div-le_self m n, z))
 arith-within Remainder a b None x m n k e ha hb hc h = cc
 arith-within Remainder a b (Some zero) x m n k e ha hb hc h = cc
 arith-within Remainder a b (Some (suc j)) x m n k e ha hb hc h =
-    let r = some-list (0, suc j - 1) x e in let y = hc (suc j) refl in let z = divides-is n (m % n) k h in
+    let r = same_Some (0, suc j - 1) x e in let y = hc (suc j) refl in let z = divides-is n (m % n) k h in
     (omega (arith, ap (λ y. y.0) r), omega (arith, ap (λ y. y.1) r, z, ap (λ d. m % d) y, mod-lt m j))
   where
     mod-lt : (m n : ℕ) → m % suc n < suc n
@@ -112,11 +111,11 @@ arith-within Remainder a b (Some (suc j)) x m n k e ha hb hc h =
 
 -- the terms that a fact on a variable is read from
 as_less-is : (t : Term) (p : Term × Term) → as_less t ≡ Some p → t ≡ less_term p.0 p.1
-as_less-is (node (Form.strict (Strict.compare Less)) (part zero a (part zero b none))) p e = ap (λ q. less_term q.0 q.1) (some-list (a, b) p e)
+as_less-is (node (Form.strict (Strict.compare Less)) (part zero a (part zero b none))) p e = ap (λ q. less_term q.0 q.1) (same_Some (a, b) p e)
 as_less-is _ p e = cc
 
 as_variable-is : (t : Term) (j : ℕ) → as_variable t ≡ Some j → t ≡ variable j
-as_variable-is (node (Form.var i) none) j e = ap variable (some-list i j e)
+as_variable-is (node (Form.var i) none) j e = ap variable (same_Some i j e)
 as_variable-is _ j e = cc
 
 -- an element past those that are dropped
@@ -149,7 +148,7 @@ sides-less V vals a b n e k =
 
 -- the interval below a number
 ended : (i j k n m : ℕ) (x : ℕ × ℕ) (b : Bool) → m < n → (if b then Some (0, n - 1) else None) ≡ Some x → (b ≡ true) × (x.0 ≤ m) × (m ≤ x.1)
-ended i j k n m x true l e = let r = some-list (0, n - 1) x e in (refl, omega (arith, ap (λ q. q.0) r), omega (arith, ap (λ q. q.1) r, l))
+ended i j k n m x true l e = let r = same_Some (0, n - 1) x e in (refl, omega (arith, ap (λ q. q.0) r), omega (arith, ap (λ q. q.1) r, l))
 ended i j k n m x false l e = cc
 
 -- what one fact says of a variable
@@ -165,7 +164,7 @@ fact-within V vals d i f x v h e g = at f.known refl e
         let l = sides-less V (drop k vals) p.0.0 p.0.1 n.0 (sym (ap (cden V (drop k vals)) (as_less-is f.comparison p.0 p.1)) ∙ c) n.1 in
         let r = ended i j.0 k n.0 l.0 x (nat_eq i (j.0 + k)) l.2 n.2 in
         let y : slice_get vals (j.0 + k) ≡ Some (natural l.0) = sym (get-drop k vals j.0) ∙ sym (ap (cden V (drop k vals)) (as_variable-is p.0.0 j.0 j.1)) ∙ l.1 in
-        let z : v ≡ natural l.0 = some-list v (natural l.0) (sym g ∙ ap (slice_get vals) (eqb-true i (j.0 + k) r.0) ∙ y) in
+        let z : v ≡ natural l.0 = same_Some v (natural l.0) (sym g ∙ ap (slice_get vals) (eqb-true i (j.0 + k) r.0) ∙ y) in
         (l.0, z, r.1, r.2)
 
     at : (w : Known) → f.known ≡ w → (if is_domain w then (as_less f.comparison >>= bounded_variable i (d - f.depth)) else None) ≡ Some x → IsInSpan x v
@@ -186,7 +185,7 @@ variable-within V vals d i (f ∷ F) x v h e g = at (λ k. variable-within V val
 pub span-sound : (V : Outcomes) (vals : List Datum) (c : Context) → FactsHold V c vals → (t : Term) (x : ℕ × ℕ) (v : Datum) → span c t ≡ Some x → cden V vals t ≡ Some v → IsInSpan x v
 span-sound V vals c h (node (Form.var i) none) x v e k = variable-within V vals c.depth i c.facts x v h.1 e k
 span-sound V vals c h (node (Form.strict (Strict.nat n)) none) x v e k =
-    let r = some-list (n, n) x e in
+    let r = same_Some (n, n) x e in
     (n, numeral-value V vals (number n) n v refl k, omega (arith, ap (λ q. q.0) r), omega (arith, ap (λ q. q.1) r))
 span-sound V vals c h (node (Form.strict (Strict.arith op)) (part zero a (part zero b none))) x v e k =
     let r = two-values V vals (Strict.arith op) a b v k in
@@ -194,6 +193,6 @@ span-sound V vals c h (node (Form.strict (Strict.arith op)) (part zero a (part z
     let w = arith-within op (span c a) (span c b) (number_of b) x s.0 s.1 s.2 e
     (λ y q. number-is s.0 y (span-sound V vals c h a y (natural s.0) q (r.2 ∙ ap Some s.3)))
     (λ y q. number-is s.1 y (span-sound V vals c h b y (natural s.1) q (r.3 ∙ ap Some s.4)))
-    (λ j q. some-list j s.1 (ap as_natural (sym (numeral-value V vals b j r.1 q r.3) ∙ s.4))) s.5 in
+    (λ j q. same_Some j s.1 (ap as_natural (sym (numeral-value V vals b j r.1 q r.3) ∙ s.4))) s.5 in
     (s.2, s.6, w.0, w.1)
 span-sound V vals c h _ x v e k = cc

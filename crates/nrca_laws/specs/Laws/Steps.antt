@@ -75,7 +75,7 @@ replay-falls G V w (s ∷ trace) t u T ty l h =
     omega (arith, replay-falls G V w trace h.0 u T (step-types G V s.rule s.path t h.0 [] T ty h.1) m h.2, left-falls (w * w) h.0 t (omega (arith, pairs-weight h.0, mul-le (weight_of h.0) (weight_of h.0) w w m m)) b)
 
 -- a third power
-cube : (n : ℕ) → n ^ 3 ≡ n * (n * n)
+pub cube : (n : ℕ) → n ^ 3 ≡ n * (n * n)
 cube n = pow-succ' n 2 ∙ ap (λ m. n * m) (pow-succ' n 1 ∙ ap (λ m. n * m) (pow-succ' n 0 ∙ ap (λ m. n * m) (pow-zero n) ∙ omega arith))
 
 -- a chain has at most (W + 1)^3 steps, W being the weight of its first term

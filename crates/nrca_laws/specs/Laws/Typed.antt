@@ -12,25 +12,12 @@ use Rattle.std.proofs.lemmas.Bool.{eqb-true}
 use Rattle.std.proofs.lemmas.List.{length-map, append-nil, length-replicate}
 use Rattle.nrca_term.specs.Rules.{is_dim_of, constant_literal}
 use Rattle.aql_value.specs.Laws.Lists.{slice_get-append_right}
+use Rattle.nrca_term.specs.Laws.TypedLists.{TermsTyped}
 use Rattle.nrca_term.specs.Laws.TypingSubst.{ctyped-type}
 
 -- equal lists of arguments begin and go on alike
 pub args-first : (a b : Arg) (as' bs : List Arg) → a ∷ as' ≡ b ∷ bs → (a ≡ b) × (as' ≡ bs)
 args-first a b as' bs e = let x : a ≡ b = cc in let y : as' ≡ bs = cc in (x, y)
-
--- as many terms as types, each of its type
-abbrev pub TermsTyped : (ℕ → Ty → Type 0) → List Ty → List Term → List Ty → Type 0
-TermsTyped G env [] [] = Unit {0}
-TermsTyped G env [] (A ∷ As) = ⊥
-TermsTyped G env (t ∷ ts) [] = ⊥
-TermsTyped G env (t ∷ ts) (A ∷ As) = ctyped G env t A × TermsTyped G env ts As
-
--- there are as many terms as types
-pub terms-length : (G : ℕ → Ty → Type 0) (env : List Ty) (ts : List Term) (As : List Ty) → TermsTyped G env ts As → length ts ≡ length As
-terms-length G env [] [] h = refl
-terms-length G env [] (A ∷ As) h = absurd h
-terms-length G env (t ∷ ts) [] h = absurd h
-terms-length G env (t ∷ ts) (A ∷ As) h = ap suc (terms-length G env ts As h.1)
 
 -- the first part of typed parts, and the others
 pub head-typed : (G : ℕ → Ty → Type 0) (env : List Ty) (k : ℕ) (t : Term) (ps : Parts) (a : Arg) (rest : List Arg) → parts_typed G env (part k t ps) (a ∷ rest) → (length a.own ≡ k) × ctyped G (a.own ++ env) t a.has × parts_typed G env ps rest

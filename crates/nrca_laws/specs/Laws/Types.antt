@@ -8,7 +8,7 @@ use Rattle.aql_value.specs.Order.{datum_cmp}
 use Rattle.aql_value.specs.Ops.{arith_by, compare_by}
 use Rattle.aql_value.specs.declared.ops.CompareOp.TheVariants.{Less}
 use Rattle.aql_types.specs.Types as types
-use Rattle.aql_types.specs.Types.{Ty, Tys, no_type, type, natural, truth, IsRank, IsType, tys_of, index_type}
+use Rattle.aql_types.specs.Types.{Ty, Tys, no_type, type, natural, truth, IsType, tys_of, index_type}
 use Rattle.aql_types.specs.OperationTypes.{strict_rule}
 use Rattle.nrca_term.specs.declared.trace.Rule.{Rule}
 use Rattle.nrca_term.specs.declared.trace.Rule.TheVariants.{B1, K1, I1, I2, L1, L2, L3, P1, P2, S1, S2, S3, S4, S5, S6, S7, S8, S9, A1, A2, A3, A4, A5, A6, A7, C1, C2, C3, C4, N1, N2}
@@ -20,9 +20,10 @@ use Rattle.nrca_term.specs.Typing.{Arg, form_rule, ctyped, parts_typed}
 use Rattle.nrca_term.specs.Laws.TypingShift.{ctyped-shift_term}
 use Rattle.nrca_term.specs.Laws.TypingSubst.{ctyped-subst_term, ctyped-type}
 use Rattle.nrca_term.specs.Laws.Variants.{literal-parts}
-use Rattle.nrca_term.specs.Rules.{Way, Redex, IsComparison, Folds, arithmetic, numbers, truths, texts, generated, member, misshapen, Subscript, inside, outside, LoopOf, lets, guarded, beta, sizes_term, is_dim_of, replace_dims, replace_dims_parts, number_or_bottom, constant_literal, dimension_terms, index_variables}
+use Rattle.nrca_term.specs.Rules.{Way, Redex, IsComparison, Folds, arithmetic, numbers, truths, texts, generated, member, misshapen, Subscript, inside, outside, LoopOf, lets, guard, beta, sizes_term, is_dim_of, replace_dims, replace_dims_parts, number_or_bottom, constant_literal, dimension_terms, index_variables}
 use Rattle.nrca_laws.specs.Laws.Keeping.{dimension_terms-length, index_variables-length}
-use Rattle.nrca_laws.specs.Laws.Typed.{set_inj, TermsTyped, terms-length, strict-typed, typed-strict, let-typed, typed-let, if-typed, typed-if, default-typed, union-typed, typed-union, sum-typed, typed-sum, tab-typed, one-typed, single-typed, sub-typed, dim-typed, dim-is, dim-rank, get-past}
+use Rattle.nrca_term.specs.Laws.TypedLists.{TermsTyped, terms-length}
+use Rattle.nrca_laws.specs.Laws.Typed.{set_inj, strict-typed, typed-strict, let-typed, typed-let, if-typed, typed-if, default-typed, union-typed, typed-union, sum-typed, typed-sum, tab-typed, one-typed, single-typed, sub-typed, dim-typed, dim-is, dim-rank, get-past}
 
 -- bottom, numbers, truth values and the empty set
 bottom-typed : (G : ℕ → Ty → Type 0) (env : List Ty) (T : Ty) → IsType T → ctyped G env bottom_term T
@@ -125,13 +126,13 @@ shifted-naturals : (G : ℕ → Ty → Type 0) (env : List Ty) (k : ℕ) (t : Te
 shifted-naturals G env k t A h = subst (λ n. ctyped G (replicate k natural ++ env) (shift_term 0 n t) A) (length-replicate k natural) (ctyped-shift_term G [] (replicate k natural) env t A h)
 
 -- tests before a body, and lets around it
-typed-guarded : (G : ℕ → Ty → Type 0) (env : List Ty) (k : ℕ) (ds : List Term) (b : Term) (n : ℕ) (T : Ty) → TermsTyped G env ds (replicate n natural) → length ds ≤ k → ctyped G (replicate k natural ++ env) b T → ctyped G (replicate k natural ++ env) (guarded k ds b) T
+typed-guarded : (G : ℕ → Ty → Type 0) (env : List Ty) (k : ℕ) (ds : List Term) (b : Term) (n : ℕ) (T : Ty) → TermsTyped G env ds (replicate n natural) → length ds ≤ k → ctyped G (replicate k natural ++ env) b T → ctyped G (replicate k natural ++ env) (guard k ds b) T
 typed-guarded G env k [] b n T h l c = c
 typed-guarded G env k (d ∷ ds) b zero T h l c = absurd h
 typed-guarded G env k (d ∷ ds) b (suc n) T h l c =
     let v : ctyped G (replicate k natural ++ env) (variable (length ds)) natural = (tt, [], (refl, replicate-get k (length ds) env (omega (arith, l))), refl) in
     let test = typed-strict G (replicate k natural ++ env) (Strict.compare Less) (variable (length ds) ∷ shift_term 0 k d ∷ []) (natural ∷ natural ∷ []) truth tt (natural, refl, refl) (v, (shifted-naturals G env k d natural h.0, tt)) in
-    typed-if G (replicate k natural ++ env) (less_term (variable (length ds)) (shift_term 0 k d)) (guarded k ds b) bottom_term T test (typed-guarded G env k ds b n T h.1 (omega (arith, l)) c)
+    typed-if G (replicate k natural ++ env) (less_term (variable (length ds)) (shift_term 0 k d)) (guard k ds b) bottom_term T test (typed-guarded G env k ds b n T h.1 (omega (arith, l)) c)
     (bottom-typed G (replicate k natural ++ env) T (ctyped-type G (replicate k natural ++ env) b T c))
 
 typed-lets : (G : ℕ → Ty → Type 0) (env : List Ty) (is : List Term) (m n : ℕ) (body : Term) (T : Ty) → TermsTyped G env is (replicate m natural) → ctyped G (replicate (length is + n) natural ++ env) body T → ctyped G (replicate n natural ++ env) (lets n is body) T
@@ -295,7 +296,7 @@ typed-a1 G env ds b is T e ty =
     let z : T ≡ t.0 = array_cell u.0 (length ds) T t.0 t.2 in
     let n : length ds ≡ length is + 0 = omega (arith, e) in
     as-typed G env (beta ds b is) t.0 T z
-    (typed-lets G env is u.0 0 (guarded (length ds) ds b) t.0 u.3 (subst (λ j. ctyped G (replicate j natural ++ env) (guarded (length ds) ds b) t.0) n (typed-guarded G env (length ds) ds b (length ds) t.0 t.3 (omega arith) t.4)))
+    (typed-lets G env is u.0 0 (guard (length ds) ds b) t.0 u.3 (subst (λ j. ctyped G (replicate j natural ++ env) (guard (length ds) ds b) t.0) n (typed-guarded G env (length ds) ds b (length ds) t.0 t.3 (omega arith) t.4)))
 
 typed-a2 : (G : ℕ → Ty → Type 0) (env : List Ty) (k : ℕ) (r : Term) (T : Ty) → ctyped G env (tab_term (dimension_terms k r) (sub_term (shift_term 0 k r) (index_variables k))) T → ctyped G env r T
 typed-a2 G env k r T ty =

@@ -2,6 +2,7 @@
 use Rattle.std.proofs.Common.{◌≡◌, ℕ, ◌+◌, ◌-◌, List, [], ◌∷◌, ◌++◌, length, map, take, Some, refl, sym, ap, subst, ◌∙◌, arith}
 use Rattle.std.specs.List.{slice_get}
 use Rattle.std.proofs.lemmas.List.{length-map, append-nil}
+use Rattle.std.proofs.lemmas.Option.{same_Some}
 use Rattle.aql_value.specs.Indices.{indices, offset_of}
 use Rattle.aql_value.specs.Laws.RowMajor.{place_of_index}
 use Rattle.aql_value.specs.Lists.{below}
@@ -13,7 +14,6 @@ use Rattle.nrca_term.specs.Nodes.{number, sub_term, let_term}
 use Rattle.nrca_term.specs.Laws.Variants.{count-plain}
 use Rattle.nrca_term.specs.Rules.{Way, Redex, Atom, Subscript, inside, outside, in_first, others, constant_literal}
 use Rattle.std.proofs.Math.Seq.{take-append_seam}
-use Rattle.aql_types.specs.Laws.Operation.{some-list}
 
 -- what is read from a term: its first part, rank, component, number of parts, number, numbers, parts after the first
 first_of : Term → Term
@@ -106,7 +106,7 @@ subscript-ways : (l r s : Term) (ws us : List Way) → Subscript l r ws → Subs
 subscript-ways l r s ws us (inside ns cs is p e a b c d) (inside ms ds js q f h i j k) =
     let z = same-subscript ns ms cs ds is js (sym e ∙ f) in
     let o : offset_of ns is ≡ Some q = ap (λ x. offset_of x is) z.dims ∙ ap (offset_of ms) z.at ∙ place_of_index ms js q i in
-    let y : p ≡ q = some-list p q (sym (place_of_index ns is p b) ∙ o) in
+    let y : p ≡ q = same_Some p q (sym (place_of_index ns is p b) ∙ o) in
     d ∙ ap (λ x. in_first (map (λ i. length x + i) (others p (length cs)))) z.dims ∙ ap (λ x. in_first (map (λ i. length ms + i) (others x (length cs)))) y ∙ ap (λ x. in_first (map (λ i. length ms + i) (others q x))) z.cells ∙ sym k
 subscript-ways l r s ws us (inside ns cs is p e a b c d) (outside ms ds js f h i j k m) =
     let z = same-subscript ns ms cs ds is js (sym e ∙ f) in

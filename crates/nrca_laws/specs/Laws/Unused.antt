@@ -60,10 +60,6 @@ mutual
   parts_uses-shifted at none = refl
   parts_uses-shifted at (part k t ps) = omega (arith, uses-shifted (at + k) t, parts_uses-shifted at ps)
 
--- no parts
-none-subst : (at : ℕ) (w : Term) (ps : Parts) → ps ≡ none → none ≡ subst_parts at w ps
-none-subst at w ps e = sym (ap (subst_parts at w) e)
-
 mutual
   -- a term in which the variable is not used is the shift of what a substitution makes of it
   pub shift-unused : (at : ℕ) (w t : Term) → WellFormed t → uses_of at t ≡ 0 → t ≡ shift_term at 1 (subst_term at w t)

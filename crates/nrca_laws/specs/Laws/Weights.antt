@@ -1,18 +1,17 @@
 -- The weight of a term after a shift, a substitution, a subscript put into a tabulation, and the replacement of dimensions.
-use Rattle.std.proofs.Common.{◌≡◌, ℕ, zero, suc, ◌+◌, ◌*◌, ◌-◌, ◌≤◌, Bool, true, false, nat_eq, List, [], ◌∷◌, ◌++◌, length, map, Some, refl, ap, subst, ◌∙◌, arith, if◌then◌else◌, inl, inr}
+use Rattle.std.proofs.Common.{◌≡◌, ℕ, suc, ◌+◌, ◌*◌, ◌-◌, ◌≤◌, Bool, true, false, nat_eq, List, [], ◌∷◌, ◌++◌, length, map, Some, refl, ap, subst, ◌∙◌, arith, if◌then◌else◌, inl, inr}
 use Rattle.std.specs.List.{slice_get}
 use Rattle.std.proofs.lemmas.Bool.{cases_lt, lt-ltb, le-ltb, eqb-true}
 use Rattle.std.proofs.Math.Nat.{mul-add, mul_comm}
 use Rattle.aql_value.specs.Strict.{Strict}
 use Rattle.aql_types.specs.Types as types
-use Rattle.aql_types.specs.Types.{Ty, natural}
+use Rattle.aql_types.specs.Types.{Ty}
 use Rattle.nrca_term.specs.Typing.{Arg, ctyped, parts_typed}
 use Rattle.nrca_term.specs.Term.{Term, Parts, node, none, part, plain, Form, weight_of, parts_weight, form_weight, list_weight, WellFormed, PartsWellFormed}
 use Rattle.nrca_term.specs.Nodes.{number, tab_term, sub_term, literal_term}
 use Rattle.nrca_term.specs.Subst.{shift_form, shift_term, shift_parts, subst_var, subst_term, subst_parts, form_uses, uses_of, parts_uses}
 use Rattle.nrca_term.specs.Laws.Variants.{parts_weight-plain}
-use Rattle.nrca_term.specs.Laws.Measure.{form-positive}
-use Rattle.nrca_term.specs.Rules.{lets, guarded, beta, sizes_term, replace_dims, replace_dims_parts, dims_of_var, parts_dims_of_var, is_dim_of}
+use Rattle.nrca_term.specs.Rules.{lets, guard, beta, sizes_term, replace_dims, replace_dims_parts, dims_of_var, parts_dims_of_var, is_dim_of}
 use Rattle.nrca_laws.specs.Laws.Typed.{dim-is, dim-rank, get-past}
 
 -- a shift changes no weight
@@ -88,16 +87,6 @@ mutual
       (subst (λ w. Grown (weight_of (subst_term (at + k) (shift_term 0 k s) t)) (weight_of t) (uses_of (at + k) t) w) (weight-shift 0 k s) (weight-subst (at + k) (shift_term 0 k s) t h.1))
       (weights-subst at s f (suc i) ps h.2)
 
--- each term weighs at least 1
-pub term-positive : (t : Term) → 1 ≤ weight_of t
-term-positive (node f ps) = omega (arith, form-positive f)
-
--- an element of a list weighs no more than the list
-pub list-get : (ts : List Term) (i : ℕ) (t : Term) → slice_get ts i ≡ Some t → weight_of t ≤ list_weight ts
-list-get [] i t e = cc
-list-get (u ∷ ts) zero t e = let z : u ≡ t = cc in omega (arith, ap weight_of z)
-list-get (u ∷ ts) (suc i) t e = omega (arith, list-get ts i t e)
-
 -- each number weighs 1
 pub numbers-weight : (ns : List ℕ) → list_weight (map number ns) ≡ length ns
 numbers-weight [] = refl
@@ -113,7 +102,7 @@ weight-lets : (n : ℕ) (is : List Term) (body : Term) → weight_of (lets n is 
 weight-lets n [] body = omega arith
 weight-lets n (i ∷ is) body = omega (arith, weight-lets (suc n) is body, weight-shift 0 n i)
 
-weight-guarded : (k : ℕ) (ds : List Term) (b : Term) → weight_of (guarded k ds b) ≡ 4 * length ds + list_weight ds + weight_of b
+weight-guarded : (k : ℕ) (ds : List Term) (b : Term) → weight_of (guard k ds b) ≡ 4 * length ds + list_weight ds + weight_of b
 weight-guarded k [] b = omega arith
 weight-guarded k (d ∷ ds) b = omega (arith, weight-guarded k ds b, weight-shift 0 k d)
 
@@ -127,7 +116,7 @@ weight-sub a is = omega (arith, parts_weight-plain is none)
 
 -- a subscript put into a tabulation weighs less by the rank and 7
 pub weight-beta : (ds : List Term) (b : Term) (is : List Term) → length ds ≡ length is → weight_of (beta ds b is) + length ds + 7 ≡ weight_of (sub_term (tab_term ds b) is)
-weight-beta ds b is e = omega (arith, e, weight-lets 0 is (guarded (length ds) ds b), weight-guarded (length ds) ds b, weight-tab ds b, weight-sub (tab_term ds b) is)
+weight-beta ds b is e = omega (arith, e, weight-lets 0 is (guard (length ds) ds b), weight-guarded (length ds) ds b, weight-tab ds b, weight-sub (tab_term ds b) is)
 
 -- the sizes of a tabulation weigh at most the bounds and 1
 pub weight-sizes : (ds : List Term) → weight_of (sizes_term ds) ≤ list_weight ds + 1

@@ -1,9 +1,9 @@
 -- Steps of runs, and runs that follow each other.
-use Rattle.std.proofs.Common.{◌≡◌, ℕ, zero, suc, ◌+◌, ◌-◌, ◌<◌, ◌≤◌, List, [], ◌∷◌, ◌++◌, length, take, drop, Option, Some, None, refl, sym, ◌∙◌, ap, arith}
+use Rattle.std.proofs.Common.{◌≡◌, ℕ, ◌+◌, ◌-◌, ◌<◌, ◌≤◌, List, [], ◌∷◌, ◌++◌, length, take, drop, Option, Some, None, refl, sym, ◌∙◌, ap, arith}
 use Rattle.std.specs.Prelude.{slice_get, sum}
 use Rattle.std.specs.List.{slice_range}
 use Rattle.std.specs.Option.{option_map}
-use Rattle.std.proofs.lemmas.List.{append-nil, drop-drop}
+use Rattle.std.proofs.lemmas.List.{append-nil, drop-drop, take_all}
 use Rattle.std.proofs.lemmas.List.Sums.{sum_by-append}
 use Rattle.std.proofs.lemmas.Bool.Decides.{nat_tests}
 use Rattle.aql_value.specs.Canon.{canon}
@@ -17,11 +17,11 @@ use Rattle.aql_value.specs.Laws.Lists.{concat-append, range_more}
 use Rattle.std.proofs.Math.Seq.{take-add}
 use Rattle.nrca_loops.specs.Runs.{sum_value, sum_with, all_members, members_with, list_with, sums_join, sets_join, lists_join, union_value}
 
--- f of one element more
-pub each-push : {X : Type 0} (f : X → Option Datum) (xs : List X) (x : X) → each f (xs ++ x ∷ []) ≡ list_with (each f xs) (f x)
-each-push f xs x = each-append f xs (x ∷ []) ∙ go (each f xs) (f x)
+-- f of one element more, whatever it gives
+pub each-more : {X Y : Type 0} (f : X → Option Y) (xs : List X) (x : X) → each f (xs ++ x ∷ []) ≡ list_with (each f xs) (f x)
+each-more f xs x = each-append f xs (x ∷ []) ∙ go (each f xs) (f x)
   where
-    go : (o : Option (List Datum)) (p : Option Datum) → (o >>= λ ys. (p >>= λ y. Some (y ∷ [])) >>= λ zs. Some (ys ++ zs)) ≡ list_with o p
+    go : {Y : Type 0} (o : Option (List Y)) (p : Option Y) → (o >>= λ ys. (p >>= λ y. Some (y ∷ [])) >>= λ zs. Some (ys ++ zs)) ≡ list_with o p
     go None p = refl
     go (Some ys) None = refl
     go (Some ys) (Some y) = refl
@@ -31,7 +31,7 @@ total-push g xs x = omega (arith, total-append g xs (x ∷ []))
 
 module _ {X : Type 0} (f : X → Option Datum) (g : X → ℕ) (xs : List X) (a i : ℕ) (x : X) (low : a ≤ i) (at : slice_get xs i ≡ Some x) where
   pub each-range_more : each f (slice_range xs a (i + 1)) ≡ list_with (each f (slice_range xs a i)) (f x)
-  each-range_more = ap (each f) (range_more xs a i x low at) ∙ each-push f (slice_range xs a i) x
+  each-range_more = ap (each f) (range_more xs a i x low at) ∙ each-more f (slice_range xs a i) x
 
   pub total-range_more : total g (slice_range xs a (i + 1)) ≡ total g (slice_range xs a i) + g x
   total-range_more = ap (total g) (range_more xs a i x low at) ∙ total-push g (slice_range xs a i) x
@@ -47,15 +47,6 @@ range_split xs a m b h k =
 pub total-range_within : {X : Type 0} (g : X → ℕ) (xs : List X) (a i b : ℕ) (x : X) → a ≤ i → i < b → slice_get xs i ≡ Some x → total g (slice_range xs a i) + g x ≤ total g (slice_range xs a b)
 total-range_within g xs a i b x low high e =
     omega (arith, ap (total g) (range_split xs a (i + 1) b (omega (arith, low)) (omega (arith, high))), total-append g (slice_range xs a (i + 1)) (slice_range xs (i + 1) b), ap (total g) (range_more xs a i x low e), total-push g (slice_range xs a i) x)
-
--- f of one element more, whatever it gives
-pub each-more : {X Y : Type 0} (f : X → Option Y) (xs : List X) (x : X) → each f (xs ++ x ∷ []) ≡ (each f xs >>= λ ys. f x >>= λ y. Some (ys ++ y ∷ []))
-each-more f xs x = each-append f xs (x ∷ []) ∙ go (each f xs) (f x)
-  where
-    go : {Y : Type 0} (o : Option (List Y)) (p : Option Y) → (o >>= λ ys. (p >>= λ y. Some (y ∷ [])) >>= λ zs. Some (ys ++ zs)) ≡ (o >>= λ ys. p >>= λ y. Some (ys ++ y ∷ []))
-    go None p = refl
-    go (Some ys) None = refl
-    go (Some ys) (Some y) = refl
 
 sum-push : (ns : List ℕ) (n : ℕ) → sum (ns ++ n ∷ []) ≡ sum ns + n
 sum-push ns n = sum_by-append (λ x. x) ns (n ∷ []) ∙ omega arith
@@ -87,12 +78,6 @@ all_members-with (Some xs) (Some y) = ap (λ o. o >>= λ sets. Some (concat sets
 -- a whole list as a range
 pub range_whole : {X : Type 0} (xs : List X) (n : ℕ) → n ≡ length xs → slice_range xs 0 n ≡ xs
 range_whole xs n e = take_all (n - 0) xs (omega (arith, e))
-  where
-    take_all : {X : Type 0} (k : ℕ) (ys : List X) → length ys ≤ k → take k ys ≡ ys
-    take_all zero [] h = refl
-    take_all zero (y ∷ ys) h = absurd (omega (arith, h))
-    take_all (suc k) [] h = refl
-    take_all (suc k) (y ∷ ys) h = ap (λ l. y ∷ l) (take_all k ys (omega (arith, h)))
 
 -- no members
 pub range_none : {X : Type 0} (xs : List X) (a : ℕ) → slice_range xs a a ≡ []
@@ -126,10 +111,6 @@ union_value-join None p = refl
 union_value-join (Some xs) None = then-none (union_value (Some xs)) (λ m. None) (λ m e. refl)
 union_value-join (Some xs) (Some ys) = sym (ap (λ o. option_map canon (o >>= λ sets. Some (concat sets))) (each-append as_set xs ys) ∙ go (each as_set xs) (each as_set ys))
   where
-    sets_none : (o : Option (List Datum)) → None ≡ sets_join o None
-    sets_none None = refl
-    sets_none (Some s) = refl
-
     go : (o p : Option (List (List Datum))) →
         option_map canon ((o >>= λ ss. p >>= λ ts. Some (ss ++ ts)) >>= λ sets. Some (concat sets))
         ≡ sets_join (option_map canon (o >>= λ sets. Some (concat sets))) (option_map canon (p >>= λ sets. Some (concat sets)))

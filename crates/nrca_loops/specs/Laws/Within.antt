@@ -1,6 +1,6 @@
 -- Answers within a budget.
 use Rattle.std.proofs.Common.{◌≡◌, ℕ, ◌<◌, sym, ◌∙◌, arith}
-use Rattle.std.specs.Prelude.{Result, Ok, Err, IsErr, IsErrAnd, IfOk}
+use Rattle.std.specs.Prelude.{Result, Ok, Err, IsErr, IsErrAnd}
 use Rattle.nrca_par.specs.declared.fault.EvalFault.{EvalFault}
 use Rattle.nrca_par.specs.declared.fault.EvalFault.TheVariants.{Spent}
 use Rattle.nrca_loops.specs.declared.done.Counted.{Counted}
@@ -15,7 +15,3 @@ err_within view (Err e) budget x turns f is and why = λ s. why (sym and ∙ s)
 pub same_within : {T X : Type 0} (view : T → X) (r : Result (Counted T) EvalFault) (budget : ℕ) (x y : X) (t u : ℕ) → x ≡ y → t ≡ u → Within view budget x t r → Within view budget y u r
 same_within view (Ok d) budget x y t u e f p = (p.0 ∙ e, p.1 ∙ f, omega (arith, p.2, f))
 same_within view (Err z) budget x y t u e f p = λ s. let h = p s in omega (arith, h, f)
-
-pub IfOk_then : {X E : Type 0} (r : Result X E) (P Q : X → Type 0) → IfOk r P → ((x : X) → P x → Q x) → IfOk r Q
-IfOk_then (Ok x) P Q h f = f x h
-IfOk_then (Err e) P Q h f = h

@@ -1,6 +1,6 @@
 -- Each move keeps the number of nodes and lowers the measure; so chains are short.
 use Rattle.std.proofs.Common.{◌≡◌, ℕ, zero, suc, ◌+◌, ◌*◌, ◌^◌, ◌<◌, ◌≤◌, Bool, true, false, List, [], ◌∷◌, length, Some, refl, sym, ap, subst, ◌∙◌, arith}
-use Rattle.std.proofs.Math.Nat.{mul-add, mul_comm, pow-zero, pow-succ'}
+use Rattle.std.proofs.Math.Nat.{mul-add, mul_comm}
 use Rattle.std.proofs.lemmas.Nat.{mul-le}
 use Rattle.nrca_term.specs.Term.{weight_of}
 use Rattle.nrca_term.specs.Measure.{nodes_of, parts_nodes}
@@ -8,17 +8,18 @@ use Rattle.aql_types.specs.Types.{Ty}
 use Rattle.nrca_term.specs.Term.{Term, Parts, Form, node, none, part, form_of, parts_of, child_of, binders_of, WellFormed}
 use Rattle.nrca_term.specs.Nodes.{let_term, if_term, loop_term}
 use Rattle.nrca_term.specs.Meaning.{Outcomes}
-use Rattle.nrca_term.specs.Laws.Measure.{through, nodes-weight}
+use Rattle.nrca_term.specs.Laws.Measure.{through, nodes-weight, square_sum}
 use Rattle.nrca_term.specs.Places.{place_of, put_at}
 use Rattle.nrca_term.specs.Subst.{shift_term}
 use Rattle.nrca_term.specs.Laws.TypedForm.{well_formed-typed}
 use Rattle.nrca_term.specs.Laws.TypedPlaces.{typed-place}
 use Rattle.nrca_term.specs.Typing.{ctyped}
 use Rattle.nrca_term.specs.Laws.WellFormed.{well_formed-child}
+use Rattle.nrca_laws.specs.Laws.Steps.{cube}
 use Rattle.nrca_motion.specs.declared.moves.MoveRule.{MoveRule}
 use Rattle.nrca_motion.specs.declared.moves.MoveRule.TheVariants.{M1, M2, M3, M4}
 use Rattle.nrca_motion.specs.declared.moves.Move as code
-use Rattle.nrca_motion.specs.Moves.{MoveRedex, MoveStep, MoveChain, rotated, LoopBody, TabBody}
+use Rattle.nrca_motion.specs.Moves.{MoveRedex, MoveStep, MoveChain, rotate_term, LoopBody, TabBody}
 use Rattle.nrca_motion.specs.Counting.{Count, one, where_above, number_of, pairs_of, parts_pairs, parts_number, IsNameless}
 use Rattle.nrca_motion.specs.Laws.Counting.{number-shift, pairs-shift, number-put_at, pairs-put_at}
 use Rattle.nrca_motion.specs.Lowering.{in_loops, lets_below, is_other, measure_of}
@@ -37,10 +38,10 @@ test-number c h f e t b z = omega (arith, number-shift c h 0 1 t)
 pub moved-number : (c : Count) → IsNameless c → (R : MoveRule) (l r : Term) (needs : List Term) → WellFormed l → MoveRedex R l r needs → number_of c r ≡ number_of c l
 moved-number c h M1 l r needs w m = ap (number_of c) m.7 ∙ test-number c h m.0 m.2 m.3 m.4 m.1 ∙ sym (ap (number_of c) m.6)
 moved-number c h M2 l r needs w m =
-    ap (number_of c) m.5 ∙ let_out-number c h l m.0 m.1 (shift_term 0 (binders_of (parts_of l) m.0) m.1) m.2 (rotated (binders_of (parts_of l) m.0) m.2) m.4
+    ap (number_of c) m.5 ∙ let_out-number c h l m.0 m.1 (shift_term 0 (binders_of (parts_of l) m.0) m.1) m.2 (rotate_term (binders_of (parts_of l) m.0) m.2) m.4
     (number-shift c h 0 (binders_of (parts_of l) m.0) m.1) (rotated-counts c h (binders_of (parts_of l) m.0) m.2 (let-formed l m.0 (shift_term 0 (binders_of (parts_of l) m.0) m.1) m.2 w m.4)).0
 moved-number c h M3 l r needs w m =
-    ap (number_of c) m.5 ∙ let_out-number c h l m.0 m.1 (shift_term 0 (binders_of (parts_of l) m.0) m.1) m.2 (rotated (binders_of (parts_of l) m.0) m.2) m.4
+    ap (number_of c) m.5 ∙ let_out-number c h l m.0 m.1 (shift_term 0 (binders_of (parts_of l) m.0) m.1) m.2 (rotate_term (binders_of (parts_of l) m.0) m.2) m.4
     (number-shift c h 0 (binders_of (parts_of l) m.0) m.1) (rotated-counts c h (binders_of (parts_of l) m.0) m.2 (let-formed l m.0 (shift_term 0 (binders_of (parts_of l) m.0) m.1) m.2 w m.4)).0
 moved-number c h M4 l r needs w m = ap (number_of c) m.6 ∙ let_out-number c h l m.0 m.1 m.1 m.2 m.2 m.5 refl refl
 
@@ -92,12 +93,12 @@ moved-lowers N M1 l r needs w m n =
 moved-lowers N M2 l r needs w m n =
     let k = binders_of (parts_of l) m.0 in
     let b = let-formed l m.0 (shift_term 0 (binders_of (parts_of l) m.0) m.1) m.2 w m.4 in
-    let a = let_out-falls N l m.0 m.1 (shift_term 0 (binders_of (parts_of l) m.0) m.1) m.2 (rotated (binders_of (parts_of l) m.0) m.2) (other-loop (form_of l) m.0 m.3) m.4
+    let a = let_out-falls N l m.0 m.1 (shift_term 0 (binders_of (parts_of l) m.0) m.1) m.2 (rotate_term (binders_of (parts_of l) m.0) m.2) (other-loop (form_of l) m.0 m.3) m.4
     (λ c h. (number-shift c h 0 (binders_of (parts_of l) m.0) m.1, (rotated-counts c h (binders_of (parts_of l) m.0) m.2 b).0, pairs-shift c h 0 (binders_of (parts_of l) m.0) m.1, (rotated-counts c h (binders_of (parts_of l) m.0) m.2 b).1)) in
     omega (arith, a, ap (measure_of N) m.5)
 moved-lowers N M3 l r needs w m n =
     let b = let-formed l m.0 (shift_term 0 (binders_of (parts_of l) m.0) m.1) m.2 w m.4 in
-    let a = let_out-falls N l m.0 m.1 (shift_term 0 (binders_of (parts_of l) m.0) m.1) m.2 (rotated (binders_of (parts_of l) m.0) m.2) (other-tab (form_of l) m.0 m.3) m.4
+    let a = let_out-falls N l m.0 m.1 (shift_term 0 (binders_of (parts_of l) m.0) m.1) m.2 (rotate_term (binders_of (parts_of l) m.0) m.2) (other-tab (form_of l) m.0 m.3) m.4
     (λ c h. (number-shift c h 0 (binders_of (parts_of l) m.0) m.1, (rotated-counts c h (binders_of (parts_of l) m.0) m.2 b).0, pairs-shift c h 0 (binders_of (parts_of l) m.0) m.1, (rotated-counts c h (binders_of (parts_of l) m.0) m.2 b).1)) in
     omega (arith, a, ap (measure_of N) m.5)
 moved-lowers N M4 l r needs w m n =
@@ -160,10 +161,6 @@ mutual
   numbers-few c none = omega arith
   numbers-few c (part k t ps) = omega (arith, number-few c t, numbers-few c ps)
 
--- squares of parts, and of their sum
-square_sum : (a b x y : ℕ) → x ≤ a * a → y ≤ b * b → x + y ≤ (a + b) * (a + b)
-square_sum a b x y h k = omega (arith, h, k, mul-add (a + b) a b, mul-le a a (a + b) a (omega arith) (omega arith), mul-le b b (a + b) b (omega arith) (omega arith))
-
 -- the square of the next number
 square_next : (n x y : ℕ) → x ≤ n → y ≤ n * n → x + y ≤ (1 + n) * (1 + n)
 square_next n x y h k = omega (arith, h, k, mul-add n n 1, mul-le n (n + 1) (1 + n) (1 + n) (omega arith) (omega arith))
@@ -215,10 +212,6 @@ below-cube n w q p l h k =
 pub measure-bound : (t : Term) → measure_of (number_of in_loops t) t ≤ (weight_of t + 1) * ((weight_of t + 1) * (weight_of t + 1))
 measure-bound t = below-cube (number_of in_loops t) (weight_of t) (pairs_of in_loops t) (pairs_of lets_below t) (omega (arith, nodes-are t, nodes-weight t)) (pairs-few in_loops t) (pairs-few lets_below t)
 
--- a third power
-pub third : (n : ℕ) → n ^ 3 ≡ n * (n * n)
-third n = pow-succ' n 2 ∙ ap (λ m. n * m) (pow-succ' n 1 ∙ ap (λ m. n * m) (pow-succ' n 0 ∙ ap (λ m. n * m) (pow-zero n) ∙ omega arith))
-
 -- one move of a closed typed term keeps its number of nodes and lowers its measure
 pub step-nodes : (G : ℕ → Ty → Type 0) (V : Outcomes) (R : MoveRule) (path : List ℕ) (t u : Term) (T : Ty) → ctyped G [] t T → MoveStep V R path t u →
     (nodes_of u ≡ nodes_of t) × (measure_of (nodes_of t) u < measure_of (nodes_of t) t)
@@ -230,4 +223,4 @@ step-nodes G V R path t u T c s =
 
 -- a chain of moves of a closed typed term has at most (W + 1)^3 moves, W being its weight
 pub chain-bound : (G : ℕ → Ty → Type 0) (V : Outcomes) (moves : List code.Move) (t u : Term) (T : Ty) → ctyped G [] t T → MoveChain V moves t u → length moves ≤ (weight_of t + 1) ^ 3
-chain-bound G V moves t u T c h = omega (arith, chain-short G V moves t u T c h, measure-bound t, third (weight_of t + 1))
+chain-bound G V moves t u T c h = omega (arith, chain-short G V moves t u T c h, measure-bound t, cube (weight_of t + 1))

@@ -1,8 +1,8 @@
 -- What is told of a node makes that a move may be made there, or that none is left.
 use Rattle.std.proofs.Common.{◌≡◌, ℕ, ◌+◌, ◌<◌, ◌≤◌, Bool, true, false, if◌then◌else◌, List, [], ◌∷◌, length, Option, Some, None, refl, sym, ap, subst, ◌∙◌, arith, inl, inr}
 use Rattle.std.proofs.lemmas.Bool.{cases_lt, le-ltb}
+use Rattle.std.proofs.lemmas.Option.{same_Some}
 use Rattle.aql_value.specs.Lists.{Every}
-use Rattle.aql_types.specs.Laws.Operation.{some-list}
 use Rattle.nrca_term.specs.Term.{Term, Parts, Form, node, none, part, plain, form_of, parts_of, child_of, count, binders_of, WellFormed, FormClosed, Closed, PartsClosed}
 use Rattle.nrca_term.specs.Nodes.{let_term, if_term, loop_term, tab_term}
 use Rattle.nrca_term.specs.Subst.{shift_form, shift_term, shift_parts}
@@ -184,16 +184,16 @@ tab-none t u ds h n M1 i k = loop-not-tab k.1.0 k.1.1 (length ds) k.1.5 (subst (
 tab-none t u ds h n M2 i k = subst (λ x. LoopBody (form_of x) i) h k.0
 tab-none t u ds h n M3 i k =
     let z : i ≡ length ds = subst (λ x. TabBody (form_of x) i) h k.0 in
-    n k.1.0 k.1.1 (some-list u (let_term k.1.0 k.1.1) (sym (ap (λ x. child_of (parts_of x) i) h ∙ ap (child_of (plain ds (part (length ds) u none))) z ∙ child-behind ds (length ds) u) ∙ k.1.2))
+    n k.1.0 k.1.1 (same_Some u (let_term k.1.0 k.1.1) (sym (ap (λ x. child_of (parts_of x) i) h ∙ ap (child_of (plain ds (part (length ds) u none))) z ∙ child-behind ds (length ds) u) ∙ k.1.2))
 tab-none t u ds h n M4 i k = k
 
 -- the let's or the if's first part, which goes out, has the variables of the body alone
 pub body-binders : (R : MoveRule) (i : ℕ) (t body : Term) → HasForm R i t → child_of (parts_of t) i ≡ Some body → binders_of (parts_of body) 0 ≡ 0
 body-binders M1 i t body h e =
-    let z = some-list (if_term h.1.3 h.1.4 h.1.1) body (sym (ap (λ x. child_of (parts_of x) 1) h.1.6) ∙ ap (child_of (parts_of t)) (sym h.0) ∙ e) in
+    let z = same_Some (if_term h.1.3 h.1.4 h.1.1) body (sym (ap (λ x. child_of (parts_of x) 1) h.1.6) ∙ ap (child_of (parts_of t)) (sym h.0) ∙ e) in
     sym (ap (λ x. binders_of (parts_of x) 0) z)
-body-binders M2 i t body h e = let z = some-list (let_term h.1.0 h.1.1) body (sym h.1.2 ∙ e) in sym (ap (λ x. binders_of (parts_of x) 0) z)
-body-binders M3 i t body h e = let z = some-list (let_term h.1.0 h.1.1) body (sym h.1.2 ∙ e) in sym (ap (λ x. binders_of (parts_of x) 0) z)
+body-binders M2 i t body h e = let z = same_Some (let_term h.1.0 h.1.1) body (sym h.1.2 ∙ e) in sym (ap (λ x. binders_of (parts_of x) 0) z)
+body-binders M3 i t body h e = let z = same_Some (let_term h.1.0 h.1.1) body (sym h.1.2 ∙ e) in sym (ap (λ x. binders_of (parts_of x) 0) z)
 body-binders M4 i t body h e = absurd h
 
 pub first-inside : (R : MoveRule) (i n k : ℕ) (t body first : Term) → HasForm R i t → WellFormed t → WellFormed body → child_of (parts_of t) i ≡ Some body → child_of (parts_of body) 0 ≡ Some first →
@@ -212,15 +212,15 @@ Needs M4 t u needs = ⊥
 -- of a left side, what goes out is the first part of the body outside of the body's variables
 let-first : (t body first a b : Term) (i j : ℕ) → i ≡ j → child_of (parts_of t) i ≡ Some body → child_of (parts_of body) 0 ≡ Some first → LetBelow t j a b → first ≡ shift_term 0 (binders_of (parts_of t) i) a
 let-first t body first a b i j z e g m =
-    let y = some-list body (let_term (shift_term 0 (binders_of (parts_of t) i) a) b) (sym e ∙ subst (λ k. LetBelow t k a b) (sym z) m) in
-    some-list first (shift_term 0 (binders_of (parts_of t) i) a) (sym g ∙ ap (λ x. child_of (parts_of x) 0) y)
+    let y = same_Some body (let_term (shift_term 0 (binders_of (parts_of t) i) a) b) (sym e ∙ subst (λ k. LetBelow t k a b) (sym z) m) in
+    same_Some first (shift_term 0 (binders_of (parts_of t) i) a) (sym g ∙ ap (λ x. child_of (parts_of x) 0) y)
 
 goes-out : (R : MoveRule) (i : ℕ) (t body first r : Term) (needs : List Term) → HasForm R i t → child_of (parts_of t) i ≡ Some body → child_of (parts_of body) 0 ≡ Some first → MoveRedex R t r needs →
     (u : Term) × (first ≡ shift_term 0 (binders_of (parts_of t) i) u) × Needs R t u needs
 goes-out M1 i t body first r needs h e g m =
-    let y = some-list body (if_term (shift_term 0 1 m.3) m.4 m.1) (sym e ∙ ap (child_of (parts_of t)) h.0 ∙ ap (λ x. child_of (parts_of x) 1) m.6) in
+    let y = same_Some body (if_term (shift_term 0 1 m.3) m.4 m.1) (sym e ∙ ap (child_of (parts_of t)) h.0 ∙ ap (λ x. child_of (parts_of x) 1) m.6) in
     let k : 1 ≡ binders_of (parts_of t) i = sym (ap (binders_of (parts_of t)) h.0 ∙ ap (λ x. binders_of (parts_of x) 1) m.6) in
-    (m.3, some-list first (shift_term 0 1 m.3) (sym g ∙ ap (λ x. child_of (parts_of x) 0) y) ∙ ap (λ n. shift_term 0 n m.3) k, (m.2, ap (λ x. child_of (parts_of x) 0) m.6, m.8))
+    (m.3, same_Some first (shift_term 0 1 m.3) (sym g ∙ ap (λ x. child_of (parts_of x) 0) y) ∙ ap (λ n. shift_term 0 n m.3) k, (m.2, ap (λ x. child_of (parts_of x) 0) m.6, m.8))
 goes-out M2 i t body first r needs h e g m =
     (m.1, let-first t body first m.1 m.2 i m.0 (loop-part (form_of t) i h.0 ∙ sym (loop-part (form_of t) m.0 m.3)) e g m.4, m.6)
 goes-out M3 i t body first r needs h e g m = (m.1, let-first t body first m.1 m.2 i m.0 (tab-part (form_of t) i m.0 h.0 m.3) e g m.4, m.6)
@@ -250,16 +250,16 @@ refused-operand gs c t o = λ r needs m f.
 -- where it goes out, the rule fits
 fits-first : (R : MoveRule) (i : ℕ) (t body first u : Term) → HasForm R i t → child_of (parts_of t) i ≡ Some body → child_of (parts_of body) 0 ≡ Some first → first ≡ shift_term 0 (binders_of (parts_of t) i) u → FitsAt R i t
 fits-first M1 i t body first u h e g o =
-    let y = some-list body (if_term h.1.3 h.1.4 h.1.1) (sym e ∙ ap (child_of (parts_of t)) h.0 ∙ ap (λ x. child_of (parts_of x) 1) h.1.6) in
+    let y = same_Some body (if_term h.1.3 h.1.4 h.1.1) (sym e ∙ ap (child_of (parts_of t)) h.0 ∙ ap (λ x. child_of (parts_of x) 1) h.1.6) in
     let k : binders_of (parts_of t) i ≡ 1 = ap (binders_of (parts_of t)) h.0 ∙ ap (λ x. binders_of (parts_of x) 1) h.1.6 in
-    let c : h.1.3 ≡ shift_term 0 1 u = sym (some-list first h.1.3 (sym g ∙ ap (λ x. child_of (parts_of x) 0) y)) ∙ o ∙ ap (λ n. shift_term 0 n u) k in
+    let c : h.1.3 ≡ shift_term 0 1 u = sym (same_Some first h.1.3 (sym g ∙ ap (λ x. child_of (parts_of x) 0) y)) ∙ o ∙ ap (λ n. shift_term 0 n u) k in
     (h.1.0, h.1.1, h.1.2, u, h.1.4, h.1.5, h.1.6 ∙ ap (λ x. loop_term h.1.0 h.1.2 (if_term x h.1.4 h.1.1)) c)
 fits-first M2 i t body first u h e g o =
-    let y = some-list body (let_term h.1.0 h.1.1) (sym e ∙ h.1.2) in
-    (h.0, (u, h.1.1, h.1.2 ∙ ap (λ x. Some (let_term x h.1.1)) (sym (some-list first h.1.0 (sym g ∙ ap (λ x. child_of (parts_of x) 0) y)) ∙ o)))
+    let y = same_Some body (let_term h.1.0 h.1.1) (sym e ∙ h.1.2) in
+    (h.0, (u, h.1.1, h.1.2 ∙ ap (λ x. Some (let_term x h.1.1)) (sym (same_Some first h.1.0 (sym g ∙ ap (λ x. child_of (parts_of x) 0) y)) ∙ o)))
 fits-first M3 i t body first u h e g o =
-    let y = some-list body (let_term h.1.0 h.1.1) (sym e ∙ h.1.2) in
-    (h.0, (u, h.1.1, h.1.2 ∙ ap (λ x. Some (let_term x h.1.1)) (sym (some-list first h.1.0 (sym g ∙ ap (λ x. child_of (parts_of x) 0) y)) ∙ o)))
+    let y = same_Some body (let_term h.1.0 h.1.1) (sym e ∙ h.1.2) in
+    (h.0, (u, h.1.1, h.1.2 ∙ ap (λ x. Some (let_term x h.1.1)) (sym (same_Some first h.1.0 (sym g ∙ ap (λ x. child_of (parts_of x) 0) y)) ∙ o)))
 fits-first M4 i t body first u h e g o = absurd h
 
 -- what has to be defined is, where what goes out is, and under M1 the operand
@@ -320,8 +320,8 @@ tells-operand k t e b h s f = at b refl
     never q = cc
 
     at : (d : Bool) → b ≡ d → TellsOperand k t d
-    at true q = λ x g. subst (IsDefinedAt (known_shapes k) (context_of k)) (some-list e x (sym h ∙ g)) (s q)
-    at false q = λ x g z. never (sym q ∙ f (ap (firm (is_shaped (known_shapes k)) (context_of k)) (some-list e x (sym h ∙ g)) ∙ z))
+    at true q = λ x g. subst (IsDefinedAt (known_shapes k) (context_of k)) (same_Some e x (sym h ∙ g)) (s q)
+    at false q = λ x g z. never (sym q ∙ f (ap (firm (is_shaped (known_shapes k)) (context_of k)) (same_Some e x (sym h ∙ g)) ∙ z))
 
 -- M1 may be made, or is refused, by what is told of the operand
 pub moves-operand : (o : Ctx) (f : Fit) (b : Bool) (k : ℕ) (t body first : Term) → HasForm f.rule f.part t → child_of (parts_of t) f.part ≡ Some body → child_of (parts_of body) 0 ≡ Some first →

@@ -14,7 +14,7 @@ use Rattle.nrca_motion.specs.declared.fitting.Fit.{Fit}
 use Rattle.nrca_motion.specs.declared.search.Site.{Site}
 use Rattle.nrca_motion.specs.Fitting.{IsQuietAt, MayMove}
 use Rattle.nrca_motion.specs.Laws.Moving.{path-next, path-end}
-use Rattle.nrca_motion.specs.Found.{QuietBefore, QuietEverywhere, QuietParts, MovesAt, TellsPlace, GoesOn, next}
+use Rattle.nrca_motion.specs.Found.{QuietBefore, QuietEverywhere, QuietParts, MovesAt, TellsPlace, GoesOnward, next}
 
 module _ (gs : List (Option Bounds)) where
   -- nothing comes before the root
@@ -73,7 +73,7 @@ module _ (gs : List (Option Bounds)) where
 
   -- where the search goes on in part i
   pub behind-onward : (c : Context) (t u : Term) (from : List ℕ) (at i first onward : ℕ) → QuietBefore gs c t (drop at from) → first ≡ next (drop at from) → child_of (parts_of t) i ≡ Some u →
-      GoesOn from at i first onward → QuietBefore gs (enter_facts c t i) u (drop onward from)
+      GoesOnward from at i first onward → QuietBefore gs (enter_facts c t i) u (drop onward from)
   behind-onward c t u from at i first onward h f e (inl w) =
       let d = path-next from at w.1 in
       let j : get_or from at 0 ≡ i = sym (w.0 ∙ f ∙ ap next d) in

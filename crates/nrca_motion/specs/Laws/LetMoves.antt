@@ -12,7 +12,7 @@ use Rattle.nrca_term.specs.Laws.Shifting.{at_length-ext, cden-shift_term, part_v
 use Rattle.nrca_term.specs.Laws.Entering.{child-counted, length-part_values}
 use Rattle.nrca_term.specs.Laws.Undefined.{form_value-worthless}
 use Rattle.nrca_term.specs.Rules.{IsDefined}
-use Rattle.nrca_motion.specs.Moves.{rotated, let_out, LetBelow}
+use Rattle.nrca_motion.specs.Moves.{rotate_term, let_out, LetBelow}
 use Rattle.nrca_motion.specs.Laws.Rotating.{cden-rotated}
 
 -- a form under one more variable
@@ -57,11 +57,11 @@ cden-inner V vals new v a b e = ap (λ o. o >>= λ x. cden V (x ∷ (new ++ vals
 
 -- A let that goes out of a part with variables of its own: M2, M3. Its term has a value.
 pub let_below-keeps : (V : Outcomes) (vals : List Datum) (l : Term) (i : ℕ) (a b : Term) → LetBelow l i a b → IsDefined V vals a →
-    cden V vals l ≡ cden V vals (let_out a l i (rotated (binders_of (parts_of l) i) b))
+    cden V vals l ≡ cden V vals (let_out a l i (rotate_term (binders_of (parts_of l) i) b))
 let_below-keeps V vals l i a b e d =
-    sym (ap (λ o. o >>= λ x. cden V (x ∷ vals) (with_part (shift_term 0 1 l) i (rotated (binders_of (parts_of l) i) b))) d.1
-    ∙ cden-let_out V vals d.0 l i (let_term (shift_term 0 (binders_of (parts_of l) i) a) b) (rotated (binders_of (parts_of l) i) b) e
-    (λ new n. ap (λ k. cden V (new ++ (d.0 ∷ vals)) (rotated k b)) (sym n) ∙ cden-rotated V new vals d.0 b
+    sym (ap (λ o. o >>= λ x. cden V (x ∷ vals) (with_part (shift_term 0 1 l) i (rotate_term (binders_of (parts_of l) i) b))) d.1
+    ∙ cden-let_out V vals d.0 l i (let_term (shift_term 0 (binders_of (parts_of l) i) a) b) (rotate_term (binders_of (parts_of l) i) b) e
+    (λ new n. ap (λ k. cden V (new ++ (d.0 ∷ vals)) (rotate_term k b)) (sym n) ∙ cden-rotated V new vals d.0 b
     ∙ sym (ap (λ k. cden V (new ++ vals) (let_term (shift_term 0 k a) b)) (sym n) ∙ cden-inner V vals new d.0 a b d.1)))
 
 -- what is worth nothing at no values is worth nothing

@@ -11,7 +11,7 @@ use Rattle.nrca_term.specs.Laws.Shifting.{slice_get-shift}
 use Rattle.nrca_term.specs.Laws.TypingShift.{ctyped-shift_term}
 use Rattle.nrca_term.specs.Laws.TypingSubst.{ctyped-subst_term, ctyped-type}
 use Rattle.nrca_laws.specs.Laws.Types.{ctyped-unshift}
-use Rattle.nrca_motion.specs.Moves.{rotated, let_out, LetBelow}
+use Rattle.nrca_motion.specs.Moves.{rotate_term, let_out, LetBelow}
 
 -- the typing of a form under one more variable
 under-rule : (G : ℕ → Ty → Type 0) (env : List Ty) (A : Ty) (f : Form) (args : List Arg) (T : Ty) → form_rule G env f args T → form_rule G (A ∷ env) (shift_form 0 1 f) args T
@@ -102,11 +102,11 @@ strict_let-typed G env l i a b T c e z = let_out-typed G env l i a a b b T c e (
     bare (B ∷ own) A S n x y = absurd (omega (arith, n))
 
 -- M2 and M3 keep every type
-pub let_below-typed : (G : ℕ → Ty → Type 0) (env : List Ty) (l : Term) (i : ℕ) (a b : Term) (T : Ty) → ctyped G env l T → LetBelow l i a b → ctyped G env (let_out a l i (rotated (binders_of (parts_of l) i) b)) T
+pub let_below-typed : (G : ℕ → Ty → Type 0) (env : List Ty) (l : Term) (i : ℕ) (a b : Term) (T : Ty) → ctyped G env l T → LetBelow l i a b → ctyped G env (let_out a l i (rotate_term (binders_of (parts_of l) i) b)) T
 let_below-typed G env l i a b T c e =
-    let_out-typed G env l i a (shift_term 0 (binders_of (parts_of l) i) a) b (rotated (binders_of (parts_of l) i) b) T c e (λ own A S n x y. turn own A S (binders_of (parts_of l) i) n x y)
+    let_out-typed G env l i a (shift_term 0 (binders_of (parts_of l) i) a) b (rotate_term (binders_of (parts_of l) i) b) T c e (λ own A S n x y. turn own A S (binders_of (parts_of l) i) n x y)
   where
-    turn : (own : List Ty) (A S : Ty) (k : ℕ) → length own ≡ k → ctyped G (own ++ env) (shift_term 0 k a) A → ctyped G (A ∷ (own ++ env)) b S → ctyped G env a A × ctyped G (own ++ (A ∷ env)) (rotated k b) S
+    turn : (own : List Ty) (A S : Ty) (k : ℕ) → length own ≡ k → ctyped G (own ++ env) (shift_term 0 k a) A → ctyped G (A ∷ (own ++ env)) b S → ctyped G env a A × ctyped G (own ++ (A ∷ env)) (rotate_term k b) S
     turn own A S k n x y =
         let outside = ctyped-unshift G [] own env a A (subst (λ m. ctyped G (own ++ env) (shift_term 0 m a) A) (sym n) x) in
         let place : slice_get (own ++ (A ∷ env)) k ≡ Some A = slice_get-append_right own (A ∷ env) k (omega (arith, n)) ∙ (let z : k - length own ≡ 0 = omega (arith, n) in ap (slice_get (A ∷ env)) z) in

@@ -6,9 +6,9 @@ use Rattle.nrca_term.specs.Term.{Term, Parts, node, none, part, Form, child_of, 
 use Rattle.nrca_term.specs.Nodes.{let_term, if_term, loop_term}
 use Rattle.nrca_term.specs.Subst.{shift_form, shift_term}
 use Rattle.nrca_term.specs.Rules.{LoopOf}
-use Rattle.nrca_motion.specs.Moves.{let_out, rotated}
+use Rattle.nrca_motion.specs.Moves.{let_out, rotate_term}
 use Rattle.nrca_term.specs.Laws.WellFormed.{well_formed-shift}
-use Rattle.nrca_laws.specs.Laws.Lefts.{is_bind}
+use Rattle.nrca_laws.specs.Lets.{is_bind}
 use Rattle.nrca_motion.specs.Counting.{Count, one, where_above, number_of, pairs_of, parts_number, IsNameless}
 use Rattle.nrca_motion.specs.Laws.Counting.{number-shift, pairs-shift, number-put, pairs-put, numbers-set_child, pairs-set_child}
 use Rattle.nrca_motion.specs.Lowering.{is_other, is_body, in_loops, lets_below, measure_of}
@@ -145,7 +145,7 @@ test_out-falls N (Form.tab rank) e c b z l h = absurd l
 test_out-falls N (Form.strict s) e c b z l h = absurd l
 
 -- what a let's body that goes out past variables keeps
-pub rotated-counts : (c : Count) → IsNameless c → (k : ℕ) (b : Term) → WellFormed b → (number_of c (rotated k b) ≡ number_of c b) × (pairs_of c (rotated k b) ≡ pairs_of c b)
+pub rotated-counts : (c : Count) → IsNameless c → (k : ℕ) (b : Term) → WellFormed b → (number_of c (rotate_term k b) ≡ number_of c b) × (pairs_of c (rotate_term k b) ≡ pairs_of c b)
 rotated-counts c h k b w = (
   number-put c h 0 k (shift_term (suc k) 1 b) (well_formed-shift (suc k) 1 b w) ∙ number-shift c h (suc k) 1 b,
   pairs-put c h 0 k (shift_term (suc k) 1 b) (well_formed-shift (suc k) 1 b w) ∙ pairs-shift c h (suc k) 1 b,

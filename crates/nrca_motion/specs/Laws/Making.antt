@@ -3,15 +3,14 @@ use Rattle.std.proofs.Common.{◌≡◌, ℕ, zero, suc, ◌+◌, ◌<◌, ◌�
 use Rattle.nrca_term.specs.Term.{Term, Parts, node, none, part, parts_of, child_of, set_child, with_part, binders_of, count, parts_weight}
 use Rattle.nrca_term.specs.Nodes.{let_term, bottom_term}
 use Rattle.nrca_term.specs.Subst.{shift_form, shift_term, shift_parts, top_var, parts_top}
-use Rattle.nrca_term.specs.Laws.Measure.{weight_of-child}
+use Rattle.nrca_term.specs.Laws.Measure.{weight_of-child, weight_of-positive}
 use Rattle.nrca_term.specs.Laws.Entering.{child-counted}
 use Rattle.nrca_term.specs.Laws.Shift.{shift_term-none}
 use Rattle.nrca_term.specs.Laws.Exchange.{count-with_part}
-use Rattle.nrca_laws.specs.Laws.Weights.{term-positive}
-use Rattle.nrca_subst.proofs.Walking.{top_var-child}
+use Rattle.nrca_subst.specs.Laws.Walking.{top_var-child}
 use Rattle.nrca_motion.specs.declared.moves.MoveRule.TheVariants.{M1, M2, M3}
 use Rattle.nrca_motion.specs.declared.fitting.Fit.{Fit}
-use Rattle.nrca_motion.specs.Moves.{rotated, MoveRedex}
+use Rattle.nrca_motion.specs.Moves.{rotate_term, MoveRedex}
 use Rattle.nrca_motion.specs.Outside.{HasRoom}
 use Rattle.nrca_motion.specs.Fitting.{FitsAt, IsStrictLet, IsMade}
 use Rattle.nrca_motion.specs.Making.{HasLetBelow, IsTestOut, IsLetOut, IsStrictOut}
@@ -30,7 +29,7 @@ rest-top (part k t ps) (suc i) = omega (arith, rest-top ps i)
 
 rest-weight : (ps : Parts) (i : ℕ) → parts_weight (set_child ps i bottom_term) ≤ parts_weight ps
 rest-weight none i = omega arith
-rest-weight (part k t ps) zero = omega (arith, term-positive t)
+rest-weight (part k t ps) zero = omega (arith, weight_of-positive t)
 rest-weight (part k t ps) (suc i) = omega (arith, rest-weight ps i)
 
 pub room-rest : (t r b : Term) (i : ℕ) → r ≡ with_part t i b → b ≡ bottom_term → HasRoom t → HasRoom r
@@ -79,13 +78,13 @@ strict-made t rest p r a b s i k e g h =
     (a, b, sym e ∙ ap Some k, h ∙ ap (λ x. let_term a (with_part (shift_term 0 1 x) i b)) g ∙ ap (let_term a) (with-shifted t i s b))
 
 -- the let of a body goes out
-pub let-made : (t rest p r a b s o w : Term) (i n : ℕ) → p ≡ let_term a b → Some p ≡ child_of (parts_of t) i → rest ≡ with_part t i s → n ≡ binders_of (parts_of t) i → a ≡ shift_term 0 n o → w ≡ rotated n b →
+pub let-made : (t rest p r a b s o w : Term) (i n : ℕ) → p ≡ let_term a b → Some p ≡ child_of (parts_of t) i → rest ≡ with_part t i s → n ≡ binders_of (parts_of t) i → a ≡ shift_term 0 n o → w ≡ rotate_term n b →
     r ≡ let_term o (with_part (shift_term 0 1 rest) i w) → IsLetOut t i r
 let-made t rest p r a b s o w i n k e g m q v h = (
   o,
   b,
   sym e ∙ ap Some k ∙ ap (λ x. Some (let_term x b)) (q ∙ ap (λ j. shift_term 0 j o) m),
-  h ∙ ap (λ x. let_term o (with_part (shift_term 0 1 x) i w)) g ∙ ap (let_term o) (with-shifted t i s w) ∙ ap (λ x. let_term o (with_part (shift_term 0 1 t) i x)) (v ∙ ap (λ j. rotated j b) m),
+  h ∙ ap (λ x. let_term o (with_part (shift_term 0 1 x) i w)) g ∙ ap (let_term o) (with-shifted t i s w) ∙ ap (λ x. let_term o (with_part (shift_term 0 1 t) i x)) (v ∙ ap (λ j. rotate_term j b) m),
 )
 
 -- which are the right sides of the rules

@@ -1,7 +1,7 @@
 -- A move in a part is one of the node.
 use Rattle.std.proofs.Common.{◌≡◌, ℕ, zero, suc, ◌+◌, ◌<◌, ◌≤◌, List, [], ◌∷◌, length, drop, get_or, Option, Some, None, refl, sym, ap, subst, ◌∙◌, arith, add-one, drop-cons}
+use Rattle.std.proofs.lemmas.Option.{same_Some}
 use Rattle.aql_value.specs.Partial.{◌>>=◌}
-use Rattle.aql_types.specs.Laws.Operation.{some-list}
 use Rattle.nrca_term.specs.Term.{Term, Parts, node, none, part, parts_of, child_of, set_child, with_part}
 use Rattle.nrca_term.specs.Places.{place_of, put_at, on_child}
 use Rattle.nrca_motion.specs.declared.fitting.Fit.{Fit}
@@ -50,7 +50,7 @@ moved-above f t s b u i p e h = (h.0, h.1, ap (λ o. o >>= λ r. place_of r p) e
 -- at the root
 pub may-here : (f : Fit) (t : Term) → MayMoveAt f t [] → FitsAt f.rule f.part t × HasRoom t
 unfolding MayMoveAt
-may-here f t h = let z : h.0 ≡ t = some-list h.0 t (sym h.1) in (subst (FitsAt f.rule f.part) z h.2, subst HasRoom z h.3)
+may-here f t h = let z : h.0 ≡ t = same_Some h.0 t (sym h.1) in (subst (FitsAt f.rule f.part) z h.2, subst HasRoom z h.3)
 
 pub made-here : (f : Fit) (t r : Term) → IsMade f t r → IsMovedAt f t [] r
 unfolding IsMovedAt

@@ -2,13 +2,13 @@
 use Rattle.std.proofs.Common.{◌≡◌, ℕ, ◌+◌, ◌<◌, ◌≤◌, ◌^◌, List, [], ◌∷◌, ◌++◌, length, reverse, Option, Some, refl, sym, ap, subst, ◌∙◌, arith}
 use Rattle.std.proofs.Math.Path.{fun_ext}
 use Rattle.std.proofs.lemmas.List.{length-append}
+use Rattle.std.proofs.lemmas.Option.{same_Some}
 use Rattle.aql_value.specs.Datum.{Datum}
 use Rattle.aql_value.specs.Lists.{Every}
 use Rattle.aql_value.specs.Laws.Lists.{Every-join}
 use Rattle.aql_types.specs.Types as types
 use Rattle.aql_types.specs.Types.{Ty}
 use Rattle.aql_types.specs.ValueTypes.{HaveTypes}
-use Rattle.aql_types.specs.Laws.Operation.{some-list}
 use Rattle.nrca_term.specs.Term.{Term, none, part, weight_of}
 use Rattle.nrca_term.specs.View.{term_of}
 use Rattle.nrca_term.specs.Nodes.{let_term, loop_term}
@@ -27,6 +27,7 @@ use Rattle.nrca_ranges.specs.Context.{context_of, IsSmallTerm}
 use Rattle.nrca_ranges.specs.Entered.{is_shaped}
 use Rattle.nrca_ranges.specs.Shapes.{Tells, known_shapes}
 use Rattle.nrca_defined.specs.Defined.{IsDefinedAt}
+use Rattle.nrca_laws.specs.Laws.Steps.{cube}
 use Rattle.nrca_motion.specs.declared.moves.Move.{Move}
 use Rattle.nrca_motion.specs.declared.moves.Move as code
 use Rattle.nrca_motion.specs.declared.moves.MoveRule.{MoveRule}
@@ -38,7 +39,7 @@ use Rattle.nrca_motion.specs.Counting.{number_of}
 use Rattle.nrca_motion.specs.Lowering.{in_loops, lets_below, measure_of}
 use Rattle.nrca_motion.specs.Laws.Lowering.{nameless_loops, nameless_lets}
 use Rattle.nrca_motion.specs.Laws.Counting.{number-put_at}
-use Rattle.nrca_motion.specs.Laws.Bounds.{moved-number, moved-lowers, place-few, falls-put_at, measure-bound, third}
+use Rattle.nrca_motion.specs.Laws.Bounds.{moved-number, moved-lowers, place-few, falls-put_at, measure-bound}
 use Rattle.nrca_motion.specs.Laws.Steps.{moved-typed, loop-operand, chain-keeps}
 use Rattle.nrca_motion.specs.Laws.TestTypes.{if-parts, two-parts}
 use Rattle.nrca_motion.specs.Laws.Weights.{redex-weight}
@@ -161,7 +162,7 @@ pub taken : (p q : Progress) (s : Site) (move : Move) → IsSiteOf p s → IsMov
     move.rule ≡ s.fit.rule → move.path ≡ reverse s.way.items → q.moves.items ≡ p.moves.items ++ move ∷ [] → q.from.items ≡ reverse s.way.items → HasGone p q
 unfolding MovesAt IsMovedAt
 taken p q s move h w g c a b st fr =
-    let z : h.moves.0 ≡ w.0 = some-list h.moves.0 w.0 (sym h.moves.1 ∙ w.2) in
+    let z : h.moves.0 ≡ w.0 = same_Some h.moves.0 w.0 (sym h.moves.1 ∙ w.2) in
     let m : MayMove (known_shapes p.ctx) (facts_at (term_of p.term) (reverse s.way.items)) w.0 s.fit = subst (λ x. MayMove (known_shapes p.ctx) (facts_at (term_of p.term) (reverse s.way.items)) x s.fit) z h.moves.2 in
     record {
       globals = g;
@@ -242,7 +243,7 @@ unfolding IsChained KeepsMeaning
 chained-meaning gs t u moves h = λ given T V ty oh tl. sym (chain-keeps (instances given) V oh moves t u T ty (h given T V ty oh tl)).0
 
 end-few : (gs : List (Option Bounds)) (t : Term) (p q : Progress) → IsUnderWay gs t p → IsAtEnd p q → length q.moves.items ≤ (weight_of t + 1) ^ 3
-end-few gs t p q h e = omega (arith, h.falls, ap length e.moves, measure-bound t, third (weight_of t + 1))
+end-few gs t p q h e = omega (arith, h.falls, ap length e.moves, measure-bound t, cube (weight_of t + 1))
 
 -- what is answered at the end
 pub end-moved : (gs : List (Option Bounds)) (t : Term) (p q : Progress) → IsUnderWay gs t p → IsAtEnd p q → IsMovedFrom gs t (record { term = q.term; moves = q.moves.items })

@@ -9,7 +9,7 @@ use Rattle.aql_value.specs.Laws.Partial.{total-ext}
 use Rattle.nrca_term.specs.Term.{Term, Parts, node, none, part, Form, count, form_binders, WellFormed, PartsWellFormed, LeafIsBare}
 use Rattle.nrca_term.specs.Nodes.{variable}
 use Rattle.nrca_term.specs.Meaning.{Outcomes, Part, at_length, cden, part_values}
-use Rattle.nrca_term.specs.Places.{entered}
+use Rattle.nrca_term.specs.Places.{entry_values}
 use Rattle.nrca_term.specs.Turns.{own_turns, settle, parts_settle}
 use Rattle.nrca_term.specs.Subst.{shift_form, shift_term, shift_parts, subst_var, subst_node, subst_term, subst_parts}
 use Rattle.nrca_term.specs.Laws.Shifting.{at_length-ext, cden-shift_term, under}
@@ -17,7 +17,7 @@ use Rattle.nrca_term.specs.Laws.Substituting.{cden-subst_term}
 use Rattle.nrca_term.specs.Laws.TurnsShift.{settle-shift_term}
 use Rattle.nrca_term.specs.Laws.Entering.{entered-lengths, length-part_values}
 use Rattle.nrca_term.specs.Laws.WellFormed.{well_formed-shift}
-use Rattle.nrca_motion.specs.Moves.{rotated}
+use Rattle.nrca_motion.specs.Moves.{rotate_term}
 
 -- the own variables of a part under a shift
 binders-shift : (from by : ℕ) (f : Form) (i : ℕ) → form_binders f i ≡ form_binders (shift_form from by f) i
@@ -118,13 +118,13 @@ mutual
   parts-put V pre post v j h f worths i none w l = refl
   parts-put V pre post v j h f worths i (part k t ps) w l =
       ap (λ n. n + parts_settle V (pre ++ post) f worths (suc i) (subst_parts (length pre) (variable j) ps))
-      (total-ext _ _ (entered f worths i) (Every-impl (λ vs. length vs ≡ form_binders f i) (λ vs. settle V (vs ++ (pre ++ post)) (subst_term (length pre + k) (shift_term 0 k (variable j)) t) ≡ settle V (vs ++ (pre ++ (v ∷ post))) t) (λ vs e.
+      (total-ext _ _ (entry_values f worths i) (Every-impl (λ vs. length vs ≡ form_binders f i) (λ vs. settle V (vs ++ (pre ++ post)) (subst_term (length pre + k) (shift_term 0 k (variable j)) t) ≡ settle V (vs ++ (pre ++ (v ∷ post))) t) (λ vs e.
       ap (λ n. settle V (vs ++ (pre ++ post)) (subst_term n (shift_term 0 k (variable j)) t)) (under vs pre k (e ∙ sym w.0))
       ∙ ap (λ x. settle V x (subst_term (length (vs ++ pre)) (shift_term 0 k (variable j)) t)) (sym (append_assoc vs pre post))
       ∙ settle-put V (vs ++ pre) post v (shifted k)
       (ap (λ x. cden V x (shift_term 0 k (variable j))) (append_assoc vs pre post) ∙ ap (λ n. cden V (vs ++ (pre ++ post)) (shift_term 0 n (variable j))) (w.0 ∙ sym e) ∙ cden-shift_term V [] vs (pre ++ post) (variable j) ∙ h) t w.1
-      ∙ ap (λ x. settle V x t) (append_assoc vs pre (v ∷ post))) (entered f worths i) (entered-lengths f worths i (omega (arith, l)))))
-      ∙ ap (λ n. total (λ vs. settle V (vs ++ (pre ++ (v ∷ post))) t) (entered f worths i) + n) (parts-put V pre post v j h f worths (suc i) ps w.2 (omega (arith, l)))
+      ∙ ap (λ x. settle V x t) (append_assoc vs pre (v ∷ post))) (entry_values f worths i) (entered-lengths f worths i (omega (arith, l)))))
+      ∙ ap (λ n. total (λ vs. settle V (vs ++ (pre ++ (v ∷ post))) t) (entry_values f worths i) + n) (parts-put V pre post v j h f worths (suc i) ps w.2 (omega (arith, l)))
     where
       shifted : ℕ → ℕ
       shifted k = if nat_lt j 0 then j else j + k
@@ -134,13 +134,13 @@ past : (new vals : List Datum) (v : Datum) → slice_get (new ++ (v ∷ vals)) (
 past new vals v = slice_get-append_right new (v ∷ vals) (length new) (omega arith) ∙ (let z : length new - length new ≡ 0 = omega arith in ap (slice_get (v ∷ vals)) z)
 
 -- a let's body, its let gone out: the part's own values first, then the let's value, then the others
-pub cden-rotated : (V : Outcomes) (new vals : List Datum) (v : Datum) (b : Term) → cden V (new ++ (v ∷ vals)) (rotated (length new) b) ≡ cden V (v ∷ (new ++ vals)) b
+pub cden-rotated : (V : Outcomes) (new vals : List Datum) (v : Datum) (b : Term) → cden V (new ++ (v ∷ vals)) (rotate_term (length new) b) ≡ cden V (v ∷ (new ++ vals)) b
 cden-rotated V new vals v b =
     cden-subst_term V [] (new ++ (v ∷ vals)) v (variable (length new)) (past new vals v) (shift_term (suc (length new)) 1 b)
     ∙ cden-shift_term V (v ∷ new) (v ∷ []) vals b
 
 -- its turns likewise
-pub settle-rotated : (V : Outcomes) (new vals : List Datum) (v : Datum) (b : Term) → WellFormed b → settle V (new ++ (v ∷ vals)) (rotated (length new) b) ≡ settle V (v ∷ (new ++ vals)) b
+pub settle-rotated : (V : Outcomes) (new vals : List Datum) (v : Datum) (b : Term) → WellFormed b → settle V (new ++ (v ∷ vals)) (rotate_term (length new) b) ≡ settle V (v ∷ (new ++ vals)) b
 settle-rotated V new vals v b w =
     settle-put V [] (new ++ (v ∷ vals)) v (length new) (past new vals v) (shift_term (suc (length new)) 1 b) (well_formed-shift (suc (length new)) 1 b w)
     ∙ settle-shift_term V (v ∷ new) (v ∷ []) vals b w

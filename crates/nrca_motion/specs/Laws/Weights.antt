@@ -15,7 +15,7 @@ use Rattle.nrca_laws.specs.Laws.Weights.{weight-shift, weight-subst, form_weight
 use Rattle.nrca_motion.specs.declared.moves.MoveRule.{MoveRule}
 use Rattle.nrca_motion.specs.declared.moves.MoveRule.TheVariants.{M1, M2, M3, M4}
 use Rattle.nrca_motion.specs.declared.moves.Move as code
-use Rattle.nrca_motion.specs.Moves.{rotated, let_out, MoveRedex, MoveStep, MoveChain}
+use Rattle.nrca_motion.specs.Moves.{rotate_term, let_out, MoveRedex, MoveStep, MoveChain}
 use Rattle.nrca_motion.specs.Laws.Steps.{step-typed}
 
 -- the parts under one more variable, one of them another term
@@ -30,7 +30,7 @@ let_out-weight : (l : Term) (i : ℕ) (a x b w : Term) → child_of (parts_of l)
 let_out-weight (node f ps) i a x b w e p q = omega (arith, parts_weight-set_child ps i (let_term x b) w e, form_weight-shift 0 1 f, p, q)
 
 -- a variable put in for another
-rotated-weight : (k : ℕ) (b : Term) → WellFormed b → weight_of (rotated k b) ≡ weight_of b
+rotated-weight : (k : ℕ) (b : Term) → WellFormed b → weight_of (rotate_term k b) ≡ weight_of b
 rotated-weight k b h =
     omega (arith, weight-subst 0 (variable k) (shift_term (suc k) 1 b) (well_formed-shift (suc k) 1 b h), weight-shift (suc k) 1 b)
 
@@ -40,9 +40,9 @@ body-formed l i x b h e = (well_formed-child l i (let_term x b) h e).1.2.1
 
 -- M2 and M3 keep it
 let_below-weight : (l : Term) (i k : ℕ) (a b : Term) → WellFormed l → child_of (parts_of l) i ≡ Some (let_term (shift_term 0 k a) b) →
-    weight_of (let_out a l i (rotated k b)) ≡ weight_of l
+    weight_of (let_out a l i (rotate_term k b)) ≡ weight_of l
 let_below-weight l i k a b h e =
-    let_out-weight l i a (shift_term 0 k a) b (rotated k b) e (weight-shift 0 k a) (rotated-weight k b (body-formed l i (shift_term 0 k a) b h e))
+    let_out-weight l i a (shift_term 0 k a) b (rotate_term k b) e (weight-shift 0 k a) (rotated-weight k b (body-formed l i (shift_term 0 k a) b h e))
 
 -- M1 keeps it
 test_out-weight : (f : Form) (e c b z : Term) → weight_of (if_term c (loop_term f e b) z) ≡ weight_of (loop_term f e (if_term (shift_term 0 1 c) b z))

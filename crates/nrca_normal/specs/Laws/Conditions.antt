@@ -1,5 +1,6 @@
 -- What is told of the ways of a rule makes that it may be applied, or that it is refused.
 use Rattle.std.proofs.Common.{◌≡◌, ◌≢◌, ℕ, Bool, true, false, List, [], ◌∷◌, Option, Some, None, refl, sym, ap, subst, ◌∙◌, inl, inr}
+use Rattle.std.proofs.lemmas.Option.{same_Some}
 use Rattle.aql_value.specs.declared.ops.CompareOp.{CompareOp}
 use Rattle.aql_value.specs.Datum.{Datum}
 use Rattle.aql_value.specs.Lists.{Every}
@@ -7,7 +8,6 @@ use Rattle.aql_value.specs.Laws.Lists.{Every-join, Every-impl}
 use Rattle.aql_value.specs.Partial.{◌>>=◌}
 use Rattle.aql_types.specs.Types.{Ty}
 use Rattle.aql_types.specs.ValueTypes.{HaveTypes}
-use Rattle.aql_types.specs.Laws.Operation.{some-list}
 use Rattle.nrca_term.specs.declared.trace.Rule.{Rule}
 use Rattle.nrca_term.specs.declared.trace.Rule.TheVariants.{B1, K1, I1, I2, L1, L2, L3, P1, P2, S1, S2, S3, S4, S5, S6, S7, S8, S9, A1, A2, A3, A4, A5, A6, A7, C1, C2, C3, C4, N1, N2}
 use Rattle.nrca_term.specs.Term.{Term, child_of, parts_of}
@@ -49,7 +49,7 @@ place-part t i u w e = ap (λ o. o >>= λ r. place_of r w) e
 -- at the node itself
 pub tells-here : (gs : List (Option Bounds)) (c : Context) (t : Term) (b : Bool) → (b ≡ true → IsDefinedAt gs c t) → (firm (is_shaped gs) c t ≡ true → b ≡ true) → TellsAt gs c t [] b
 unfolding TellsAt
-tells-here gs c t b s f = ((λ k r e. subst (IsDefinedAt gs c) (some-list t r e) (s k)), (λ h. f (h t refl)))
+tells-here gs c t b s f = ((λ k r e. subst (IsDefinedAt gs c) (same_Some t r e) (s k)), (λ h. f (h t refl)))
 
 -- in a part
 tells-inner : (gs : List (Option Bounds)) (c : Context) (t : Term) (i : ℕ) (u : Term) (w : Way) (b : Bool) → child_of (parts_of t) i ≡ Some u → TellsAt gs (enter_facts c t i) u w b → TellsAt gs c t (i ∷ w) b

@@ -1,5 +1,5 @@
 -- What the descent does, put together: a rewriting, the parts one after another, the whole.
-use Rattle.std.proofs.Common.{◌≡◌, ℕ, ◌+◌, ◌-◌, ◌*◌, ◌<◌, ◌≤◌, Bool, true, false, ◌||◌, List, [], ◌∷◌, ◌++◌, map, length, take, Option, Some, None, Result, Ok, Err, IfOk, refl, sym, ap, subst, ◌∙◌, arith, inl, inr}
+use Rattle.std.proofs.Common.{◌≡◌, ℕ, ◌+◌, ◌-◌, ◌*◌, ◌<◌, ◌≤◌, Bool, true, false, ◌||◌, List, [], ◌∷◌, ◌++◌, map, length, take, Option, Some, None, refl, sym, ap, subst, ◌∙◌, arith, inl, inr}
 use Rattle.std.proofs.lemmas.List.{map-append, append_assoc, append-nil, length-append, length-map}
 use Rattle.nrca_term.specs.declared.trace.Rule.{Rule}
 use Rattle.nrca_term.specs.declared.trace.Step.{Step}
@@ -21,7 +21,7 @@ use Rattle.nrca_normal.specs.Conditions.{IsMade, IsQuietAt, name_of}
 use Rattle.nrca_normal.specs.Rewriting.{Leads, behind}
 use Rattle.nrca_normal.specs.Quiet.{QuietEverywhere, QuietParts}
 use Rattle.nrca_normal.specs.Planned.{IsPlanOf}
-use Rattle.nrca_normal.specs.Descent.{IsTypedAmong, IsTypedThere, MayFireThere, IsQuietThere, IsAtRoot, step_at, AreSome, HasRewritten, HasSettled, HasSettledPart, HasSettledParts, HasSettledFirst, GoesOn, HasEntered, HasLeft, left}
+use Rattle.nrca_normal.specs.Descent.{IsTypedAmong, IsTypedThere, MayFireThere, IsQuietThere, IsAtRoot, step_at, AreSome, HasRewritten, HasSettled, HasSettledPart, HasSettledParts, HasSettledFirst, GoesOn, HasEntered, HasLeft, steps_left}
 use Rattle.nrca_normal.specs.Laws.Rewriting.{put-child, put-back, leads-append, leads-none, leads-one, leads-same, leads-above}
 use Rattle.nrca_normal.specs.Laws.Typed.{typed-part, leads-typed, leads-falls, part-number}
 use Rattle.nrca_normal.specs.Laws.Quiet.{parts-none, parts-more, everywhere}
@@ -44,10 +44,6 @@ some-both false false xs ys h k = ap (λ l. l ++ ys) h ∙ k
 some-map : (x : Bool) (xs : List Step) (f : Step → Step) → AreSome x xs → AreSome x (map f xs)
 some-map true xs f h = omega (arith, h, length-map xs f)
 some-map false xs f h = ap (map f) h
-
-pub if-ok : {A B : Type 0} (r : Result A B) (P Q : A → Type 0) → ((x : A) → P x → Q x) → IfOk r P → IfOk r Q
-if-ok (Ok a) P Q f h = f a h
-if-ok (Err b) P Q f h = h
 
 -- nothing was rewritten
 pub rewritten-none : (a b : Descent) (t : Term) → known_shapes b.ctx ≡ known_shapes a.ctx → context_of b.ctx ≡ context_of a.ctx → b.way.items ≡ a.way.items → b.steps.items ≡ a.steps.items → HasRewritten a t b t false
@@ -120,10 +116,10 @@ rewritten-typed a b t u x y h =
     let z : a.ctx.depth ≡ b.ctx.depth = sym (ap (λ c. c.depth) h.context) in
     subst (λ n. IsTypedAmong n u) z (leads-typed (known_shapes a.ctx) (context_of a.ctx) a.ctx.depth t u h.steps y h.leads)
 
-pub rewritten-falls : (a b : Descent) (t u : Term) (x : Bool) → IsTypedThere a t → HasRewritten a t b u x → left u ≤ left t
+pub rewritten-falls : (a b : Descent) (t u : Term) (x : Bool) → IsTypedThere a t → HasRewritten a t b u x → steps_left u ≤ steps_left t
 rewritten-falls a b t u x y h = let z = leads-falls (known_shapes a.ctx) (context_of a.ctx) a.ctx.depth t u h.steps y h.leads in omega (arith, z)
 
-pub rewritten-lower : (a b : Descent) (t u : Term) → IsTypedThere a t → HasRewritten a t b u true → left u < left t
+pub rewritten-lower : (a b : Descent) (t u : Term) → IsTypedThere a t → HasRewritten a t b u true → steps_left u < steps_left t
 rewritten-lower a b t u y h = let z = leads-falls (known_shapes a.ctx) (context_of a.ctx) a.ctx.depth t u h.steps y h.leads in omega (arith, z, h.some)
 
 -- where no rule may be applied, in an equal context
@@ -241,7 +237,7 @@ parts-next a b d e t u v w i next x y l h k (inr g) =
 
 -- what is left to fall, and then the parts that are left, become less
 pub parts-falls : (b d e : Descent) (u v w : Term) (i next : ℕ) (y : Bool) → i < count (parts_of u) → IsTypedThere b u → HasRewritten b u d v y → GoesOn i y d v e w next →
-    left w * 1280002 + (1280001 - next) < left u * 1280002 + (1280001 - i)
+    steps_left w * 1280002 + (1280001 - next) < steps_left u * 1280002 + (1280001 - i)
 parts-falls b d e u v w i next y l ty h (inl g) =
     omega (arith, part-number b.ctx.depth u i ty.small l, rewritten-falls b d u v y ty h, rewritten-lower d e v w (rewritten-typed b d u v y ty h) g.1.0)
 parts-falls b d e u v w i next y l ty h (inr g) =

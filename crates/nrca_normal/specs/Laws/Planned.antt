@@ -1,6 +1,5 @@
 -- What a plan is follows from rewritings that lead to a term at whose places no rule may be applied.
-use Rattle.std.proofs.Common.{◌≡◌, ℕ, ◌+◌, ◌*◌, ◌^◌, List, [], ◌∷◌, Option, sym, ap, subst, ◌∙◌, arith}
-use Rattle.std.proofs.Math.Nat.{pow-zero, pow-succ'}
+use Rattle.std.proofs.Common.{◌+◌, List, [], ◌∷◌, Option, sym, subst, arith}
 use Rattle.aql_value.specs.Laws.Lists.{Every-join}
 use Rattle.aql_types.specs.Types.{Ty}
 use Rattle.aql_types.specs.ValueTypes.{HaveTypes}
@@ -18,6 +17,7 @@ use Rattle.nrca_term.specs.Laws.TypedPlaces.{typed-place}
 use Rattle.nrca_term.specs.Laws.Contexts.{stands}
 use Rattle.nrca_term.specs.Laws.Measure.{left-bound}
 use Rattle.nrca_term.specs.TypedPlaces.{KeepsTypes}
+use Rattle.nrca_laws.specs.Laws.Steps.{cube}
 use Rattle.nrca_laws.specs.Laws.Ways.{normal-in}
 use Rattle.nrca_ranges.specs.Bounds.{Bounds}
 use Rattle.nrca_ranges.specs.Entered.{is_shaped}
@@ -54,10 +54,6 @@ module _ (gs : List (Option Bounds)) where
   replay-of t u [] given T V ty oh tl h = h
   replay-of t u (s ∷ steps) given T V ty oh tl h =
       (h.0, step-of t h.0 s given T V ty oh tl h.1, replay-of h.0 u steps given T V (rewriting-types gs no_facts t h.0 s h.1 given [] T ty) oh tl h.2)
-
-  -- a third power
-  cube : (n : ℕ) → n ^ 3 ≡ n * (n * n)
-  cube n = pow-succ' n 2 ∙ ap (λ m. n * m) (pow-succ' n 1 ∙ ap (λ m. n * m) (pow-succ' n 0 ∙ ap (λ m. n * m) (pow-zero n) ∙ omega arith))
 
   -- what is answered at the end
   pub planned : (t : Term) (p : Plan) → IsTyped t → Leads gs no_facts t p.trace (term_of p.term) → QuietEverywhere gs no_facts (term_of p.term) → IsPlanOf gs t p

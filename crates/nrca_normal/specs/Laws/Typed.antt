@@ -4,14 +4,14 @@ use Rattle.std.proofs.lemmas.Nat.{mul-le}
 use Rattle.std.proofs.lemmas.List.{length-append}
 use Rattle.aql_types.specs.Types.{Ty}
 use Rattle.nrca_term.specs.declared.trace.Step.{Step}
-use Rattle.nrca_term.specs.Term.{Term, Parts, node, none, part, parts_of, child_of, binders_of, count, weight_of, parts_weight}
+use Rattle.nrca_term.specs.Term.{Term, Parts, node, none, part, parts_of, child_of, binders_of, count, weight_of}
 use Rattle.nrca_term.specs.Typing.{Arg, ctyped, parts_typed, instances}
 use Rattle.nrca_term.specs.TypedPlaces.{Keeps}
 use Rattle.nrca_term.specs.Facts.{Context}
 use Rattle.nrca_term.specs.Measure.{Below, left_of}
 use Rattle.nrca_term.specs.Laws.TypedForm.{well_formed-typed, closed-typed}
 use Rattle.nrca_term.specs.Laws.TypedPlaces.{typed-place, keeps-put_at}
-use Rattle.nrca_term.specs.Laws.Measure.{below-put_at, below-weight, left-falls, pairs-weight, weight_of-child, form-positive}
+use Rattle.nrca_term.specs.Laws.Measure.{below-put_at, below-weight, left-falls, pairs-weight, weight_of-child, form-positive, parts_weight-count}
 use Rattle.nrca_laws.specs.Fitting.{IsSmallPart}
 use Rattle.nrca_laws.specs.Laws.Lowering.{lowers}
 use Rattle.nrca_ranges.specs.Bounds.{Bounds}
@@ -19,7 +19,7 @@ use Rattle.nrca_ranges.specs.Context.{IsSmallTerm}
 use Rattle.nrca_ranges.specs.Laws.Entered.{room-part}
 use Rattle.nrca_normal.specs.Conditions.{name_of}
 use Rattle.nrca_normal.specs.Rewriting.{IsRewriting, Leads}
-use Rattle.nrca_normal.specs.Descent.{IsTypedAmong, left}
+use Rattle.nrca_normal.specs.Descent.{IsTypedAmong, steps_left}
 
 -- a typed term is small among its variables
 pub typed-small : (n : ℕ) (t : Term) → IsTypedAmong n t → IsSmallTerm n t
@@ -47,13 +47,8 @@ typed-part n (node f ps) i u h e =
       small = room-part n (node f ps) i u (well_formed-typed (instances h.given) h.env (node f ps) h.type h.typed) e h.small;
     }
 
--- the parts are no more than the weight
-parts-weigh : (ps : Parts) → count ps ≤ parts_weight ps
-parts-weigh none = omega arith
-parts-weigh (part k (node f qs) ps) = omega (arith, form-positive f, parts-weigh ps)
-
 pub part-number : (n : ℕ) (t : Term) (i : ℕ) → n + weight_of t ≤ 1280000 → i < count (parts_of t) → i < 1280000
-part-number n (node f ps) i h l = omega (arith, l, h, parts-weigh ps, form-positive f)
+part-number n (node f ps) i h l = omega (arith, l, h, parts_weight-count ps, form-positive f)
 
 module _ (gs : List (Option Bounds)) (c : Context) where
   -- a rewriting keeps types
@@ -98,13 +93,13 @@ module _ (gs : List (Option Bounds)) (c : Context) where
     small = omega (arith, k.small, leads-weight t u steps k.given k.env k.type k.typed h);
   }
 
-  pub leads-falls : (n : ℕ) (t u : Term) (steps : List Step) → IsTypedAmong n t → Leads gs c t steps u → length steps + left u ≤ left t
-  unfolding left
+  pub leads-falls : (n : ℕ) (t u : Term) (steps : List Step) → IsTypedAmong n t → Leads gs c t steps u → length steps + steps_left u ≤ steps_left t
+  unfolding steps_left
   leads-falls n t u steps k h = leads-left 1280000 t u steps k.given k.env k.type (omega (arith, k.small)) k.typed h
 
 -- less is left in a part
-pub part-falls : (n : ℕ) (t : Term) (i : ℕ) (u : Term) → IsTypedAmong n t → child_of (parts_of t) i ≡ Some u → left u < left t
-unfolding left
+pub part-falls : (n : ℕ) (t : Term) (i : ℕ) (u : Term) → IsTypedAmong n t → child_of (parts_of t) i ≡ Some u → steps_left u < steps_left t
+unfolding steps_left
 part-falls n t i u h e =
     let l : weight_of u < weight_of t = weight_of-child t i u e in
     let m : weight_of u ≤ 1280000 = omega (arith, l, h.small) in

@@ -2,7 +2,7 @@
 use Rattle.std.specs.Prelude.{◌≡◌, Some}
 use Rattle.std.proofs.Common.{ap, sym}
 use Rattle.aql_value.specs.Laws.Datum.{list_of-data_of}
-use Rattle.nrca_loops.specs.Scope.{set_in}
+use Rattle.nrca_loops.specs.Values.{set_in}
 use Rattle.nrca_quick.specs.Few.{few_members, few_set}
 use Rattle.nrca_quick.specs.declared.sets.AtMostOne.{AtMostOne}
 

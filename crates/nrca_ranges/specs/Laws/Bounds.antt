@@ -1,6 +1,7 @@
 -- What follows from the definitions of `Bounds` and of what is known of parts of values.
-use Rattle.std.proofs.Common.{◌≡◌, ℕ, ◌^◌, ◌-◌, Bool, true, false, nat_eq, List, [], ◌∷◌, length, map, Some, refl, sym, ap, subst, arith}
+use Rattle.std.proofs.Common.{◌≡◌, ℕ, ◌^◌, ◌-◌, Bool, true, false, nat_eq, List, [], ◌∷◌, length, map, refl, sym, ap, subst, arith}
 use Rattle.std.proofs.lemmas.Bool.{eqb-true}
+use Rattle.std.proofs.lemmas.Option.{same_Some}
 use Rattle.aql_value.specs.Canon.{IsAscending}
 use Rattle.aql_value.specs.Laws.Canon.{canon_ascending}
 use Rattle.aql_value.specs.Datum.{Datum, Data, natural, set, array, list_of}
@@ -12,11 +13,7 @@ use Rattle.aql_value.specs.Datum.{data_of}
 use Rattle.nrca_ranges.specs.declared.interval.Interval.{Interval}
 use Rattle.nrca_ranges.specs.Bounds.{Bounds, unknown, number, row, members, grid, row_of, IsIn, AreIn, IsCount, HasShape, HaveShapes}
 use Rattle.nrca_ranges.specs.Intervals.{hull, hulls}
-use Rattle.nrca_ranges.specs.Transfer.{interval_of, count_of, member_of, cell_of, index_bounds, dimensions_of, joined, join_grids}
-
--- what two partial values that are the same hold is the same
-pub some-is : {A : Type 0} (x y : A) → Some x ≡ Some y → x ≡ y
-some-is x y e = cc
+use Rattle.nrca_ranges.specs.Transfer.{interval_of, count_of, member_of, cell_of, index_bounds, dimensions_of, join_bounds, join_grids}
 
 -- every number is one of all
 pub in-all : (n : ℕ) → IsIn (record { low = 0; high = 2 ^ 128 - 1 }) n
@@ -24,7 +21,7 @@ in-all n = (omega arith, λ l. omega (arith, l))
 
 -- a number that has a shape is in the shape's interval
 pub interval-is : (b : Bounds) (n : ℕ) → HasShape b (natural n) → IsIn (interval_of b) n
-interval-is (number i) n h = let z : h.0 ≡ n = sym (some-is n h.0 (ap as_natural h.1)) in subst (IsIn i) z h.2
+interval-is (number i) n h = let z : h.0 ≡ n = sym (same_Some n h.0 (ap as_natural h.1)) in subst (IsIn i) z h.2
 interval-is unknown n h = in-all n
 interval-is (row bs) n h = in-all n
 interval-is (members i b) n h = in-all n
@@ -125,7 +122,7 @@ are-second (i ∷ is) (j ∷ js) [] e h = absurd h
 are-second (i ∷ is) (j ∷ js) (n ∷ ns) e h = (in-second i j n h.0, are-second is js ns (omega (arith, e)) h.1)
 
 -- a value of either shape has the joined one
-pub joined-first : (a b : Bounds) (v : Datum) → HasShape a v → HasShape (joined a b) v
+pub joined-first : (a b : Bounds) (v : Datum) → HasShape a v → HasShape (join_bounds a b) v
 joined-first unknown b v h = tt
 joined-first (number i) (number j) v h = (h.0, h.1, in-first i j h.0 h.2)
 joined-first (number i) unknown v h = tt
@@ -136,20 +133,20 @@ joined-first (row cs) b v h = tt
 joined-first (members i a) unknown v h = tt
 joined-first (members i a) (number j) v h = tt
 joined-first (members i a) (row bs) v h = tt
-joined-first (members i a) (members j b) v h = (h.0, h.1, count-first i j (list_of h.0) h.2, Every-impl (HasShape a) (HasShape (joined a b)) (λ w k. joined-first a b w k) (list_of h.0) h.3)
+joined-first (members i a) (members j b) v h = (h.0, h.1, count-first i j (list_of h.0) h.2, Every-impl (HasShape a) (HasShape (join_bounds a b)) (λ w k. joined-first a b w k) (list_of h.0) h.3)
 joined-first (members i a) (grid js b) v h = tt
 joined-first (grid is a) unknown v h = tt
 joined-first (grid is a) (number j) v h = tt
 joined-first (grid is a) (row bs) v h = tt
 joined-first (grid is a) (members j b) v h = tt
 joined-first (grid is a) (grid js b) v h =
-    go (nat_eq (length is) (length js)) (λ e. (h.0, h.1, h.2, are-first is js h.0 (eqb-true (length is) (length js) e) h.3, Every-impl (HasShape a) (HasShape (joined a b)) (λ w k. joined-first a b w k) (list_of h.1) h.4))
+    go (nat_eq (length is) (length js)) (λ e. (h.0, h.1, h.2, are-first is js h.0 (eqb-true (length is) (length js) e) h.3, Every-impl (HasShape a) (HasShape (join_bounds a b)) (λ w k. joined-first a b w k) (list_of h.1) h.4))
   where
-    go : (t : Bool) → (t ≡ true → HasShape (grid (hulls is js) (joined a b)) v) → HasShape (join_grids t (hulls is js) (joined a b)) v
+    go : (t : Bool) → (t ≡ true → HasShape (grid (hulls is js) (join_bounds a b)) v) → HasShape (join_grids t (hulls is js) (join_bounds a b)) v
     go true k = k refl
     go false k = tt
 
-pub joined-second : (a b : Bounds) (v : Datum) → HasShape b v → HasShape (joined a b) v
+pub joined-second : (a b : Bounds) (v : Datum) → HasShape b v → HasShape (join_bounds a b) v
 joined-second unknown b v h = tt
 joined-second (number i) (number j) v h = (h.0, h.1, in-second i j h.0 h.2)
 joined-second (number i) unknown v h = tt
@@ -160,16 +157,16 @@ joined-second (row cs) b v h = tt
 joined-second (members i a) unknown v h = tt
 joined-second (members i a) (number j) v h = tt
 joined-second (members i a) (row bs) v h = tt
-joined-second (members i a) (members j b) v h = (h.0, h.1, count-second i j (list_of h.0) h.2, Every-impl (HasShape b) (HasShape (joined a b)) (λ w k. joined-second a b w k) (list_of h.0) h.3)
+joined-second (members i a) (members j b) v h = (h.0, h.1, count-second i j (list_of h.0) h.2, Every-impl (HasShape b) (HasShape (join_bounds a b)) (λ w k. joined-second a b w k) (list_of h.0) h.3)
 joined-second (members i a) (grid js b) v h = tt
 joined-second (grid is a) unknown v h = tt
 joined-second (grid is a) (number j) v h = tt
 joined-second (grid is a) (row bs) v h = tt
 joined-second (grid is a) (members j b) v h = tt
 joined-second (grid is a) (grid js b) v h =
-    go (nat_eq (length is) (length js)) (λ e. (h.0, h.1, h.2, are-second is js h.0 (eqb-true (length is) (length js) e) h.3, Every-impl (HasShape b) (HasShape (joined a b)) (λ w k. joined-second a b w k) (list_of h.1) h.4))
+    go (nat_eq (length is) (length js)) (λ e. (h.0, h.1, h.2, are-second is js h.0 (eqb-true (length is) (length js) e) h.3, Every-impl (HasShape b) (HasShape (join_bounds a b)) (λ w k. joined-second a b w k) (list_of h.1) h.4))
   where
-    go : (t : Bool) → (t ≡ true → HasShape (grid (hulls is js) (joined a b)) v) → HasShape (join_grids t (hulls is js) (joined a b)) v
+    go : (t : Bool) → (t ≡ true → HasShape (grid (hulls is js) (join_bounds a b)) v) → HasShape (join_grids t (hulls is js) (join_bounds a b)) v
     go true k = k refl
     go false k = tt
 

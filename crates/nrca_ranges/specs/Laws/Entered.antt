@@ -1,8 +1,8 @@
 -- What follows from the definitions of `Entered`.
-use Rattle.std.proofs.Common.{◌≡◌, ℕ, zero, suc, ◌+◌, ◌*◌, ◌-◌, ◌<◌, ◌≤◌, Bool, true, false, nat_lt, is_some, Option, Some, None, List, [], ◌∷◌, length, map, get_or, refl, sym, ap, subst, ◌∙◌, arith, if◌then◌else◌}
+use Rattle.std.proofs.Common.{◌≡◌, ℕ, zero, suc, ◌+◌, ◌-◌, ◌<◌, ◌≤◌, false, is_some, Option, Some, None, List, [], ◌∷◌, length, map, get_or, refl, sym, ap, subst, ◌∙◌, arith}
 use Rattle.std.proofs.lemmas.List.{length-map}
 use Rattle.std.specs.List.{slice_get}
-use Rattle.nrca_term.specs.Term.{Term, Parts, node, none, part, Form, parts_of, child_of, binders_of, form_of, variable_of, weight_of, form_weight, form_binders, WellFormed, Closed, PartsClosed}
+use Rattle.nrca_term.specs.Term.{Term, Parts, node, none, part, Form, parts_of, child_of, binders_of, form_of, variable_of, weight_of, WellFormed, Closed, PartsClosed}
 use Rattle.nrca_term.specs.Meaning.{at_position}
 use Rattle.nrca_term.specs.Facts.{Context, enter_facts}
 use Rattle.nrca_ranges.specs.declared.shape.Shape.{Shape}
@@ -11,26 +11,8 @@ use Rattle.nrca_ranges.specs.Context.{IsSmallTerm}
 use Rattle.nrca_ranges.specs.Entered.{is_shaped, position_bounds, has_value, shape_there}
 use Rattle.nrca_ranges.specs.Shapes.{bounds_of, bounds_there}
 use Rattle.nrca_term.specs.Laws.Measure.{parts_weight-child}
+use Rattle.nrca_term.specs.Laws.TypedForm.{binders-light}
 use Rattle.nrca_term.specs.Laws.WellFormed.{binders-well_formed}
-
--- a form binds no more variables than it weighs
-light : (f : Form) (i : ℕ) → form_binders f i ≤ form_weight f
-light (Form.var n) i = omega arith
-light (Form.global n) i = omega arith
-light Form.bind zero = omega arith
-light Form.bind (suc i) = omega arith
-light Form.choose i = omega arith
-light Form.default i = omega arith
-light Form.big_union zero = omega arith
-light Form.big_union (suc i) = omega arith
-light Form.sum zero = omega arith
-light Form.sum (suc i) = omega arith
-light (Form.tab rank) i = at (nat_lt i rank)
-  where
-    at : (b : Bool) → (if b then 0 else rank) ≤ 6 * rank + 6
-    at true = omega arith
-    at false = omega arith
-light (Form.strict s) i = omega arith
 
 -- a part has its variables among those around the node and those that the node binds there
 pub child-closed : (n : ℕ) (ps : Parts) (i : ℕ) (u : Term) → child_of ps i ≡ Some u → PartsClosed n ps → Closed (n + binders_of ps i) u
@@ -45,7 +27,7 @@ parts-closed n (part k t ps) h = (h 0 t refl, parts-closed n ps (λ i u e. h (su
 
 -- with the variables of its own place a part weighs no more than its node with its own
 pub room-part : (n : ℕ) (t : Term) (i : ℕ) (u : Term) → WellFormed t → child_of (parts_of t) i ≡ Some u → n + weight_of t ≤ 1280000 → n + binders_of (parts_of t) i + weight_of u ≤ 1280000
-room-part n (node f ps) i u w e h = omega (arith, h, parts_weight-child ps i u e, binders-well_formed (node f ps) i u w e, light f i)
+room-part n (node f ps) i u w e h = omega (arith, h, parts_weight-child ps i u e, binders-well_formed (node f ps) i u w e, binders-light f i)
 
 -- the parts of a node whose variables are among n have theirs so
 pub closed-parts : (n : ℕ) (t : Term) → Closed n t → PartsClosed n (parts_of t)
@@ -59,7 +41,7 @@ closed-node n (node f ps) e h = (tt, h)
 -- a part has its variables among those of its own place
 pub inside-part : (n : ℕ) (t : Term) (i : ℕ) (u : Term) → WellFormed t → child_of (parts_of t) i ≡ Some u → IsSmallTerm n t → IsSmallTerm (n + binders_of (parts_of t) i) u
 inside-part n (node f ps) i u w e h =
-    (child-closed n ps i u e h.0.1, omega (arith, h.1, parts_weight-child ps i u e, binders-well_formed (node f ps) i u w e, light f i))
+    (child-closed n ps i u e h.0.1, omega (arith, h.1, parts_weight-child ps i u e, binders-well_formed (node f ps) i u w e, binders-light f i))
 
 -- so it is small in its own context
 pub entered-inside : (m n : ℕ) (c d p : Context) (t : Term) (i : ℕ) (u : Term) → WellFormed t → child_of (parts_of t) i ≡ Some u → IsSmallTerm n t → p ≡ enter_facts d t i → d ≡ c → c.depth ≡ n → p.depth ≡ m → IsSmallTerm m u

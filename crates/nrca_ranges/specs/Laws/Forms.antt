@@ -2,7 +2,7 @@
 use Rattle.std.proofs.Common.{◌≡◌, ℕ, zero, suc, ◌-◌, ◌<◌, ◌≤◌, ◌^◌, Bool, true, false, nat_lt, sum, List, [], ◌∷◌, length, map, take, Option, Some, None, option_to_list, unwrap_or, refl, sym, subst, ◌∙◌, arith, if◌then◌else◌}
 use Rattle.std.proofs.lemmas.Bool.{lt-ltb, le-ltb}
 use Rattle.std.proofs.lemmas.Nat.{mul-le}
-use Rattle.std.proofs.lemmas.Option.{cond_some}
+use Rattle.std.proofs.lemmas.Option.{cond_some, same_Some}
 use Rattle.aql_value.specs.Canon.{canon}
 use Rattle.aql_value.specs.Datum.{Datum, natural, data_of}
 use Rattle.aql_value.specs.Indices.{indices}
@@ -12,25 +12,25 @@ use Rattle.aql_value.specs.Laws.Operations.{array_of-is}
 use Rattle.aql_value.specs.Laws.Partial.{then-is, each-length, each-values}
 use Rattle.aql_value.specs.Laws.Set.{length_canon, Every-canon}
 use Rattle.aql_value.specs.Lists.{Every}
-use Rattle.aql_value.specs.Operations.{as_natural, as_set, set_of, union_all, sum_of, in_range, array_of, walked}
+use Rattle.aql_value.specs.Operations.{as_natural, as_set, set_of, union_all, sum_of, in_range, array_of, push_index}
 use Rattle.aql_value.specs.Partial.{◌>>=◌, each, or_else, concat}
 use Rattle.aql_value.specs.Strict.{strict_value}
 use Rattle.nrca_term.specs.Term.{Form}
 use Rattle.nrca_term.specs.Meaning.{Outcomes, at_position, Part, worth, here, form_value, test_value, members_value, loop_values, bounds_value}
-use Rattle.nrca_term.specs.Places.{branch, otherwise, indices_of, entered}
+use Rattle.nrca_term.specs.Places.{branch, otherwise, indices_of, entry_values}
 use Rattle.nrca_term.specs.Laws.Facts.{natural-is}
 use Rattle.nrca_ranges.specs.Bounds.{Bounds, number, members, row_of, IsIn, IsCount, HasShape, HaveShapes}
 use Rattle.nrca_ranges.specs.Entered.{shape_there}
 use Rattle.nrca_ranges.specs.Intervals.{loop_count, loop_sum}
 use Rattle.nrca_ranges.specs.Shapes.{Tells}
-use Rattle.nrca_ranges.specs.Transfer.{interval_of, count_of, member_of, joined, entry_at, form_bounds}
-use Rattle.nrca_ranges.specs.Laws.Bounds.{some-is, interval-is, joined-first, joined-second}
+use Rattle.nrca_ranges.specs.Transfer.{interval_of, count_of, member_of, join_bounds, entry_at, form_bounds}
+use Rattle.nrca_ranges.specs.Laws.Bounds.{interval-is, joined-first, joined-second}
 use Rattle.nrca_ranges.specs.Laws.Intervals.{joined-most, sum-least, sum-most}
 use Rattle.nrca_ranges.specs.Laws.Strict.{set-shaped, numbers-in, strict-shaped}
 
 -- what is known of a part's value, at each list of values with which an evaluation comes to it
 abbrev pub Shaped : Form → List Part → ℕ → Bounds → Type 0
-Shaped f ps i b = Every (λ new. (v : Datum) → worth ps i new ≡ Some v → HasShape b v) (entered f ps i)
+Shaped f ps i b = Every (λ new. (v : Datum) → worth ps i new ≡ Some v → HasShape b v) (entry_values f ps i)
 
 -- of each part, by its entry of the list
 abbrev pub AllShaped : Form → List Part → List Bounds → Type 0
@@ -44,7 +44,7 @@ here-shaped (p ∷ ps) [] vs l h e = absurd (omega (arith, l))
 here-shaped (p ∷ ps) (b ∷ bs) vs l h e =
     let a = then-is (p []) (λ y. each here ps >>= λ ys. Some (y ∷ ys)) vs e in
     let r = then-is (each here ps) (λ ys. Some (a.0 ∷ ys)) vs a.2 in
-    subst (HaveShapes (row_of (b ∷ bs))) (some-is (a.0 ∷ r.0) vs r.2) (h 0 a.0 a.1, here-shaped ps bs r.0 (omega (arith, l)) (λ i v k. h (suc i) v k) r.1)
+    subst (HaveShapes (row_of (b ∷ bs))) (same_Some (a.0 ∷ r.0) vs r.2) (h 0 a.0 a.1, here-shaped ps bs r.0 (omega (arith, l)) (λ i v k. h (suc i) v k) r.1)
 
 -- the first n of them
 pub first-here : (n : ℕ) (ps : List Part) (bs : List Bounds) (vs : List Datum) → length bs ≡ length ps → ((i : ℕ) (v : Datum) → i < n → worth ps i [] ≡ Some v → HasShape (entry_at bs i) v) →
@@ -56,7 +56,7 @@ first-here (suc n) (p ∷ ps) [] vs l h e = absurd (omega (arith, l))
 first-here (suc n) (p ∷ ps) (b ∷ bs) vs l h e =
     let a = then-is (p []) (λ y. each here (take n ps) >>= λ ys. Some (y ∷ ys)) vs e in
     let r = then-is (each here (take n ps)) (λ ys. Some (a.0 ∷ ys)) vs a.2 in
-    subst (HaveShapes (row_of (b ∷ take n bs))) (some-is (a.0 ∷ r.0) vs r.2) (h 0 a.0 (omega arith) a.1, first-here n ps bs r.0 (omega (arith, l)) (λ i v q k. h (suc i) v (omega (arith, q)) k) r.1)
+    subst (HaveShapes (row_of (b ∷ take n bs))) (same_Some (a.0 ∷ r.0) vs r.2) (h 0 a.0 (omega arith) a.1, first-here n ps bs r.0 (omega (arith, l)) (λ i v q k. h (suc i) v (omega (arith, q)) k) r.1)
 
 -- a position
 position-shaped : (o : Option (Option Bounds)) (v : Datum) → ((b : Bounds) → o ≡ Some (Some b) → HasShape b v) → HasShape (shape_there o) v
@@ -89,7 +89,7 @@ union-all-shaped a b n rs v u l h e =
     let m : length s.0 ≡ n = each-length as_set rs s.0 s.1 ∙ l in
     let z = sym (list_of-data_of (canon (concat s.0))) in (
       data_of (canon (concat s.0)),
-      sym (some-is (set_of (concat s.0)) v s.2),
+      sym (same_Some (set_of (concat s.0)) v s.2),
       subst (IsCount (loop_count (count_of a) (count_of b))) z (
         omega arith,
         λ q. omega (
@@ -137,12 +137,12 @@ form-shaped V vals gs tl Form.choose ps bs l h v e =
     taken a.0 (subst (λ o. Every (λ new. (v : Datum) → worth ps 1 new ≡ Some v → HasShape (entry_at bs 1) v) (branch true o)) a.1 (h 1)) (subst (λ o. Every (λ new. (v : Datum) → worth ps 2 new ≡ Some v → HasShape (entry_at bs 2) v) (branch false o)) a.1 (h 2)) a.2
   where
     taken : (b : Bool) → Every (λ new. (v : Datum) → worth ps 1 new ≡ Some v → HasShape (entry_at bs 1) v) (branch true (Some b)) → Every (λ new. (v : Datum) → worth ps 2 new ≡ Some v → HasShape (entry_at bs 2) v) (branch false (Some b)) →
-        (if b then worth ps 1 [] else worth ps 2 []) ≡ Some v → HasShape (joined (entry_at bs 1) (entry_at bs 2)) v
+        (if b then worth ps 1 [] else worth ps 2 []) ≡ Some v → HasShape (join_bounds (entry_at bs 1) (entry_at bs 2)) v
     taken true x y k = joined-first (entry_at bs 1) (entry_at bs 2) v (x.0 v k)
     taken false x y k = joined-second (entry_at bs 1) (entry_at bs 2) v (y.0 v k)
 form-shaped V vals gs tl Form.default ps bs l h v e = from (worth ps 0 []) refl (h 1) e
   where
-    from : (o : Option Datum) → worth ps 0 [] ≡ o → Every (λ new. (v : Datum) → worth ps 1 new ≡ Some v → HasShape (entry_at bs 1) v) (otherwise o) → or_else o (worth ps 1 []) ≡ Some v → HasShape (joined (entry_at bs 0) (entry_at bs 1)) v
+    from : (o : Option Datum) → worth ps 0 [] ≡ o → Every (λ new. (v : Datum) → worth ps 1 new ≡ Some v → HasShape (entry_at bs 1) v) (otherwise o) → or_else o (worth ps 1 []) ≡ Some v → HasShape (join_bounds (entry_at bs 0) (entry_at bs 1)) v
     from None i y k = joined-second (entry_at bs 0) (entry_at bs 1) v (y.0 v k)
     from (Some w) i y k = joined-first (entry_at bs 0) (entry_at bs 1) v ((h 0).0 v (i ∙ k))
 form-shaped V vals gs tl Form.big_union ps bs l h v e =
@@ -154,20 +154,20 @@ form-shaped V vals gs tl Form.sum ps bs l h v e =
     let r = loop-shaped ps bs p.0 (h 0) (h 1) p.1 in
     sum-shaped (entry_at bs 0) (entry_at bs 1) r.0 p.0 v r.2 r.1 r.3 p.2
 form-shaped V vals gs tl (Form.tab rank) ps bs l h v e =
-    let a = then-is (bounds_value rank ps) (λ ds. each (λ at. worth ps rank (walked at [])) (indices ds) >>= array_of ds) v e in
-    let b = then-is (each (λ at. worth ps rank (walked at [])) (indices a.0)) (array_of a.0) v a.2 in
+    let a = then-is (bounds_value rank ps) (λ ds. each (λ at. worth ps rank (push_index at [])) (indices ds) >>= array_of ds) v e in
+    let b = then-is (each (λ at. worth ps rank (push_index at [])) (indices a.0)) (array_of a.0) v a.2 in
     let n = then-is (each here (take rank ps)) (each as_natural) a.0 a.1 in
     let r = array_of-is a.0 b.0 v b.2 in
     let m = first-here rank ps bs n.0 l (λ i w q k. (rw (lt-ltb i rank q) at (h i)).0 w k) n.1 in
-    let cells : Every (λ at. (w : Datum) → worth ps rank (walked at []) ≡ Some w → HasShape (entry_at bs rank) w) (indices a.0) =
-    Every-map (λ new. (w : Datum) → worth ps rank new ≡ Some w → HasShape (entry_at bs rank) w) (λ at. walked at []) (indices a.0)
-    (subst (λ o. Every (λ new. (w : Datum) → worth ps rank new ≡ Some w → HasShape (entry_at bs rank) w) (map (λ at. walked at []) (indices_of o))) a.1 (rw (le-ltb rank rank (omega arith)) at (h rank))) in (
+    let cells : Every (λ at. (w : Datum) → worth ps rank (push_index at []) ≡ Some w → HasShape (entry_at bs rank) w) (indices a.0) =
+    Every-map (λ new. (w : Datum) → worth ps rank new ≡ Some w → HasShape (entry_at bs rank) w) (λ at. push_index at []) (indices a.0)
+    (subst (λ o. Every (λ new. (w : Datum) → worth ps rank new ≡ Some w → HasShape (entry_at bs rank) w) (map (λ at. push_index at []) (indices_of o))) a.1 (rw (le-ltb rank rank (omega arith)) at (h rank))) in (
       a.0,
       data_of b.0,
       r.0,
       numbers-in (take rank bs) n.0 a.0 m n.2,
       subst (Every (HasShape (entry_at bs rank))) (sym (list_of-data_of b.0))
-          (each-values (λ at. worth ps rank (walked at [])) (λ at. (w : Datum) → worth ps rank (walked at []) ≡ Some w → HasShape (entry_at bs rank) w) (HasShape (entry_at bs rank)) (λ at w u i. u w i) (indices a.0) b.0 cells b.1),
+          (each-values (λ at. worth ps rank (push_index at [])) (λ at. (w : Datum) → worth ps rank (push_index at []) ≡ Some w → HasShape (entry_at bs rank) w) (HasShape (entry_at bs rank)) (λ at w u i. u w i) (indices a.0) b.0 cells b.1),
     )
 form-shaped V vals gs tl (Form.strict s) ps bs l h v e =
     let a = then-is (each here ps) (strict_value s) v e in

@@ -3,6 +3,7 @@ use Rattle.std.proofs.Common.{◌≡◌, ℕ, zero, suc, ◌+◌, ◌*◌, ◌-�
 use Rattle.std.proofs.lemmas.Bool.{lt-ltb, ltb-true, ltb-false, eqb-true, cases_Bool, and_parts}
 use Rattle.std.proofs.lemmas.List.Sums.{sum_by-cons}
 use Rattle.std.proofs.lemmas.Nat.{mul-le}
+use Rattle.std.proofs.lemmas.Option.{same_Some}
 use Rattle.std.proofs.Math.Nat.{div-le_self}
 use Rattle.aql_value.specs.declared.ops.ArithOp.{ArithOp}
 use Rattle.aql_value.specs.declared.ops.ArithOp.TheVariants.{Add, Monus, Mul, Quotient, Remainder}
@@ -10,7 +11,7 @@ use Rattle.aql_value.specs.Ops.{arith_by}
 use Rattle.aql_value.specs.Lists.{Every}
 use Rattle.aql_value.specs.Laws.Lists.{Every-impl}
 use Rattle.aql_value.specs.Partial.{concat}
-use Rattle.aql_value.specs.Limits.{saturated}
+use Rattle.aql_value.specs.Limits.{saturate}
 use Rattle.nrca_laws.specs.Laws.Spans.{fits-is}
 use Rattle.nrca_ranges.specs.declared.interval.Interval.{Interval}
 use Rattle.nrca_ranges.specs.Bounds.{IsIn}
@@ -28,16 +29,13 @@ before-is h n j u l = go (is_end h) refl
     go true e m = omega (arith, l, u (end-is h e))
     go false e m = absurd (omega (arith, m, ltb-false h (2 ^ 128 - 1) e))
 
-some-is : (m k : ℕ) → Some m ≡ Some k → m ≡ k
-some-is m k e = cc
-
 -- a quotient and a remainder are by a number other than 0
 divides-is : (n q k : ℕ) → cond (nat_eq n 0) None (Some q) ≡ Some k → (1 ≤ n) × (k ≡ q)
 divides-is n q k e = go (nat_eq n 0) refl e
   where
     go : (b : Bool) → nat_eq n 0 ≡ b → cond b None (Some q) ≡ Some k → (1 ≤ n) × (k ≡ q)
     go true z h = cc
-    go false z h = (above n z, sym (some-is q k h))
+    go false z h = (above n z, sym (same_Some q k h))
       where
         above : (n : ℕ) → nat_eq n 0 ≡ false → 1 ≤ n
         above zero z = cc
@@ -72,7 +70,7 @@ rem-le m (suc n) l = omega arith
 pub arith-in : (op : ArithOp) (a b : Interval) (m n k : ℕ) → IsIn a m → IsIn b n → arith_by op m n ≡ Some k → IsIn (arith_interval op a b) k
 arith-in Add a b m n k x y h = let z = fits-is (m + n) k h in (omega (arith, z, x.0, y.0), λ l. omega (arith, z, l, x.1, y.1))
 arith-in Monus a b m n k x y h =
-    let z = some-is (m - n) k h in
+    let z = same_Some (m - n) k h in
     (omega (arith, z, least-is a.low b.high m n x.0 y.1), λ l. omega (arith, z, x.1 l))
 arith-in Mul a b m n k x y h =
     let z = fits-is (m * n) k h in
@@ -98,8 +96,8 @@ not-zero : (n : ℕ) → 1 ≤ n → nat_eq n 0 ≡ false
 not-zero n l = elim (cases_Bool (nat_eq n 0)) [ inl e ↦ absurd (omega (arith, eqb-true n 0 e, l)) | inr e ↦ e ]
 
 -- an upper end that stays below 2^128-1 where it stops there
-pub saturated-is : (n : ℕ) → is_end (saturated n) ≡ true → n < 2 ^ 128 - 1
-saturated-is n e = omega (arith, end-is (saturated n) e)
+pub saturated-is : (n : ℕ) → is_end (saturate n) ≡ true → n < 2 ^ 128 - 1
+saturated-is n e = omega (arith, end-is (saturate n) e)
 
 -- an operation that always fits has a value at each number of the two intervals
 pub fits-there : (op : ArithOp) (a b : Interval) (m n : ℕ) → always_fits op a b ≡ true → IsIn a m → IsIn b n → (k : ℕ) × (arith_by op m n ≡ Some k)

@@ -1,12 +1,12 @@
 -- Spans have their least number not above the greatest.
 use Rattle.std.proofs.Common.{◌≡◌, ℕ, zero, suc, ◌+◌, ◌*◌, ◌-◌, ◌≤◌, Bool, true, false, nat_eq, List, [], ◌∷◌, Option, Some, None, sym, ap, arith, if◌then◌else◌}
 use Rattle.std.proofs.lemmas.Nat.{mul-le}
+use Rattle.std.proofs.lemmas.Option.{same_Some}
 use Rattle.aql_value.specs.declared.ops.ArithOp.{ArithOp}
 use Rattle.aql_value.specs.declared.ops.ArithOp.TheVariants.{Add, Monus, Mul, Quotient, Remainder}
 use Rattle.aql_value.specs.Partial.{◌>>=◌}
 use Rattle.aql_value.specs.Laws.Partial.{then-is}
 use Rattle.aql_value.specs.Strict.{Strict}
-use Rattle.aql_types.specs.Laws.Operation.{some-list}
 use Rattle.nrca_term.specs.Term.{Term, node, none, part, Form}
 use Rattle.nrca_term.specs.Facts.{Known, domain, test, denied, Fact, Context}
 use Rattle.nrca_term.specs.Firm.{Span, number_of, as_variable, as_less, within_range, arith_span, is_domain, bounded_variable, fact_span, or_span, variable_span, span}
@@ -28,19 +28,19 @@ arith-order Mul a b n h k x e =
     omega (arith, ap (λ y. y.0) r, ap (λ y. y.1) r, mul-le p.0.0 q.0.0 p.0.1 q.0.1 (h p.0 p.1) (k q.0 q.1))
 arith-order Monus a b n h k x e =
     let p = then-is a (λ x. Some (0, x.1)) x e in
-    omega (arith, ap (λ y. y.0) (some-list (0, p.0.1) x p.2))
+    omega (arith, ap (λ y. y.0) (same_Some (0, p.0.1) x p.2))
 arith-order Quotient a b None h k x e = cc
 arith-order Quotient a b (Some zero) h k x e = cc
 arith-order Quotient a b (Some (suc m)) h k x e =
     let p = then-is a (λ x. Some (0, x.1)) x e in
-    omega (arith, ap (λ y. y.0) (some-list (0, p.0.1) x p.2))
+    omega (arith, ap (λ y. y.0) (same_Some (0, p.0.1) x p.2))
 arith-order Remainder a b None h k x e = cc
 arith-order Remainder a b (Some zero) h k x e = cc
-arith-order Remainder a b (Some (suc m)) h k x e = omega (arith, ap (λ y. y.0) (some-list (0, suc m - 1) x e))
+arith-order Remainder a b (Some (suc m)) h k x e = omega (arith, ap (λ y. y.0) (same_Some (0, suc m - 1) x e))
 
 -- the interval below a number
 below-order : (n : ℕ) (x : ℕ × ℕ) (b : Bool) → (if b then Some (0, n - 1) else None) ≡ Some x → x.0 ≤ x.1
-below-order n x true e = omega (arith, ap (λ q. q.0) (some-list (0, n - 1) x e))
+below-order n x true e = omega (arith, ap (λ q. q.0) (same_Some (0, n - 1) x e))
 below-order n x false e = cc
 
 -- what one fact says of a variable
@@ -72,7 +72,7 @@ variable-order d i (f ∷ F) x e = at (λ l. variable-order d i F x l) (fact_spa
 -- the span of a term
 pub span-order : (c : Context) (t : Term) → InOrder (span c t)
 span-order c (node (Form.var i) none) x e = variable-order c.depth i c.facts x e
-span-order c (node (Form.strict (Strict.nat n)) none) x e = let r = some-list (n, n) x e in omega (arith, ap (λ q. q.0) r, ap (λ q. q.1) r)
+span-order c (node (Form.strict (Strict.nat n)) none) x e = let r = same_Some (n, n) x e in omega (arith, ap (λ q. q.0) r, ap (λ q. q.1) r)
 span-order c (node (Form.strict (Strict.arith op)) (part zero a (part zero b none))) x e = arith-order op (span c a) (span c b) (number_of b) (span-order c a) (span-order c b) x e
 span-order c _ x e = cc
 

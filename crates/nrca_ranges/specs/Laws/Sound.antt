@@ -7,7 +7,7 @@ use Rattle.nrca_term.specs.declared.term.Core.{Core}
 use Rattle.nrca_term.specs.View.{term_of}
 use Rattle.nrca_term.specs.Term.{Term, Parts, node, none, part, Form, child_of, count, parts_of, WellFormed, PartsWellFormed}
 use Rattle.nrca_term.specs.Meaning.{Outcomes, worth, cden, part_values}
-use Rattle.nrca_term.specs.Places.{entered, entered_in}
+use Rattle.nrca_term.specs.Places.{entry_values, entered_in}
 use Rattle.nrca_term.specs.Facts.{Context, enter_facts, FactsHold}
 use Rattle.nrca_term.specs.Firm.{Span, span}
 use Rattle.nrca_term.specs.Laws.Contexts.{stands-enter}
@@ -19,7 +19,7 @@ use Rattle.nrca_laws.specs.Laws.Firms.{part-there}
 use Rattle.nrca_ranges.specs.declared.interval.Interval.{Interval}
 use Rattle.nrca_ranges.specs.declared.context.Ctx.{Ctx}
 use Rattle.nrca_ranges.specs.Bounds.{Bounds, unknown, IsCount, IsIn, HasShape}
-use Rattle.nrca_ranges.specs.Context.{context_of, entered as entered_context}
+use Rattle.nrca_ranges.specs.Context.{context_of, enter_part as entered_context}
 use Rattle.nrca_ranges.specs.Shapes.{Tells, Allows, IsShapeIn, IsNumberIn, IsCountIn, AllowsInside, known_shapes, shape_at}
 use Rattle.nrca_ranges.specs.Transfer.{interval_of, count_of, entry_at, form_bounds, by_span, bounds, all_bounds}
 use Rattle.nrca_ranges.specs.Laws.Bounds.{interval-is, count-shaped}
@@ -47,12 +47,12 @@ spanned V vals c t v b st e h = go (span c t) refl
 -- what is known of a part wherever an evaluation of the node comes to it
 entered-shaped : (V : Outcomes) (c : Context) (f : Form) (ps : Parts) (vals : List Datum) (i : ℕ) (b : Bounds) → WellFormed (node f ps) → FactsHold V c vals →
     ((new : List Datum) → FactsHold V (enter_facts c (node f ps) i) (new ++ vals) → (v : Datum) → worth (part_values V vals ps) i new ≡ Some v → HasShape b v) →
-    Every (λ new. (v : Datum) → worth (part_values V vals ps) i new ≡ Some v → HasShape b v) (entered f (part_values V vals ps) i)
+    Every (λ new. (v : Datum) → worth (part_values V vals ps) i new ≡ Some v → HasShape b v) (entry_values f (part_values V vals ps) i)
 entered-shaped V c f ps vals i b w st h = go (child_of ps i) refl
   where
-    go : (o : Option Term) → child_of ps i ≡ o → Every (λ new. (v : Datum) → worth (part_values V vals ps) i new ≡ Some v → HasShape b v) (entered f (part_values V vals ps) i)
-    go None e = Every-all _ (λ new v k. absurd (no-part V vals ps i new v e k)) (entered f (part_values V vals ps) i)
-    go (Some u) e = Every-impl (λ new. FactsHold V (enter_facts c (node f ps) i) (new ++ vals)) _ (λ new s v k. h new s v k) (entered f (part_values V vals ps) i) (stands-enter V c vals (node f ps) i u w e st)
+    go : (o : Option Term) → child_of ps i ≡ o → Every (λ new. (v : Datum) → worth (part_values V vals ps) i new ≡ Some v → HasShape b v) (entry_values f (part_values V vals ps) i)
+    go None e = Every-all _ (λ new v k. absurd (no-part V vals ps i new v e k)) (entry_values f (part_values V vals ps) i)
+    go (Some u) e = Every-impl (λ new. FactsHold V (enter_facts c (node f ps) i) (new ++ vals)) _ (λ new s v k. h new s v k) (entry_values f (part_values V vals ps) i) (stands-enter V c vals (node f ps) i u w e st)
 
 mutual
   -- the value of a term has the shape that is told of it

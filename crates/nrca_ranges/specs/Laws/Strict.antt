@@ -5,6 +5,7 @@ use Rattle.std.specs.declared.cmp.Ordering.{Ordering}
 use Rattle.std.specs.declared.cmp.Ordering.TheVariants.{Less, Equal, Greater}
 use Rattle.std.specs.Ordering.{match_ordering}
 use Rattle.std.proofs.lemmas.List.{length-map}
+use Rattle.std.proofs.lemmas.Option.{same_Some}
 use Rattle.aql_value.specs.Canon.{IsMember, put, canon}
 use Rattle.aql_value.specs.Datum.{Datum, Data, Table, natural, tuple, set, array, nil, data_of, list_of}
 use Rattle.aql_value.specs.Indices as indices
@@ -16,7 +17,7 @@ use Rattle.aql_value.specs.Laws.Partial.{then-is}
 use Rattle.aql_value.specs.Laws.RowMajor.{cell-offset_of}
 use Rattle.aql_value.specs.Laws.Set.{member_left, member_right, member_split, canon_same, canon_canon, length_canon, ascending_below, Every-canon}
 use Rattle.aql_value.specs.Lists.{Every, below}
-use Rattle.aql_value.specs.Operations.{as_natural, as_set, as_tuple, as_array, tuple_of, set_of, nth, part_of, only, array_of, dims_of, index_value}
+use Rattle.aql_value.specs.Operations.{as_natural, as_set, as_array, tuple_of, set_of, nth, part_of, only, array_of, dims_of, index_value}
 use Rattle.aql_value.specs.Order.{datum_cmp}
 use Rattle.aql_value.specs.Partial.{◌>>=◌, each}
 use Rattle.aql_value.specs.Strict.{Strict, strict_value, unary, binary}
@@ -26,8 +27,8 @@ use Rattle.nrca_laws.specs.Laws.Spans.{two-numbers}
 use Rattle.nrca_ranges.specs.declared.interval.Interval.{Interval}
 use Rattle.nrca_ranges.specs.Bounds.{Bounds, Row, unknown, number, row, members, grid, end, entry, row_of, IsIn, AreIn, IsCount, HasShape, HaveShapes}
 use Rattle.nrca_ranges.specs.Intervals.{before, union_count}
-use Rattle.nrca_ranges.specs.Transfer.{interval_of, count_of, member_of, cell_of, dimensions_of, part_at, part_bounds, joined, entry_at, first_intervals, union_bounds, below_bounds, strict_bounds}
-use Rattle.nrca_ranges.specs.Laws.Bounds.{some-is, interval-is, count-shaped, member-shaped, cell-shaped, dims-shaped, joined-first, joined-second, count-is}
+use Rattle.nrca_ranges.specs.Transfer.{interval_of, count_of, member_of, cell_of, dimensions_of, part_at, part_bounds, join_bounds, entry_at, first_intervals, union_bounds, below_bounds, strict_bounds}
+use Rattle.nrca_ranges.specs.Laws.Bounds.{interval-is, count-shaped, member-shaped, cell-shaped, dims-shaped, joined-first, joined-second, count-is}
 use Rattle.nrca_ranges.specs.Laws.Intervals.{before-is, arith-in}
 
 -- the operand of an operation of one, and those of an operation of two
@@ -55,14 +56,14 @@ tested false o x e = cc
 tuple-is : (vs : List Datum) (v : Datum) → tuple_of vs ≡ Some v → v ≡ tuple (data_of vs)
 tuple-is [] v e = cc
 tuple-is (w ∷ []) v e = cc
-tuple-is (w ∷ x ∷ vs) v e = sym (some-is (tuple (data_of (w ∷ x ∷ vs))) v e)
+tuple-is (w ∷ x ∷ vs) v e = sym (same_Some (tuple (data_of (w ∷ x ∷ vs))) v e)
 
 -- a part of a tuple
 nth-shaped : (bs : Row) (vs : List Datum) (at : ℕ) (v : Datum) → HaveShapes bs vs → nth at vs ≡ Some v → HasShape (part_at bs at) v
 nth-shaped bs vs zero v h e = tt
 nth-shaped end vs (suc j) v h e = tt
 nth-shaped (entry b bs) [] (suc j) v h e = absurd h
-nth-shaped (entry b bs) (w ∷ vs) (suc zero) v h e = subst (HasShape b) (some-is w v e) h.0
+nth-shaped (entry b bs) (w ∷ vs) (suc zero) v h e = subst (HasShape b) (same_Some w v e) h.0
 nth-shaped (entry b bs) (w ∷ vs) (suc (suc j)) v h e = nth-shaped bs vs (suc j) v h.1 e
 
 part-shaped : (b : Bounds) (at of : ℕ) (w v : Datum) → HasShape b w → part_of at of w ≡ Some v → HasShape (part_bounds b at) v
@@ -76,7 +77,7 @@ part-shaped (grid is b) at of w v h e = tt
 
 -- a set and its members
 pub set-is : (v : Datum) (ms : List Datum) → as_set v ≡ Some ms → (xs : Data) × (v ≡ set xs) × (list_of xs ≡ ms)
-set-is (set xs) ms e = (xs, refl, some-is (list_of xs) ms e)
+set-is (set xs) ms e = (xs, refl, same_Some (list_of xs) ms e)
 set-is (natural n) ms e = cc
 set-is (Datum.truth b) ms e = cc
 set-is (Datum.text s) ms e = cc
@@ -120,14 +121,14 @@ union-shaped a b v w x h k e =
     let j = set-shaped b w r.0 k r.1 in
     let z = sym (list_of-data_of (canon (q.0 ++ r.0))) in (
       data_of (canon (q.0 ++ r.0)),
-      sym (some-is (set_of (q.0 ++ r.0)) x r.2),
+      sym (same_Some (set_of (q.0 ++ r.0)) x r.2),
       subst (IsCount (union_count (count_of a) (count_of b))) z
           (omega (arith, i.0.0, j.0.0, ap length (canon_canon (q.0 ++ r.0)), canon-first q.0 r.0, canon-second q.0 r.0), λ l. omega (arith, l, i.0.1, j.0.1, length_canon (q.0 ++ r.0), length-append q.0 r.0)),
-      subst (Every (HasShape (joined (member_of a) (member_of b)))) z
-          (Every-canon (HasShape (joined (member_of a) (member_of b))) (q.0 ++ r.0)
-          (Every-append (HasShape (joined (member_of a) (member_of b))) q.0 r.0
-          (Every-impl (HasShape (member_of a)) (HasShape (joined (member_of a) (member_of b))) (λ y m. joined-first (member_of a) (member_of b) y m) q.0 i.1)
-          (Every-impl (HasShape (member_of b)) (HasShape (joined (member_of a) (member_of b))) (λ y m. joined-second (member_of a) (member_of b) y m) r.0 j.1))),
+      subst (Every (HasShape (join_bounds (member_of a) (member_of b)))) z
+          (Every-canon (HasShape (join_bounds (member_of a) (member_of b))) (q.0 ++ r.0)
+          (Every-append (HasShape (join_bounds (member_of a) (member_of b))) q.0 r.0
+          (Every-impl (HasShape (member_of a)) (HasShape (join_bounds (member_of a) (member_of b))) (λ y m. joined-first (member_of a) (member_of b) y m) q.0 i.1)
+          (Every-impl (HasShape (member_of b)) (HasShape (join_bounds (member_of a) (member_of b))) (λ y m. joined-second (member_of a) (member_of b) y m) r.0 j.1))),
     )
 
 -- the numbers below a number
@@ -136,7 +137,7 @@ below-shaped i n v h e =
     let l : length (map natural (below n)) ≡ n = length-map (below n) natural ∙ length-below n in
     let z = sym (list_of-data_of (map natural (below n))) in (
       data_of (map natural (below n)),
-      sym (some-is (set (data_of (map natural (below n)))) v e),
+      sym (same_Some (set (data_of (map natural (below n)))) v e),
       subst (IsCount i) z (count-is i (map natural (below n)) n (ascending_below n) l h),
       subst (Every (HasShape (number (record { low = 0; high = before i.high })))) z
           (Every-onto (HasShape (number (record { low = 0; high = before i.high }))) natural (below n)
@@ -146,7 +147,7 @@ below-shaped i n v h e =
 -- the one member of a set
 only-shaped : (b : Bounds) (ms : List Datum) (v : Datum) → Every (HasShape b) ms → only ms ≡ Some v → HasShape b v
 only-shaped b [] v h e = cc
-only-shaped b (m ∷ []) v h e = subst (HasShape b) (some-is m v e) h.0
+only-shaped b (m ∷ []) v h e = subst (HasShape b) (same_Some m v e) h.0
 only-shaped b (m ∷ n ∷ ms) v h e = cc
 
 -- an array, its dimensions and its cells
@@ -154,7 +155,7 @@ array-is : (v : Datum) (ds : List ℕ) (cs : List Datum) → as_array v ≡ Some
 array-is (array es xs) ds cs e =
     let x : Table = record { dims = es; cells = list_of xs } in
     let y : Table = record { dims = ds; cells = cs } in
-    let z : x ≡ y = some-is x y e in
+    let z : x ≡ y = same_Some x y e in
     (xs, ap (λ t. array t.dims xs) z, ap (λ t. t.cells) z)
 array-is (natural n) ds cs e = cc
 array-is (Datum.truth b) ds cs e = cc
@@ -176,18 +177,18 @@ dim-shaped b rank w v h e =
     let p = then-is (dims_of rank w) (λ ds. Some (index_value ds)) v e in
     let q = then-is (as_array w) (λ t. if nat_eq (length t.dims) rank then Some t.dims else None) p.0 p.1 in
     let a = array-is w q.0.dims q.0.cells q.1 in
-    let z : q.0.dims ≡ p.0 = some-is q.0.dims p.0 (tested (nat_eq (length q.0.dims) rank) (Some q.0.dims) p.0 q.2) in
-    subst (HasShape (dimensions_of b)) (ap index_value z ∙ some-is (index_value p.0) v p.2) (dims-shaped b q.0.dims a.0 (subst (HasShape b) a.1 h))
+    let z : q.0.dims ≡ p.0 = same_Some q.0.dims p.0 (tested (nat_eq (length q.0.dims) rank) (Some q.0.dims) p.0 q.2) in
+    subst (HasShape (dimensions_of b)) (ap index_value z ∙ same_Some (index_value p.0) v p.2) (dims-shaped b q.0.dims a.0 (subst (HasShape b) a.1 h))
 
 -- numbers are in the intervals that are known of them
 pub numbers-in : (bs : List Bounds) (vs : List Datum) (ns : List ℕ) → HaveShapes (row_of bs) vs → each as_natural vs ≡ Some ns → AreIn (map interval_of bs) ns
-numbers-in [] [] ns h e = subst (AreIn []) (some-is [] ns e) tt
+numbers-in [] [] ns h e = subst (AreIn []) (same_Some [] ns e) tt
 numbers-in [] (v ∷ vs) ns h e = absurd h
 numbers-in (b ∷ bs) [] ns h e = absurd h
 numbers-in (b ∷ bs) (v ∷ vs) ns h e =
     let p = then-is (as_natural v) (λ n. each as_natural vs >>= λ ms. Some (n ∷ ms)) ns e in
     let q = then-is (each as_natural vs) (λ ms. Some (p.0 ∷ ms)) ns p.2 in
-    subst (AreIn (interval_of b ∷ map interval_of bs)) (some-is (p.0 ∷ q.0) ns q.2) (interval-is b p.0 (subst (HasShape b) (natural-is v p.0 p.1) h.0), numbers-in bs vs q.0 h.1 q.1)
+    subst (AreIn (interval_of b ∷ map interval_of bs)) (same_Some (p.0 ∷ q.0) ns q.2) (interval-is b p.0 (subst (HasShape b) (natural-is v p.0 p.1) h.0), numbers-in bs vs q.0 h.1 q.1)
 
 -- the first of them
 first-shaped : (n : ℕ) (bs : List Bounds) (vs : List Datum) → HaveShapes (row_of bs) vs → HaveShapes (row_of (take n bs)) (take n vs)
@@ -218,11 +219,11 @@ strict-shaped (Strict.arith op) bs vs v h e =
     let s = two-numbers op r.0 r.1 v r.4 in
     (s.2, s.6, arith-in op (interval_of (entry_at bs 0)) (interval_of (entry_at bs 1)) s.0 s.1 s.2 (interval-is (entry_at bs 0) s.0 (subst (HasShape (entry_at bs 0)) s.3 r.2)) (interval-is (entry_at bs 1) s.1 (subst (HasShape (entry_at bs 1)) s.4 r.3)) s.5)
 strict-shaped (Strict.compare op) bs vs v h e = tt
-strict-shaped Strict.empty bs [] v h e = (nil, sym (some-is (set nil) v e), (omega arith, λ l. omega arith), tt)
+strict-shaped Strict.empty bs [] v h e = (nil, sym (same_Some (set nil) v e), (omega arith, λ l. omega arith), tt)
 strict-shaped Strict.empty bs (w ∷ vs) v h e = cc
 strict-shaped Strict.single bs vs v h e =
     let r = unary-shaped (λ w. Some (set_of (w ∷ []))) bs vs v h e in
-    (data_of (r.0 ∷ []), sym (some-is (set_of (r.0 ∷ [])) v r.2), (omega arith, λ l. omega arith), (r.1, tt))
+    (data_of (r.0 ∷ []), sym (same_Some (set_of (r.0 ∷ [])) v r.2), (omega arith, λ l. omega arith), (r.1, tt))
 strict-shaped Strict.union bs vs v h e =
     let r = binary-shaped _ bs vs v h e in union-shaped (entry_at bs 0) (entry_at bs 1) r.0 r.1 v r.2 r.3 r.4
 strict-shaped Strict.gen bs vs v h e =

@@ -4,23 +4,17 @@ use Rattle.std.proofs.Common.{ap}
 use Rattle.std.specs.Ordering.{nat_cmp, ordering_then, ordering_reverse, on, eq_by_cmp}
 use Rattle.std.specs.List.Sorted.{IsStrictlySortedBy}
 use Rattle.std.specs.Cmp.{both_tied, unsigned_ties}
-use Rattle.std.specs.declared.cmp.Ordering.{Ordering}
-use Rattle.std.specs.declared.cmp.Ordering.TheVariants.{Less, Equal, Greater}
 use Rattle.std.specs.Cmp.Lexicographic.{slice_cmp}
 use Rattle.aql_value.specs.Datum.{natural, data_of}
 use Rattle.aql_value.specs.Canon.{canon, IsAscending}
 use Rattle.aql_value.specs.Meaning.{datum}
 use Rattle.aql_value.specs.Order.{datum_cmp, data_cmp}
+use Rattle.aql_value.specs.Laws.Order.{then_equal}
 use Rattle.aql_value.specs.declared.value.Value.{Value}
 use Rattle.nrca_sets.specs.Distinct.{IsDistinct}
 use Rattle.nrca_sets.specs.Pairs.{pair_value, pair_cmp, pair_eq}
 use Rattle.nrca_sets.specs.Laws.Packed.{distinct_canon, list_cmp, ascending_back}
 use Rattle.nrca_sets.specs.Rows.{kinds_cmp}
-
-then_equal : (o : Ordering) → ordering_then o Equal ≡ o
-then_equal Less = refl
-then_equal Equal = refl
-then_equal Greater = refl
 
 -- pairs stand in the order of their values
 pub pair_order : (p q : ℕ × ℕ) → datum_cmp (pair_value p) (pair_value q) ≡ pair_cmp p q

@@ -2,12 +2,11 @@
 use Rattle.std.specs.Prelude.{◌≡◌, ℕ, zero, suc, ◌-◌, ◌<◌, ◌≤◌, List, [], ◌∷◌, length, map, Some, None, refl}
 use Rattle.std.proofs.Common.{get_or, sym, ap, ◌∙◌, arith}
 use Rattle.std.specs.List.{slice_get}
-use Rattle.std.specs.declared.cmp.Ordering.{Ordering}
-use Rattle.std.specs.declared.cmp.Ordering.TheVariants.{Less, Equal, Greater}
+use Rattle.std.specs.declared.cmp.Ordering.TheVariants.{Less, Greater}
 use Rattle.std.specs.Ordering.{ordering_then, ordering_reverse}
 use Rattle.aql_value.specs.Datum.{Datum, natural, tuple, data_of}
 use Rattle.aql_value.specs.Order.{datum_cmp}
-use Rattle.aql_value.specs.Laws.Order.{datum_cmp-total}
+use Rattle.aql_value.specs.Laws.Order.{datum_cmp-total, then_then}
 use Rattle.aql_value.specs.Partial.{◌>>=◌}
 use Rattle.nrca_sets.specs.Pairs.{pair_value}
 use Rattle.nrca_sets.specs.Places.{order_to, places_order, rest_order}
@@ -24,11 +23,6 @@ pub pair_to_one : (p : ℕ × ℕ) (vs : List Datum) (v : Datum) → length vs �
 pair_to_one p [] v e f = absurd (omega (arith, e))
 pair_to_one p (x ∷ []) v e f = let g : x ≡ v = cc in ap (λ z. ordering_then (datum_cmp (natural p.0) z) Greater) g
 pair_to_one p (x ∷ y ∷ vs) v e f = absurd (omega (arith, e))
-
-then_then : (o q r : Ordering) → ordering_then o (ordering_then q r) ≡ ordering_then (ordering_then o q) r
-then_then Less q r = refl
-then_then Equal q r = refl
-then_then Greater q r = refl
 
 rest_is : (m n : ℕ) (x y : Datum) (vs : List Datum) → ordering_then (datum_cmp (natural m) x) (ordering_then (datum_cmp (natural n) y) (rest_order (length vs))) ≡ datum_cmp (pair_value (m, n)) (tuple (data_of (x ∷ y ∷ vs)))
 rest_is m n x y [] = refl

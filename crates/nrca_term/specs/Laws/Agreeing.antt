@@ -5,7 +5,7 @@ use Rattle.aql_value.specs.Datum.{Datum}
 use Rattle.aql_value.specs.Indices.{indices}
 use Rattle.aql_value.specs.Lists.{Every}
 use Rattle.aql_value.specs.Laws.Lists.{Every-map}
-use Rattle.aql_value.specs.Operations.{as_natural, as_truth, as_set, union_all, sum_of, array_of, walked}
+use Rattle.aql_value.specs.Operations.{as_natural, as_truth, as_set, union_all, sum_of, array_of, push_index}
 use Rattle.aql_value.specs.Partial.{◌>>=◌, each, or_else}
 use Rattle.aql_value.specs.Laws.Partial.{each-ext}
 use Rattle.aql_value.specs.Strict.{strict_value}
@@ -66,13 +66,13 @@ each-here_take (suc n) (p ∷ ps) (q ∷ qs) e h = rw (h 0 (omega arith), each-h
 tab-agree : (rank : ℕ) (ps qs : List Part) → length ps ≡ length qs → Agree (Form.tab rank) ps qs → tab_value rank ps ≡ tab_value rank qs
 tab-agree rank ps qs e h =
     bodies (bounds_value rank ps) (rw (le-ltb rank rank (omega arith)) at (h rank))
-    ∙ ap (λ o. o >>= each as_natural >>= λ ds. each (λ at. worth qs rank (walked at [])) (indices ds) >>= array_of ds) (each-here_take rank ps qs e (λ j l. (rw (lt-ltb j rank l) at (h j)).0))
+    ∙ ap (λ o. o >>= each as_natural >>= λ ds. each (λ at. worth qs rank (push_index at [])) (indices ds) >>= array_of ds) (each-here_take rank ps qs e (λ j l. (rw (lt-ltb j rank l) at (h j)).0))
   where
-    bodies : (o : Option (List ℕ)) → Every (λ new. worth ps rank new ≡ worth qs rank new) (map (λ at. walked at []) (indices_of o)) →
-        (o >>= λ ds. each (λ at. worth ps rank (walked at [])) (indices ds) >>= array_of ds) ≡ (o >>= λ ds. each (λ at. worth qs rank (walked at [])) (indices ds) >>= array_of ds)
+    bodies : (o : Option (List ℕ)) → Every (λ new. worth ps rank new ≡ worth qs rank new) (map (λ at. push_index at []) (indices_of o)) →
+        (o >>= λ ds. each (λ at. worth ps rank (push_index at [])) (indices ds) >>= array_of ds) ≡ (o >>= λ ds. each (λ at. worth qs rank (push_index at [])) (indices ds) >>= array_of ds)
     bodies None k = refl
     bodies (Some ds) k =
-        ap (λ o. o >>= array_of ds) (each-ext (λ at. worth ps rank (walked at [])) (λ at. worth qs rank (walked at [])) (indices ds) (Every-map (λ new. worth ps rank new ≡ worth qs rank new) (λ at. walked at []) (indices ds) k))
+        ap (λ o. o >>= array_of ds) (each-ext (λ at. worth ps rank (push_index at [])) (λ at. worth qs rank (push_index at [])) (indices ds) (Every-map (λ new. worth ps rank new ≡ worth qs rank new) (λ at. push_index at []) (indices ds) k))
 
 -- the one lemma with a case for each form
 pub form_value-agree : (V : Outcomes) (vals : List Datum) (f : Form) (ps qs : List Part) → length ps ≡ length qs → Agree f ps qs → form_value V vals f ps ≡ form_value V vals f qs

@@ -5,9 +5,9 @@ use Rattle.aql_value.specs.declared.ops.CompareOp.{CompareOp}
 use Rattle.nrca_term.specs.declared.term.Core.{Core}
 use Rattle.nrca_term.specs.declared.term.Terms.{Terms}
 use Rattle.nrca_term.specs.declared.term.Core.TheVariants as core
-use Rattle.nrca_term.specs.Nodes.{variable, position, number, truth_term, text_term, bottom_term, let_term, if_term, default_term, tuple_term, proj_term, arith_term, compare_term, empty_term, single_term, union_term, big_union_term, sum_term, gen_term, get_term, tab_term, sub_term, dim_term, index_term, literal_term}
+use Rattle.nrca_term.specs.Nodes.{variable, position, number, truth_term, text_term, bottom_term, let_term, if_term, default_term, tuple_term, proj_term, arith_term, compare_term, empty_term, single_term, union_term, big_union_term, sum_term, gen_term, get_term, tab_term, sub_term, dim_term, literal_term}
 use Rattle.nrca_term.specs.View.{term_of, terms_of}
-use Rattle.nrca_term.specs.Laws.Equations.{term_of-Var, term_of-Global, term_of-Nat, term_of-Bool, term_of-Text, term_of-Bottom, term_of-Let, term_of-If, term_of-Default, term_of-Proj, term_of-Arith, term_of-Compare, term_of-Empty, term_of-Single, term_of-Union, term_of-BigUnion, term_of-Sum, term_of-Gen, term_of-Get, term_of-Dim, term_of-Index, term_of-Tuple, term_of-Literal, term_of-Tab, term_of-Sub}
+use Rattle.nrca_term.specs.Laws.Equations.{term_of-Var, term_of-Global, term_of-Nat, term_of-Bool, term_of-Text, term_of-Bottom, term_of-Let, term_of-If, term_of-Default, term_of-Proj, term_of-Arith, term_of-Compare, term_of-Empty, term_of-Single, term_of-Union, term_of-BigUnion, term_of-Sum, term_of-Gen, term_of-Get, term_of-Dim, term_of-Tuple, term_of-Literal, term_of-Tab, term_of-Sub}
 
 pub as-Var : (t : Core) (i : ℕ) → t ≡ core.Var i → term_of t ≡ variable i
 as-Var t i e = ap term_of e ∙ term_of-Var i
@@ -68,9 +68,6 @@ as-Get t a e = ap term_of e ∙ term_of-Get a
 
 pub as-Dim : (t : Core) (rank : ℕ) (a : Box Core Global) → t ≡ core.Dim rank a → term_of t ≡ dim_term rank (term_of a.value)
 as-Dim t rank a e = ap term_of e ∙ term_of-Dim rank a
-
-pub as-Index : (t : Core) (rank : ℕ) (a : Box Core Global) → t ≡ core.Index rank a → term_of t ≡ index_term rank (term_of a.value)
-as-Index t rank a e = ap term_of e ∙ term_of-Index rank a
 
 pub as-Tuple : (t : Core) (ts : Terms) → t ≡ core.Tuple ts → term_of t ≡ tuple_term (terms_of ts)
 as-Tuple t ts e = ap term_of e ∙ term_of-Tuple ts

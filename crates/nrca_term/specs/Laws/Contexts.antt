@@ -11,7 +11,7 @@ use Rattle.nrca_term.specs.Subst.{shift_term}
 use Rattle.nrca_term.specs.Laws.Shifting.{cden-shift_term}
 use Rattle.nrca_term.specs.Laws.Entering.{entered-lengths, length-part_values, child-counted}
 use Rattle.nrca_term.specs.Laws.WellFormed.{well_formed-child, binders-well_formed}
-use Rattle.nrca_term.specs.Facts.{Known, truth_of, Fact, Context, no_facts, added, enter_facts, context_below, context_at, facts_at, Holds, FactsHold, SomeFact, IsFact, LiterallyKnown, Literally}
+use Rattle.nrca_term.specs.Facts.{Known, truth_of, Fact, Context, no_facts, part_facts, enter_facts, context_below, context_at, facts_at, Holds, FactsHold, SomeFact, IsFact, LiterallyKnown, Literally}
 use Rattle.nrca_term.specs.Laws.Facts.{new-holds}
 
 -- The one induction over the way down: I is kept of a context and the values around, and G of a context and the term.
@@ -44,12 +44,12 @@ pub stands-enter : (V : Outcomes) (c : Context) (around : List Datum) (t : Term)
 stands-enter V c around t i u s e h =
     let b = binders-well_formed t i u s e in
     let l = child-counted (parts_of t) i u e in
-    Every-join (λ new. length new ≡ form_binders (form_of t) i) (λ new. Every (Holds V (new ++ around) (c.depth + form_binders (form_of t) i)) (added c.depth (form_of t) (parts_of t) i)) _
+    Every-join (λ new. length new ≡ form_binders (form_of t) i) (λ new. Every (Holds V (new ++ around) (c.depth + form_binders (form_of t) i)) (part_facts c.depth (form_of t) (parts_of t) i)) _
     (λ new n k. (
       omega (arith, length-append new around, n, b, h.0),
-      Every-append (Holds V (new ++ around) (c.depth + binders_of (parts_of t) i)) c.facts (added c.depth (form_of t) (parts_of t) i)
+      Every-append (Holds V (new ++ around) (c.depth + binders_of (parts_of t) i)) c.facts (part_facts c.depth (form_of t) (parts_of t) i)
           (Every-impl (Holds V around c.depth) (Holds V (new ++ around) (c.depth + binders_of (parts_of t) i)) (λ f x. old-holds V around new c.depth (binders_of (parts_of t) i) f (n ∙ sym b) x) c.facts h.1)
-          (subst (λ m. Every (Holds V (new ++ around) (c.depth + m)) (added c.depth (form_of t) (parts_of t) i)) (sym b) k),
+          (subst (λ m. Every (Holds V (new ++ around) (c.depth + m)) (part_facts c.depth (form_of t) (parts_of t) i)) (sym b) k),
     ))
     (entered_in V around t i) (entered-lengths (form_of t) (part_values V around (parts_of t)) i (omega (arith, l, length-part_values V around (parts_of t)))) (new-holds V around c.depth (form_of t) (parts_of t) i l)
 

@@ -6,15 +6,15 @@ use Rattle.aql_value.specs.Datum.{Datum, natural}
 use Rattle.aql_value.specs.Indices.{indices}
 use Rattle.aql_value.specs.Lists.{Every}
 use Rattle.aql_value.specs.Laws.Lists.{Every-all, Every-impl, Every-onto}
-use Rattle.aql_value.specs.Operations.{as_natural, walked}
+use Rattle.aql_value.specs.Operations.{as_natural, push_index}
 use Rattle.aql_value.specs.Partial.{each}
 use Rattle.aql_value.specs.Laws.Partial.{each-length, then-is}
 use Rattle.aql_value.specs.Laws.RowMajor.{indices_lengths}
 use Rattle.nrca_term.specs.Term.{Term, Parts, none, part, Form, child_of, count, form_binders}
 use Rattle.nrca_term.specs.Meaning.{Outcomes, Part, worth, here, test_value, members_value, bounds_value, part_values}
-use Rattle.nrca_term.specs.Places.{entered, branch, otherwise, indices_of}
+use Rattle.nrca_term.specs.Places.{entry_values, branch, otherwise, indices_of}
 
-pub length-walked : (at : List ℕ) (l : List Datum) → length (walked at l) ≡ length at + length l
+pub length-walked : (at : List ℕ) (l : List Datum) → length (push_index at l) ≡ length at + length l
 length-walked [] l = omega arith
 length-walked (i ∷ at) l = omega (arith, length-walked at (natural i ∷ l))
 
@@ -38,14 +38,14 @@ bounds-length rank ps ds l e =
     let r = then-is (each here (take rank ps)) (each as_natural) ds e in
     omega (arith, each-length as_natural r.0 ds r.2, each-length here (take rank ps) r.0 r.1, length-take rank ps, l)
 
-index-lengths : (rank : ℕ) (ps : List Part) → rank ≤ length ps → (o : Option (List ℕ)) → bounds_value rank ps ≡ o → Every (λ new. length new ≡ rank) (map (λ at. walked at []) (indices_of o))
+index-lengths : (rank : ℕ) (ps : List Part) → rank ≤ length ps → (o : Option (List ℕ)) → bounds_value rank ps ≡ o → Every (λ new. length new ≡ rank) (map (λ at. push_index at []) (indices_of o))
 index-lengths rank ps l None e = tt
 index-lengths rank ps l (Some ds) e =
     let n = bounds-length rank ps ds l e in
-    Every-onto (λ new. length new ≡ rank) (λ at. walked at []) (indices ds)
-    (Every-impl (λ at. length at ≡ length ds) (λ at. length (walked at []) ≡ rank) (λ at k. omega (arith, length-walked at [], k, n)) (indices ds) (indices_lengths ds))
+    Every-onto (λ new. length new ≡ rank) (λ at. push_index at []) (indices ds)
+    (Every-impl (λ at. length at ≡ length ds) (λ at. length (push_index at []) ≡ rank) (λ at k. omega (arith, length-walked at [], k, n)) (indices ds) (indices_lengths ds))
 
-pub entered-lengths : (f : Form) (ps : List Part) (i : ℕ) → i < length ps → Every (λ new. length new ≡ form_binders f i) (entered f ps i)
+pub entered-lengths : (f : Form) (ps : List Part) (i : ℕ) → i < length ps → Every (λ new. length new ≡ form_binders f i) (entry_values f ps i)
 entered-lengths (Form.var n) ps i l = (refl, tt)
 entered-lengths (Form.global n) ps i l = (refl, tt)
 entered-lengths Form.bind ps zero l = (refl, tt)

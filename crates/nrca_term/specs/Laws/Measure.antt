@@ -1,11 +1,12 @@
 -- How the measure changes where a part is replaced, and its bounds.
 use Rattle.std.proofs.Common.{◌≡◌, ℕ, zero, suc, ◌+◌, ◌*◌, ◌<◌, ◌≤◌, Bool, true, false, List, [], ◌∷◌, Option, Some, None, refl, ap, arith, inl, inr}
+use Rattle.std.specs.List.{slice_get}
 use Rattle.std.proofs.Math.Nat.{mul-add, mul_comm}
 use Rattle.std.proofs.lemmas.Nat.{mul-le}
 use Rattle.aql_value.specs.Lists.{Every}
 use Rattle.aql_value.specs.Partial.{◌>>=◌}
 use Rattle.aql_value.specs.Strict.{Strict}
-use Rattle.nrca_term.specs.Term.{Term, Parts, node, none, part, Form, parts_of, child_of, weight_of, parts_weight, form_weight}
+use Rattle.nrca_term.specs.Term.{Term, Parts, node, none, part, Form, parts_of, child_of, count, weight_of, parts_weight, list_weight, form_weight}
 use Rattle.nrca_term.specs.Places.{place_of, on_child, put_at}
 use Rattle.nrca_term.specs.Measure.{has_operand, nodes_of, parts_nodes, first_nodes, own_pairs, pairs_of, parts_pairs, Below, Lowers, left_of}
 
@@ -98,7 +99,8 @@ own-nodes false none = omega arith
 own-nodes true (part k t ps) = omega arith
 own-nodes false (part k t ps) = omega arith
 
-square_sum : (a b x y : ℕ) → x ≤ a * a → y ≤ b * b → x + y ≤ (a + b) * (a + b)
+-- squares of parts, and of their sum
+pub square_sum : (a b x y : ℕ) → x ≤ a * a → y ≤ b * b → x + y ≤ (a + b) * (a + b)
 square_sum a b x y h k = omega (arith, h, k, mul-add (a + b) a b, mul-le a a (a + b) a (omega arith) (omega arith), mul-le b b (a + b) b (omega arith) (omega arith))
 
 square_next : (n x y : ℕ) → x ≤ n → y ≤ n * n → x + y ≤ suc n * suc n
@@ -140,27 +142,23 @@ parts_weight-child none i u e = cc
 parts_weight-child (part k t ps) zero u e = let same : u ≡ t = cc in omega (arith, ap weight_of same)
 parts_weight-child (part k t ps) (suc i) u e = omega (arith, parts_weight-child ps i u e)
 
-form_weight-positive : (f : Form) → 1 ≤ form_weight f
-form_weight-positive (Form.var i) = omega arith
-form_weight-positive (Form.global n) = omega arith
-form_weight-positive Form.bind = omega arith
-form_weight-positive Form.choose = omega arith
-form_weight-positive Form.default = omega arith
-form_weight-positive Form.big_union = omega arith
-form_weight-positive Form.sum = omega arith
-form_weight-positive (Form.tab rank) = omega arith
-form_weight-positive (Form.strict s) = strict_positive s
-  where
-    strict_positive : (c : Strict) → 1 ≤ form_weight (Form.strict c)
-    strict_positive (Strict.dim rank) = omega arith
-    strict_positive _ = omega arith
-
 pub weight_of-child : (t : Term) (i : ℕ) (u : Term) → child_of (parts_of t) i ≡ Some u → weight_of u < weight_of t
-weight_of-child (node f ps) i u e = omega (arith, parts_weight-child ps i u e, form_weight-positive f)
+weight_of-child (node f ps) i u e = omega (arith, parts_weight-child ps i u e, form-positive f)
 
 -- every term weighs something
-weight_of-positive : (t : Term) → 1 ≤ weight_of t
-weight_of-positive (node f ps) = omega (arith, form_weight-positive f)
+pub weight_of-positive : (t : Term) → 1 ≤ weight_of t
+weight_of-positive (node f ps) = omega (arith, form-positive f)
+
+-- so parts weigh at least as much as they are many
+pub parts_weight-count : (ps : Parts) → count ps ≤ parts_weight ps
+parts_weight-count none = omega arith
+parts_weight-count (part k (node f us) ps) = omega (arith, form-positive f, parts_weight-count ps)
+
+-- a term of a list weighs no more than the list
+pub list_weight-get : (ts : List Term) (i : ℕ) (t : Term) → slice_get ts i ≡ Some t → weight_of t ≤ list_weight ts
+list_weight-get [] i t e = cc
+list_weight-get (u ∷ ts) zero t e = let z : u ≡ t = cc in omega (arith, ap weight_of z)
+list_weight-get (u ∷ ts) (suc i) t e = omega (arith, list_weight-get ts i t e)
 
 -- a part's number is below the weight of all parts
 parts_weight-number : (ps : Parts) (i : ℕ) (u : Term) → child_of ps i ≡ Some u → i < parts_weight ps

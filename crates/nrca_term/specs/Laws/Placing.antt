@@ -7,7 +7,7 @@ use Rattle.aql_value.specs.Laws.Lists.{Every-all, Every-impl, Every-concat}
 use Rattle.aql_value.specs.Partial.{◌>>=◌, concat}
 use Rattle.nrca_term.specs.Term.{Term, Parts, node, none, part, child_of}
 use Rattle.nrca_term.specs.Meaning.{Outcomes, worth, cden, part_values}
-use Rattle.nrca_term.specs.Places.{entered, place_of, reach, reach_each, on_child, put_at}
+use Rattle.nrca_term.specs.Places.{entry_values, place_of, reach, reach_each, on_child, put_at}
 use Rattle.nrca_term.specs.Laws.Agreeing.{form_value-agree}
 
 pub length-on_child : (V : Outcomes) (around : List Datum) (ps : Parts) (i : ℕ) (g : Term → Term) → length (part_values V around ps) ≡ length (part_values V around (on_child ps i g))
@@ -38,19 +38,19 @@ cden-put_at V (i ∷ path) around (node f ps) s u e h =
     form_value-agree V around f (part_values V around ps) (part_values V around (on_child ps i (λ r. put_at r path u)))
     (length-on_child V around ps i (λ r. put_at r path u))
     (λ j. elim (cases_Bool (nat_eq j i)) [
-      | inl same ↦ subst (λ n. Every (λ new. worth (part_values V around ps) n new ≡ worth (part_values V around (on_child ps i (λ r. put_at r path u))) n new) (entered f (part_values V around ps) n))
+      | inl same ↦ subst (λ n. Every (λ new. worth (part_values V around ps) n new ≡ worth (part_values V around (on_child ps i (λ r. put_at r path u))) n new) (entry_values f (part_values V around ps) n))
           (sym (eqb-true j i same)) (entering (λ a r. cden-put_at V path a r s u) (child_of ps i) refl e h)
-      | inr other ↦ Every-all _ (other_part V around ps i j (λ r. put_at r path u) other) (entered f (part_values V around ps) j)
+      | inr other ↦ Every-all _ (other_part V around ps i j (λ r. put_at r path u) other) (entry_values f (part_values V around ps) j)
     ])
   where
     entering : ((a : List Datum) (r : Term) → place_of r path ≡ Some s → Every (λ vals. cden V vals s ≡ cden V vals u) (reach V a r path) → cden V a r ≡ cden V a (put_at r path u)) →
         (o : Option Term) → child_of ps i ≡ o → (o >>= λ r. place_of r path) ≡ Some s →
-        Every (λ vals. cden V vals s ≡ cden V vals u) (reach_each o (λ r. concat (map (λ new. reach V (new ++ around) r path) (entered f (part_values V around ps) i)))) →
-        Every (λ new. worth (part_values V around ps) i new ≡ worth (part_values V around (on_child ps i (λ r. put_at r path u))) i new) (entered f (part_values V around ps) i)
+        Every (λ vals. cden V vals s ≡ cden V vals u) (reach_each o (λ r. concat (map (λ new. reach V (new ++ around) r path) (entry_values f (part_values V around ps) i)))) →
+        Every (λ new. worth (part_values V around ps) i new ≡ worth (part_values V around (on_child ps i (λ r. put_at r path u))) i new) (entry_values f (part_values V around ps) i)
     entering ih None is at k = cc
     entering ih (Some r) is at k =
         Every-impl _ _
         (λ new here. this_part V around ps i (λ q. put_at q path u) new
         (λ q found. let same : q ≡ r = cc in subst (λ x. cden V (new ++ around) x ≡ cden V (new ++ around) (put_at x path u)) (sym same) (ih (new ++ around) r at here)))
-        (entered f (part_values V around ps) i)
-        (Every-concat (λ vals. cden V vals s ≡ cden V vals u) (λ new. reach V (new ++ around) r path) (entered f (part_values V around ps) i) k)
+        (entry_values f (part_values V around ps) i)
+        (Every-concat (λ vals. cden V vals s ≡ cden V vals u) (λ new. reach V (new ++ around) r path) (entry_values f (part_values V around ps) i) k)

@@ -1,20 +1,21 @@
 -- A typed term's value, where it has one, has the type.
 use Rattle.std.proofs.Common.{◌≡◌, ℕ, zero, suc, ◌+◌, Bool, true, false, nat_lt, nat_eq, List, [], ◌∷◌, ◌++◌, length, map, replicate, Option, Some, None, refl, sym, ap, subst, ◌∙◌, arith, if◌then◌else◌, ◌^◌, sum}
 use Rattle.std.specs.List.{slice_get}
+use Rattle.std.proofs.lemmas.Option.{same_Some}
 use Rattle.aql_value.specs.Datum as datum
 use Rattle.aql_value.specs.Datum.{Datum}
 use Rattle.aql_value.specs.Indices.{indices}
 use Rattle.aql_value.specs.Laws.RowMajor.{indices_lengths}
 use Rattle.aql_value.specs.Lists.{Every}
 use Rattle.aql_value.specs.Laws.Lists.{Every-lists}
-use Rattle.aql_value.specs.Operations.{as_natural, as_set, in_range, set_of, union_all, sum_of, array_of, walked}
+use Rattle.aql_value.specs.Operations.{as_natural, as_set, in_range, set_of, union_all, sum_of, array_of, push_index}
 use Rattle.aql_value.specs.Partial.{◌>>=◌, each, concat, or_else}
 use Rattle.aql_value.specs.Laws.Partial.{then-is, each-values}
 use Rattle.aql_value.specs.Strict.{strict_value}
 use Rattle.aql_types.specs.Types as types
 use Rattle.aql_types.specs.Types.{Ty, natural, truth}
 use Rattle.aql_types.specs.ValueTypes.{HasType, HaveTypes}
-use Rattle.aql_types.specs.Laws.Operation.{has-get, has-append, some-has, some-list, as-type, has-set, set-members, has-array, strict-sound}
+use Rattle.aql_types.specs.Laws.Operation.{has-get, has-append, some-has, as-type, has-set, set-members, has-array, strict-sound}
 use Rattle.nrca_term.specs.Term.{Term, Parts, node, none, part, Form}
 use Rattle.nrca_term.specs.Typing.{Arg, arg, form_rule, ctyped, parts_typed, OutcomesHave}
 use Rattle.nrca_term.specs.Meaning.{Outcomes, Part, worth, here, form_value, test_value, members_value, loop_values, bounds_value, at_length, cden, part_values}
@@ -47,7 +48,7 @@ has-here (T ∷ Ts) [] vs s e = absurd s
 has-here (T ∷ Ts) (p ∷ ps) vs s e =
     let a = then-is (p []) (λ y. each here ps >>= λ ys. Some (y ∷ ys)) vs e in
     let b = then-is (each here ps) (λ ys. Some (a.0 ∷ ys)) vs a.2 in
-    let z : a.0 ∷ b.0 ≡ vs = some-list (a.0 ∷ b.0) vs b.2 in
+    let z : a.0 ∷ b.0 ≡ vs = same_Some (a.0 ∷ b.0) vs b.2 in
     subst (HaveTypes (T ∷ Ts)) z (s.0 [] a.0 tt a.1, has-here Ts ps b.0 s.1 b.1)
 
 -- the bodies of a loop
@@ -59,15 +60,15 @@ loop-sound A B ps rs s e =
     each-values (λ m. worth ps 1 (m ∷ [])) (HasType A) (HasType B)
     (λ x y k l. sound-get (arg [] (types.set_of A) ∷ arg (A ∷ []) B ∷ []) ps 1 (arg (A ∷ []) B) s refl (x ∷ []) y (k, tt) l) m.0 rs have m.2
 
-walked-have : (at : List ℕ) (n : ℕ) (l : List Datum) → HaveTypes (replicate n natural) l → HaveTypes (replicate (length at + n) natural) (walked at l)
+walked-have : (at : List ℕ) (n : ℕ) (l : List Datum) → HaveTypes (replicate n natural) l → HaveTypes (replicate (length at + n) natural) (push_index at l)
 walked-have [] n l h = let e : n ≡ 0 + n = omega arith in subst (λ k. HaveTypes (replicate k natural) l) e h
 walked-have (i ∷ at) n l h =
     let e : length at + suc n ≡ suc (length at) + n = omega arith in
-    subst (λ k. HaveTypes (replicate k natural) (walked at (datum.natural i ∷ l))) e (walked-have at (suc n) (datum.natural i ∷ l) ((i, refl), h))
+    subst (λ k. HaveTypes (replicate k natural) (push_index at (datum.natural i ∷ l))) e (walked-have at (suc n) (datum.natural i ∷ l) ((i, refl), h))
 
 -- the numbers of an index as values
-pub index-have : (at : List ℕ) (rank : ℕ) → length at ≡ rank → HaveTypes (replicate rank natural) (walked at [])
-index-have at rank e = let z : length at + 0 ≡ rank = omega (arith, e) in subst (λ k. HaveTypes (replicate k natural) (walked at [])) z (walked-have at 0 [] tt)
+pub index-have : (at : List ℕ) (rank : ℕ) → length at ≡ rank → HaveTypes (replicate rank natural) (push_index at [])
+index-have at rank e = let z : length at + 0 ≡ rank = omega (arith, e) in subst (λ k. HaveTypes (replicate k natural) (push_index at [])) z (walked-have at 0 [] tt)
 
 -- behind the bounds of a tabulation stands its body
 pub body-arg : (rank : ℕ) (x a : Arg) → slice_get (replicate rank x ++ a ∷ []) rank ≡ Some a
@@ -123,12 +124,12 @@ form-sound G V env vals g h Form.sum args T ps v r s e =
     ranged n false k = cc
 form-sound G V env vals g h (Form.tab rank) args T ps v r s e =
     let s = sounds args (replicate rank (arg [] natural) ++ arg (replicate rank natural) r.0 ∷ []) ps r.2 s in
-    let a = then-is (bounds_value rank ps) (λ ds. each (λ at. worth ps rank (walked at [])) (indices ds) >>= array_of ds) v e in
-    let b = then-is (each (λ at. worth ps rank (walked at [])) (indices a.0)) (array_of a.0) v a.2 in
+    let a = then-is (bounds_value rank ps) (λ ds. each (λ at. worth ps rank (push_index at [])) (indices ds) >>= array_of ds) v e in
+    let b = then-is (each (λ at. worth ps rank (push_index at [])) (indices a.0)) (array_of a.0) v a.2 in
     let l : length a.0 ≡ rank = bounds-length rank ps a.0 (omega (arith, sound-length _ ps s, length-tab rank (arg [] natural) (arg (replicate rank natural) r.0))) a.1 in
     as-type (types.array_of rank r.0) T v r.3 (subst (λ n. HasType (types.array_of n r.0) v) l (has-array r.0 a.0 b.0 v b.2
-    (each-values (λ at. worth ps rank (walked at [])) (λ at. length at ≡ length a.0) (HasType r.0)
-    (λ at w k m. sound-get (replicate rank (arg [] natural) ++ arg (replicate rank natural) r.0 ∷ []) ps rank (arg (replicate rank natural) r.0) s (body-arg rank (arg [] natural) (arg (replicate rank natural) r.0)) (walked at []) w (index-have at rank (k ∙ l)) m)
+    (each-values (λ at. worth ps rank (push_index at [])) (λ at. length at ≡ length a.0) (HasType r.0)
+    (λ at w k m. sound-get (replicate rank (arg [] natural) ++ arg (replicate rank natural) r.0 ∷ []) ps rank (arg (replicate rank natural) r.0) s (body-arg rank (arg [] natural) (arg (replicate rank natural) r.0)) (push_index at []) w (index-have at rank (k ∙ l)) m)
     (indices a.0) b.0 (indices_lengths a.0) b.1)))
 form-sound G V env vals g h (Form.strict c) args T ps v r s e =
     let s = sounds args (map (arg []) r.0) ps r.1 s in

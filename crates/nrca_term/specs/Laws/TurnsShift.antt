@@ -6,7 +6,7 @@ use Rattle.aql_value.specs.Partial.{total}
 use Rattle.aql_value.specs.Laws.Partial.{total-ext}
 use Rattle.nrca_term.specs.Term.{Term, Parts, node, none, part, Form, count, form_binders, WellFormed, PartsWellFormed}
 use Rattle.nrca_term.specs.Meaning.{Outcomes, Part, part_values}
-use Rattle.nrca_term.specs.Places.{entered}
+use Rattle.nrca_term.specs.Places.{entry_values}
 use Rattle.nrca_term.specs.Turns.{own_turns, settle, parts_settle}
 use Rattle.nrca_term.specs.Subst.{shift_form, shift_term, shift_parts}
 use Rattle.nrca_term.specs.Laws.Shifting.{part_values-shift_parts, under}
@@ -23,7 +23,7 @@ own_turns-shift from by Form.sum ps = refl
 own_turns-shift from by (Form.tab rank) ps = refl
 own_turns-shift from by (Form.strict s) ps = refl
 
-pub entered-shift : (from by : ℕ) (f : Form) (ps : List Part) (i : ℕ) → entered (shift_form from by f) ps i ≡ entered f ps i
+pub entered-shift : (from by : ℕ) (f : Form) (ps : List Part) (i : ℕ) → entry_values (shift_form from by f) ps i ≡ entry_values f ps i
 entered-shift from by (Form.var n) ps i = refl
 entered-shift from by (Form.global n) ps i = refl
 entered-shift from by Form.bind ps i = refl
@@ -52,9 +52,9 @@ mutual
       ap (λ es. total (λ vs. settle V (vs ++ (pre ++ (new ++ post))) (shift_term (length pre + k) (length new) t)) es + parts_settle V (pre ++ (new ++ post)) (shift_form (length pre) (length new) f) worths (suc i) (shift_parts (length pre) (length new) ps))
       (entered-shift (length pre) (length new) f worths i)
       ∙ ap (λ n. n + parts_settle V (pre ++ (new ++ post)) (shift_form (length pre) (length new) f) worths (suc i) (shift_parts (length pre) (length new) ps))
-      (total-ext _ _ (entered f worths i) (Every-impl (λ vs. length vs ≡ form_binders f i) (λ vs. settle V (vs ++ (pre ++ (new ++ post))) (shift_term (length pre + k) (length new) t) ≡ settle V (vs ++ (pre ++ post)) t) (λ vs e.
+      (total-ext _ _ (entry_values f worths i) (Every-impl (λ vs. length vs ≡ form_binders f i) (λ vs. settle V (vs ++ (pre ++ (new ++ post))) (shift_term (length pre + k) (length new) t) ≡ settle V (vs ++ (pre ++ post)) t) (λ vs e.
       ap (λ n. settle V (vs ++ (pre ++ (new ++ post))) (shift_term n (length new) t)) (under vs pre k (e ∙ sym h.0))
       ∙ ap (λ x. settle V x (shift_term (length (vs ++ pre)) (length new) t)) (sym (append_assoc vs pre (new ++ post)))
       ∙ settle-shift_term V (vs ++ pre) new post t h.1
-      ∙ ap (λ x. settle V x t) (append_assoc vs pre post)) (entered f worths i) (entered-lengths f worths i (omega (arith, l)))))
-      ∙ ap (λ n. total (λ vs. settle V (vs ++ (pre ++ post)) t) (entered f worths i) + n) (parts_settle-shift V pre new post f worths (suc i) ps h.2 (omega (arith, l)))
+      ∙ ap (λ x. settle V x t) (append_assoc vs pre post)) (entry_values f worths i) (entered-lengths f worths i (omega (arith, l)))))
+      ∙ ap (λ n. total (λ vs. settle V (vs ++ (pre ++ post)) t) (entry_values f worths i) + n) (parts_settle-shift V pre new post f worths (suc i) ps h.2 (omega (arith, l)))

@@ -2,6 +2,7 @@
 use Rattle.std.proofs.Common.{◌≡◌, ℕ, zero, suc, ◌+◌, ◌*◌, ◌<◌, ◌≤◌, Bool, true, false, nat_lt, List, [], ◌∷◌, ◌++◌, length, map, replicate, Some, refl, sym, ap, subst, ◌∙◌, arith, if◌then◌else◌, inl, inr}
 use Rattle.std.specs.List.{slice_get}
 use Rattle.std.proofs.lemmas.List.{length-append}
+use Rattle.std.proofs.lemmas.Option.{slice_get_within}
 use Rattle.std.proofs.lemmas.Bool.{cases_Bool, ltb-true, ltb-false, lt-ltb, le-ltb}
 use Rattle.aql_types.specs.Types as types
 use Rattle.aql_types.specs.Types.{Ty, natural, truth}
@@ -89,13 +90,8 @@ mutual
     parts_well_formed-typed G env f (suc i) ps t.1 (λ j a e. h (suc j) a (ap (λ l. slice_get l (suc j)) t.2 ∙ e) ∙ (let z : i + suc j ≡ suc i + j = omega arith in ap (form_binders f) z)) t.5,
   )
 
-found-below : {A : Type 0} (xs : List A) (i : ℕ) (x : A) → slice_get xs i ≡ Some x → i < length xs
-found-below [] i x e = cc
-found-below (y ∷ xs) zero x e = omega arith
-found-below (y ∷ xs) (suc i) x e = omega (arith, found-below xs i x e)
-
 form-closed : (G : ℕ → Ty → Type 0) (env : List Ty) (f : Form) (args : List Arg) (T : Ty) → form_rule G env f args T → FormClosed (length env) f
-form-closed G env (Form.var n) args T r = found-below env n T r.1
+form-closed G env (Form.var n) args T r = slice_get_within env n T r.1
 form-closed G env (Form.global n) args T r = tt
 form-closed G env Form.bind args T r = tt
 form-closed G env Form.choose args T r = tt

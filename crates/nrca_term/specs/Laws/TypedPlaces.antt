@@ -7,7 +7,7 @@ use Rattle.aql_value.specs.Indices.{indices}
 use Rattle.aql_value.specs.Laws.RowMajor.{indices_lengths}
 use Rattle.aql_value.specs.Lists.{Every}
 use Rattle.aql_value.specs.Laws.Lists.{Every-impl, Every-onto, Every-nested}
-use Rattle.aql_value.specs.Operations.{as_set, walked}
+use Rattle.aql_value.specs.Operations.{as_set, push_index}
 use Rattle.aql_value.specs.Partial.{◌>>=◌, concat}
 use Rattle.aql_value.specs.Laws.Partial.{then-is}
 use Rattle.aql_types.specs.Types as types
@@ -16,7 +16,7 @@ use Rattle.nrca_term.specs.Term.{Term, Parts, node, none, part, Form, child_of}
 use Rattle.aql_types.specs.ValueTypes.{HasType, HaveTypes}
 use Rattle.nrca_term.specs.Typing.{Arg, arg, form_rule, ctyped, parts_typed}
 use Rattle.nrca_term.specs.Meaning.{Part, worth, test_value, members_value, bounds_value, part_values}
-use Rattle.nrca_term.specs.Places.{branch, otherwise, indices_of, entered, entered_in, place_of, put_at, on_child, reach, reach_each}
+use Rattle.nrca_term.specs.Places.{branch, otherwise, indices_of, entry_values, entered_in, place_of, put_at, on_child, reach, reach_each}
 use Rattle.nrca_term.specs.Laws.Entering.{bounds-length}
 use Rattle.nrca_term.specs.Laws.Measure.{through}
 use Rattle.aql_types.specs.Laws.Operation.{set-members, has-append}
@@ -76,13 +76,13 @@ body-own zero (suc i) x y a l e = cc
 body-own (suc rank) zero x y a l e = absurd (omega (arith, l))
 body-own (suc rank) (suc i) x y a l e = body-own rank i x y a (omega (arith, l)) e
 
-indices-own : (rank : ℕ) (own : List Ty) (ps : List Part) → rank ≤ length ps → (o : Option (List ℕ)) → replicate rank natural ≡ own → bounds_value rank ps ≡ o → Every (HaveTypes own) (map (λ at. walked at []) (indices_of o))
+indices-own : (rank : ℕ) (own : List Ty) (ps : List Part) → rank ≤ length ps → (o : Option (List ℕ)) → replicate rank natural ≡ own → bounds_value rank ps ≡ o → Every (HaveTypes own) (map (λ at. push_index at []) (indices_of o))
 indices-own rank own ps l None e k = tt
 indices-own rank own ps l (Some ds) e k =
     let n = bounds-length rank ps ds l k in
-    Every-onto (HaveTypes own) (λ at. walked at []) (indices ds) (Every-impl (λ at. length at ≡ length ds) (λ at. HaveTypes own (walked at [])) (λ at m. subst (λ x. HaveTypes x (walked at [])) e (index-have at rank (m ∙ n))) (indices ds) (indices_lengths ds))
+    Every-onto (HaveTypes own) (λ at. push_index at []) (indices ds) (Every-impl (λ at. length at ≡ length ds) (λ at. HaveTypes own (push_index at [])) (λ at m. subst (λ x. HaveTypes x (push_index at [])) e (index-have at rank (m ∙ n))) (indices ds) (indices_lengths ds))
 
-pub entered-own : (G : ℕ → Ty → Type 0) (env : List Ty) (f : Form) (args : List Arg) (T : Ty) (ps : List Part) (i : ℕ) (a : Arg) → form_rule G env f args T → AllSound args ps → slice_get args i ≡ Some a → Every (HaveTypes a.own) (entered f ps i)
+pub entered-own : (G : ℕ → Ty → Type 0) (env : List Ty) (f : Form) (args : List Arg) (T : Ty) (ps : List Part) (i : ℕ) (a : Arg) → form_rule G env f args T → AllSound args ps → slice_get args i ≡ Some a → Every (HaveTypes a.own) (entry_values f ps i)
 entered-own G env (Form.var n) args T ps i a r s e = let z : slice_get {X = Arg} [] i ≡ Some a = ap (λ x. slice_get x i) (sym r.0) ∙ e in absurd (never i z)
   where
     never : (i : ℕ) → slice_get {X = Arg} [] i ≡ Some a → ⊥

@@ -4,7 +4,7 @@ use Rattle.std.proofs.Common.{◌≡◌, ℕ, zero, suc, ◌+◌, ◌<◌, ◌�
 use Rattle.std.proofs.lemmas.Bool.{cases_Bool, le-ltb, eqb-true, ltb-true}
 use Rattle.aql_value.specs.Datum.{Datum}
 use Rattle.aql_value.specs.Indices.{indices}
-use Rattle.aql_value.specs.Operations.{as_natural, as_truth, as_set, union_all, sum_of, array_of, walked}
+use Rattle.aql_value.specs.Operations.{as_natural, as_truth, as_set, union_all, sum_of, array_of, push_index}
 use Rattle.aql_value.specs.Partial.{◌>>=◌, each}
 use Rattle.aql_value.specs.Laws.Partial.{then-none}
 use Rattle.aql_value.specs.Strict.{strict_value}
@@ -44,7 +44,7 @@ form_value-worthless V vals Form.big_union ps (suc i) s l h = cc
 form_value-worthless V vals Form.sum ps zero s l h = ap (λ o. o >>= as_set >>= each (λ m. worth ps 1 (m ∷ [])) >>= sum_of) (h [])
 form_value-worthless V vals Form.sum ps (suc i) s l h = cc
 form_value-worthless V vals (Form.tab rank) ps i s l h =
-    ap (λ o. o >>= each as_natural >>= λ ds. each (λ at. worth ps rank (walked at [])) (indices ds) >>= array_of ds) (each-worthless_take rank ps i (ltb-true i rank s) l h)
+    ap (λ o. o >>= each as_natural >>= λ ds. each (λ at. worth ps rank (push_index at [])) (indices ds) >>= array_of ds) (each-worthless_take rank ps i (ltb-true i rank s) l h)
 form_value-worthless V vals (Form.strict c) ps i s l h = ap (λ o. o >>= strict_value c) (each-worthless ps i l h)
 
 -- a part whose every value list of the right length gives nothing

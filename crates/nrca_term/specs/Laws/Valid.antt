@@ -1,13 +1,13 @@
 -- A term with valid constants, at outcomes and variables that are values of the language, is worth a value of the language.
-use Rattle.std.proofs.Common.{◌≡◌, ℕ, zero, suc, ◌<◌, ◌^◌, Bool, true, false, ◌&&◌, nat_lt, List, [], ◌∷◌, ◌++◌, map, take, Option, Some, None, option_to_list, unwrap_or, refl, subst, ◌∙◌, arith, if◌then◌else◌}
+use Rattle.std.proofs.Common.{◌≡◌, ℕ, zero, suc, ◌<◌, ◌^◌, Bool, true, false, nat_lt, List, [], ◌∷◌, ◌++◌, map, take, Option, Some, None, option_to_list, unwrap_or, refl, subst, ◌∙◌, arith, if◌then◌else◌}
 use Rattle.std.specs.Cmp.Lexicographic.{pointwise}
-use Rattle.std.proofs.lemmas.Bool.{ltb-true}
+use Rattle.std.proofs.lemmas.Bool.{and_parts, ltb-true}
 use Rattle.aql_value.specs.Datum.{Datum, natural}
 use Rattle.aql_value.specs.Indices.{indices}
 use Rattle.aql_value.specs.Laws.RowMajor.{indices_below}
 use Rattle.aql_value.specs.Lists.{Every}
 use Rattle.aql_value.specs.Laws.Lists.{Every-impl, Every-append, Every-get, Every-onto, Every-take}
-use Rattle.aql_value.specs.Operations.{as_natural, as_set, union_all, sum_of, array_of, walked}
+use Rattle.aql_value.specs.Operations.{as_natural, as_set, union_all, sum_of, array_of, push_index}
 use Rattle.aql_value.specs.Partial.{◌>>=◌, each, or_else}
 use Rattle.aql_value.specs.Laws.Partial.{then-is, each-values}
 use Rattle.aql_value.specs.Strict.{strict_value}
@@ -15,7 +15,7 @@ use Rattle.aql_value.specs.Valid.{IsValue}
 use Rattle.aql_value.specs.Laws.ValidLaws.{natural-valid, set-valid, union_all-valid, sum_of-valid, array_of-valid, strict-valid}
 use Rattle.nrca_term.specs.Term.{Term, Parts, node, none, part, Form, child_of, parts_of}
 use Rattle.nrca_term.specs.Meaning.{Outcomes, Part, worth, here, form_value, test_value, members_value, loop_values, bounds_value, cden, part_values}
-use Rattle.nrca_term.specs.Places.{branch, otherwise, indices_of, entered, entered_in, reach}
+use Rattle.nrca_term.specs.Places.{branch, otherwise, indices_of, entry_values, entered_in, reach}
 use Rattle.nrca_term.specs.Laws.Contexts.{reach-induction}
 use Rattle.nrca_term.specs.Laws.Sound.{at_length-value}
 use Rattle.nrca_term.specs.Valid.{FormConstant, HasConstants, PartsHaveConstants, AreValidOutcomes}
@@ -47,21 +47,17 @@ bounds-valid rank ps ds h e =
     each-values as_natural IsValue (λ d. d < 2 ^ 128) (λ v d k f. natural-valid v d k f) a.0 ds (here-valid (take rank ps) a.0 (Every-take GivesValues rank ps h) a.1) a.2
 
 -- an index below bounds that are values is a list of values
-walked-valid : (at : List ℕ) (l : List Datum) → Every (λ i. i < 2 ^ 128) at → Every IsValue l → Every IsValue (walked at l)
+walked-valid : (at : List ℕ) (l : List Datum) → Every (λ i. i < 2 ^ 128) at → Every IsValue l → Every IsValue (push_index at l)
 walked-valid [] l h k = k
 walked-valid (i ∷ at) l h k = walked-valid at (natural i ∷ l) h.1 (h.0, k)
 
 below-valid : (at ds : List ℕ) → pointwise nat_lt at ds ≡ true → Every (λ d. d < 2 ^ 128) ds → Every (λ i. i < 2 ^ 128) at
 below-valid [] ds e h = tt
 below-valid (i ∷ at) [] e h = cc
-below-valid (i ∷ at) (d ∷ ds) e h = let r = both (nat_lt i d) (pointwise nat_lt at ds) e in (omega (arith, ltb-true i d r.0, h.0), below-valid at ds r.1 h.1)
-  where
-    both : (a b : Bool) → (a && b) ≡ true → (a ≡ true) × (b ≡ true)
-    both true b k = (refl, k)
-    both false b k = cc
+below-valid (i ∷ at) (d ∷ ds) e h = let r = and_parts (nat_lt i d) (pointwise nat_lt at ds) e in (omega (arith, ltb-true i d r.0, h.0), below-valid at ds r.1 h.1)
 
-index-valid : (ds : List ℕ) → Every (λ d. d < 2 ^ 128) ds → Every (λ at. Every IsValue (walked at [])) (indices ds)
-index-valid ds h = Every-impl (λ at. pointwise nat_lt at ds ≡ true) (λ at. Every IsValue (walked at [])) (λ at e. walked-valid at [] (below-valid at ds e h) tt) (indices ds) (indices_below ds)
+index-valid : (ds : List ℕ) → Every (λ d. d < 2 ^ 128) ds → Every (λ at. Every IsValue (push_index at [])) (indices ds)
+index-valid ds h = Every-impl (λ at. pointwise nat_lt at ds ≡ true) (λ at. Every IsValue (push_index at [])) (λ at e. walked-valid at [] (below-valid at ds e h) tt) (indices ds) (indices_below ds)
 
 -- a node of parts that give values gives a value
 form-valid : (V : Outcomes) → AreValidOutcomes V → (vals : List Datum) → Every IsValue vals → (f : Form) (ps : List Part) (v : Datum) → FormConstant f → Every GivesValues ps → form_value V vals f ps ≡ Some v → IsValue v
@@ -83,10 +79,10 @@ form-valid V o vals a Form.default ps v c h e = either (worth ps 0 []) refl e
 form-valid V o vals a Form.big_union ps v c h e = let r = then-is (loop_values ps) union_all v e in union_all-valid r.0 v (loop-valid ps r.0 h r.1) r.2
 form-valid V o vals a Form.sum ps v c h e = let r = then-is (loop_values ps) sum_of v e in sum_of-valid r.0 v r.2
 form-valid V o vals a (Form.tab rank) ps v c h e =
-    let r = then-is (bounds_value rank ps) (λ ds. each (λ at. worth ps rank (walked at [])) (indices ds) >>= array_of ds) v e in
-    let s = then-is (each (λ at. worth ps rank (walked at [])) (indices r.0)) (array_of r.0) v r.2 in
+    let r = then-is (bounds_value rank ps) (λ ds. each (λ at. worth ps rank (push_index at [])) (indices ds) >>= array_of ds) v e in
+    let s = then-is (each (λ at. worth ps rank (push_index at [])) (indices r.0)) (array_of r.0) v r.2 in
     let b = bounds-valid rank ps r.0 h r.1 in
-    array_of-valid r.0 s.0 v b (each-values (λ at. worth ps rank (walked at [])) (λ at. Every IsValue (walked at [])) IsValue (λ at w k f. worth-valid ps rank h (walked at []) w k f) (indices r.0) s.0 (index-valid r.0 b) s.1) s.2
+    array_of-valid r.0 s.0 v b (each-values (λ at. worth ps rank (push_index at [])) (λ at. Every IsValue (push_index at [])) IsValue (λ at w k f. worth-valid ps rank h (push_index at []) w k f) (indices r.0) s.0 (index-valid r.0 b) s.1) s.2
 form-valid V o vals a (Form.strict s) ps v c h e = let r = then-is (each here ps) (strict_value s) v e in strict-valid s r.0 v c (here-valid ps r.0 h r.1) r.2
 
 mutual
@@ -123,11 +119,11 @@ loops-valid : (ps : List Part) → Every GivesValues ps → (o : Option (List Da
 loops-valid ps h None e = tt
 loops-valid ps h (Some ms) e = ones-valid ms (members-valid ps ms h e)
 
-all-indices-valid : (rank : ℕ) (ps : List Part) → Every GivesValues ps → (o : Option (List ℕ)) → bounds_value rank ps ≡ o → Every (Every IsValue) (map (λ at. walked at []) (indices_of o))
+all-indices-valid : (rank : ℕ) (ps : List Part) → Every GivesValues ps → (o : Option (List ℕ)) → bounds_value rank ps ≡ o → Every (Every IsValue) (map (λ at. push_index at []) (indices_of o))
 all-indices-valid rank ps h None e = tt
-all-indices-valid rank ps h (Some ds) e = Every-onto (Every IsValue) (λ at. walked at []) (indices ds) (index-valid ds (bounds-valid rank ps ds h e))
+all-indices-valid rank ps h (Some ds) e = Every-onto (Every IsValue) (λ at. push_index at []) (indices ds) (index-valid ds (bounds-valid rank ps ds h e))
 
-pub entered-valid : (f : Form) (ps : List Part) (i : ℕ) → Every GivesValues ps → Every (Every IsValue) (entered f ps i)
+pub entered-valid : (f : Form) (ps : List Part) (i : ℕ) → Every GivesValues ps → Every (Every IsValue) (entry_values f ps i)
 entered-valid (Form.var n) ps i h = (tt, tt)
 entered-valid (Form.global n) ps i h = (tt, tt)
 entered-valid Form.bind ps zero h = (tt, tt)
@@ -143,7 +139,7 @@ entered-valid Form.sum ps zero h = (tt, tt)
 entered-valid Form.sum ps (suc i) h = loops-valid ps h (members_value ps) refl
 entered-valid (Form.tab rank) ps i h = at (nat_lt i rank)
   where
-    at : (b : Bool) → Every (Every IsValue) (if b then [] ∷ [] else map (λ at. walked at []) (indices_of (bounds_value rank ps)))
+    at : (b : Bool) → Every (Every IsValue) (if b then [] ∷ [] else map (λ at. push_index at []) (indices_of (bounds_value rank ps)))
     at true = (tt, tt)
     at false = all-indices-valid rank ps h (bounds_value rank ps) refl
 entered-valid (Form.strict s) ps i h = (tt, tt)

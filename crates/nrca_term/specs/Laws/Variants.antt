@@ -5,14 +5,14 @@ use Rattle.std.specs.List.{slice_get}
 use Rattle.aql_value.specs.Datum.{Datum}
 use Rattle.aql_value.specs.Indices.{indices}
 use Rattle.aql_value.specs.Laws.Lists.{Every-impl}
-use Rattle.aql_value.specs.Operations.{as_natural, as_truth, as_set, array_of, walked}
+use Rattle.aql_value.specs.Operations.{as_natural, as_truth, as_set, array_of, push_index}
 use Rattle.aql_value.specs.Partial.{◌>>=◌, each, total, if_some}
 use Rattle.aql_value.specs.Laws.Partial.{then-ext, each-ext, each-length, then-is, total-map}
 use Rattle.aql_value.specs.Strict.{Strict, strict_value, strict_turns}
 use Rattle.nrca_term.specs.Term.{Term, Parts, node, none, part, plain, Form, parts_of, child_of, count, parts_weight, list_weight}
 use Rattle.nrca_term.specs.Nodes.{let_term, if_term, default_term, big_union_term, sum_term, tab_term, literal_term}
 use Rattle.nrca_term.specs.Meaning.{Outcomes, Part, worth, here, bounds_value, cden, part_values}
-use Rattle.nrca_term.specs.Places.{entered, indices_of, branch}
+use Rattle.nrca_term.specs.Places.{entry_values, indices_of, branch}
 use Rattle.nrca_term.specs.Turns.{settle, parts_settle}
 use Rattle.nrca_term.specs.Laws.Entering.{length-walked}
 use Rattle.aql_value.specs.Laws.RowMajor.{indices_lengths}
@@ -79,23 +79,23 @@ numbers_of-length V vals ds ms e =
 
 -- a tabulation
 pub cden-tab : (V : Outcomes) (vals : List Datum) (ds : List Term) (b : Term) →
-    cden V vals (tab_term ds b) ≡ (numbers_of V vals ds >>= λ ms. each (λ at. cden V (walked at [] ++ vals) b) (indices ms) >>= array_of ms)
+    cden V vals (tab_term ds b) ≡ (numbers_of V vals ds >>= λ ms. each (λ at. cden V (push_index at [] ++ vals) b) (indices ms) >>= array_of ms)
 cden-tab V vals ds b =
-    ap (λ o. o >>= λ ms. each (λ at. worth (part_values V vals (parts_of (tab_term ds b))) (length ds) (walked at [])) (indices ms) >>= array_of ms) (bounds_value-tab V vals ds b)
+    ap (λ o. o >>= λ ms. each (λ at. worth (part_values V vals (parts_of (tab_term ds b))) (length ds) (push_index at [])) (indices ms) >>= array_of ms) (bounds_value-tab V vals ds b)
     ∙ then-ext (numbers_of V vals ds) _ _ (λ ms e.
-    ap (λ o. o >>= array_of ms) (each-ext _ _ (indices ms) (Every-impl (λ at. length at ≡ length ms) (λ at. worth (part_values V vals (parts_of (tab_term ds b))) (length ds) (walked at []) ≡ cden V (walked at [] ++ vals) b)
-    (λ at l. worth-last V vals ds (length ds) b (walked at []) (omega (arith, length-walked at [], l, numbers_of-length V vals ds ms e))) (indices ms) (indices_lengths ms))))
+    ap (λ o. o >>= array_of ms) (each-ext _ _ (indices ms) (Every-impl (λ at. length at ≡ length ms) (λ at. worth (part_values V vals (parts_of (tab_term ds b))) (length ds) (push_index at []) ≡ cden V (push_index at [] ++ vals) b)
+    (λ at l. worth-last V vals ds (length ds) b (push_index at []) (omega (arith, length-walked at [], l, numbers_of-length V vals ds ms e))) (indices ms) (indices_lengths ms))))
 
 -- turns of parts in a row, where each is entered once
-pub parts_settle-plain : (V : Outcomes) (vals : List Datum) (f : Form) (worths : List Part) (i : ℕ) (ts : List Term) (ps : Parts) → ((j : ℕ) → j < length ts → entered f worths (i + j) ≡ [] ∷ []) →
+pub parts_settle-plain : (V : Outcomes) (vals : List Datum) (f : Form) (worths : List Part) (i : ℕ) (ts : List Term) (ps : Parts) → ((j : ℕ) → j < length ts → entry_values f worths (i + j) ≡ [] ∷ []) →
     parts_settle V vals f worths i (plain ts ps) ≡ total (settle V vals) ts + parts_settle V vals f worths (i + length ts) ps
 parts_settle-plain V vals f worths i [] ps h = let e : i + 0 ≡ i = omega arith in omega (arith, ap (λ n. parts_settle V vals f worths n ps) e)
 parts_settle-plain V vals f worths i (t ∷ ts) ps h =
     let z : i + 0 ≡ i = omega arith in
     let y : suc i + length ts ≡ i + suc (length ts) = omega arith in
-    let once : total (λ new. settle V (new ++ vals) t) (entered f worths i) ≡ settle V vals t + 0 =
-    ap (total (λ new. settle V (new ++ vals) t)) (ap (entered f worths) (sym z) ∙ h 0 (omega arith)) in
-    omega (arith, once, parts_settle-plain V vals f worths (suc i) ts ps (λ j l. (let x : suc i + j ≡ i + suc j = omega arith in ap (entered f worths) x) ∙ h (suc j) (omega arith)), ap (λ n. parts_settle V vals f worths n ps) y)
+    let once : total (λ new. settle V (new ++ vals) t) (entry_values f worths i) ≡ settle V vals t + 0 =
+    ap (total (λ new. settle V (new ++ vals) t)) (ap (entry_values f worths) (sym z) ∙ h 0 (omega arith)) in
+    omega (arith, once, parts_settle-plain V vals f worths (suc i) ts ps (λ j l. (let x : suc i + j ≡ i + suc j = omega arith in ap (entry_values f worths) x) ∙ h (suc j) (omega arith)), ap (λ n. parts_settle V vals f worths n ps) y)
 
 pub settle-strict : (V : Outcomes) (vals : List Datum) (s : Strict) (ts : List Term) →
     settle V vals (node (Form.strict s) (plain ts none)) ≡ strict_turns s (each (cden V vals) ts) + total (settle V vals) ts
@@ -141,16 +141,16 @@ settle-sum V vals e b = omega (arith, members-total V vals b (cden V vals e >>= 
 
 pub settle-tab : (V : Outcomes) (vals : List Datum) (ds : List Term) (b : Term) →
     settle V vals (tab_term ds b)
-    ≡ length (indices_of (numbers_of V vals ds)) + total (settle V vals) ds + total (λ at. settle V (walked at [] ++ vals) b) (indices_of (numbers_of V vals ds))
+    ≡ length (indices_of (numbers_of V vals ds)) + total (settle V vals) ds + total (λ at. settle V (push_index at [] ++ vals) b) (indices_of (numbers_of V vals ds))
 settle-tab V vals ds b =
     let w : List Part = part_values V vals (parts_of (tab_term ds b)) in
     let z : 0 + length ds ≡ length ds = omega arith in
-    let body : entered (Form.tab (length ds)) w (0 + length ds) ≡ map (λ at. walked at []) (indices_of (numbers_of V vals ds)) =
-    ap (entered (Form.tab (length ds)) w) z ∙ rw (le-ltb (length ds) (length ds) (omega arith)) (ap (λ o. map (λ at. walked at []) (indices_of o)) (bounds_value-tab V vals ds b)) in
+    let body : entry_values (Form.tab (length ds)) w (0 + length ds) ≡ map (λ at. push_index at []) (indices_of (numbers_of V vals ds)) =
+    ap (entry_values (Form.tab (length ds)) w) z ∙ rw (le-ltb (length ds) (length ds) (omega arith)) (ap (λ o. map (λ at. push_index at []) (indices_of o)) (bounds_value-tab V vals ds b)) in
     omega (
       arith,
       ap (λ o. length (indices_of o)) (bounds_value-tab V vals ds b),
-      parts_settle-plain V vals (Form.tab (length ds)) w 0 ds (part (length ds) b none) (λ j l. (let y : 0 + j ≡ j = omega arith in ap (entered (Form.tab (length ds)) w) y) ∙ rw (lt-ltb j (length ds) l) refl),
+      parts_settle-plain V vals (Form.tab (length ds)) w 0 ds (part (length ds) b none) (λ j l. (let y : 0 + j ≡ j = omega arith in ap (entry_values (Form.tab (length ds)) w) y) ∙ rw (lt-ltb j (length ds) l) refl),
       ap (total (λ new. settle V (new ++ vals) b)) body,
-      total-map (λ new. settle V (new ++ vals) b) (λ at. walked at []) (indices_of (numbers_of V vals ds)),
+      total-map (λ new. settle V (new ++ vals) b) (λ at. push_index at []) (indices_of (numbers_of V vals ds)),
     )

@@ -83,7 +83,8 @@ plain-well_formed f i (t ∷ ts) ps z h k = (
 list_term : Terms → List Term
 list_term ts = fold-Terms Term (List Term) node_term list_of ts
 
-strict-plain : (s : Strict) (i : ℕ) (ts : List Term) (ps : Parts) → Every WellFormed ts → PartsWellFormed (Form.strict s) (i + length ts) ps → PartsWellFormed (Form.strict s) i (plain ts ps)
+-- the parts of a form that evaluates every part
+pub strict-plain : (s : Strict) (i : ℕ) (ts : List Term) (ps : Parts) → Every WellFormed ts → PartsWellFormed (Form.strict s) (i + length ts) ps → PartsWellFormed (Form.strict s) i (plain ts ps)
 strict-plain s i ts ps h k = plain-well_formed (Form.strict s) i ts ps (λ j l. refl) h k
 
 tab-well_formed : (ts : List Term) (b : Term) → Every WellFormed ts → WellFormed b → WellFormed (node (Form.tab (length ts)) (plain ts (part (length ts) b none)))

@@ -25,7 +25,7 @@ fn truth(alloc: Global) -> Result<Builder, Memory> {
     Builder::new(alloc).push_truth(alloc, true)
 }
 
-fn appended(
+fn append_made(
     alloc: Global,
     cells: Result<Builder, Memory>,
     others: Result<Builder, Memory>,
@@ -75,7 +75,7 @@ fn is_unpacked(
 #[test]
 fn naturals_are_packed(rt: HostRuntime) {
     let alloc = rt.alloc();
-    let all = appended(alloc, naturals(alloc, &[1]), naturals(alloc, &[300, 2]));
+    let all = append_made(alloc, naturals(alloc, &[1]), naturals(alloc, &[300, 2]));
     let bytes = [0x01, 0x00, 0x2c, 0x01, 0x02, 0x00];
     assert_same(&rt, is_packed(alloc, 3, all, 16, &bytes), Ok(true));
     let none = is_unpacked(alloc, 0, naturals(alloc, &[]));
@@ -90,7 +90,7 @@ fn pairs_are_packed(rt: HostRuntime) {
 }
 
 // One row of 5, true and 7.
-fn mixed(alloc: Global) -> Result<Flat, Memory> {
+fn mixed_row(alloc: Global) -> Result<Flat, Memory> {
     match value(alloc, "1 3 5 T 7 arr2.3")? {
         Some(Value::Grid(cells)) => Flat::from_cells(alloc, cells),
         _ => Err(Memory),
@@ -132,7 +132,7 @@ fn kind_of_copy(alloc: Global, held: &Held) -> Result<u8, Memory> {
 #[test]
 fn cells_stay(rt: HostRuntime) -> Result<(), Memory> {
     let alloc = rt.alloc();
-    let flat = mixed(alloc)?;
+    let flat = mixed_row(alloc)?;
     let length = window_length(alloc, &flat);
     let cell = natural_at(alloc, &flat, &[0, 2]);
     let held = Held::Flat(flat);

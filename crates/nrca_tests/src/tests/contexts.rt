@@ -151,7 +151,11 @@ fn facts_of_places(rt: HostRuntime) {
 }
 
 // How many facts and variables there are inside, and again outside.
-fn counted(alloc: Global, ctx: &mut Ctx, term: &Core) -> Result<(usize, u64, usize, u64), Memory> {
+fn count_inside(
+    alloc: Global,
+    ctx: &mut Ctx,
+    term: &Core,
+) -> Result<(usize, u64, usize, u64), Memory> {
     if term.parts() > 1 && is_small(term, ctx.depth()) {
         let mark = ctx.push(alloc, term, 1)?;
         let facts = ctx.facts().len();
@@ -168,7 +172,7 @@ fn counted_of(
 ) -> Result<(usize, u64, usize, u64), Memory> {
     let term = term?;
     let mut ctx = Ctx::new(alloc, GlobalShapes::new(alloc));
-    let found = counted(alloc, &mut ctx, &term);
+    let found = count_inside(alloc, &mut ctx, &term);
     drop(term);
     drop(ctx);
     found

@@ -3,9 +3,9 @@
 ghost use Rattle.std.specs.Prelude.{◌≤◌};
 ghost use Rattle.aql_value.specs.Limits.{most_budget, most_workers};
 
-use crate::tests::outcomes::{Outcome, Row, outcome, wanted};
+use crate::tests::outcomes::{Outcome, Row, outcome, wanted_outcome};
 use crate::tests::same::assert_same;
-use crate::tests::stacks::pushed;
+use crate::tests::stacks::push_made;
 use crate::tests::values::value;
 use crate::tests::words::term;
 use aql_outside::{FreeGate, Gate};
@@ -23,7 +23,7 @@ use std::thread::Threads;
 fn positions(alloc: Global) -> Result<Globals, Memory> {
     let mut list = Vec::new(alloc);
     for words in ["3 10 20 30 arr1.3", "undefined", "1 2 set2"] {
-        pushed(&mut list, position(alloc, words))?;
+        push_made(&mut list, position(alloc, words))?;
     }
     Ok(Globals { list })
 }
@@ -65,7 +65,7 @@ fn case_of(alloc: Global, words: &str, wanted: &str) -> Result<Case, Memory> {
     })
 }
 
-fn evaluated<R: Threads + Sync, G: Gate>(
+fn evaluate_case<R: Threads + Sync, G: Gate>(
     rt: &R,
     alloc: Global,
     case: &Case,
@@ -82,7 +82,7 @@ fn evaluated<R: Threads + Sync, G: Gate>(
     found
 }
 
-pub(crate) fn found<R: Threads + Sync, G: Gate>(
+pub(crate) fn outcome_of_row<R: Threads + Sync, G: Gate>(
     rt: &R,
     alloc: Global,
     row: &Row,
@@ -94,7 +94,7 @@ pub(crate) fn found<R: Threads + Sync, G: Gate>(
     requires workers { (1 ≤ workers) × (workers ≤ most_workers) }
 {
     let case = case_of(alloc, row.0, row.1)?;
-    let found = evaluated(rt, alloc, &case, budget, workers, gate);
+    let found = evaluate_case(rt, alloc, &case, budget, workers, gate);
     drop(case);
     found
 }
@@ -112,9 +112,9 @@ fn row_meets<R: Threads + Sync + Abort>(rt: &R, alloc: Global, row: &Row, number
     let turns = u64::from(row.2);
     let workers = workers(number);
     for budget in turns.saturating_sub(2)..turns + 2 {
-        let found = found(rt, alloc, row, budget, workers, &FreeGate);
+        let found = outcome_of_row(rt, alloc, row, budget, workers, &FreeGate);
         let place = (row.0, workers, budget);
-        assert_same(rt, (place, found), (place, wanted(row, budget)));
+        assert_same(rt, (place, found), (place, wanted_outcome(row, budget)));
     }
 }
 
@@ -302,7 +302,7 @@ fn is_spent<R: Threads + Sync>(rt: &R, alloc: Global, words: &'static str, budge
     requires { budget ≤ most_budget }
 {
     let row = (words, "undefined", 0);
-    found(rt, alloc, &row, budget, 2, &FreeGate) == Err(EvalFault::Spent)
+    outcome_of_row(rt, alloc, &row, budget, 2, &FreeGate) == Err(EvalFault::Spent)
 }
 
 // Within no turn, one, and the most.

@@ -3,8 +3,8 @@
 ghost use Rattle.std.specs.Prelude.{◌≤◌};
 ghost use Rattle.aql_value.specs.Limits.{most_workers};
 
-use crate::tests::evaluation::found;
-use crate::tests::outcomes::{Outcome, Row, wanted};
+use crate::tests::evaluation::outcome_of_row;
+use crate::tests::outcomes::{Outcome, Row, wanted_outcome};
 use crate::tests::same::assert_same;
 use aql_outside::Gate;
 use std::alloc::Global;
@@ -63,7 +63,7 @@ fn pieces<R: Threads + Sync>(rt: &R, alloc: Global, row: &Row) -> (Outcome, bool
         first_saw: AtomicBool::new(false),
         second_saw: AtomicBool::new(false),
     };
-    let outcome = found(rt, alloc, row, 100, 2, &gate);
+    let outcome = outcome_of_row(rt, alloc, row, 100, 2, &gate);
     let first = gate.first_saw.load(Ordering::SeqCst);
     (outcome, first, gate.second_saw.load(Ordering::SeqCst))
 }
@@ -72,7 +72,7 @@ fn pieces<R: Threads + Sync>(rt: &R, alloc: Global, row: &Row) -> (Outcome, bool
 fn two_pieces_run_beside_each_other(rt: HostRuntime) {
     for row in LOOPS {
         let found = pieces(&rt, rt.alloc(), row);
-        let wanted = (wanted(row, 100), true, true);
+        let wanted = (wanted_outcome(row, 100), true, true);
         assert_same(&rt, (row.0, found), (row.0, wanted));
     }
 }
@@ -108,7 +108,7 @@ fn passes<R: Threads + Sync>(rt: &R, alloc: Global, row: &Row, workers: u64) -> 
         third: AtomicU64::new(0),
         others: AtomicU64::new(0),
     };
-    let outcome = found(rt, alloc, row, 100, workers, &gate);
+    let outcome = outcome_of_row(rt, alloc, row, 100, workers, &gate);
     let counts = [
         gate.first.load(Ordering::SeqCst),
         gate.second.load(Ordering::SeqCst),
@@ -145,7 +145,11 @@ fn assert_passes<R: Threads + Sync + Abort>(
 {
     for row in rows {
         let found = passes(rt, alloc, row, workers);
-        assert_same(rt, (row.0, found), (row.0, (wanted(row, 100), counts)));
+        assert_same(
+            rt,
+            (row.0, found),
+            (row.0, (wanted_outcome(row, 100), counts)),
+        );
     }
 }
 

@@ -105,7 +105,7 @@ fn truth_word(truth: Option<bool>) -> &'static str {
     }
 }
 
-fn told(question: Question, ctx: &Ctx, term: &Core) -> &'static str {
+fn tell_answer(question: Question, ctx: &Ctx, term: &Core) -> &'static str {
     match question {
         Question::Literally => known_word(literally(ctx, term)),
         Question::Decided => truth_word(decided(ctx, term)),
@@ -121,10 +121,10 @@ fn told_at(
     steps: &str,
 ) -> Result<Option<&'static str>, Memory> {
     if steps == "." {
-        return Ok(Some(told(question, ctx, term)));
+        return Ok(Some(tell_answer(question, ctx, term)));
     }
     match go(alloc, ctx, term, steps) {
-        Ok(Some(at)) => Ok(Some(told(question, ctx, at))),
+        Ok(Some(at)) => Ok(Some(tell_answer(question, ctx, at))),
         Ok(None) => Ok(None),
         Err(error) => Err(error),
     }

@@ -1,7 +1,7 @@
 //! The terms that are found as numbers, or as sets of at most one number of 64 bits, and those that are not.
 
 use crate::tests::same::assert_same;
-use crate::tests::stacks::pushed;
+use crate::tests::stacks::push_made;
 use crate::tests::values::value;
 use crate::tests::words::term;
 use aql_value::made::both;
@@ -15,7 +15,7 @@ use std::alloc::Global;
 fn positions(alloc: Global) -> Result<Globals, Memory> {
     let mut list = Vec::new(alloc);
     for words in ["7", "3 5 6 7 arr1.3", "3 max tup2", "2 1 8 9 arr2.2"] {
-        pushed(&mut list, position(alloc, words))?;
+        push_made(&mut list, position(alloc, words))?;
     }
     Ok(Globals { list })
 }
@@ -30,7 +30,7 @@ fn position(alloc: Global, words: &str) -> Result<Option<Held>, Memory> {
 }
 
 // The number that is found of a term, where variable 0 is 4 and variable 1 is 9.
-fn found(alloc: Global, words: &str) -> Result<Option<u128>, Memory> {
+fn find_number(alloc: Global, words: &str) -> Result<Option<u128>, Memory> {
     let (term, globals) = both(term(alloc, words), positions(alloc))?;
     let nine = Held::Value(Value::Nat(9));
     let outer = Env::Bound(&nine, &Env::Empty);
@@ -96,7 +96,7 @@ const ROWS: &[(&str, Option<u128>)] = &[
 #[test]
 fn numbers_are_found(rt: HostRuntime) {
     for row in ROWS {
-        let found = found(rt.alloc(), row.0);
+        let found = find_number(rt.alloc(), row.0);
         assert_same(&rt, (row.0, found), (row.0, Ok(row.1)));
     }
 }

@@ -4,7 +4,7 @@ ghost use Rattle.std.specs.Prelude.{true, IsTrue};
 ghost use Rattle.nrca_term.specs.View.{term_of};
 ghost use Rattle.nrca_laws.specs.Fitting.{RuleFits, IsSmallPart};
 
-use crate::tests::tables::named;
+use crate::tests::tables::entry_at;
 use crate::tests::{assert_right, words};
 use aql_value::Memory;
 use aql_value::made::both;
@@ -123,7 +123,7 @@ const ROWS: &[&str] = &[
 ];
 
 fn rule_of(name: &str) -> Option<Rule> {
-    named(NAMES, name)
+    entry_at(NAMES, name)
 }
 
 // The right side; of a comparison that ranges decide, true.

@@ -1,6 +1,6 @@
 //! Closed terms with their values and turns, worked out one step after the other.
 
-use crate::tests::outcomes::{Outcome, Row, outcome, wanted};
+use crate::tests::outcomes::{Outcome, Row, outcome, wanted_outcome};
 use crate::tests::same::assert_same;
 use crate::tests::values::value;
 use crate::tests::words::term;
@@ -15,7 +15,7 @@ use std::process::Abort;
 use std::thread::Threads;
 
 // Some runtime is named for its type.
-fn evaluated<R: Threads + Sync>(
+fn evaluate_term<R: Threads + Sync>(
     _rt: &R,
     alloc: Global,
     term: &Core,
@@ -33,9 +33,9 @@ fn evaluated<R: Threads + Sync>(
     found
 }
 
-fn found<R: Threads + Sync>(rt: &R, alloc: Global, row: &Row, budget: u64) -> Outcome {
+fn outcome_of_row<R: Threads + Sync>(rt: &R, alloc: Global, row: &Row, budget: u64) -> Outcome {
     let parts = both(term(alloc, row.0), value(alloc, row.1))?;
-    let found = evaluated(rt, alloc, &parts.0, &parts.1, budget);
+    let found = evaluate_term(rt, alloc, &parts.0, &parts.1, budget);
     drop(parts);
     found
 }
@@ -62,8 +62,8 @@ const ROWS: &[Row] = &[
 ];
 
 fn assert_found<R: Threads + Sync + Abort>(rt: &R, alloc: Global, row: &Row, budget: u64) {
-    let found = found(rt, alloc, row, budget);
-    let wanted = wanted(row, budget);
+    let found = outcome_of_row(rt, alloc, row, budget);
+    let wanted = wanted_outcome(row, budget);
     assert_same(rt, (row.0, budget, found), (row.0, budget, wanted));
 }
 
@@ -80,6 +80,6 @@ fn terms_have_their_values_and_turns(rt: HostRuntime) {
 #[test]
 fn the_greatest_gen_is_spent(rt: HostRuntime) {
     let row = ("max gen", "undefined", 0);
-    let found = found(&rt, rt.alloc(), &row, u64::MAX);
+    let found = outcome_of_row(&rt, rt.alloc(), &row, u64::MAX);
     assert_same(&rt, found, Err(EvalFault::Spent));
 }

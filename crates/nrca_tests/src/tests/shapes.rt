@@ -88,7 +88,7 @@ fn numbers_over_a_position(rt: HostRuntime) {
 }
 
 // Whether positions 0 to 3 have a shape.
-fn shaped(globals: &GlobalShapes) -> [bool; 4] {
+fn have_shapes(globals: &GlobalShapes) -> [bool; 4] {
     [
         globals.has(0),
         globals.has(1),
@@ -102,7 +102,7 @@ fn shaped_first(alloc: Global) -> Result<[bool; 4], Memory> {
     let mut globals = GlobalShapes::new(alloc);
     globals.push(Some(Shape::Unknown))?;
     globals.push(None)?;
-    let found = shaped(&globals);
+    let found = have_shapes(&globals);
     drop(globals);
     Ok(found)
 }

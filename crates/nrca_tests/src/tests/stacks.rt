@@ -16,7 +16,7 @@ pub fn lasts<T: Drop>(stack: &mut Vec<T>, count: usize) -> Result<Vec<T>, Memory
 }
 
 /// Puts what was made behind the others.
-pub fn pushed<T: Drop>(stack: &mut Vec<T>, made: Result<T, Memory>) -> Result<(), Memory> {
+pub fn push_made<T: Drop>(stack: &mut Vec<T>, made: Result<T, Memory>) -> Result<(), Memory> {
     stack.push(made?)?;
     Ok(())
 }

@@ -22,23 +22,23 @@ fn sum(alloc: Global, number: Core, body: Core) -> Result<Core, Memory>
     Ok(Core::Sum { over, body })
 }
 
-fn substituted(alloc: Global) -> Result<Core, Memory> {
+fn substitute_case(alloc: Global) -> Result<Core, Memory> {
     let term = sum(alloc, Core::Var(0), Core::Var(1))?;
     subst(alloc, term, 0, &Core::Var(0))
 }
 
-fn shifted(alloc: Global) -> Result<Core, Memory> {
+fn shift_case(alloc: Global) -> Result<Core, Memory> {
     let term = sum(alloc, Core::Var(3), Core::Var(0))?;
     Ok(shift(term, 0, 2))
 }
 
-// What is to come of `substituted`: the term that is put in below the sum's variable is shifted past it.
+// What is to come of `substitute_case`: the term that is put in below the sum's variable is shifted past it.
 fn put_in(alloc: Global) -> Result<Core, Memory> {
     sum(alloc, Core::Var(0), Core::Var(1))
 }
 
-// What is to come of `shifted`: the sum's own variable stays.
-fn moved(alloc: Global) -> Result<Core, Memory> {
+// What is to come of `shift_case`: the sum's own variable stays.
+fn move_case(alloc: Global) -> Result<Core, Memory> {
     sum(alloc, Core::Var(5), Core::Var(0))
 }
 
@@ -72,12 +72,16 @@ fn uses_in(term: Result<Core, Memory>, at: u64) -> Result<u64, Memory> {
 #[test]
 fn the_term_put_in_is_shifted(rt: HostRuntime) {
     let alloc = rt.alloc();
-    assert_same(&rt, is_same(substituted(alloc), put_in(alloc)), Ok(true));
+    assert_same(
+        &rt,
+        is_same(substitute_case(alloc), put_in(alloc)),
+        Ok(true),
+    );
     assert_same(&rt, uses_in(put_in(alloc), 0), Ok(2));
 }
 
 #[test]
 fn bound_variables_are_not_shifted(rt: HostRuntime) {
-    let found = is_same_shifted(shifted(rt.alloc()), 0, moved(rt.alloc()));
+    let found = is_same_shifted(shift_case(rt.alloc()), 0, move_case(rt.alloc()));
     assert_same(&rt, found, Ok(true));
 }

@@ -2,8 +2,8 @@
 
 ghost use Rattle.std.specs.Prelude.{◌≡◌, ◌≤◌, length, IfOk};
 
-use crate::tests::stacks::{last, lasts, pushed};
-use crate::tests::tables::named;
+use crate::tests::stacks::{last, lasts, push_made};
+use crate::tests::tables::entry_at;
 use crate::tests::words::{number, string};
 use aql_value::made::both;
 use aql_value::{Cells, Dims, Items, Memory, Parts, Value, canon};
@@ -35,7 +35,7 @@ const COMPOUNDS: &[(&str, Compound)] = &[
 ];
 
 fn compound_of(word: &str) -> Option<Compound> {
-    named(COMPOUNDS, word)
+    entry_at(COMPOUNDS, word)
 }
 
 /// A value: each word makes one of the values before it.
@@ -43,10 +43,10 @@ pub fn value(alloc: Global, words: &str) -> Result<Option<Value>, Memory> {
     if words == "undefined" {
         return Ok(None);
     }
-    Ok(Some(defined(alloc, words)?))
+    Ok(Some(define_value(alloc, words)?))
 }
 
-fn defined(alloc: Global, words: &str) -> Result<Value, Memory> {
+fn define_value(alloc: Global, words: &str) -> Result<Value, Memory> {
     let mut stack = Vec::new(alloc);
     put_words(alloc, &mut stack, words)?;
     last(&mut stack)
@@ -61,7 +61,7 @@ fn put_words(alloc: Global, stack: &mut Vec<Value>, words: &str) -> Result<(), M
 
 fn put_word(alloc: Global, stack: &mut Vec<Value>, word: &str) -> Result<(), Memory> {
     let made = value_of(alloc, stack, word);
-    pushed(stack, made)
+    push_made(stack, made)
 }
 
 fn value_of(alloc: Global, stack: &mut Vec<Value>, word: &str) -> Result<Value, Memory> {

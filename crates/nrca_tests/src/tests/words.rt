@@ -1,7 +1,7 @@
 //! Terms written as words, each behind its parts.
 
-use crate::tests::stacks::{last, lasts, pushed};
-use crate::tests::tables::named;
+use crate::tests::stacks::{last, lasts, push_made};
+use crate::tests::tables::entry_at;
 use aql_value::made::{both, make_box, make_boxes};
 use aql_value::{ArithOp, CompareOp, Memory, Str};
 use nrca_term::{Core, Terms};
@@ -119,7 +119,7 @@ const FORMS: &[(&str, Form)] = &[
 ];
 
 fn form_of(word: &str) -> Option<Form> {
-    named(FORMS, word)
+    entry_at(FORMS, word)
 }
 
 /// A term: each word makes a node of the terms before it.
@@ -138,17 +138,17 @@ fn put_words(alloc: Global, stack: &mut Vec<Core>, words: &str) -> Result<(), Me
 
 fn put_word(alloc: Global, stack: &mut Vec<Core>, word: &str) -> Result<(), Memory> {
     let made = node(alloc, stack, word);
-    pushed(stack, made)
+    push_made(stack, made)
 }
 
 fn node(alloc: Global, stack: &mut Vec<Core>, word: &str) -> Result<Core, Memory> {
     match form_of(word) {
-        Some(form) => made(alloc, stack, form),
+        Some(form) => make_node(alloc, stack, form),
         None => constant(alloc, word),
     }
 }
 
-fn made(alloc: Global, stack: &mut Vec<Core>, form: Form) -> Result<Core, Memory> {
+fn make_node(alloc: Global, stack: &mut Vec<Core>, form: Form) -> Result<Core, Memory> {
     match form {
         Form::Alone(form) => Ok(leaf(form)),
         Form::OfOne(form) => with_part(form, make_box(alloc, last(stack))),

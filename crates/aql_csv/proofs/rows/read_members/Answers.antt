@@ -4,10 +4,11 @@ use Rattle.csv.specs.Reading.{source_of, strip_bom}
 use Rattle.csv.specs.Records.{fields_of}
 use Rattle.aql_value.specs.Canon.{canon}
 use Rattle.aql_value.specs.Meaning.{datum}
+use Rattle.aql_outside.specs.Contents.{or_none}
 use Rattle.aql_csv.specs.Records.{records_of}
 use Rattle.aql_csv.specs.Rows.{result_map, rows_behind}
 use Rattle.aql_csv.proofs.Behind.{behind}
-use Rattle.aql_csv.proofs.OneRead.{explained, found, found_none, or_nothing, rest_of, strip_shortens, unread}
+use Rattle.aql_csv.proofs.OneRead.{explained, found, found_none, rest_of, strip_shortens, unread}
 use Rattle.aql_csv.proofs.Rowed.{ended, started, stops_as, swap_front}
 use Rattle.aql_csv.proofs.rows.read_members.Goals as goal
 
@@ -15,7 +16,7 @@ pub records-init : goal.records-init
 records-init c =
     let made = c.from_reader-reader.ensures in
     let here : source_of rest_of c.from_reader-reader.result ≡ Some (strip_bom c.args.bytes.now) = made.source in
-    let same : unread c.from_reader-reader.result ≡ strip_bom c.args.bytes.now = ap or_nothing here in
+    let same : unread c.from_reader-reader.result ≡ strip_bom c.args.bytes.now = ap or_none here in
     record {
       plain = rw (c.flexible.ensures, c.has_headers.ensures) at made.trim ∙ c.new.ensures.trim;
       any_length = rw c.flexible.ensures at made.flexible;

@@ -1,10 +1,10 @@
 use Rattle.std.proofs.Common.{◌-◌, ap, ◌∙◌, take, arith}
+use Rattle.std.proofs.lemmas.Result.{IfOk-weaker}
 use Rattle.aql_syntax.specs.Measured.{latest}
 use Rattle.nrca_term.specs.Laws.Equations.{term_of-Var}
 use Rattle.nrca_term.specs.View.{term_of}
 use Rattle.aql_desugar_spec.specs.Start.{knowns_of}
-use Rattle.aql_desugar.specs.Names.{scope, missing_term}
-use Rattle.aql_desugar.specs.Laws.Parts.{ok_map}
+use Rattle.aql_desugar.specs.Names.{binders_of, missing_term}
 use Rattle.aql_desugar.proofs.Making.{part_of, holds_of, let_made, let_kept}
 use Rattle.aql_desugar.proofs.Wrapping.{closed_kept, row_made, rest_smaller, parts_made, parts_kept}
 use Rattle.aql_desugar.proofs.matches.+wrap.Goals as goal
@@ -16,8 +16,8 @@ close-returns-clause-kept t c =
 
 pub wrap-returns-in-Row-clause-made : goal.wrap-returns-in-Row-clause-made
 wrap-returns-in-Row-clause-made t c =
-    ok_map c.wrap_parts.result _ _
-    (λ parts h base. row_made c.args.p.now c.in-Row.ps c.deref-in-Row.result.now c.len-count.result (knowns_of (latest c.args.earlier.now)) (scope (λ x. x.now) c.args.names.now.items base) c.args.at
+    IfOk-weaker c.wrap_parts.result _ _
+    (λ parts h base. row_made c.args.p.now c.in-Row.ps c.deref-in-Row.result.now c.len-count.result (knowns_of (latest c.args.earlier.now)) (binders_of (λ x. x.now) c.args.names.now.items base) c.args.at
     (term_of c.args.inside) (missing_term c.args.other) (term_of parts) c.in-Row.is c.deref-in-Row.ensures.value (c.len-count.ensures ∙ c.in-Row.ps.items.ok.0) (h base))
     c.wrap_parts.ensures.made
 

@@ -5,7 +5,7 @@ use Rattle.aql_syntax.specs.Measured.{latest}
 use Rattle.aql_syntax.specs.Size.{greatest, axes_greatest, quals_greatest, count_quals, defs_greatest, count_defs, levels, extents_of, extent_of}
 use Rattle.nrca_term.specs.View.{term_of}
 use Rattle.aql_desugar_spec.specs.Start.{knowns_of, starts, bound_terms}
-use Rattle.aql_desugar.specs.Names.{scope}
+use Rattle.aql_desugar.specs.Names.{binders_of}
 use Rattle.aql_desugar.proofs.queries.+start.Given as goal
 
 abbrev pub decreases-start : goal.decreases-start
@@ -54,16 +54,16 @@ decreases-bind_rest l =
 
 abbrev pub invariant-all-loop-e : goal.invariant-all-loop-e
 invariant-all-loop-e l = record {
-  made : map term_of l.made.items ++ starts (trees_of (drop l.e-index l.es)) (knowns_of (latest l.earlier)) (scope (λ x. x.now) l.initial.names.items l.base)
-      ≡ starts (trees_of l.es) (knowns_of (latest l.earlier)) (scope (λ x. x.now) l.initial.names.items l.base);
+  made : map term_of l.made.items ++ starts (trees_of (drop l.e-index l.es)) (knowns_of (latest l.earlier)) (binders_of (λ x. x.now) l.initial.names.items l.base)
+      ≡ starts (trees_of l.es) (knowns_of (latest l.earlier)) (binders_of (λ x. x.now) l.initial.names.items l.base);
   kept : l.names.items ≡ l.initial.names.items;
   below : greatest (trees_of (drop l.e-index l.es)) (extents_of (latest l.earlier)) ≤ greatest (trees_of l.es) (extents_of (latest l.earlier));
 }
 
 abbrev pub invariant-bounds-loop-b : goal.invariant-bounds-loop-b
 invariant-bounds-loop-b l = record {
-  made : map term_of l.made.items ++ bound_terms (axes_in (drop l.b-index l.binds)) (knowns_of (latest l.earlier)) (scope (λ x. x.now) l.initial.names.items l.base)
-      ≡ bound_terms (axes_in l.binds) (knowns_of (latest l.earlier)) (scope (λ x. x.now) l.initial.names.items l.base);
+  made : map term_of l.made.items ++ bound_terms (axes_in (drop l.b-index l.binds)) (knowns_of (latest l.earlier)) (binders_of (λ x. x.now) l.initial.names.items l.base)
+      ≡ bound_terms (axes_in l.binds) (knowns_of (latest l.earlier)) (binders_of (λ x. x.now) l.initial.names.items l.base);
   kept : l.names.items ≡ l.initial.names.items;
   below : axes_greatest (axes_in (drop l.b-index l.binds)) (extents_of (latest l.earlier)) ≤ axes_greatest (axes_in l.binds) (extents_of (latest l.earlier));
 }

@@ -1,8 +1,9 @@
 use Rattle.std.proofs.Common.{◌-◌, take, refl, ap, arith}
+use Rattle.std.proofs.lemmas.Result.{IfOk-weaker}
 use Rattle.aql_infer_steps.specs.Typed.{sorts_of}
 use Rattle.nrca_term.specs.View.{term_of}
-use Rattle.aql_desugar.specs.Laws.Parts.{ok_map}
-use Rattle.aql_desugar.proofs.Translating.{Chosen, chosen, chosen_some, translated_here, small_here, within_here, fault_here, err_map, ok_join}
+use Rattle.aql_desugar.specs.Laws.Parts.{ok_join}
+use Rattle.aql_desugar.proofs.Translating.{Chosen, chosen, chosen_some, translated_here, small_here, within_here, fault_here, err_map}
 use Rattle.aql_desugar.proofs.translate.translate.Goals as goal
 
 -- the declaration that is translated, and those before it
@@ -18,7 +19,7 @@ unreachable-requires c =
 
 pub returns-clause-translated : goal.returns-clause-translated
 returns-clause-translated c =
-    ok_map c.term_after.result _ _ (λ t is. translated_here c.args.decls.now.items.items (take (c.args.n - 1) c.deref.result.now) c.args.n c.in-Some.e.now (here c) (sorts_of c.args.typed.now.items.items) (term_of t) is)
+    IfOk-weaker c.term_after.result _ _ (λ t is. translated_here c.args.decls.now.items.items (take (c.args.n - 1) c.deref.result.now) c.args.n c.in-Some.e.now (here c) (sorts_of c.args.typed.now.items.items) (term_of t) is)
     c.term_after.ensures.made
 
 pub returns-clause-small : goal.returns-clause-small
@@ -29,7 +30,7 @@ returns-clause-small c =
 
 pub returns-clause-within : goal.returns-clause-within
 returns-clause-within c =
-    ok_map c.term_after.result _ _ (λ t w. within_here c.args.decls.now.items.items (take (c.args.n - 1) c.deref.result.now) c.args.n c.in-Some.e.now (here c) w) c.term_after.ensures.within
+    IfOk-weaker c.term_after.result _ _ (λ t w. within_here c.args.decls.now.items.items (take (c.args.n - 1) c.deref.result.now) c.args.n c.in-Some.e.now (here c) w) c.term_after.ensures.within
 
 pub returns-clause-fault : goal.returns-clause-fault
 returns-clause-fault c =

@@ -1,7 +1,7 @@
 use Rattle.std.proofs.Common.{◌-◌, take, refl, sym, ap, subst, arith}
+use Rattle.std.proofs.lemmas.Result.{IfOk-weaker}
 use Rattle.aql_infer_steps.specs.Typed.{sorts_of}
 use Rattle.nrca_term.specs.View.{term_of}
-use Rattle.aql_desugar.specs.Laws.Parts.{ok_map}
 use Rattle.aql_desugar.specs.Named.{BeginWith}
 use Rattle.aql_desugar.proofs.Finding.{before_named}
 use Rattle.aql_desugar.proofs.Translating.{Chosen, chosen, chosen_some, translated_here, small_within}
@@ -20,12 +20,12 @@ unreachable-requires c =
 
 pub returns-clause-translated : goal.returns-clause-translated
 returns-clause-translated c =
-    ok_map c.start_after.result _ _ (λ t is. translated_here c.args.decls.now.items.items (take (c.args.n - 1) c.deref.result.now) c.args.n c.in-Some.e.now (here c) (sorts_of c.args.typed.now.items.items) (term_of t) is)
+    IfOk-weaker c.start_after.result _ _ (λ t is. translated_here c.args.decls.now.items.items (take (c.args.n - 1) c.deref.result.now) c.args.n c.in-Some.e.now (here c) (sorts_of c.args.typed.now.items.items) (term_of t) is)
     c.start_after.ensures
 
 pub returns-clause-small : goal.returns-clause-small
 returns-clause-small c =
-    ok_map c.start_after.result _ _
+    IfOk-weaker c.start_after.result _ _
     (λ t is p. small_within c.args.decls.now.items.items (take (c.args.n - 1) c.deref.result.now) c.args.n c.in-Some.e.now (here c) (sorts_of c.args.typed.now.items.items) (term_of t) is c.requires.within p)
     c.start_after.ensures
 

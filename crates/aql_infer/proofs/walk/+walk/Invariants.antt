@@ -1,4 +1,4 @@
-use Rattle.aql_infer_steps.specs.Constraints.{after, made, make_all, make_binds, make_bounds, make_each, make_rows}
+use Rattle.aql_infer_steps.specs.Constraints.{after, pure, make_all, make_binds, make_bounds, make_each, make_rows}
 use Rattle.aql_infer_steps.specs.View.{Extends, locals_of, schemes_of, sketch_type, state_of, types_in}
 use Rattle.aql_syntax.specs.View.{axes_in, defs_in, quals_of, trees_of}
 use Rattle.std.proofs.Common.{◌+◌, ◌*◌, drop, length, ◌++◌, ◌≡◌}
@@ -60,7 +60,7 @@ decreases-infer_binds l = 8 * l.fuel + 1
 
 abbrev pub invariant-infer_all-loop-e : goal.invariant-infer_all-loop-e
 invariant-infer_all-loop-e l = record {
-  made : after (make_all (trees_of (drop l.e-index l.es)) (schemes_of l.positions) (locals_of l.positions l.env.items) (state_of l.positions l.s)) (λ ts. made (types_in l.positions l.made.items ++ ts))
+  made : after (make_all (trees_of (drop l.e-index l.es)) (schemes_of l.positions) (locals_of l.positions l.env.items) (state_of l.positions l.s)) (λ ts. pure (types_in l.positions l.made.items ++ ts))
       ≡ make_all (trees_of l.es) (schemes_of l.positions) (locals_of l.positions l.initial.env.items) (state_of l.positions l.fn.s);
   count : length l.made.items ≡ l.e-index;
   kept : l.env.items ≡ l.initial.env.items;

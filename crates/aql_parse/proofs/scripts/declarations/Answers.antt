@@ -1,11 +1,12 @@
-use Rattle.std.proofs.Common.{◌+◌, List, ap, sym, ◌∙◌, subst, length, arith}
+use Rattle.std.proofs.Common.{◌+◌, List, [], ◌∷◌, ap, sym, ◌∙◌, subst, length, arith}
 use Rattle.std.proofs.lemmas.Grind.{common_steps}
 use Rattle.aql_syntax.specs.Tree.{Declaration}
 use Rattle.aql_syntax.specs.View.{decl_of, decls_of}
 use Rattle.aql_syntax.specs.Grammar.{ReadsDecls, decls_none}
+use Rattle.aql_syntax.specs.Laws.View.{decls_of-append, length-decls_of}
 use Rattle.aql_parse_spec.specs.Laws.Scripts.{decl_sound, decl_shrinks, decl_none, reads_next, no_longer}
 use Rattle.aql_parse.specs.Words.{lexemes}
-use Rattle.aql_parse.proofs.Said.{decls_last, decls_length, lexemes_length}
+use Rattle.aql_parse.proofs.Said.{lexemes_length}
 use Rattle.aql_parse.proofs.scripts.declarations.Goals as goal
 
 pub loop-rest-init : goal.loop-rest-init
@@ -21,7 +22,7 @@ pub loop-rest-preserved : goal.loop-rest-preserved
 loop-rest-preserved c =
     let source = c.args.source.now in
     let d = decl_sound (length c.args.words.now + 1) (lexemes source c.loop-rest.rest.now) (lexemes source c.in-Ok.behind.now) (decl_of c.in-Ok.found) c.in-Ok.ensures in
-    let items = ap decls_of c.in_ok-push-in-Ok.ensures.items ∙ decls_last c.loop-rest.items.items c.in-Ok.found in
+    let items = ap decls_of c.in_ok-push-in-Ok.ensures.items ∙ decls_of-append c.loop-rest.items.items (c.in-Ok.found ∷ []) in
     subst (λ (ds : List Declaration). ReadsDecls ds (lexemes source c.args.words.now) (lexemes source c.in-Ok.behind.now)) (sym items)
     (reads_next c.loop-rest.invariant d)
 
@@ -32,7 +33,7 @@ returns-in-Err-Syntax c =
     record {
       before = decls_of c.loop-rest.items.items;
       rest = lexemes source c.loop-rest.rest.now;
-      count = omega (arith, decls_length c.loop-rest.items.items, c.len.ensures, c.loop-rest.items.ok.0);
+      count = omega (arith, length-decls_of c.loop-rest.items.items, c.len.ensures, c.loop-rest.items.ok.0);
       reads = c.loop-rest.invariant;
       some = λ e. let l = ap length e in let m = lexemes_length source c.loop-rest.rest.now in grind (arith, common_steps);
       none =

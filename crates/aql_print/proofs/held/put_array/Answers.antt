@@ -1,7 +1,7 @@
 use Rattle.std.proofs.Common.{◌++◌, ◌∷◌, [], List, ℕ, ap, ◌∙◌, subst}
 use Rattle.aql_value.specs.Datum.{data_of, Table}
 use Rattle.aql_print.specs.Appends.{AppendsPrefix}
-use Rattle.aql_print.specs.Joined.{separated}
+use Rattle.aql_print.specs.Joined.{join_texts}
 use Rattle.aql_print.specs.ValueText.{texts, dims_text}
 use Rattle.aql_print.proofs.Chains.{then}
 use Rattle.aql_print.specs.Laws.Prefix.{prefix_first, prefix_second, prefix_whole}
@@ -9,7 +9,7 @@ use Rattle.aql_print.proofs.held.put_array.Goals as goal
 
 -- the cells, and what stands behind them
 abbrev cells_text : Table → List ℕ
-cells_text a = separated (44 ∷ 32 ∷ []) (texts (data_of a.cells))
+cells_text a = join_texts (44 ∷ 32 ∷ []) (texts (data_of a.cells))
 
 abbrev rest_text : Table → List ℕ
 rest_text a = 59 ∷ 32 ∷ (cells_text a ++ 93 ∷ 93 ∷ [])

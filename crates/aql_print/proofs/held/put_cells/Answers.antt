@@ -2,7 +2,7 @@ use Rattle.std.proofs.Common.{◌++◌, ◌∷◌, [], get_or, ap, ◌∙◌, re
 use Rattle.std.proofs.lemmas.List.{take_all}
 use Rattle.aql_value.specs.Datum.{data_of}
 use Rattle.aql_value.specs.Meaning.{datum}
-use Rattle.aql_print.specs.Joined.{separated}
+use Rattle.aql_print.specs.Joined.{join_texts}
 use Rattle.aql_print.specs.ValueText.{text, texts}
 use Rattle.aql_print.specs.Laws.Prefix.{prefix_whole, prefix_before, prefix_text, both_whole, length-texts, text_in}
 use Rattle.aql_print.proofs.held.put_cells.Goals as goal
@@ -36,7 +36,7 @@ loop-i-preserved c =
 pub returns-clause-ok : goal.returns-clause-ok
 returns-clause-ok c =
     c.loop-i.invariant
-    ∙ ap (λ l. c.args.out.now.items ++ separated (44 ∷ 32 ∷ []) l)
+    ∙ ap (λ l. c.args.out.now.items ++ join_texts (44 ∷ 32 ∷ []) l)
     (take_all c.loop-i.i (texts (data_of c.args.a.now.cells)) (omega (arith, length-texts c.args.a.now.cells, c.len-i-end.ensures, c.loop-i-test.false)))
 
 pub returns-clause-prefix : goal.returns-clause-prefix

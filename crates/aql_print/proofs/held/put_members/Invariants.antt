@@ -1,9 +1,9 @@
 use Rattle.std.proofs.Common.{◌≡◌, ◌++◌, take, codes}
 use Rattle.aql_value.specs.Datum.{data_of}
-use Rattle.aql_print.specs.Joined.{separated}
+use Rattle.aql_print.specs.Joined.{join_texts}
 use Rattle.aql_print.specs.ValueText.{texts}
 use Rattle.aql_print.proofs.held.put_members.Given as goal
 
 -- the members so far are written
 abbrev pub invariant-loop-i : goal.invariant-loop-i
-invariant-loop-i l = l.out.items ≡ l.initial.out.items ++ separated (codes ", ") (take l.i (texts (data_of l.s)))
+invariant-loop-i l = l.out.items ≡ l.initial.out.items ++ join_texts (codes ", ") (take l.i (texts (data_of l.s)))

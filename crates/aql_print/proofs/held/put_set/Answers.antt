@@ -1,13 +1,13 @@
 use Rattle.std.proofs.Common.{◌++◌, ◌∷◌, [], List, ℕ}
 use Rattle.aql_value.specs.Datum.{Datum, data_of}
-use Rattle.aql_print.specs.Joined.{separated}
+use Rattle.aql_print.specs.Joined.{join_texts}
 use Rattle.aql_print.specs.ValueText.{texts}
 use Rattle.aql_print.proofs.Chains.{then}
 use Rattle.aql_print.specs.Laws.Prefix.{prefix_first, prefix_second, prefix_whole}
 use Rattle.aql_print.proofs.held.put_set.Goals as goal
 
 abbrev members_text : List Datum → List ℕ
-members_text ms = separated (44 ∷ 32 ∷ []) (texts (data_of ms))
+members_text ms = join_texts (44 ∷ 32 ∷ []) (texts (data_of ms))
 
 pub returns-in_err-put-clause-prefix : goal.returns-in_err-put-clause-prefix
 returns-in_err-put-clause-prefix c = prefix_first _ _ (123 ∷ []) (members_text c.args.s.now ++ 125 ∷ []) c.put.ensures.prefix

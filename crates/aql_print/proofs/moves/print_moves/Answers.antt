@@ -1,7 +1,7 @@
 use Rattle.std.proofs.Common.{◌≡◌, ◌<◌, ◌++◌, ◌∷◌, [], List, ℕ, get_or, length, ap, ◌∙◌, refl, arith, subst}
 use Rattle.nrca_motion.specs.declared.moves.Move.{Move}
 use Rattle.aql_print.specs.Appends.{AppendsPrefix}
-use Rattle.aql_print.specs.Joined.{separated}
+use Rattle.aql_print.specs.Joined.{join_texts}
 use Rattle.aql_print.specs.MovesText.{move_text, move_texts, moves_text}
 use Rattle.aql_print.specs.Laws.Prefix.{prefix_before, prefix_text, both_whole}
 use Rattle.aql_print.proofs.Named.{named_at, count_named}
@@ -11,7 +11,7 @@ use Rattle.aql_print.proofs.moves.print_moves.Goals as goal
 abbrev name_of : Move → List ℕ
 name_of s = move_text s.rule
 
-some_move : (moves : List Move) (i : ℕ) → i < length moves → separated (32 ∷ []) (move_texts moves) ≡ moves_text moves
+some_move : (moves : List Move) (i : ℕ) → i < length moves → join_texts (32 ∷ []) (move_texts moves) ≡ moves_text moves
 some_move [] i h = absurd (omega (arith, h))
 some_move (s ∷ rest) i h = refl
 

@@ -1,7 +1,7 @@
 use Rattle.std.proofs.Common.{[], ◌∷◌, ◌++◌, ap, ◌∙◌, sym, arith}
 use Rattle.std.proofs.lemmas.List.{take_all}
 use Rattle.aql_types.specs.View.{type_of, types_of}
-use Rattle.aql_print.specs.Joined.{separated}
+use Rattle.aql_print.specs.Joined.{join_texts}
 use Rattle.aql_print.specs.TypeText.{part_text, part_texts, type_text}
 use Rattle.aql_print.specs.Laws.Prefix.{both_whole}
 use Rattle.aql_print.proofs.TypeParts.{length-parts, part_at}
@@ -18,6 +18,6 @@ add_parts-loop-i-preserved t c =
 pub add_parts-returns : goal.add_parts-returns
 add_parts-returns t c =
     c.loop-i.invariant
-    ∙ ap (λ l. c.args.text.items ++ separated (32 ∷ 42 ∷ 32 ∷ []) l)
+    ∙ ap (λ l. c.args.text.items ++ join_texts (32 ∷ 42 ∷ 32 ∷ []) l)
     (take_all c.loop-i.i (part_texts (types_of c.args.ts.now) c.args.names.now)
     (omega (arith, length-parts c.args.ts.now c.args.names.now, c.loop-i-test.false)))

@@ -5,7 +5,7 @@ use Rattle.nrca_term.specs.View.{term_of, terms_of}
 use Rattle.nrca_term.specs.Laws.Equations.{length-terms_of}
 use Rattle.aql_print.specs.CoreText.{bounds_text, core_text}
 use Rattle.aql_print.specs.Names.{bound_text}
-use Rattle.aql_print.specs.Joined.{separated}
+use Rattle.aql_print.specs.Joined.{join_texts}
 use Rattle.aql_print.proofs.Chains.{then, core_at, core_count, length-bounds_text, bound_at, regroup}
 use Rattle.aql_print.proofs.CoreEquations.{text-let, text-if, text-sub, text-literal, text-tab}
 use Rattle.aql_print.specs.Laws.Prefix.{both_whole}
@@ -22,7 +22,7 @@ put_each-loop-i-preserved t c =
 pub put_each-returns : goal.put_each-returns
 put_each-returns t c =
     c.loop-i.invariant
-    ∙ ap (λ l. c.args.out.now.items ++ separated c.args.separator.now l)
+    ∙ ap (λ l. c.args.out.now.items ++ join_texts c.args.separator.now l)
     (take_all c.loop-i.i (map (core_text c.args.depth) (terms_of c.args.terms.now)) (omega (arith, core_count c.args.depth _ c.args.terms.now c.deref-term-items.ensures.value, c.loop-i-test.false)))
 
 pub put_bounds-loop-i-preserved : goal.put_bounds-loop-i-preserved
@@ -41,7 +41,7 @@ pub put_bounds-returns : goal.put_bounds-returns
 put_bounds-returns t c =
     let bs = map (core_text c.args.depth) (terms_of c.args.bounds.now) in
     c.loop-i.invariant
-    ∙ ap (λ l. c.args.out.now.items ++ separated (44 ∷ 32 ∷ []) l)
+    ∙ ap (λ l. c.args.out.now.items ++ join_texts (44 ∷ 32 ∷ []) l)
     (take_all c.loop-i.i (bounds_text c.args.depth bs)
     (omega (arith, length-bounds_text c.args.depth bs, core_count c.args.depth _ c.args.bounds.now c.deref-bound-items.ensures.value, c.loop-i-test.false)))
 
@@ -79,15 +79,15 @@ put_projection-returns t c =
 pub put_subscript-returns : goal.put_subscript-returns
 put_subscript-returns t c =
     let a = core_text c.args.depth (term_of c.args.array.now) in
-    let at = separated (44 ∷ 32 ∷ []) (map (core_text c.args.depth) (terms_of c.args.at.now)) in
+    let at = join_texts (44 ∷ 32 ∷ []) (map (core_text c.args.depth) (terms_of c.args.at.now)) in
     then _ _ _ (115 ∷ 117 ∷ 98 ∷ 40 ∷ (a ++ 59 ∷ 32 ∷ [])) (at ++ 41 ∷ []) c.in_ok-put_one.ensures c.in_ok-put_all.ensures
     ∙ ap (λ l. c.args.out.now.items ++ 115 ∷ 117 ∷ 98 ∷ 40 ∷ l) (regroup a (59 ∷ 32 ∷ []) at (41 ∷ []))
     ∙ ap (λ l. c.args.out.now.items ++ l) (sym (text-sub c.args.depth (term_of c.args.array.now) (terms_of c.args.at.now)))
 
 pub put_literal-returns : goal.put_literal-returns
 put_literal-returns t c =
-    let ds = separated (44 ∷ []) (map (core_text c.args.depth) (terms_of c.args.dims.now)) in
-    let cs = separated (44 ∷ 32 ∷ []) (map (core_text c.args.depth) (terms_of c.args.cells.now)) in
+    let ds = join_texts (44 ∷ []) (map (core_text c.args.depth) (terms_of c.args.dims.now)) in
+    let cs = join_texts (44 ∷ 32 ∷ []) (map (core_text c.args.depth) (terms_of c.args.cells.now)) in
     then _ _ _ (91 ∷ 91 ∷ (ds ++ 59 ∷ 32 ∷ [])) (cs ++ 93 ∷ 93 ∷ []) c.in_ok-put_all.ensures c.in_ok-put_all-2.ensures
     ∙ ap (λ l. c.args.out.now.items ++ 91 ∷ 91 ∷ l) (regroup ds (59 ∷ 32 ∷ []) cs (93 ∷ 93 ∷ []))
     ∙ ap (λ l. c.args.out.now.items ++ l) (sym (text-literal c.args.depth (terms_of c.args.dims.now) (terms_of c.args.cells.now)))
@@ -97,7 +97,7 @@ put_tabulation-returns t c =
     let d = c.args.depth in
     let rank = length (terms_of c.args.bounds.now) in
     let body = core_text (d + rank) (term_of c.args.body.now) in
-    let bounds = separated (44 ∷ 32 ∷ []) (bounds_text d (map (core_text d) (terms_of c.args.bounds.now))) in
+    let bounds = join_texts (44 ∷ 32 ∷ []) (bounds_text d (map (core_text d) (terms_of c.args.bounds.now))) in
     let deep : c.in_ok-inner.inner ≡ d + rank = omega (arith, c.in_ok-inner.ensures, c.len.ensures, length-terms_of c.args.bounds.now) in
     then _ _ _ (91 ∷ 91 ∷ (body ++ 32 ∷ 124 ∷ 32 ∷ [])) (bounds ++ 93 ∷ 93 ∷ [])
     (c.in_ok-put_one.ensures ∙ ap (λ n. c.args.out.now.items ++ 91 ∷ 91 ∷ (core_text n (term_of c.args.body.now) ++ 32 ∷ 124 ∷ 32 ∷ [])) deep)

@@ -2,7 +2,7 @@ use Rattle.std.proofs.Common.{◌≡◌, ◌+◌, ◌*◌, ◌++◌, take, map, 
 use Rattle.nrca_term.specs.Term.{weight_of, list_weight}
 use Rattle.nrca_term.specs.View.{term_of, terms_of}
 use Rattle.aql_print.specs.CoreText.{bounds_text, core_text}
-use Rattle.aql_print.specs.Joined.{separated}
+use Rattle.aql_print.specs.Joined.{join_texts}
 use Rattle.aql_print.proofs.term.+put_term.Given as goal
 
 abbrev pub decreases-put_term : goal.decreases-put_term
@@ -50,8 +50,8 @@ decreases-put_each l = 4 * list_weight (terms_of l.terms.now) + 1
 -- the bounds so far are written
 abbrev pub invariant-put_bounds-loop-i : goal.invariant-put_bounds-loop-i
 invariant-put_bounds-loop-i l =
-    l.out.items ≡ l.initial.out.items ++ separated (codes ", ") (take l.i (bounds_text l.depth (map (core_text l.depth) (terms_of l.bounds))))
+    l.out.items ≡ l.initial.out.items ++ join_texts (codes ", ") (take l.i (bounds_text l.depth (map (core_text l.depth) (terms_of l.bounds))))
 
 -- the terms so far are written
 abbrev pub invariant-put_each-loop-i : goal.invariant-put_each-loop-i
-invariant-put_each-loop-i l = l.out.items ≡ l.initial.out.items ++ separated l.separator (take l.i (map (core_text l.depth) (terms_of l.terms)))
+invariant-put_each-loop-i l = l.out.items ≡ l.initial.out.items ++ join_texts l.separator (take l.i (map (core_text l.depth) (terms_of l.terms)))

@@ -1,7 +1,7 @@
 use Rattle.std.proofs.Common.{◌≡◌, ◌<◌, ◌++◌, ◌∷◌, [], List, ℕ, get_or, length, ap, ◌∙◌, refl, arith, subst}
 use Rattle.nrca_term.specs.declared.trace.Step.{Step}
 use Rattle.aql_print.specs.Appends.{AppendsPrefix}
-use Rattle.aql_print.specs.Joined.{separated}
+use Rattle.aql_print.specs.Joined.{join_texts}
 use Rattle.aql_print.specs.TraceText.{rule_text, rule_texts, trace_text}
 use Rattle.aql_print.specs.Laws.Prefix.{prefix_before, prefix_text, both_whole}
 use Rattle.aql_print.proofs.Named.{named_at, count_named}
@@ -11,7 +11,7 @@ use Rattle.aql_print.proofs.trace.print_trace.Goals as goal
 abbrev rule_of : Step → List ℕ
 rule_of s = rule_text s.rule
 
-some_rule : (steps : List Step) (i : ℕ) → i < length steps → separated (32 ∷ []) (rule_texts steps) ≡ trace_text steps
+some_rule : (steps : List Step) (i : ℕ) → i < length steps → join_texts (32 ∷ []) (rule_texts steps) ≡ trace_text steps
 some_rule [] i h = absurd (omega (arith, h))
 some_rule (s ∷ rest) i h = refl
 

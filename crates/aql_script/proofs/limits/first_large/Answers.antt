@@ -2,7 +2,7 @@ use Rattle.std.proofs.Common.{◌+◌, ◌<◌, ap, sym, ◌∙◌, subst, take,
 use Rattle.aql_syntax.specs.View.{decls_of}
 use Rattle.aql_syntax.specs.Size.{IsLarge}
 use Rattle.aql_prelude.specs.Prelude.{prelude_count}
-use Rattle.aql_extents.specs.Kept.{kept}
+use Rattle.aql_extents.specs.Kept.{extents_after}
 use Rattle.aql_script.proofs.Past.{within_there, large_there, between_more, take_more, behind_again}
 use Rattle.aql_script.proofs.limits.first_large.Goals as goal
 
@@ -26,7 +26,7 @@ positions-preserved c =
     let i = c.positions.i in
     let inside : i < length items = omega (arith, c.positions-test.true, c.len-i-end.ensures) in record {
       kept = c.in_ok-push.ensures.pushed (take i items) c.positions.invariant.kept
-          ∙ ap kept (take_more items i c.index-d.result.now inside c.index-d.ensures);
+          ∙ ap extents_after (take_more items i c.index-d.result.now inside c.index-d.ensures);
       within = between_more (decls_of items) prelude_count i c.positions.invariant.within
           (λ low. within_there items i c.index-d.result.now inside c.index-d.ensures (c.is_past.ensures.within (take i items) c.positions.invariant.kept c.if-is_past.false low));
     }

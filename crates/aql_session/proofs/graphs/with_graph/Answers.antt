@@ -1,5 +1,5 @@
 use Rattle.std.proofs.Common.{refl, sym, subst}
-use Rattle.aql_session.specs.Runs.{IsExecutionWithGraph}
+use Rattle.aql_session.specs.Executions.{IsExecutionWithGraph}
 use Rattle.aql_session.proofs.graphs.with_graph.Goals as goal
 
 pub returns-in-Ok-clause-ran : goal.returns-in-Ok-clause-ran

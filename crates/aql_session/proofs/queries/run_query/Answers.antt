@@ -1,10 +1,11 @@
 use Rattle.std.proofs.Common.{arith, sym, subst, ◌∙◌}
 use Rattle.std.proofs.lemmas.Result.{IfOk-weaker, IfErr-weaker}
+use Rattle.aql_syntax.specs.Laws.View.{length-decls_of}
 use Rattle.nrca_encoded.specs.Graphs.{IsTypedOver}
 use Rattle.nrca_term.specs.View.{term_of}
-use Rattle.aql_session.specs.Planned.{Evaluates, PassAll}
-use Rattle.aql_session.specs.Runs.{IsEvaluatedAt, IsSpentAt, budget_of, declaration_of, declarations_at, motion_of}
-use Rattle.aql_session.proofs.Evaluating.{length-decls_of, evaluated-is, spent-is}
+use Rattle.aql_session.specs.Planned.{EvaluatesOne, PassAll}
+use Rattle.aql_session.specs.Executions.{IsEvaluatedAt, IsSpentAt, budget_of, declaration_of, declarations_at, motion_of}
+use Rattle.aql_session.proofs.Evaluating.{evaluated-is, spent-is}
 use Rattle.aql_session.proofs.Planning.{plan-query, unchanged-plan, unmoved-plan}
 use Rattle.aql_session.proofs.queries.run_query.Goals as goal
 
@@ -14,7 +15,7 @@ start_of_query-requires-clause-last g c = omega (arith, length-decls_of c.args.a
 pub returns-in-Ok-clause-evaluated : goal.returns-in-Ok-clause-evaluated
 returns-in-Ok-clause-evaluated g c =
     let p = c.args.at.now in
-    IfOk-weaker c.run_planned.result (Evaluates c.args.globals.now (budget_of p) c.in-Ok.planned) (IsEvaluatedAt p c.args.globals.now)
+    IfOk-weaker c.run_planned.result (EvaluatesOne c.args.globals.now (budget_of p) c.in-Ok.planned) (IsEvaluatedAt p c.args.globals.now)
     (λ q h d e. evaluated-is (declarations_at p) c.args.globals.now p.n c.requires.stands.many c.requires.stands.last d (term_of c.in_ok-start.start)
     (c.in_ok-start.ensures.start d e) (declaration_of p) e c.requires.query (motion_of p) (budget_of p) c.in-Ok.planned q c.in-Ok.ensures.planned h)
     c.run_planned.ensures.evaluated
@@ -34,7 +35,7 @@ returns-in-Ok-clause-typed g c =
     let V = c.args.globals.now in
     let t = term_of c.in_ok-start.start in
     let r = c.in-Ok.planned in
-    IfOk-weaker c.run_planned.result (Evaluates V (budget_of p) r) (λ q. IsTypedOver V (term_of q.plan))
+    IfOk-weaker c.run_planned.result (EvaluatesOne V (budget_of p) r) (λ q. IsTypedOver V (term_of q.plan))
     (λ q h. subst (IsTypedOver V) (sym h.plan) (plan-query V t (term_of r.plan) r.trace (c.in_ok-start.ensures.query V c.requires.stands) c.in-Ok.ensures.planned.plan))
     c.run_planned.ensures.evaluated
 

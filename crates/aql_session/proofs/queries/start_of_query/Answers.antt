@@ -1,10 +1,11 @@
 use Rattle.std.proofs.Common.{arith}
 use Rattle.std.proofs.lemmas.Result.{IfOk-weaker}
 use Rattle.nrca_term.specs.View.{term_of}
+use Rattle.aql_desugar.specs.Laws.Parts.{ok_join}
 use Rattle.aql_desugar.specs.Translation.{Translates, IsSmallWherePrincipal}
-use Rattle.aql_session.specs.Runs.{IsStartAt, IsQueryTermAt, declaration_of, declarations_at, sorts_at}
+use Rattle.aql_session.specs.Executions.{IsStartAt, IsQueryTermAt, declaration_of, declarations_at, sorts_at}
 use Rattle.aql_session.proofs.Planning.{query-term}
-use Rattle.aql_session.proofs.Translated.{some-query, start-is, names-before, ok_join}
+use Rattle.aql_session.proofs.Translated.{some-query, start-is, names-before}
 use Rattle.aql_session.proofs.queries.start_of_query.Goals as goal
 
 pub translate_within-requires-clause-query : goal.translate_within-requires-clause-query

@@ -1,7 +1,7 @@
 use Rattle.std.proofs.Common.{◌≡◌, true, false, refl, sym, ap, subst}
 use Rattle.std.specs.Prelude.{Ok, Err}
 use Rattle.aql_session.specs.Reading.{fault_in}
-use Rattle.aql_session.specs.Runs.{slab_asked, IsFileCause}
+use Rattle.aql_session.specs.Executions.{slab_asked, IsFileCause}
 use Rattle.aql_session.proofs.Opening.{says-of, nameless, file-at, failed, handed-cause}
 use Rattle.aql_session.proofs.Requests.{header-version, header-request}
 use Rattle.aql_session.proofs.readings.open.Goals as goal

@@ -2,7 +2,7 @@ use Rattle.std.proofs.Common.{sym, ap, subst, ◌∙◌}
 use Rattle.std.specs.Prelude.{Err}
 use Rattle.aql_outside.specs.Contents.{bytes_in}
 use Rattle.cdf_header.specs.Places.{variable_at}
-use Rattle.aql_session.specs.Runs.{slab_asked, IsFileCause}
+use Rattle.aql_session.specs.Executions.{slab_asked, IsFileCause}
 use Rattle.aql_session.proofs.Opening.{slab-read, slab-failed, handed-cause, utf8-is}
 use Rattle.aql_session.proofs.Requests.{slab-version}
 use Rattle.aql_session.proofs.readings.read_found.Goals as goal

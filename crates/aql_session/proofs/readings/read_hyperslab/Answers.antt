@@ -1,7 +1,7 @@
 use Rattle.std.proofs.Common.{◌≡◌, ◌∙◌, ◌-◌, ◌≤◌, ◌^◌, min, refl, ap, arith}
 use Rattle.aql_value.specs.Indices.{product}
 use Rattle.aql_session.specs.Asked.{cells}
-use Rattle.aql_session.specs.Runs.{slab_asked}
+use Rattle.aql_session.specs.Executions.{slab_asked}
 use Rattle.aql_session.proofs.Obtaining.{slab-of}
 use Rattle.aql_session.proofs.readings.read_hyperslab.Goals as goal
 

@@ -1,7 +1,7 @@
 use Rattle.std.proofs.Common.{refl, sym, ap, subst}
 use Rattle.std.specs.Prelude.{Err}
 use Rattle.aql_csv.specs.File.{found_of}
-use Rattle.aql_session.specs.Runs.{IsReadCause, table_asked}
+use Rattle.aql_session.specs.Executions.{IsReadCause, table_asked}
 use Rattle.aql_session.proofs.Tables.{table-of, table-cause}
 use Rattle.aql_session.proofs.readings.read_table.Goals as goal
 

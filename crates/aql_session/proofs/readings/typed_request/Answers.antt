@@ -2,7 +2,7 @@ use Rattle.std.proofs.Common.{◌∙◌, ap, sym}
 use Rattle.std.specs.Option.{option_map}
 use Rattle.nrca_array.specs.Held.{held_datum}
 use Rattle.aql_syntax.specs.View.{reader_of}
-use Rattle.aql_session.specs.Runs.{request_asked}
+use Rattle.aql_session.specs.Executions.{request_asked}
 use Rattle.aql_session.proofs.Obtaining.{asks-some, request-typed}
 use Rattle.aql_session.proofs.readings.typed_request.Goals as goal
 

@@ -1,6 +1,6 @@
 use Rattle.std.proofs.Common.{sym, ap, ◌∙◌, ◌≤◌, subst, arith, ◌++◌}
 use Rattle.aql_type_graph.specs.Forms.{forms}
-use Rattle.aql_type_graph.specs.Steps.{Steps, SameFirst, form_parts, paired}
+use Rattle.aql_type_graph.specs.Steps.{Steps, SameFirst, form_parts, pair_parts}
 use Rattle.aql_type_graph.proofs.Joined.{Joint, linked, joined_high, joined_low, joined_alike, clashes, same_high, same_low}
 use Rattle.aql_type_graph.proofs.First.{two_closed}
 use Rattle.aql_type_graph.proofs.join.join.Goals as goal

@@ -1,6 +1,6 @@
 use Rattle.std.proofs.Common.{◌<◌, [], ◌∷◌, ◌++◌, length, take, get_or, append_assoc, sym, ap, ◌∙◌, arith}
 use Rattle.aql_type_graph.specs.declared.node.Equation.{Equation}
-use Rattle.aql_type_graph.specs.Steps.{paired}
+use Rattle.aql_type_graph.specs.Steps.{pair_parts}
 use Rattle.aql_type_graph.proofs.Joining.{paired_next}
 use Rattle.aql_type_graph.proofs.join.push_pairs.Goals as goal
 
@@ -12,5 +12,5 @@ loop-i-preserved c =
     let le : i < length qs = omega arith in
     c.in_ok-push.ensures.items
     ∙ ap (λ x. x ++ e ∷ []) c.loop-i.invariant
-    ∙ append_assoc w (paired (take i ps) (take i qs)) (e ∷ [])
+    ∙ append_assoc w (pair_parts (take i ps) (take i qs)) (e ∷ [])
     ∙ ap (λ x. w ++ x) (sym (paired_next ps qs i lt le))

@@ -1,7 +1,7 @@
 use Rattle.std.proofs.Common.{◌≡◌, ◌-◌, ◌<◌, ◌≤◌, Option, Some, None, List, drop, sym, ap, ◌∙◌, subst, arith, set, ℕ}
 use Rattle.aql_type_graph.specs.declared.extent.Extent.{Extent}
 use Rattle.aql_type_graph.specs.Forms.{Form, forms, at}
-use Rattle.aql_type_graph.specs.Extents.{end, kept, extent, over, together, beside, IsMemo}
+use Rattle.aql_type_graph.specs.Extents.{end, kept_extent, extent, over, together, beside, IsMemo}
 use Rattle.aql_type_graph.proofs.Extents.{same_beside}
 use Rattle.aql_type_graph.proofs.Memo.{no_room, memo_hit, memo_high, found_here, memo_put, parts_next, parts_none, parts_few}
 use Rattle.aql_type_graph.proofs.measure.+extent.Goals as goal
@@ -12,13 +12,13 @@ extent-returns-then-left-eq0-clause-found t c = sym (no_room c.args.most (forms 
 pub extent-returns-then-known-left-clause-found : goal.extent-returns-then-known-left-clause-found
 extent-returns-then-known-left-clause-found t c =
     let fs = forms c.args.ps.now c.args.ns.now in
-    let k = c.extent_at-known.ensures ∙ ap (kept c.args.memo.now) (c.end_of-e.ensures c.args.ps.now) in
+    let k = c.extent_at-known.ensures ∙ ap (kept_extent c.args.memo.now) (c.end_of-e.ensures c.args.ps.now) in
     sym (memo_high c.args.most c.args.memo.now fs c.args.i c.args.left c.requires.memo c.requires.flat (subst (λ (x : Extent). c.args.left < x.levels) k c.if-known-left.true))
 
 pub extent-returns-then-known-gt0-clause-found : goal.extent-returns-then-known-gt0-clause-found
 extent-returns-then-known-gt0-clause-found t c =
     let fs = forms c.args.ps.now c.args.ns.now in
-    let k = c.extent_at-known.ensures ∙ ap (kept c.args.memo.now) (c.end_of-e.ensures c.args.ps.now) in
+    let k = c.extent_at-known.ensures ∙ ap (kept_extent c.args.memo.now) (c.end_of-e.ensures c.args.ps.now) in
     ap Some k
     ∙ sym (memo_hit c.args.most c.args.memo.now fs c.args.i c.args.left c.requires.memo c.requires.flat
     (subst (λ (x : Extent). 0 < x.levels) k c.if-known-gt0.true)

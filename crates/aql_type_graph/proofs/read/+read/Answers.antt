@@ -4,7 +4,7 @@ use Rattle.aql_value.specs.declared.memory.Memory.{Memory}
 use Rattle.aql_types.specs.declared.ty.Ty as code_ty
 use Rattle.aql_types.specs.View.{type_of}
 use Rattle.aql_type_graph.specs.Forms.{Form, forms, at}
-use Rattle.aql_type_graph.specs.Trees.{grown}
+use Rattle.aql_type_graph.specs.Trees.{form_type}
 use Rattle.aql_type_graph.specs.Extents.{end, read}
 use Rattle.aql_type_graph.proofs.ReadOut.{read_none, read_here}
 use Rattle.aql_type_graph.proofs.read.+read.Goals as goal
@@ -13,7 +13,7 @@ pub read-returns-then-left-eq0 : goal.read-returns-then-left-eq0
 read-returns-then-left-eq0 t c = read_none (forms c.args.ps.now c.args.ns.now) c.args.i c.args.left c.if-left-eq0.true
 
 -- what is read at the end of a node is read at it
-read_ok : (r : Result code_ty.Ty Memory) (fs : List Form) (i left e : ℕ) → 0 < left → e ≡ end fs i → IfOk r (λ t. type_of t ≡ grown (read (left - 1) fs) (at fs e)) → IfOk r (λ t. type_of t ≡ read left fs i)
+read_ok : (r : Result code_ty.Ty Memory) (fs : List Form) (i left e : ℕ) → 0 < left → e ≡ end fs i → IfOk r (λ t. type_of t ≡ form_type (read (left - 1) fs) (at fs e)) → IfOk r (λ t. type_of t ≡ read left fs i)
 read_ok (Ok t) fs i left e lt q h = read_here fs i left e (type_of t) lt q h
 read_ok (Err m) fs i left e lt q h = tt
 

@@ -2,7 +2,7 @@ use Rattle.std.proofs.Common.{rules, arith, ◌≡◌, Err, length, ap, subst, s
 use Rattle.std.proofs.lemmas.Grind.{common_steps}
 use Rattle.std.proofs.lemmas.Result.{err_from_is_err_and}
 use Rattle.aql_outside.specs.Contents.{bytes_in}
-use Rattle.cdf_header.specs.File.{IsClassic, IsVersion, IsAnswered, fields_of, version}
+use Rattle.cdf_header.specs.File.{IsClassic, IsVersion, AnswersIfAble, fields_of, version}
 use Rattle.cdf_header.specs.declared.fault.CdfFault.TheVariants as faults
 use Rattle.cdf_header.specs.Laws.Header.{header_of-fields, header_of-not_classic, header_of-version}
 use Rattle.cdf_header.proofs.Readings.{outside_of_header, begun, same_byte, classic_on, classic_back}
@@ -34,9 +34,9 @@ returns-clause-told g c = λ bytes there.
     let known : IsVersion (version bytes) = rw (← v) (search rules) in
     let kept : g.F.Files.holds c.grow.new.files ≡ g.F.Files.holds c.args.files.now = c.in_ok-whole.ensures.frame.kept ∙ c.in-Ok-Some.ensures.kept in
     let told = c.read_fields.ensures.told bytes (ap (λ h. bytes_in h c.args.name.now) kept ∙ there) b.size_is b.full b.is_front in
-    subst (λ m. IsAnswered m c.read_fields.result) (sym (header_of-fields bytes (classic_on bytes c.grow.new.front.items b.is_front b.within here) known))
-    (subst (λ k. IsAnswered (fields_of (length bytes) k bytes) c.read_fields.result) v
-    (subst (λ n. IsAnswered (fields_of n c.index-v.result.now bytes) c.read_fields.result) b.size_is told))
+    subst (λ m. AnswersIfAble m c.read_fields.result) (sym (header_of-fields bytes (classic_on bytes c.grow.new.front.items b.is_front b.within here) known))
+    (subst (λ k. AnswersIfAble (fields_of (length bytes) k bytes) c.read_fields.result) v
+    (subst (λ n. AnswersIfAble (fields_of n c.index-v.result.now bytes) c.read_fields.result) b.size_is told))
 
 pub returns-in_err-whole-clause-causes : goal.returns-in_err-whole-clause-causes
 returns-in_err-whole-clause-causes g c =

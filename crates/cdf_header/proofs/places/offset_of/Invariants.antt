@@ -1,7 +1,7 @@
 use Rattle.std.proofs.Common.{◌≡◌, ◌≤◌, ◌^◌, ◌-◌, min, drop}
 use Rattle.aql_value.specs.Indices.{offset}
+use Rattle.aql_value.specs.Laws.Saturation.{horner}
 use Rattle.cdf_header.specs.Places.{lens}
-use Rattle.cdf_header.proofs.Saturate.{horner}
 use Rattle.cdf_header.proofs.places.offset_of.Given as goal
 
 abbrev pub invariant-ids : goal.invariant-ids

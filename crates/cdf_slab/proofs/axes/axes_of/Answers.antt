@@ -1,6 +1,6 @@
 use Rattle.std.proofs.Common.{refl, ◌∙◌}
 use Rattle.cdf_header.specs.Places.{variable_at, pitches}
-use Rattle.cdf_slab.specs.Walk.{capped}
+use Rattle.cdf_slab.specs.Walk.{saturate_all}
 use Rattle.cdf_slab.proofs.Stepping.{axis_more, steps_all, length-pitches, length-capped}
 use Rattle.cdf_slab.proofs.axes.axes_of.Goals as goal
 
@@ -15,5 +15,5 @@ returns c =
     let v = variable_at c.args.header.now c.args.v in
     let ws = pitches c.args.header.now.dims c.args.header.now.vars v in
     c.axes.invariant
-    ∙ steps_all c.args.start.now c.args.count.now c.args.stride.now (capped ws) c.axes.j c.axes-test.false c.requires.counts c.requires.strides
+    ∙ steps_all c.args.start.now c.args.count.now c.args.stride.now (saturate_all ws) c.axes.j c.axes-test.false c.requires.counts c.requires.strides
     (length-capped ws ∙ length-pitches c.args.header.now.dims c.args.header.now.vars v ∙ c.requires.rank)

@@ -14,15 +14,15 @@ bytes_from-requires-clause-within g c = omega (arith, c.in-Ok.ensures.some, c.in
 
 pub push_run-requires-clause-whole : goal.push_run-requires-clause-whole
 push_run-requires-clause-whole g c =
-    subst (λ l. HasAllBytes l c.args.reading.size c.step_along-step.result c.in-Ok.count) (sym c.bytes_from.ensures) (has_run c.run_in.new.window _ _ _ _ c.in-Ok.ensures.run)
+    subst (λ l. HasAllBytes l c.args.format.size c.step_along-step.result c.in-Ok.count) (sym c.bytes_from.ensures) (has_run c.run_in.new.window _ _ _ _ c.in-Ok.ensures.run)
 
 pub row-preserved : goal.row-preserved
 row-preserved g c =
     let n = c.in-Ok.count in
     let step = c.step_along-step.result in
-    let here = c.place_along-here.result in
+    let here = c.offset_along-here.result in
     let le : c.row.i + n ≤ c.args.a.count = omega (arith, c.in-Ok.ensures.most, c.row-test.true) in
-    let t = row_turn (step_of c.args.a) c.args.base c.row.i n c.args.reading.size c.args.reading.end here step (2 ^ 64 - 1) c.row.invariant.room c.place_along-here.ensures.turn le c.row.invariant.step c.in-Ok.ensures.near in
+    let t = row_turn (step_of c.args.a) c.args.base c.row.i n c.args.format.size c.args.format.end here step (2 ^ 64 - 1) c.row.invariant.room c.offset_along-here.ensures.turn le c.row.invariant.step c.in-Ok.ensures.near in
     record {
       step = c.row.invariant.step;
       size = c.row.invariant.size;
@@ -30,14 +30,14 @@ row-preserved g c =
       room = t.next;
       many = row_counts _ _ _ _ _ _ _ _ _ _ _ _ c.row.invariant.many t c.in-Ok-push_run.ensures.many;
       kinds = λ h.
-          goes-kinds c.args.reading.signed (map (number_of c.args.reading.kind) (run c.args.reading.size step n c.bytes_from.result.now)) c.row.all (Ok c.in-Ok-push_run.more) c.in-Ok-push_run.ensures.goes
+          goes-kinds c.args.format.signed (map (number_of c.args.format.kind) (run c.args.format.size step n c.bytes_from.result.now)) c.row.all (Ok c.in-Ok-push_run.more) c.in-Ok-push_run.ensures.goes
           (c.row.invariant.kinds h);
       kept = c.in-Ok.ensures.frame.kept ∙ c.row.invariant.kept;
       blames = blamed_then _ _ _ _ _ _ c.row.invariant.blames (λ x. x) (blamed_as _ _ ⊥ _ _ (λ e. cc) (λ x. absurd x) c.in-Ok.ensures.frame.blames);
       told = λ bytes there le p.
           let old = c.row.invariant.told bytes there le p in
           let r = c.in-Ok.ensures.told bytes (ap (λ h. bytes_in h c.args.name.now) c.row.invariant.kept ∙ there) le old.0 in
-          let m = run_told c.args.reading.signed bytes c.run_in.new.window c.args.reading.kind c.args.reading.size here step n c.bytes_from.result.now c.row.all (Ok c.in-Ok-push_run.more) c.args.reading.is c.in-Ok.ensures.run r.1 c.bytes_from.ensures c.in-Ok-push_run.ensures.goes in
+          let m = run_told c.args.format.signed bytes c.run_in.new.window c.args.format.kind c.args.format.size here step n c.bytes_from.result.now c.row.all (Ok c.in-Ok-push_run.more) c.args.format.is c.in-Ok.ensures.run r.1 c.bytes_from.ensures c.in-Ok-push_run.ensures.goes in
           (r.1, row_next _ _ _ _ _ _ _ _ _ _ _ _ _ _ _ old.1 t m);
     }
 
@@ -45,25 +45,25 @@ pub returns-in-Err-push_run-clause-told : goal.returns-in-Err-push_run-clause-to
 returns-in-Err-push_run-clause-told g c = λ bytes there is p.
     let n = c.in-Ok.count in
     let step = c.step_along-step.result in
-    let here = c.place_along-here.result in
+    let here = c.offset_along-here.result in
     let le : c.row.i + n ≤ c.args.a.count = omega (arith, c.in-Ok.ensures.most, c.row-test.true) in
-    let t = row_turn (step_of c.args.a) c.args.base c.row.i n c.args.reading.size c.args.reading.end here step (2 ^ 64 - 1) c.row.invariant.room c.place_along-here.ensures.turn le c.row.invariant.step c.in-Ok.ensures.near in
+    let t = row_turn (step_of c.args.a) c.args.base c.row.i n c.args.format.size c.args.format.end here step (2 ^ 64 - 1) c.row.invariant.room c.offset_along-here.ensures.turn le c.row.invariant.step c.in-Ok.ensures.near in
     let old = c.row.invariant.told bytes there is p in
     let r = c.in-Ok.ensures.told bytes (ap (λ h. bytes_in h c.args.name.now) c.row.invariant.kept ∙ there) is old.0 in
-    let m = run_told c.args.reading.signed bytes c.run_in.new.window c.args.reading.kind c.args.reading.size here step n c.bytes_from.result.now c.row.all (Err c.in-Err-push_run.fault) c.args.reading.is c.in-Ok.ensures.run r.1 c.bytes_from.ensures c.in-Err-push_run.ensures.goes in
+    let m = run_told c.args.format.signed bytes c.run_in.new.window c.args.format.kind c.args.format.size here step n c.bytes_from.result.now c.row.all (Err c.in-Err-push_run.fault) c.args.format.is c.in-Ok.ensures.run r.1 c.bytes_from.ensures c.in-Err-push_run.ensures.goes in
     (row_fails _ _ _ _ _ _ _ _ _ _ _ _ _ _ _ old.1 t m, tt)
 
 pub returns-in-Err-push_run-clause-late : goal.returns-in-Err-push_run-clause-late
 returns-in-Err-push_run-clause-late g c =
     let n = c.in-Ok.count in
     let step = c.step_along-step.result in
-    let here = c.place_along-here.result in
+    let here = c.offset_along-here.result in
     let le : c.row.i + n ≤ c.args.a.count = omega (arith, c.in-Ok.ensures.most, c.row-test.true) in
-    let t = row_turn (step_of c.args.a) c.args.base c.row.i n c.args.reading.size c.args.reading.end here step (2 ^ 64 - 1) c.row.invariant.room c.place_along-here.ensures.turn le c.row.invariant.step c.in-Ok.ensures.near in
-    row_late c.args.reading.signed c.args.reading.kind c.args.reading.size (step_of c.args.a) c.args.base c.row.i n c.args.reading.end here step c.bytes_from.result.now c.row.all _ _ c.in-Err-push_run.fault c.row.invariant.many t c.in-Err-push_run.ensures.goes
+    let t = row_turn (step_of c.args.a) c.args.base c.row.i n c.args.format.size c.args.format.end here step (2 ^ 64 - 1) c.row.invariant.room c.offset_along-here.ensures.turn le c.row.invariant.step c.in-Ok.ensures.near in
+    row_late c.args.format.signed c.args.format.kind c.args.format.size (step_of c.args.a) c.args.base c.row.i n c.args.format.end here step c.bytes_from.result.now c.row.all _ _ c.in-Err-push_run.fault c.row.invariant.many t c.in-Err-push_run.ensures.goes
 
 pub returns-in-Err-clause-late : goal.returns-in-Err-clause-late
-returns-in-Err-clause-late g c = piece_late c.args.reading.signed _ c.in-Err.fault c.in-Err.ensures.late
+returns-in-Err-clause-late g c = piece_late c.args.format.signed _ c.in-Err.fault c.in-Err.ensures.late
 
 pub returns-clause-told : goal.returns-clause-told
 returns-clause-told g c = λ bytes there le p.

@@ -15,14 +15,14 @@ decreases-row g l = l.a.count - l.i
 abbrev pub invariant-row : goal.invariant-row
 invariant-row g l = record {
   step : l.step ≡ min (l.a.stride * l.a.pitch) (2 ^ 64 - 1);
-  size : IsWidth l.reading.size;
+  size : IsWidth l.format.size;
   below : l.i ≤ l.a.count;
-  room : RoomSoFar [] (step_of l.a) l.base l.i l.reading.size l.reading.end;
+  room : RoomSoFar [] (step_of l.a) l.base l.i l.format.size l.format.end;
   many : CountSoFar [] (step_of l.a) l.base l.i (length l.all) (length l.fn.cells) (length (walk (step_of l.a ∷ []) l.base));
-  kinds : Every (IsCell l.reading.signed) l.fn.cells → Every (IsCell l.reading.signed) l.all;
+  kinds : Every (IsCell l.format.signed) l.fn.cells → Every (IsCell l.format.signed) l.all;
   kept : g.F.Files.holds l.files ≡ g.F.Files.holds l.fn.files;
   blames : Blames g.F.Files.quiet ⊥ (g.F.Files.faults l.fn.files) (g.F.Files.faults l.files);
-  told : (bytes : List ℕ) → bytes_in (g.F.Files.holds l.fn.files) l.name ≡ Some bytes → l.reading.end ≤ length bytes → IsPiece bytes l.fn.window →
+  told : (bytes : List ℕ) → bytes_in (g.F.Files.holds l.fn.files) l.name ≡ Some bytes → l.format.end ≤ length bytes → IsPiece bytes l.fn.window →
       IsPiece bytes l.window
-      × ReadSoFar l.reading.signed bytes l.reading.kind [] (step_of l.a) l.base l.i (map (number_at bytes l.reading.kind) (walk (step_of l.a ∷ []) l.base)) l.all l.fn.cells;
+      × ReadSoFar l.format.signed bytes l.format.kind [] (step_of l.a) l.base l.i (map (number_at bytes l.format.kind) (walk (step_of l.a ∷ []) l.base)) l.all l.fn.cells;
 }

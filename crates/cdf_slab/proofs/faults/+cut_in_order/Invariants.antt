@@ -1,5 +1,5 @@
 use Rattle.std.proofs.Common.{length}
-use Rattle.cdf_slab.specs.Walk.{step_of, steps_of, walk, first_past, capped}
+use Rattle.cdf_slab.specs.Walk.{step_of, steps_of, walk, first_past, saturate_all}
 use Rattle.cdf_slab.proofs.Cuts.{CutSoFar}
 use Rattle.cdf_slab.proofs.faults.+cut_in_order.Given as goal
 
@@ -7,4 +7,4 @@ abbrev pub decreases-cut_in_order : goal.decreases-cut_in_order
 decreases-cut_in_order l = length l.axes.now
 
 abbrev pub invariant-cells : goal.invariant-cells
-invariant-cells l = CutSoFar (steps_of l.rest) (step_of l.a) l.base l.i l.size l.end (first_past l.size l.end (capped (walk (steps_of l.axes) l.base)))
+invariant-cells l = CutSoFar (steps_of l.rest) (step_of l.a) l.base l.i l.size l.end (first_past l.size l.end (saturate_all (walk (steps_of l.axes) l.base)))

@@ -6,6 +6,6 @@ use Rattle.cdf_slab.proofs.runs.push_each.Given as goal
 
 abbrev pub invariant-numbers : goal.invariant-numbers
 invariant-numbers l = record {
-  goes : AppendsCells l.reading.signed (map (number_of l.reading.kind) (take l.k (run_numbers l.run))) l.fn.cells (Ok l.all);
+  goes : AppendsCells l.format.signed (map (number_of l.format.kind) (take l.k (run_numbers l.run))) l.fn.cells (Ok l.all);
   many : length l.all ≡ length l.fn.cells + l.k;
 }

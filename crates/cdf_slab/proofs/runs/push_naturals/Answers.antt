@@ -2,10 +2,11 @@ use Rattle.std.proofs.Common.{◌+◌, false, Err, length, map, length-append, s
 use Rattle.std.proofs.lemmas.List.{length-map}
 use Rattle.aql_value.specs.Datum.{natural}
 use Rattle.nrca_array.specs.Runs.{run_numbers}
+use Rattle.nrca_array.specs.Laws.Runs.{length-run}
 use Rattle.cdf_header.specs.declared.fault.CdfFault.TheVariants as faults
 use Rattle.cdf_slab.specs.Going.{AppendsCells}
 use Rattle.cdf_slab.specs.Numbers.{number_of}
-use Rattle.cdf_slab.proofs.Naturals.{run_all, run_reached, length-run}
+use Rattle.cdf_slab.proofs.Naturals.{run_all, run_reached}
 use Rattle.cdf_slab.proofs.runs.push_naturals.Goals as goal
 
 pub returns-in-Ok-clause-goes : goal.returns-in-Ok-clause-goes

@@ -4,9 +4,9 @@ use Rattle.aql_value.specs.Indices.{product}
 use Rattle.cdf_header.specs.declared.fault.CdfFault.TheVariants as faults
 use Rattle.cdf_header.specs.Format.{type_size}
 use Rattle.cdf_header.specs.Places.{variable_at, pitches}
-use Rattle.cdf_slab.specs.Slab.{most_cells, cell_places, slab_numbers, slab, first_cut, negative_fault, IsSlabAnswer}
+use Rattle.cdf_slab.specs.Slab.{most_cells, cell_offsets, slab_numbers, slab, first_cut, negative_fault, IsSlabAnswer}
 use Rattle.aql_value.specs.Partial.{or_else}
-use Rattle.cdf_slab.specs.Walk.{steps_of, walk, HaveRoom, capped}
+use Rattle.cdf_slab.specs.Walk.{steps_of, walk, HaveRoom, saturate_all}
 use Rattle.cdf_slab.proofs.Answering.{leads, cut_found, walk_found, room_found, places_many, cut_early, goes_as, read_all, read_some, early-none, counts_small}
 use Rattle.cdf_slab.proofs.Goings.{late_more}
 use Rattle.cdf_slab.proofs.Stepping.{some_axes, length-pitches, length-capped}
@@ -21,7 +21,7 @@ returns-in-Some-clause-early g c =
     let v = variable_at c.args.header.now c.args.v in
     let small : c.bytes-end.result < 2 ^ 64 = search rules in
     let l = leads h v c.args.asked.now.start.now c.args.asked.now.count.now c.args.asked.now.stride.now c.in_ok-axes.axes.items c.in_ok-axes.ensures c.args.asked.now.counts c.args.asked.now.strides c.requires.rank in
-    let cut : c.cut_from.result ≡ first_cut (type_size v.kind) h.bytes (cell_places h v c.args.asked.now.start.now c.args.asked.now.count.now c.args.asked.now.stride.now) =
+    let cut : c.cut_from.result ≡ first_cut (type_size v.kind) h.bytes (cell_offsets h v c.args.asked.now.start.now c.args.asked.now.count.now c.args.asked.now.stride.now) =
     cut_found h v c.args.asked.now.start.now c.args.asked.now.count.now c.args.asked.now.stride.now c.in_ok-axes.axes.items c.deref.result.now c.width-size.result c.bytes-end.result c.from-base.result c.cut_from.result l
     c.deref.ensures.value c.width-size.ensures.is c.bytes-end.ensures (c.from-base.ensures ∙ c.begin.ensures) small c.cut_from.ensures in
     cut_early _ c.in-Some.at (sym c.in-Some.is ∙ cut)
@@ -32,7 +32,7 @@ returns-in-Some-clause-told g c = λ bytes there is.
     let v = variable_at c.args.header.now c.args.v in
     let small : c.bytes-end.result < 2 ^ 64 = search rules in
     let l = leads h v c.args.asked.now.start.now c.args.asked.now.count.now c.args.asked.now.stride.now c.in_ok-axes.axes.items c.in_ok-axes.ensures c.args.asked.now.counts c.args.asked.now.strides c.requires.rank in
-    let cut : c.cut_from.result ≡ first_cut (type_size v.kind) h.bytes (cell_places h v c.args.asked.now.start.now c.args.asked.now.count.now c.args.asked.now.stride.now) =
+    let cut : c.cut_from.result ≡ first_cut (type_size v.kind) h.bytes (cell_offsets h v c.args.asked.now.start.now c.args.asked.now.count.now c.args.asked.now.stride.now) =
     cut_found h v c.args.asked.now.start.now c.args.asked.now.count.now c.args.asked.now.stride.now c.in_ok-axes.axes.items c.deref.result.now c.width-size.result c.bytes-end.result c.from-base.result c.cut_from.result l
     c.deref.ensures.value c.width-size.ensures.is c.bytes-end.ensures (c.from-base.ensures ∙ c.begin.ensures) small c.cut_from.ensures in
     ap (λ o. or_else (option_map faults.Cut o) (negative_fault c.args.asked.now.signed (slab_numbers bytes h v c.args.asked.now.start.now c.args.asked.now.count.now c.args.asked.now.stride.now))) (sym cut ∙ c.in-Some.is)
@@ -43,7 +43,7 @@ last_end-requires g c =
     let v = variable_at c.args.header.now c.args.v in
     let small : c.bytes-end.result < 2 ^ 64 = search rules in
     let l = leads h v c.args.asked.now.start.now c.args.asked.now.count.now c.args.asked.now.stride.now c.in_ok-axes.axes.items c.in_ok-axes.ensures c.args.asked.now.counts c.args.asked.now.strides c.requires.rank in
-    let cut : c.cut_from.result ≡ first_cut (type_size v.kind) h.bytes (cell_places h v c.args.asked.now.start.now c.args.asked.now.count.now c.args.asked.now.stride.now) =
+    let cut : c.cut_from.result ≡ first_cut (type_size v.kind) h.bytes (cell_offsets h v c.args.asked.now.start.now c.args.asked.now.count.now c.args.asked.now.stride.now) =
     cut_found h v c.args.asked.now.start.now c.args.asked.now.count.now c.args.asked.now.stride.now c.in_ok-axes.axes.items c.deref.result.now c.width-size.result c.bytes-end.result c.from-base.result c.cut_from.result l
     c.deref.ensures.value c.width-size.ensures.is c.bytes-end.ensures (c.from-base.ensures ∙ c.begin.ensures) small c.cut_from.ensures in
     let none = sym cut ∙ c.in_default.is in
@@ -56,7 +56,7 @@ read_cells-requires-clause-some g c =
     let v = variable_at c.args.header.now c.args.v in
     let ws = pitches h.dims h.vars v in
     subst (λ l. 1 ≤ length l) (sym c.deref-3.ensures.value)
-    (some_axes c.in_ok-axes.axes.items c.args.asked.now.start.now c.args.asked.now.count.now c.args.asked.now.stride.now (capped ws) c.in_ok-axes.ensures c.args.asked.now.some c.args.asked.now.counts c.args.asked.now.strides
+    (some_axes c.in_ok-axes.axes.items c.args.asked.now.start.now c.args.asked.now.count.now c.args.asked.now.stride.now (saturate_all ws) c.in_ok-axes.ensures c.args.asked.now.some c.args.asked.now.counts c.args.asked.now.strides
     (length-capped ws ∙ length-pitches h.dims h.vars v ∙ c.requires.rank))
 
 pub read_cells-requires-clause-within : goal.read_cells-requires-clause-within
@@ -69,7 +69,7 @@ array_of-requires-clause-many g c =
     let v = variable_at c.args.header.now c.args.v in
     let small : c.bytes-end.result < 2 ^ 64 = search rules in
     let l = leads h v c.args.asked.now.start.now c.args.asked.now.count.now c.args.asked.now.stride.now c.in_ok-axes.axes.items c.in_ok-axes.ensures c.args.asked.now.counts c.args.asked.now.strides c.requires.rank in
-    let cut : c.cut_from.result ≡ first_cut (type_size v.kind) h.bytes (cell_places h v c.args.asked.now.start.now c.args.asked.now.count.now c.args.asked.now.stride.now) =
+    let cut : c.cut_from.result ≡ first_cut (type_size v.kind) h.bytes (cell_offsets h v c.args.asked.now.start.now c.args.asked.now.count.now c.args.asked.now.stride.now) =
     cut_found h v c.args.asked.now.start.now c.args.asked.now.count.now c.args.asked.now.stride.now c.in_ok-axes.axes.items c.deref.result.now c.width-size.result c.bytes-end.result c.from-base.result c.cut_from.result l
     c.deref.ensures.value c.width-size.ensures.is c.bytes-end.ensures (c.from-base.ensures ∙ c.begin.ensures) small c.cut_from.ensures in
     let none = sym cut ∙ c.in_default.is in
@@ -83,7 +83,7 @@ returns-in-Ok-clause-early g c =
     let v = variable_at c.args.header.now c.args.v in
     let small : c.bytes-end.result < 2 ^ 64 = search rules in
     let l = leads h v c.args.asked.now.start.now c.args.asked.now.count.now c.args.asked.now.stride.now c.in_ok-axes.axes.items c.in_ok-axes.ensures c.args.asked.now.counts c.args.asked.now.strides c.requires.rank in
-    let cut : c.cut_from.result ≡ first_cut (type_size v.kind) h.bytes (cell_places h v c.args.asked.now.start.now c.args.asked.now.count.now c.args.asked.now.stride.now) =
+    let cut : c.cut_from.result ≡ first_cut (type_size v.kind) h.bytes (cell_offsets h v c.args.asked.now.start.now c.args.asked.now.count.now c.args.asked.now.stride.now) =
     cut_found h v c.args.asked.now.start.now c.args.asked.now.count.now c.args.asked.now.stride.now c.in_ok-axes.axes.items c.deref.result.now c.width-size.result c.bytes-end.result c.from-base.result c.cut_from.result l
     c.deref.ensures.value c.width-size.ensures.is c.bytes-end.ensures (c.from-base.ensures ∙ c.begin.ensures) small c.cut_from.ensures in
     let none = sym cut ∙ c.in_default.is in
@@ -95,14 +95,14 @@ returns-in-Ok-clause-told g c = λ bytes there is.
     let v = variable_at c.args.header.now c.args.v in
     let small : c.bytes-end.result < 2 ^ 64 = search rules in
     let l = leads h v c.args.asked.now.start.now c.args.asked.now.count.now c.args.asked.now.stride.now c.in_ok-axes.axes.items c.in_ok-axes.ensures c.args.asked.now.counts c.args.asked.now.strides c.requires.rank in
-    let cut : c.cut_from.result ≡ first_cut (type_size v.kind) h.bytes (cell_places h v c.args.asked.now.start.now c.args.asked.now.count.now c.args.asked.now.stride.now) =
+    let cut : c.cut_from.result ≡ first_cut (type_size v.kind) h.bytes (cell_offsets h v c.args.asked.now.start.now c.args.asked.now.count.now c.args.asked.now.stride.now) =
     cut_found h v c.args.asked.now.start.now c.args.asked.now.count.now c.args.asked.now.stride.now c.in_ok-axes.axes.items c.deref.result.now c.width-size.result c.bytes-end.result c.from-base.result c.cut_from.result l
     c.deref.ensures.value c.width-size.ensures.is c.bytes-end.ensures (c.from-base.ensures ∙ c.begin.ensures) small c.cut_from.ensures in
     let none = sym cut ∙ c.in_default.is in
     let visited = walk_found h v c.args.asked.now.start.now c.args.asked.now.count.now c.args.asked.now.stride.now c.in_ok-axes.axes.items c.deref-3.result.now c.bytes-end.result c.from-base.result l
     c.deref-3.ensures.value c.bytes-end.ensures (c.from-base.ensures ∙ c.begin.ensures) small none in
     let r = c.in-Ok.ensures.told bytes there (omega (arith, is, c.bytes-end.ensures, c.last_end.ensures.is)) (c.new-window.ensures bytes) in
-    let a = read_all c.args.asked.now.signed (slab_numbers bytes h v c.args.asked.now.start.now c.args.asked.now.count.now c.args.asked.now.stride.now) c.args.asked.now.count.now c.in-Ok.cells (goes_as c.args.asked.now.signed bytes c.kind.result v.kind _ (cell_places h v c.args.asked.now.start.now c.args.asked.now.count.now c.args.asked.now.stride.now) c.new-none.result (Ok c.in-Ok.cells) c.kind.ensures visited c.new-none.ensures r.0) in
+    let a = read_all c.args.asked.now.signed (slab_numbers bytes h v c.args.asked.now.start.now c.args.asked.now.count.now c.args.asked.now.stride.now) c.args.asked.now.count.now c.in-Ok.cells (goes_as c.args.asked.now.signed bytes c.kind.result v.kind _ (cell_offsets h v c.args.asked.now.start.now c.args.asked.now.count.now c.args.asked.now.stride.now) c.new-none.result (Ok c.in-Ok.cells) c.kind.ensures visited c.new-none.ensures r.0) in
     (ap (λ o. or_else (option_map faults.Cut o) (negative_fault c.args.asked.now.signed (slab_numbers bytes h v c.args.asked.now.start.now c.args.asked.now.count.now c.args.asked.now.stride.now))) none ∙ a.0, a.1 ∙ ap Some (sym c.in_ok-array_of-in-Ok.ensures.made))
 
 pub returns-clause-early : goal.returns-clause-early
@@ -111,7 +111,7 @@ returns-clause-early g c =
     let v = variable_at c.args.header.now c.args.v in
     let small : c.bytes-end.result < 2 ^ 64 = search rules in
     let l = leads h v c.args.asked.now.start.now c.args.asked.now.count.now c.args.asked.now.stride.now c.in_ok-axes.axes.items c.in_ok-axes.ensures c.args.asked.now.counts c.args.asked.now.strides c.requires.rank in
-    let cut : c.cut_from.result ≡ first_cut (type_size v.kind) h.bytes (cell_places h v c.args.asked.now.start.now c.args.asked.now.count.now c.args.asked.now.stride.now) =
+    let cut : c.cut_from.result ≡ first_cut (type_size v.kind) h.bytes (cell_offsets h v c.args.asked.now.start.now c.args.asked.now.count.now c.args.asked.now.stride.now) =
     cut_found h v c.args.asked.now.start.now c.args.asked.now.count.now c.args.asked.now.stride.now c.in_ok-axes.axes.items c.deref.result.now c.width-size.result c.bytes-end.result c.from-base.result c.cut_from.result l
     c.deref.ensures.value c.width-size.ensures.is c.bytes-end.ensures (c.from-base.ensures ∙ c.begin.ensures) small c.cut_from.ensures in
     let none = sym cut ∙ c.in_default.is in
@@ -123,7 +123,7 @@ returns-clause-told g c = λ bytes there is.
     let v = variable_at c.args.header.now c.args.v in
     let small : c.bytes-end.result < 2 ^ 64 = search rules in
     let l = leads h v c.args.asked.now.start.now c.args.asked.now.count.now c.args.asked.now.stride.now c.in_ok-axes.axes.items c.in_ok-axes.ensures c.args.asked.now.counts c.args.asked.now.strides c.requires.rank in
-    let cut : c.cut_from.result ≡ first_cut (type_size v.kind) h.bytes (cell_places h v c.args.asked.now.start.now c.args.asked.now.count.now c.args.asked.now.stride.now) =
+    let cut : c.cut_from.result ≡ first_cut (type_size v.kind) h.bytes (cell_offsets h v c.args.asked.now.start.now c.args.asked.now.count.now c.args.asked.now.stride.now) =
     cut_found h v c.args.asked.now.start.now c.args.asked.now.count.now c.args.asked.now.stride.now c.in_ok-axes.axes.items c.deref.result.now c.width-size.result c.bytes-end.result c.from-base.result c.cut_from.result l
     c.deref.ensures.value c.width-size.ensures.is c.bytes-end.ensures (c.from-base.ensures ∙ c.begin.ensures) small c.cut_from.ensures in
     let none = sym cut ∙ c.in_default.is in
@@ -132,7 +132,7 @@ returns-clause-told g c = λ bytes there is.
     let r = c.in-Err.ensures.told bytes there (omega (arith, is, c.bytes-end.ensures, c.last_end.ensures.is)) (c.new-window.ensures bytes) in
     subst (λ o. IsSlabAnswer (or_else (option_map faults.Cut o) (negative_fault c.args.asked.now.signed (slab_numbers bytes h v c.args.asked.now.start.now c.args.asked.now.count.now c.args.asked.now.stride.now)))
     (slab bytes h v c.args.asked.now.start.now c.args.asked.now.count.now c.args.asked.now.stride.now c.args.asked.now.signed) (Err c.in-Err.fault)) (sym none)
-    (read_some c.args.asked.now.signed (slab_numbers bytes h v c.args.asked.now.start.now c.args.asked.now.count.now c.args.asked.now.stride.now) (slab bytes h v c.args.asked.now.start.now c.args.asked.now.count.now c.args.asked.now.stride.now c.args.asked.now.signed) c.in-Err.fault (goes_as c.args.asked.now.signed bytes c.kind.result v.kind _ (cell_places h v c.args.asked.now.start.now c.args.asked.now.count.now c.args.asked.now.stride.now) c.new-none.result (Err c.in-Err.fault) c.kind.ensures visited c.new-none.ensures r.0))
+    (read_some c.args.asked.now.signed (slab_numbers bytes h v c.args.asked.now.start.now c.args.asked.now.count.now c.args.asked.now.stride.now) (slab bytes h v c.args.asked.now.start.now c.args.asked.now.count.now c.args.asked.now.stride.now c.args.asked.now.signed) c.in-Err.fault (goes_as c.args.asked.now.signed bytes c.kind.result v.kind _ (cell_offsets h v c.args.asked.now.start.now c.args.asked.now.count.now c.args.asked.now.stride.now) c.new-none.result (Err c.in-Err.fault) c.kind.ensures visited c.new-none.ensures r.0))
 
 pub returns-in_err-array_of-in-Ok-clause-untouched : goal.returns-in_err-array_of-in-Ok-clause-untouched
 returns-in_err-array_of-in-Ok-clause-untouched g c = λ f e.
@@ -140,7 +140,7 @@ returns-in_err-array_of-in-Ok-clause-untouched g c = λ f e.
     let v = variable_at c.args.header.now c.args.v in
     let small : c.bytes-end.result < 2 ^ 64 = search rules in
     let l = leads h v c.args.asked.now.start.now c.args.asked.now.count.now c.args.asked.now.stride.now c.in_ok-axes.axes.items c.in_ok-axes.ensures c.args.asked.now.counts c.args.asked.now.strides c.requires.rank in
-    let cut : c.cut_from.result ≡ first_cut (type_size v.kind) h.bytes (cell_places h v c.args.asked.now.start.now c.args.asked.now.count.now c.args.asked.now.stride.now) =
+    let cut : c.cut_from.result ≡ first_cut (type_size v.kind) h.bytes (cell_offsets h v c.args.asked.now.start.now c.args.asked.now.count.now c.args.asked.now.stride.now) =
     cut_found h v c.args.asked.now.start.now c.args.asked.now.count.now c.args.asked.now.stride.now c.in_ok-axes.axes.items c.deref.result.now c.width-size.result c.bytes-end.result c.from-base.result c.cut_from.result l
     c.deref.ensures.value c.width-size.ensures.is c.bytes-end.ensures (c.from-base.ensures ∙ c.begin.ensures) small c.cut_from.ensures in
     let none = sym cut ∙ c.in_default.is in
@@ -152,7 +152,7 @@ returns-in-Ok-clause-untouched g c = λ f e.
     let v = variable_at c.args.header.now c.args.v in
     let small : c.bytes-end.result < 2 ^ 64 = search rules in
     let l = leads h v c.args.asked.now.start.now c.args.asked.now.count.now c.args.asked.now.stride.now c.in_ok-axes.axes.items c.in_ok-axes.ensures c.args.asked.now.counts c.args.asked.now.strides c.requires.rank in
-    let cut : c.cut_from.result ≡ first_cut (type_size v.kind) h.bytes (cell_places h v c.args.asked.now.start.now c.args.asked.now.count.now c.args.asked.now.stride.now) =
+    let cut : c.cut_from.result ≡ first_cut (type_size v.kind) h.bytes (cell_offsets h v c.args.asked.now.start.now c.args.asked.now.count.now c.args.asked.now.stride.now) =
     cut_found h v c.args.asked.now.start.now c.args.asked.now.count.now c.args.asked.now.stride.now c.in_ok-axes.axes.items c.deref.result.now c.width-size.result c.bytes-end.result c.from-base.result c.cut_from.result l
     c.deref.ensures.value c.width-size.ensures.is c.bytes-end.ensures (c.from-base.ensures ∙ c.begin.ensures) small c.cut_from.ensures in
     let none = sym cut ∙ c.in_default.is in
@@ -164,7 +164,7 @@ returns-clause-untouched g c = λ f e.
     let v = variable_at c.args.header.now c.args.v in
     let small : c.bytes-end.result < 2 ^ 64 = search rules in
     let l = leads h v c.args.asked.now.start.now c.args.asked.now.count.now c.args.asked.now.stride.now c.in_ok-axes.axes.items c.in_ok-axes.ensures c.args.asked.now.counts c.args.asked.now.strides c.requires.rank in
-    let cut : c.cut_from.result ≡ first_cut (type_size v.kind) h.bytes (cell_places h v c.args.asked.now.start.now c.args.asked.now.count.now c.args.asked.now.stride.now) =
+    let cut : c.cut_from.result ≡ first_cut (type_size v.kind) h.bytes (cell_offsets h v c.args.asked.now.start.now c.args.asked.now.count.now c.args.asked.now.stride.now) =
     cut_found h v c.args.asked.now.start.now c.args.asked.now.count.now c.args.asked.now.stride.now c.in_ok-axes.axes.items c.deref.result.now c.width-size.result c.bytes-end.result c.from-base.result c.cut_from.result l
     c.deref.ensures.value c.width-size.ensures.is c.bytes-end.ensures (c.from-base.ensures ∙ c.begin.ensures) small c.cut_from.ensures in
     let none = sym cut ∙ c.in_default.is in
@@ -176,7 +176,7 @@ returns-clause-late g c =
     let v = variable_at c.args.header.now c.args.v in
     let small : c.bytes-end.result < 2 ^ 64 = search rules in
     let l = leads h v c.args.asked.now.start.now c.args.asked.now.count.now c.args.asked.now.stride.now c.in_ok-axes.axes.items c.in_ok-axes.ensures c.args.asked.now.counts c.args.asked.now.strides c.requires.rank in
-    let cut : c.cut_from.result ≡ first_cut (type_size v.kind) h.bytes (cell_places h v c.args.asked.now.start.now c.args.asked.now.count.now c.args.asked.now.stride.now) =
+    let cut : c.cut_from.result ≡ first_cut (type_size v.kind) h.bytes (cell_offsets h v c.args.asked.now.start.now c.args.asked.now.count.now c.args.asked.now.stride.now) =
     cut_found h v c.args.asked.now.start.now c.args.asked.now.count.now c.args.asked.now.stride.now c.in_ok-axes.axes.items c.deref.result.now c.width-size.result c.bytes-end.result c.from-base.result c.cut_from.result l
     c.deref.ensures.value c.width-size.ensures.is c.bytes-end.ensures (c.from-base.ensures ∙ c.begin.ensures) small c.cut_from.ensures in
     let none = sym cut ∙ c.in_default.is in

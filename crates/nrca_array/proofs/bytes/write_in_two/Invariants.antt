@@ -1,6 +1,6 @@
 use Rattle.std.proofs.Common.{◌≡◌, ◌*◌, take}
-use Rattle.nrca_array.specs.Packing.{spelled}
+use Rattle.nrca_array.specs.Packing.{spell_numbers}
 use Rattle.nrca_array.proofs.bytes.write_in_two.Given as goal
 
 abbrev pub invariant-loop-i : goal.invariant-loop-i
-invariant-loop-i l = take (2 * l.i) l.buffer ≡ spelled 2 (take l.i l.xs)
+invariant-loop-i l = take (2 * l.i) l.buffer ≡ spell_numbers 2 (take l.i l.xs)

@@ -2,7 +2,7 @@
 use Rattle.std.proofs.Common.{◌<◌, ◌*◌, ◌++◌, length, drop, take, get_or, arith, ap, sym, ◌∙◌}
 use Rattle.std.proofs.lemmas.List.{take_more, take_all}
 use Rattle.byteorder.specs.Endian.{little_number, little_bytes}
-use Rattle.nrca_array.specs.Packing.{spelled}
+use Rattle.nrca_array.specs.Packing.{spell_numbers}
 use Rattle.nrca_array.specs.Kept.{width_bytes, numbers_at}
 use Rattle.nrca_array.proofs.Spelling.{room, length-numbers_at, length-spelled, numbers_at-get, spelled-push}
 use Rattle.nrca_array.proofs.numbers.widen.Goals as goal
@@ -26,13 +26,13 @@ loop-i-preserved c =
     let read = c.number_at.ensures ∙ ap (λ l. little_number w (drop (i * w) l)) c.deref.ensures.value ∙ sym (numbers_at-get w c.args.count bytes i within) in
     c.in_ok-put.ensures.ok
     ∙ ap (λ l. l ++ little_bytes v c.number_at.result) c.loop-i.invariant
-    ∙ ap (λ x. spelled v (take i ns) ++ little_bytes v x) read
+    ∙ ap (λ x. spell_numbers v (take i ns) ++ little_bytes v x) read
     ∙ sym (spelled-push v (take i ns) (get_or ns i 0))
-    ∙ ap (spelled v) (sym (take_more ns i 0 (omega (arith, many, within))))
+    ∙ ap (spell_numbers v) (sym (take_more ns i 0 (omega (arith, many, within))))
 
 pub returns-clause-bytes : goal.returns-clause-bytes
 returns-clause-bytes c =
     let w = width_bytes c.args.width in
     let bytes = c.args.bytes.items in
     let many = length-numbers_at w c.args.count bytes in
-    c.loop-i.invariant ∙ ap (spelled (width_bytes c.args.least)) (take_all c.loop-i.i (numbers_at w c.args.count bytes) (omega (arith, many)))
+    c.loop-i.invariant ∙ ap (spell_numbers (width_bytes c.args.least)) (take_all c.loop-i.i (numbers_at w c.args.count bytes) (omega (arith, many)))

@@ -1,9 +1,10 @@
 use Rattle.std.proofs.Common.{◌≡◌, ◌*◌, ◌<◌, get_or, arith, ap, sym, ◌∙◌}
 use Rattle.std.specs.Prelude.{slice_index}
 use Rattle.std.proofs.lemmas.List.{take_all}
-use Rattle.nrca_array.specs.Packing.{spelled}
+use Rattle.nrca_array.specs.Packing.{spell_numbers}
 use Rattle.nrca_array.specs.Runs.{run}
-use Rattle.nrca_array.proofs.RunsWritten.{byte_number, run_get, length-run, bits_more, all_bits}
+use Rattle.nrca_array.specs.Laws.Runs.{length-run}
+use Rattle.nrca_array.proofs.RunsWritten.{byte_number, run_get, bits_more, all_bits}
 use Rattle.nrca_array.proofs.Writing.{written_one_more}
 use Rattle.nrca_array.proofs.put_runs.write_bytes.Goals as goal
 
@@ -26,7 +27,7 @@ returns-clause-bytes c =
     let ns = run 1 c.args.step c.args.count c.args.bytes.now in
     let len = c.loop-k.auto.buffer in
     let many = length-run 1 c.args.step c.args.count c.args.bytes.now in
-    sym (take_all c.loop-k.k c.loop-k.buffer (omega arith)) ∙ c.loop-k.invariant.bytes ∙ ap (spelled 1) (take_all c.loop-k.k ns (omega arith))
+    sym (take_all c.loop-k.k c.loop-k.buffer (omega arith)) ∙ c.loop-k.invariant.bytes ∙ ap (spell_numbers 1) (take_all c.loop-k.k ns (omega arith))
 
 pub returns-clause-bits : goal.returns-clause-bits
 returns-clause-bits c = all_bits (run 1 c.args.step c.args.count c.args.bytes.now) c.loop-k.k _ _ (omega (arith, length-run 1 c.args.step c.args.count c.args.bytes.now)) c.from.ensures c.loop-k.invariant.bits

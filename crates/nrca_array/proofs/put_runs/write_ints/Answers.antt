@@ -2,7 +2,8 @@ use Rattle.std.proofs.Common.{◌≡◌, ◌*◌, ◌+◌, ◌-◌, length, take
 use Rattle.std.specs.Prelude.{slice_index}
 use borrow.Rule.Slice.PartMut.{post_of}
 use Rattle.nrca_array.specs.Runs.{run}
-use Rattle.nrca_array.proofs.RunsWritten.{run_read, length-run, bits_more, all_bits}
+use Rattle.nrca_array.specs.Laws.Runs.{length-run}
+use Rattle.nrca_array.proofs.RunsWritten.{run_read, bits_more, all_bits}
 use Rattle.nrca_array.proofs.Writing.{written_more, written_all}
 use Rattle.nrca_array.proofs.put_runs.write_ints.Goals as goal
 

@@ -2,7 +2,8 @@ use Rattle.std.proofs.Common.{◌≡◌, ◌*◌, ◌+◌, ◌-◌, ◌<◌, ◌
 use borrow.Rule.Slice.PartMut.{post_of}
 use Rattle.nrca_array.specs.Kept.{width_bytes}
 use Rattle.nrca_array.specs.Runs.{run_numbers}
-use Rattle.nrca_array.proofs.RunsWritten.{length-run, bits_more, all_bits}
+use Rattle.nrca_array.specs.Laws.Runs.{length-run}
+use Rattle.nrca_array.proofs.RunsWritten.{bits_more, all_bits}
 use Rattle.nrca_array.proofs.Spelling.{room}
 use Rattle.nrca_array.proofs.Writing.{written_more, written_all}
 use Rattle.nrca_array.proofs.put_runs.write_others.Goals as goal

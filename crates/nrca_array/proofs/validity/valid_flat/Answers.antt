@@ -7,7 +7,7 @@ use Rattle.nrca_array.proofs.validity.valid_flat.Goals as goal
 
 pub returns : goal.returns
 returns c = (
-  subst (λ ds. All (λ d. d < 2 ^ 128) ds) c.dims.ensures.dims c.numbers_fit.ensures,
+  subst (λ ds. All (λ d. d < 2 ^ 128) ds) c.dims.ensures.dims c.dims_fit.ensures,
   subst (λ xs. IsTable (record { dims = c.args.flat.now.dims; cells = xs })) (sym (list_of-data_of c.args.flat.now.cells)) c.valid_cells.ensures.table,
   c.valid_cells.ensures.cells,
 )

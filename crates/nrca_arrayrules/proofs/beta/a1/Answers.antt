@@ -1,6 +1,6 @@
 use Rattle.std.proofs.Common.{rules, ◌≡◌, length, ap, subst, ◌∙◌}
 use Rattle.nrca_term.specs.Nodes.{tab_term}
-use Rattle.nrca_term.specs.Rules.{guarded}
+use Rattle.nrca_term.specs.Rules.{guard}
 use Rattle.nrca_term.specs.Term.{WellFormed}
 use Rattle.nrca_term.specs.View.{term_of, terms_of}
 use Rattle.nrca_term.specs.declared.term.Core.TheVariants as core
@@ -26,6 +26,6 @@ pub returns : goal.returns
 returns c =
     let h = as-Sub c.args.term c.in-Sub.array c.in-Sub.at c.in-Sub.is in
     let k : term_of c.in-Sub.array.value ≡ tab_term (terms_of c.in-Tab.bounds) (term_of c.in-Tab.body.value) = as-Tab c.in-Sub.array.value c.in-Tab.bounds c.in-Tab.body (search rules) in
-    let p : term_of c.in_ok-tested-in-Tab.tested ≡ guarded (length (terms_of c.in-Tab.bounds)) (terms_of c.in-Tab.bounds) (term_of c.in-Tab.body.value) =
-    c.in_ok-tested-in-Tab.ensures ∙ ap (λ x. guarded (length (terms_of c.in-Tab.bounds)) (terms_of c.in-Tab.bounds) (term_of x)) c.into_inner-in-Tab.ensures in
+    let p : term_of c.in_ok-tested-in-Tab.tested ≡ guard (length (terms_of c.in-Tab.bounds)) (terms_of c.in-Tab.bounds) (term_of c.in-Tab.body.value) =
+    c.in_ok-tested-in-Tab.ensures ∙ ap (λ x. guard (length (terms_of c.in-Tab.bounds)) (terms_of c.in-Tab.bounds) (term_of x)) c.into_inner-in-Tab.ensures in
     a1_right (term_of c.args.term) (term_of c.in-Sub.array.value) (term_of c.in-Tab.body.value) (term_of c.in_ok-right-in-Tab.right) (term_of c.in_ok-tested-in-Tab.tested) (terms_of c.in-Tab.bounds) (terms_of c.in-Sub.at) h k c.requires.fits p c.in_ok-right-in-Tab.ensures

@@ -5,7 +5,7 @@ use Rattle.nrca_term.specs.Rules.{replace_dims}
 use Rattle.nrca_term.specs.Subst.{shift_term}
 use Rattle.nrca_term.specs.View.{term_of}
 use Rattle.nrca_term.specs.Laws.Exchange.{count-with_part}
-use Rattle.nrca_subst.proofs.Walking.{with_first_parts-start, with_first_parts-step, count-with_first_parts, binders_of-with_first_parts, with_first_parts-part}
+use Rattle.nrca_subst.specs.Laws.Walking.{with_first_parts-start, with_first_parts-step, count-with_first_parts, binders_of-with_first_parts, with_first_parts-part}
 use Rattle.nrca_arrayrules.proofs.ReplaceWalk.{replace_part, with_first_parts-replaced, form_of-with_first_parts, room-part, room-form}
 use Rattle.nrca_arrayrules.proofs.replacing.+replace.Goals as goal
 

@@ -1,7 +1,7 @@
 use Rattle.std.proofs.Common.{◌≡◌, ◌*◌, ◌+◌}
 use Rattle.nrca_term.specs.Term.{weight_of}
 use Rattle.nrca_term.specs.View.{term_of}
-use Rattle.nrca_subst.proofs.Walking.{with_first_parts}
+use Rattle.nrca_subst.specs.Laws.Walking.{with_first_parts}
 use Rattle.nrca_arrayrules.proofs.ReplaceWalk.{replace_part}
 use Rattle.nrca_arrayrules.proofs.replacing.+replace.Given as goal
 

@@ -1,5 +1,5 @@
 use Rattle.std.proofs.Common.{◌∙◌, ap}
-use Rattle.nrca_loops.specs.Scope.{held_value}
+use Rattle.nrca_loops.specs.Values.{held_value}
 use Rattle.nrca_encoded.proofs.Placing.{held-copied, value-there, value-past}
 use Rattle.nrca_encoded.proofs.positions.value_at.Goals as goal
 

@@ -1,5 +1,5 @@
 use Rattle.std.proofs.lemmas.Result.{IfOk-weaker}
-use Rattle.nrca_loops.specs.Scope.{held_value}
+use Rattle.nrca_loops.specs.Values.{held_value}
 use Rattle.nrca_term.specs.View.{term_of}
 use Rattle.nrca_encoded.specs.Graphs.{HasValue, RunsEncoded}
 use Rattle.nrca_encoded.proofs.Coming.{spent-is, value-is}

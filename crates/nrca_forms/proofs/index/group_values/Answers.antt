@@ -12,8 +12,8 @@ use Rattle.nrca_forms.proofs.index.group_values.Goals as goal
 pub loop-pair-init : goal.loop-pair-init
 loop-pair-init c = c.in_ok-groups.ensures ∙ no_groups c.args.count (indices c.args.dims.now) (omega (arith, c.requires, length_indices c.args.dims.now))
 
-pub place_value-requires : goal.place_value-requires
-place_value-requires c =
+pub group_value-requires : goal.group_value-requires
+group_value-requires c =
     omega (arith, ap length c.loop-pair.invariant, length-map c.loop-pair.groups.items values_of, length-map (indices c.args.dims.now) (λ at. values_at at (map pair_of c.loop-pair.yielded)), length_indices c.args.dims.now)
 
 pub loop-pair-preserved : goal.loop-pair-preserved

@@ -2,7 +2,7 @@ use Rattle.std.proofs.Common.{◌≡◌, ◌≤◌, map, Some, sym, ap, ◌∙�
 use Rattle.aql_value.specs.Indices.{product}
 use Rattle.aql_value.specs.Operations.{array_of, dims_above, all_in_range}
 use Rattle.nrca_forms.specs.Indexing.{pair_of, pairs_of, pairs_value, pairs_turns, extent, AreRanked}
-use Rattle.nrca_loops.specs.Scope.{held_value}
+use Rattle.nrca_loops.specs.Values.{held_value}
 use Rattle.std.proofs.Common.{inl, inr, subst}
 use Rattle.nrca_forms.proofs.Arrays.{dims_of, cells_of, rank_none, none_turns, value_made, turns_made, checked_range}
 use Rattle.nrca_forms.proofs.index.index_pairs.Goals as goal

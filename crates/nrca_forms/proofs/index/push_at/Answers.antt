@@ -8,8 +8,8 @@ use Rattle.nrca_forms.proofs.index.push_at.Goals as goal
 pub returns : goal.returns
 returns c =
     let old = c.index_mut.result.now in
-    let new : values_of c.push.new.self ≡ get_or (map values_of c.args.groups.items) c.args.place [] ++ datum c.args.value ∷ [] =
+    let new : values_of c.push.new.self ≡ get_or (map values_of c.args.groups.items) c.args.number [] ++ datum c.args.value ∷ [] =
     ap (map datum) c.in_ok-push.ensures.items
     ∙ map-append datum old.items (c.args.value ∷ [])
-    ∙ ap (λ l. l ++ datum c.args.value ∷ []) (ap values_of c.index_mut.ensures.value ∙ sym (get_or-map values_of c.args.groups.items c.args.place old [] c.requires)) in
-    map-set values_of c.args.groups.items c.args.place c.push.new.self ∙ ap (set (map values_of c.args.groups.items) c.args.place) new
+    ∙ ap (λ l. l ++ datum c.args.value ∷ []) (ap values_of c.index_mut.ensures.value ∙ sym (get_or-map values_of c.args.groups.items c.args.number old [] c.requires)) in
+    map-set values_of c.args.groups.items c.args.number c.push.new.self ∙ ap (set (map values_of c.args.groups.items) c.args.number) new

@@ -4,7 +4,7 @@ use Rattle.nrca_term.specs.Laws.Shift.{top_var-shift_le}
 use Rattle.nrca_term.specs.Subst.{top_var}
 use Rattle.nrca_term.specs.Term.{Term}
 use Rattle.nrca_term.specs.View.{term_of, terms_of}
-use Rattle.nrca_graph.proofs.Trees.{item_room, moved, front_short, lets_next}
+use Rattle.nrca_graph.proofs.Trees.{item_room, moved, lets_next}
 use Rattle.nrca_graph.proofs.tables.bind_all.Goals as goal
 
 pub shift-requires : goal.shift-requires
@@ -12,7 +12,7 @@ shift-requires c =
     let p : c.loop-term.terms.0.items ≡ c.pop.new.self.items ++ (c.in-Some.term ∷ []) = search rules in
     let front : List Term = map term_of c.pop.new.self.items in
     let e = moved (terms_of c.loop-term.terms) front c.loop-term.invariant.0 (term_of c.in-Some.term) (terms_of c.args.terms) c.loop-term.invariant.1 (ap (map term_of) p ∙ map-append term_of c.pop.new.self.items (c.in-Some.term ∷ [])) in
-    let n : c.len-names.result ≤ length (terms_of c.args.terms) = omega (arith, front_short (terms_of c.args.terms) front c.loop-term.invariant.0 (term_of c.in-Some.term) e, length-map c.pop.new.self.items term_of, c.len-names.ensures, c.pop.new.self.ok.0) in
+    let n : c.len-names.result ≤ length (terms_of c.args.terms) = omega (arith, ap length e, length-append front (term_of c.in-Some.term ∷ c.loop-term.invariant.0), length-map c.pop.new.self.items term_of, c.len-names.ensures, c.pop.new.self.ok.0) in
     let r : top_var (term_of c.in-Some.term) + c.len-names.result < 2 ^ 64 = item_room (terms_of c.args.terms) front c.loop-term.invariant.0 (term_of c.in-Some.term) c.len-names.result e n c.requires in
     omega (arith, r, top_var-shift_le 0 c.len-names.result (term_of c.in-Some.term))
 

@@ -1,4 +1,5 @@
-use Rattle.std.proofs.Common.{true, refl, sym, ap, subst, ◌∙◌, arith, inl, inr}
+use Rattle.std.proofs.Common.{true, refl, sym, ap, subst, ◌∙◌, arith, inr}
+use Rattle.std.proofs.lemmas.Result.{IfOk-weaker}
 use Rattle.nrca_term.specs.declared.term.Core.TheVariants.{Bottom}
 use Rattle.nrca_term.specs.Term.{count, parts_of}
 use Rattle.nrca_term.specs.View.{term_of}
@@ -8,7 +9,7 @@ use Rattle.nrca_ranges.specs.Shapes.{shapes_in, known_shapes}
 use Rattle.nrca_normal.specs.Conditions.{TellsNode}
 use Rattle.nrca_normal.specs.Laws.Quiet.{parts-none}
 use Rattle.nrca_normal.specs.Laws.Typed.{typed-small, part-falls, part-number}
-use Rattle.nrca_normal.specs.Laws.Descent.{if-ok, rewritten-none, rewritten-over, rewritten-again, rewritten-lower, quiet-as, none-settled, first-settled, again-settled, rewritten-typed, rewritten-falls, part-counted, still-quiet, part-entered, part-done, parts-next, parts-falls, parts-ended}
+use Rattle.nrca_normal.specs.Laws.Descent.{rewritten-none, rewritten-over, rewritten-again, rewritten-lower, quiet-as, none-settled, first-settled, again-settled, rewritten-typed, rewritten-falls, part-counted, still-quiet, part-entered, part-done, parts-next, parts-falls, parts-ended}
 use Rattle.nrca_normal.proofs.descent.+settle.Goals as goal
 
 pub settle-loop-i-init : goal.settle-loop-i-init
@@ -72,7 +73,7 @@ settle_part-exchange-requires-2 t c =
 
 pub settle_part-returns-clause-settled : goal.settle_part-returns-clause-settled
 settle_part-returns-clause-settled t c =
-    if-ok c.settle-done.result _ _
+    IfOk-weaker c.settle-done.result _ _
     (λ x h. part-done c.args.run.now c.enter.new.run c.settle-done.new.run c.leave.new.run (term_of c.args.term.now) (term_of c.exchange.new.with) (term_of c.settle-done.new.term) (term_of c.exchange.new.self) (term_of c.exchange-2.new.self) (term_of Bottom) c.args.i x c.in_ok-mark.mark
     (sym c.exchange.ensures.before) c.exchange.ensures.now c.exchange-2.ensures.now c.in_ok-mark.ensures.entered h c.leave.ensures)
     c.settle-done.ensures.settled

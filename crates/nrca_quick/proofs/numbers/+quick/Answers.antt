@@ -8,7 +8,7 @@ use Rattle.nrca_term.specs.Meaning.{cden}
 use Rattle.nrca_term.specs.Turns.{settle}
 use Rattle.nrca_term.specs.View.{term_of, terms_of}
 use Rattle.nrca_loops.specs.Laws.Run.{range_whole, each-range_more, total-range_more}
-use Rattle.nrca_loops.specs.Scope.{values}
+use Rattle.nrca_loops.specs.Values.{values}
 use Rattle.nrca_quick.specs.Lending.{lent_datum}
 use Rattle.nrca_quick.specs.Laws.Lent.{term_at, sub_lent, sub_free}
 use Rattle.nrca_quick.proofs.Cells.{cell_number, number_of, turns_of, index_with}

@@ -5,7 +5,7 @@ use Rattle.aql_value.specs.Partial.{each, total}
 use Rattle.nrca_term.specs.Meaning.{cden}
 use Rattle.nrca_term.specs.Turns.{settle}
 use Rattle.nrca_term.specs.View.{terms_of}
-use Rattle.nrca_loops.specs.Scope.{values}
+use Rattle.nrca_loops.specs.Values.{values}
 use Rattle.nrca_quick.proofs.numbers.+quick.Given as goal
 
 abbrev pub invariant-quick_cell-loop-term : goal.invariant-quick_cell-loop-term

@@ -3,7 +3,7 @@ use Rattle.nrca_term.specs.Laws.Equations.{term_of-Tuple}
 use Rattle.nrca_term.specs.Meaning.{cden}
 use Rattle.nrca_term.specs.Turns.{settle}
 use Rattle.nrca_term.specs.View.{term_of, terms_of}
-use Rattle.nrca_loops.specs.Scope.{values}
+use Rattle.nrca_loops.specs.Values.{values}
 use Rattle.nrca_quick.proofs.Pairs.{pair_worth, pair_free}
 use Rattle.nrca_quick.proofs.sets.quick_member.Goals as goal
 

@@ -5,7 +5,7 @@ use Rattle.aql_value.specs.Laws.Datum.{list_of-data_of}
 use Rattle.aql_value.specs.Meaning.{datum}
 use Rattle.nrca_ranges.specs.declared.interval.Interval.{Interval}
 use Rattle.nrca_ranges.specs.Bounds.{HasShape, IsCount, AreIn, unknown, members, grid}
-use Rattle.nrca_ranges.specs.Exact.{only, shown}
+use Rattle.nrca_ranges.specs.Exact.{only, exact_bounds}
 use Rattle.nrca_ranges.specs.Shapes.{bounds_of}
 use Rattle.nrca_ranges.specs.Laws.Bounds.{count-is, nothing-known}
 use Rattle.nrca_ranges.specs.Laws.Views.{bounds_of-Unknown, bounds_of-Members, bounds_of-Grid}
@@ -33,7 +33,7 @@ returns-in_ok-member-in-Members-clause-exact c =
     ∙ ap (λ s. members (only n) (bounds_of s)) c.in_ok-member-in-Members.ensures.ok
     ∙ ap (members (only n)) bounds_of-Unknown
     ∙ ap (λ k. members (only k) unknown) (e ∙ ap length (sym (list_of-data_of c.in-Members.m)))
-    ∙ ap shown (sym (ap datum c.in-Members.is))
+    ∙ ap exact_bounds (sym (ap datum c.in-Members.is))
 
 pub returns-in_ok-shape-in-Grid-clause-holds : goal.returns-in_ok-shape-in-Grid-clause-holds
 returns-in_ok-shape-in-Grid-clause-holds c =
@@ -42,4 +42,4 @@ returns-in_ok-shape-in-Grid-clause-holds c =
 
 pub returns-in_ok-shape-in-Grid-clause-exact : goal.returns-in_ok-shape-in-Grid-clause-exact
 returns-in_ok-shape-in-Grid-clause-exact c =
-    c.in_ok-shape-in-Grid.ensures.exact ∙ ap (λ l. grid (map only l) unknown) c.dims.ensures ∙ ap shown (sym (ap datum c.in-Grid.is))
+    c.in_ok-shape-in-Grid.ensures.exact ∙ ap (λ l. grid (map only l) unknown) c.dims.ensures ∙ ap exact_bounds (sym (ap datum c.in-Grid.is))

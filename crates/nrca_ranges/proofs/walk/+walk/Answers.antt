@@ -1,7 +1,7 @@
 use Rattle.std.proofs.Common.{◌++◌, ap, sym, ◌∙◌, arith}
 use Rattle.nrca_term.specs.Term.{form_of, parts_of, child_of}
 use Rattle.nrca_term.specs.View.{term_of}
-use Rattle.nrca_term.specs.Facts.{added}
+use Rattle.nrca_term.specs.Facts.{part_facts}
 use Rattle.nrca_term.specs.Laws.Entering.{child-counted}
 use Rattle.nrca_term.specs.Laws.Measure.{weight_of-child}
 use Rattle.nrca_term.specs.Laws.WellFormed.{well_formed-Core}
@@ -54,5 +54,5 @@ walk_part-walk-requires t c = (
 
 pub walk_part-returns-in_ok-walk-clause-back : goal.walk_part-returns-in_ok-walk-clause-back
 walk_part-returns-in_ok-walk-clause-back t c =
-    taken-back c.args.progress.now.facts.items c.walk.new.progress.facts.items c.truncate.new.self.items (added c.args.depth (form_of (term_of c.args.term.now)) (parts_of (term_of c.args.term.now)) c.args.i) c.len-before.result (omega (arith, c.len-before.ensures))
+    taken-back c.args.progress.now.facts.items c.walk.new.progress.facts.items c.truncate.new.self.items (part_facts c.args.depth (form_of (term_of c.args.term.now)) (parts_of (term_of c.args.term.now)) c.args.i) c.len-before.result (omega (arith, c.len-before.ensures))
     (c.in_ok-walk.ensures.back ∙ c.in_ok-add_facts.ensures) c.truncate.ensures.items

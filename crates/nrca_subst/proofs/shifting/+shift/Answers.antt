@@ -4,7 +4,7 @@ use Rattle.nrca_term.specs.Term.{with_part, count, parts_of}
 use Rattle.nrca_term.specs.Subst.{shift_term, top_var}
 use Rattle.nrca_term.specs.View.{term_of}
 use Rattle.nrca_term.specs.Laws.Exchange.{count-with_part}
-use Rattle.nrca_subst.proofs.Walking.{shift_part, with_first_parts-start, with_first_parts-step, with_first_parts-shift, count-with_first_parts, binders_of-with_first_parts, top_var-child, with_first_parts-part}
+use Rattle.nrca_subst.specs.Laws.Walking.{shift_part, with_first_parts-start, with_first_parts-step, with_first_parts-shift, count-with_first_parts, binders_of-with_first_parts, top_var-child, with_first_parts-part}
 use Rattle.nrca_subst.proofs.shifting.+shift.Goals as goal
 
 pub shift_parts_in-loop-i-init : goal.shift_parts_in-loop-i-init

@@ -1,7 +1,7 @@
 use Rattle.std.proofs.Common.{◌≡◌, ◌+◌, ◌*◌}
 use Rattle.nrca_term.specs.Term.{weight_of}
 use Rattle.nrca_term.specs.View.{term_of}
-use Rattle.nrca_subst.proofs.Walking.{with_first_parts, shift_part}
+use Rattle.nrca_subst.specs.Laws.Walking.{with_first_parts, shift_part}
 use Rattle.nrca_subst.proofs.shifting.+shift.Given as goal
 
 abbrev pub invariant-shift_parts_in-loop-i : goal.invariant-shift_parts_in-loop-i

@@ -9,7 +9,7 @@ use Rattle.nrca_term.specs.Laws.Exchange.{count-with_part}
 use Rattle.aql_value.specs.Strict.{Strict}
 use Rattle.nrca_subst.proofs.Deeper.{substitutes-part, fits-part}
 use Rattle.nrca_subst.proofs.Pairs.{pair, boxes-lighter, boxes-fit, boxes-substituted}
-use Rattle.nrca_subst.proofs.Walking.{with_first_parts-start, with_first_parts-step, count-with_first_parts, binders_of-with_first_parts, with_first_parts-part}
+use Rattle.nrca_subst.specs.Laws.Walking.{with_first_parts-start, with_first_parts-step, count-with_first_parts, binders_of-with_first_parts, with_first_parts-part}
 use Rattle.nrca_subst.proofs.SubstWalk.{subst_part, with_first_parts-subst}
 use Rattle.nrca_subst.proofs.substituting.+subst.Goals as goal
 

@@ -3,7 +3,7 @@ use Rattle.nrca_term.specs.Term.{weight_of}
 use Rattle.nrca_term.specs.Subst.{shift_term}
 use Rattle.nrca_term.specs.View.{term_of}
 use Rattle.nrca_subst.specs.Depth.{IsDepth}
-use Rattle.nrca_subst.proofs.Walking.{with_first_parts}
+use Rattle.nrca_subst.specs.Laws.Walking.{with_first_parts}
 use Rattle.nrca_subst.proofs.SubstWalk.{subst_part}
 use Rattle.nrca_subst.proofs.substituting.+subst.Given as goal
 

@@ -31,7 +31,7 @@ fn set_of_both(
     Ok(Value::Members(canon(alloc, items(alloc, a, b)?)?))
 }
 
-fn encoded(alloc: Global, v: Result<Value, Memory>) -> Result<Value, Memory> {
+fn encode_made(alloc: Global, v: Result<Value, Memory>) -> Result<Value, Memory> {
     let v = v?;
     let encoded = encode(alloc, &v);
     drop(v);
@@ -40,7 +40,7 @@ fn encoded(alloc: Global, v: Result<Value, Memory>) -> Result<Value, Memory> {
 
 // The text of the encoded value.
 fn encoding(alloc: Global, v: Result<Value, Memory>) -> Result<Vec<u8>, Memory> {
-    let encoded = encoded(alloc, v)?;
+    let encoded = encode_made(alloc, v)?;
     let mut out = Vec::new(alloc);
     let printed = print_value(alloc, &encoded, &mut out);
     drop(encoded);

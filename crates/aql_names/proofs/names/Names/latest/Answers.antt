@@ -6,4 +6,4 @@ use Rattle.aql_names.proofs.names.Names.latest.Goals as goal
 
 pub returns : goal.returns
 returns c =
-    c.last.ensures ∙ ap last_of (c.places_of.ensures ∙ c.self.invariant.places c.args.name.now) ∙ last-named c.args.name.now _ ∙ ap (last_named c.args.name.now) c.self.view_is
+    c.last.ensures ∙ ap last_of (c.positions_of.ensures ∙ c.self.invariant.positions c.args.name.now) ∙ last-named c.args.name.now _ ∙ ap (last_named c.args.name.now) c.self.view_is

@@ -1,7 +1,7 @@
 use Rattle.std.proofs.Common.{◌∙◌, ◌++◌, ◌∷◌, [], ap, subst, sym}
 use Rattle.std.specs.Option.{ForSome}
 use Rattle.aql_value.specs.Valid.{IsValue}
-use Rattle.nrca_loops.specs.Scope.{held_value}
+use Rattle.nrca_loops.specs.Values.{held_value}
 use Rattle.nrca_ranges.specs.Shapes.{bounds_there, shapes_in}
 use Rattle.nrca_encoded.specs.Encodings.{AreEncodings}
 use Rattle.nrca_encoded.specs.Laws.Encodings.{one-more-outcome}

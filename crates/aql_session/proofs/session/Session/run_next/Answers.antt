@@ -2,7 +2,7 @@ use Rattle.std.proofs.Common.{◌∙◌, ap, sym, subst}
 use Rattle.std.specs.Prelude.{IfOk, IfErr}
 use Rattle.aql_session.specs.Bound.{outcomes}
 use Rattle.aql_session.specs.Numbered.{so_far}
-use Rattle.aql_session.specs.Runs.{StandsAt, RunsPosition, PositionFails, budget_of}
+use Rattle.aql_session.specs.Executions.{IsReadyOver, RunsPosition, PositionFails, budget_of}
 use Rattle.aql_session.specs.Step.{ReadsNoFile}
 use Rattle.aql_session.proofs.Binding.{names-are, outcomes-zip}
 use Rattle.aql_session.proofs.session.Session.run_next.Goals as goal
@@ -10,7 +10,7 @@ use Rattle.aql_session.proofs.session.Session.run_next.Goals as goal
 pub run_declaration-requires-clause-stands : goal.run_declaration-requires-clause-stands
 run_declaration-requires-clause-stands g c κs within =
     let z = sym (ap outcomes c.self.view_is) ∙ outcomes-zip c.self.inside.names c.self.inside.globals c.self.invariant.0 in
-    subst (StandsAt c.args.at.now) z c.requires.stands
+    subst (IsReadyOver c.args.at.now) z c.requires.stands
 
 pub run_declaration-requires-clause-named : goal.run_declaration-requires-clause-named
 run_declaration-requires-clause-named g c κs within =

@@ -1,9 +1,9 @@
 use Rattle.std.proofs.Common.{◌≤◌, ◌++◌, ◌∷◌, [], length, ap, ◌∙◌, arith}
-use Rattle.aql_syntax.specs.Tree.{declared}
-use Rattle.nrca_loops.specs.Scope.{held_value}
+use Rattle.aql_syntax.specs.Tree.{declared_name}
+use Rattle.aql_syntax.specs.Laws.View.{length-decls_of}
+use Rattle.nrca_loops.specs.Values.{held_value}
 use Rattle.aql_session.specs.Bound.{outcomes}
 use Rattle.aql_session.specs.Numbered.{declarations, sorts, sort_numbered, so_far}
-use Rattle.aql_session.proofs.Evaluating.{length-decls_of}
 use Rattle.aql_session.proofs.Running.{declaration-there, bound-many, sorts-many, answer-is, binds-is}
 use Rattle.aql_session.proofs.session.Session.step.Goals as goal
 
@@ -47,7 +47,7 @@ pub returns-in_ok-keep-in-Ok-clause-binds : goal.returns-in_ok-keep-in-Ok-clause
 returns-in_ok-keep-in-Ok-clause-binds g c = λ d e.
     binds-is d (so_far c.args.decls.now (outcomes c.args.self.now)) c.args.options.now.motion c.args.options.now.graph c.args.options.now.budget (g.F.Files.holds c.args.files.now) c.in-Ok.run' (sort_numbered c.args.typed.now c.args.n)
     c.in_ok-keep-in-Ok.field-0 c.args.self.now c.keep.new.self c.requires.types (c.in-Ok.ensures.ran d e) (c.in_ok-keep-in-Ok.ensures.answer d e)
-    (c.in_ok-keep-in-Ok.ensures.bound d e ∙ ap (λ b. b ++ (declared d, held_value c.in-Ok.run'.value) ∷ []) c.run_next.ensures.as_before)
+    (c.in_ok-keep-in-Ok.ensures.bound d e ∙ ap (λ b. b ++ (declared_name d, held_value c.in-Ok.run'.value) ∷ []) c.run_next.ensures.as_before)
 
 pub returns-in_ok-keep-in-Ok-clause-answerable : goal.returns-in_ok-keep-in-Ok-clause-answerable
 returns-in_ok-keep-in-Ok-clause-answerable g c = λ d e. (c.in-Ok.ensures.ran d e).answerable

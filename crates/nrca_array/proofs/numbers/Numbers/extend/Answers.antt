@@ -1,6 +1,6 @@
 -- The bytes are those of the numbers in the wider of the two widths, and then the new numbers'.
 use Rattle.std.proofs.Common.{◌≡◌, ◌<◌, ◌^◌, ◌+◌, ◌++◌, max, length, refl, arith, ap, sym, ◌∙◌, subst}
-use Rattle.nrca_array.specs.Packing.{spelled, greatest, bytes_for}
+use Rattle.nrca_array.specs.Packing.{spell_numbers, greatest, bytes_for}
 use Rattle.nrca_array.specs.Kept.{width_bytes, numbers_at}
 use Rattle.nrca_array.proofs.Spelling.{length-numbers_at, count_within, width_fits}
 use Rattle.nrca_array.proofs.Writing.{others_fit, extended-reads, extended-is, extended-fills}
@@ -17,8 +17,8 @@ wide : (c : In_ok-put_all) → width_bytes c.in_ok-width.width ≡ max (width_by
 wide c = c.in_ok-width.ensures.width ∙ ap (max (width_bytes c.self.inside.width)) (c.least-least.ensures ∙ ap bytes_for (c.from.ensures ∙ c.greatest_of.ensures))
 
 -- the bytes are those of the numbers so far, and then of the others
-bytes : (c : In_ok-put_all) → c.put_all.new.bytes.items ≡ spelled (width_bytes c.in_ok-width.width) (numbers_at (width_bytes c.self.inside.width) c.self.inside.count c.self.inside.bytes.items) ++ spelled (width_bytes c.in_ok-width.width) c.args.xs.now
-bytes c = c.in_ok-put_all.ensures ∙ ap (λ l. l ++ spelled (width_bytes c.in_ok-width.width) c.args.xs.now) c.in_ok-width.ensures.bytes
+bytes : (c : In_ok-put_all) → c.put_all.new.bytes.items ≡ spell_numbers (width_bytes c.in_ok-width.width) (numbers_at (width_bytes c.self.inside.width) c.self.inside.count c.self.inside.bytes.items) ++ spell_numbers (width_bytes c.in_ok-width.width) c.args.xs.now
+bytes c = c.in_ok-put_all.ensures ∙ ap (λ l. l ++ spell_numbers (width_bytes c.in_ok-width.width) c.args.xs.now) c.in_ok-width.ensures.bytes
 
 small : (c : In_ok-put_all) → greatest c.args.xs.now < 2 ^ 128
 small c = omega (arith, c.greatest_of.ensures)

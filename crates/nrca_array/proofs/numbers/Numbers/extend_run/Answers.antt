@@ -3,7 +3,7 @@ use Rattle.std.proofs.Common.{◌<◌, ◌^◌, ◌+◌, ◌++◌, length, arith
 use Rattle.nrca_array.specs.Packing.{greatest}
 use Rattle.nrca_array.specs.Kept.{width_bytes, numbers_at}
 use Rattle.nrca_array.specs.Runs.{run_numbers}
-use Rattle.nrca_array.proofs.RunsWritten.{length-run}
+use Rattle.nrca_array.specs.Laws.Runs.{length-run}
 use Rattle.nrca_array.proofs.Spelling.{length-numbers_at, count_within, width_fits}
 use Rattle.nrca_array.proofs.Writing.{extended-reads, extended-is, extended-fills}
 use Rattle.nrca_array.proofs.numbers.Numbers.extend_run.Goals as goal

@@ -1,7 +1,7 @@
 -- The bytes are those of the numbers in the wider of the two widths, and then the new number's.
 use Rattle.std.proofs.Common.{◌≡◌, ◌<◌, ◌^◌, ◌+◌, ◌*◌, ◌++◌, [], ◌∷◌, max, length, arith, ap, sym, ◌∙◌, subst, length-append}
 use Rattle.byteorder.specs.Endian.{little_bytes}
-use Rattle.nrca_array.specs.Packing.{spelled, greatest, width_for, bytes_for}
+use Rattle.nrca_array.specs.Packing.{spell_numbers, greatest, width_for, bytes_for}
 use Rattle.nrca_array.specs.Kept.{width_bytes, numbers_at}
 use Rattle.nrca_array.proofs.Spelling.{length-numbers_at, length-spelled, count_within, spelled-push, spelled-reads, spelled-is, width_fits, width_for-push, greatest-push, bytes_for-fits, fits_wider}
 use Rattle.nrca_array.proofs.numbers.Numbers.push.Goals as goal
@@ -23,7 +23,7 @@ overflow_add-result c =
     let x = c.args.x in
     let ns = numbers_at w c.self.inside.count c.self.inside.bytes.items in
     let many = length-numbers_at w c.self.inside.count c.self.inside.bytes.items in
-    let spells : c.put.new.bytes.items ≡ spelled v (ns ++ x ∷ []) = c.in_ok-put.ensures.ok ∙ ap (λ l. l ++ little_bytes v x) c.in_ok-width.ensures.bytes ∙ sym (spelled-push v ns x) in
+    let spells : c.put.new.bytes.items ≡ spell_numbers v (ns ++ x ∷ []) = c.in_ok-put.ensures.ok ∙ ap (λ l. l ++ little_bytes v x) c.in_ok-width.ensures.bytes ∙ sym (spelled-push v ns x) in
     let all : (c.self.inside.count + 1) * v ≡ length c.put.new.bytes.items = ap (λ n. n * v) (let e : c.self.inside.count + 1 ≡ length (ns ++ x ∷ []) = omega (arith, length-append ns (x ∷ []), many) in e) ∙ sym (length-spelled v (ns ++ x ∷ [])) ∙ ap length (sym spells) in
     omega (arith, count_within c.in_ok-width.width (c.self.inside.count + 1) (length c.put.new.bytes.items) (omega (arith, all)))
 
@@ -35,7 +35,7 @@ invariant_of-result c =
     let ns = numbers_at w c.self.inside.count c.self.inside.bytes.items in
     let many = length-numbers_at w c.self.inside.count c.self.inside.bytes.items in
     let least : v ≡ width_for (ns ++ x ∷ []) = c.in_ok-width.ensures.width ∙ ap (max w) c.least.ensures ∙ ap (λ u. max u (bytes_for x)) c.self.invariant.least ∙ sym (width_for-push ns x) in
-    let spells : c.put.new.bytes.items ≡ spelled v (ns ++ x ∷ []) = c.in_ok-put.ensures.ok ∙ ap (λ l. l ++ little_bytes v x) c.in_ok-width.ensures.bytes ∙ sym (spelled-push v ns x) in
+    let spells : c.put.new.bytes.items ≡ spell_numbers v (ns ++ x ∷ []) = c.in_ok-put.ensures.ok ∙ ap (λ l. l ++ little_bytes v x) c.in_ok-width.ensures.bytes ∙ sym (spelled-push v ns x) in
     spelled-is v _ _ (ns ++ x ∷ []) least (greatest-push ns x (2 ^ 128) c.self.invariant.small (omega arith)) spells (omega (arith, length-append ns (x ∷ []), many))
 
 pub returns : goal.returns
@@ -46,6 +46,6 @@ returns c =
     let ns = numbers_at w c.self.inside.count c.self.inside.bytes.items in
     let many = length-numbers_at w c.self.inside.count c.self.inside.bytes.items in
     let least : v ≡ width_for (ns ++ x ∷ []) = c.in_ok-width.ensures.width ∙ ap (max w) c.least.ensures ∙ ap (λ u. max u (bytes_for x)) c.self.invariant.least ∙ sym (width_for-push ns x) in
-    let spells : c.put.new.bytes.items ≡ spelled v (ns ++ x ∷ []) = c.in_ok-put.ensures.ok ∙ ap (λ l. l ++ little_bytes v x) c.in_ok-width.ensures.bytes ∙ sym (spelled-push v ns x) in
+    let spells : c.put.new.bytes.items ≡ spell_numbers v (ns ++ x ∷ []) = c.in_ok-put.ensures.ok ∙ ap (λ l. l ++ little_bytes v x) c.in_ok-width.ensures.bytes ∙ sym (spelled-push v ns x) in
     spelled-reads v (c.self.inside.count + 1) c.put.new.bytes.items (ns ++ x ∷ []) least (greatest-push ns x (2 ^ 128) c.self.invariant.small (omega arith)) spells (omega (arith, length-append ns (x ∷ []), many))
     ∙ ap (λ l. l ++ x ∷ []) c.self.view_is

@@ -1,5 +1,5 @@
 use Rattle.std.proofs.Common.{arith}
-use Rattle.nrca_array.proofs.RunsWritten.{length-run}
+use Rattle.nrca_array.specs.Laws.Runs.{length-run}
 use Rattle.nrca_array.proofs.run.Run.first_at_least.Goals as goal
 
 pub returns : goal.returns

@@ -1,8 +1,0 @@
-use Rattle.std.proofs.Common.{◌≡◌, map, take}
-use Rattle.aql_value.specs.Datum.{natural}
-use Rattle.aql_value.specs.Meaning.{datum}
-use Rattle.nrca_array.proofs.groups.number_items.Given as goal
-
--- the values so far are the numbers so far
-abbrev pub invariant-loop-n : goal.invariant-loop-n
-invariant-loop-n l = map datum l.items.items ≡ map natural (take l.n-index l.numbers)
