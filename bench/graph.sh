@@ -6,7 +6,7 @@
 # Makes a small repository of its own in a temporary folder; run it from anywhere: bench/graph.sh
 set -eu
 . "$(dirname "$0")/crates.sh"
-begin aql_type_graph aql_types aql_value anyhow
+begin aql_type_graph aql_ty aql_value anyhow
 cat > "$work/crates/measure/src/main.rt" <<'PROGRAM'
 #![tactic(auto)]
 
@@ -16,7 +16,7 @@ use aql_type_graph::grow::{empty_graph, push_natural, push_set, push_tuple, push
 use aql_type_graph::inside::are_nodes;
 use aql_type_graph::node::Equation;
 use aql_type_graph::solve::solve;
-use aql_types::fault::UnifyFault;
+use aql_ty::fault::UnifyFault;
 use std::alloc::Global;
 
 // A graph and equations between its nodes.

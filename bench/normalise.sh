@@ -8,14 +8,14 @@
 # - `deep N`: 50 lets of a sum of the variable before and N numbers.
 set -eu
 . "$(dirname "$0")/crates.sh"
-begin nrca_normal nrca_ranges nrca_term aql_types aql_value anyhow
+begin nrca_normal nrca_ranges nrca_term aql_ty aql_value anyhow
 cat > "$work/crates/measure/specs/Lib.antt" <<'MEASURE'
 pub mod Chains
 MEASURE
 cat > "$work/crates/measure/specs/Chains.antt" <<'MEASURE'
 -- Terms that are numbers where the innermost variable is one.
 use Rattle.std.proofs.Common.{List, [], ◌∷◌}
-use Rattle.aql_types.specs.Types.{Ty, natural}
+use Rattle.aql_ty.specs.Types.{Ty, natural}
 use Rattle.nrca_term.specs.Term.{Term}
 use Rattle.nrca_term.specs.Typing.{ctyped, instances}
 
@@ -30,7 +30,7 @@ cat > "$work/crates/measure/proofs/Typing.antt" <<'MEASURE'
 -- What the chains are made of is typed.
 use Rattle.std.proofs.Common.{◌≡◌, ℕ, [], ◌∷◌, Box, Global, refl, sym, subst}
 use Rattle.aql_value.specs.declared.ops.ArithOp.{ArithOp}
-use Rattle.aql_types.specs.Types.{natural}
+use Rattle.aql_ty.specs.Types.{natural}
 use Rattle.nrca_term.specs.declared.term.Core.TheVariants.{Var, Nat, Arith, Let}
 use Rattle.nrca_term.specs.declared.term.Core.{Core}
 use Rattle.nrca_term.specs.Term.{Term}

@@ -1,7 +1,7 @@
 -- Laws: what records mean has the type that the reader's kinds say.
 use Rattle.aql_value.specs.Datum.{Datum}
-use Rattle.aql_types.specs.Types as types
-use Rattle.aql_types.specs.ValueTypes.{HasType}
+use Rattle.aql_ty.specs.Types as types
+use Rattle.aql_ty.specs.ValueTypes.{HasType}
 use Rattle.aql_syntax.specs.Typing.{record_type}
 use Rattle.aql_syntax.specs.declared.ast.CsvReader.{CsvReader}
 use Rattle.aql_csv.specs.File.{set_of}

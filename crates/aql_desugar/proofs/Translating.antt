@@ -3,7 +3,7 @@ use Rattle.std.proofs.Common.{◌≡◌, ◌<◌, ◌≤◌, ◌*◌, ℕ, zero,
 use Rattle.std.proofs.lemmas.Grind.{get_or_at_push}
 use Rattle.std.specs.List.{slice_get}
 use mathlib.Core.List.{reverse_aux}
-use Rattle.aql_types.specs.Types.{Ty, Sort, value, macro}
+use Rattle.aql_ty.specs.Types.{Ty, Sort, value, macro}
 use Rattle.aql_syntax.specs.Tree as tree
 use Rattle.aql_syntax.specs.Tree.{Tree, Declaration}
 use Rattle.aql_syntax.specs.View.{tree_of, decl_of, decls_of}

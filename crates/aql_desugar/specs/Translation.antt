@@ -1,7 +1,7 @@
 -- What translation answers for a declaration.
 use Rattle.std.specs.Prelude.{◌≡◌, ℕ, ◌-◌, ◌*◌, ◌^◌, ◌≤◌, ◌++◌, min, List, [], map, take, Option, Some, None}
 use Rattle.std.specs.List.{slice_get}
-use Rattle.aql_types.specs.Types.{Ty, Sort, IsType}
+use Rattle.aql_ty.specs.Types.{Ty, Sort, IsType}
 use Rattle.aql_syntax.specs.Tree.{Tree, Declaration}
 use Rattle.aql_syntax.specs.View.{tree_of, decls_of}
 use Rattle.aql_syntax.specs.declared.ast.Expr.{Expr}

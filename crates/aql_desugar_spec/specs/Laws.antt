@@ -21,7 +21,7 @@ use Rattle.aql_syntax.specs.Denotation.{den}
 use Rattle.aql_syntax.specs.Work.{work}
 use Rattle.aql_syntax.specs.Script.{Earlier, globals_of}
 use Rattle.aql_syntax.specs.Sound.{declarations_of}
-use Rattle.aql_types.specs.Types.{Ty, Sort, IsType}
+use Rattle.aql_ty.specs.Types.{Ty, Sort, IsType}
 use Rattle.aql_syntax.specs.Size.{size, extents_of}
 use Rattle.aql_syntax.specs.Typing.{Has, DeclHas, IsPrincipal, environment_of}
 use Rattle.nrca_term.specs.Term.{Closed, WellFormed, weight_of}

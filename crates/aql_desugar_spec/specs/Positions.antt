@@ -1,7 +1,7 @@
 -- What a core term is given of the positions before it: their outcomes, and their types.
 use Rattle.std.specs.Prelude.{[], ◌∷◌, ◌++◌}
 use Rattle.aql_syntax.specs.Script.{Earlier}
-use Rattle.aql_types.specs.Types.{Ty, natural, Sort, value, macro}
+use Rattle.aql_ty.specs.Types.{Ty, natural, Sort, value, macro}
 use Rattle.nrca_term.specs.Meaning.{Outcomes}
 
 -- the outcomes of declarations of which the latest is first, in order

@@ -1,13 +1,13 @@
 -- What one declaration gets, from what was asked of it and solved.
 use Rattle.std.proofs.Common.{◌≡◌, Some, Result, Ok, Err, IfOk, ap, ◌∙◌, length}
 use Rattle.aql_value.specs.declared.memory.Memory.{Memory}
-use Rattle.aql_types.specs.Types.{Subst, Sort, apply_sort}
-use Rattle.aql_types.specs.Unifiers.{IsBest}
-use Rattle.aql_types.specs.View.{sort_of}
-use Rattle.aql_types.specs.declared.ty.Scheme as code_scheme
+use Rattle.aql_ty.specs.Types.{Subst, Sort, apply_sort}
+use Rattle.aql_ty.specs.Unifiers.{IsBest}
+use Rattle.aql_ty.specs.View.{sort_of}
+use Rattle.aql_ty.specs.declared.ty.Scheme as code_scheme
 use Rattle.aql_syntax.specs.Tree.{Declaration}
 use Rattle.aql_infer_steps.specs.Constraints.{NumberedSchemes, State, initial, make_decl}
-use Rattle.aql_types.specs.Variables.{sort_variables}
+use Rattle.aql_ty.specs.Variables.{sort_variables}
 use Rattle.aql_infer_steps.specs.Numbering.{number}
 use Rattle.aql_infer_steps.specs.declared.positions.Position.{Position}
 use Rattle.aql_infer_steps.specs.declared.fault.NoTyping.{NoTyping}

@@ -2,9 +2,9 @@
 use Rattle.std.proofs.Common.{ℕ, zero, suc, ◌≡◌, ◌+◌, ◌<◌, ◌≤◌, List, [], ◌∷◌, ◌++◌, refl, sym, ap, ◌∙◌, subst, length, take, drop, get_or, arith, add-one, append-nil, append_assoc, length-append}
 use Rattle.std.proofs.lemmas.List.{take_all, at_drop_all}
 use Rattle.std.proofs.Math.Seq.{drop-cons}
-use Rattle.aql_types.specs.Types.{Sort}
-use Rattle.aql_types.specs.View.{sort_of}
-use Rattle.aql_types.specs.declared.ty.Scheme as code_scheme
+use Rattle.aql_ty.specs.Types.{Sort}
+use Rattle.aql_ty.specs.View.{sort_of}
+use Rattle.aql_ty.specs.declared.ty.Scheme as code_scheme
 use Rattle.aql_value.specs.Lists.{onto}
 use Rattle.aql_syntax.specs.Tree.{Declaration, declared_name}
 use Rattle.aql_syntax.specs.Typing.{environment_of}

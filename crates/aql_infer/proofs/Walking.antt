@@ -5,7 +5,7 @@ use Rattle.std.proofs.Common.{ℕ, ◌≡◌, ◌+◌, ◌<◌, List, [], ◌∷
 use Rattle.aql_value.specs.Strict.{Strict}
 use Rattle.aql_value.specs.declared.ops.ArithOp.{ArithOp}
 use Rattle.aql_value.specs.declared.ops.CompareOp.{CompareOp}
-use Rattle.aql_types.specs.Types.{Ty, natural, truth}
+use Rattle.aql_ty.specs.Types.{Ty, natural, truth}
 use Rattle.aql_syntax.specs.Tree as tree
 use Rattle.aql_syntax.specs.Tree.{Trees, no_tree, Tree, Quals, no_qual, Axes, Defs, count_pats, axes, append}
 use Rattle.aql_syntax.specs.View.{pat_of, tree_of, trees_of, qual_of, quals_of, axes_in, defs_in}

@@ -1,7 +1,7 @@
 -- What `check` answers.
 use Rattle.std.specs.Prelude.{ℕ, zero, suc, List, [], ◌∷◌, Result, Ok, Err}
-use Rattle.aql_types.specs.Types.{Sort}
-use Rattle.aql_types.specs.View.{sort_of}
+use Rattle.aql_ty.specs.Types.{Sort}
+use Rattle.aql_ty.specs.View.{sort_of}
 use Rattle.aql_syntax.specs.Tree.{Declaration}
 use Rattle.aql_syntax.specs.Typing.{DeclHas, environment_of}
 use Rattle.aql_infer_steps.specs.Typed.{sorts_of, ArePrincipal}

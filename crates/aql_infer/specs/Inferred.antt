@@ -1,12 +1,12 @@
 -- What inference answers for one declaration.
 use Rattle.std.specs.Prelude.{◌≡◌, length, Result, Ok, Err, IsOkAnd}
 use Rattle.aql_value.specs.declared.memory.Memory.{Memory}
-use Rattle.aql_types.specs.Types.{apply_sort}
-use Rattle.aql_types.specs.View.{sort_of}
-use Rattle.aql_types.specs.declared.ty.Scheme as code_scheme
+use Rattle.aql_ty.specs.Types.{apply_sort}
+use Rattle.aql_ty.specs.View.{sort_of}
+use Rattle.aql_ty.specs.declared.ty.Scheme as code_scheme
 use Rattle.aql_syntax.specs.Tree.{Declaration, declared_name}
 use Rattle.aql_infer_steps.specs.Constraints.{NumberedSchemes}
-use Rattle.aql_types.specs.Variables.{sort_variables}
+use Rattle.aql_ty.specs.Variables.{sort_variables}
 use Rattle.aql_infer_steps.specs.Numbering.{renumbering}
 use Rattle.aql_infer_steps.specs.Principal.{IsInferred, IsNotInferred}
 use Rattle.aql_infer_steps.specs.View.{scheme_of}

@@ -1,6 +1,6 @@
 -- Two expressions, and forms of several, by the types of their parts.
 use Rattle.std.specs.Prelude.{ℕ, ◌≡◌, ◌++◌, List, Option, Result, Ok, Err}
-use Rattle.aql_types.specs.Types.{Ty}
+use Rattle.aql_ty.specs.Types.{Ty}
 use Rattle.aql_syntax.specs.Tree.{Tree, Trees}
 use Rattle.aql_syntax.specs.Typing.{Locals}
 use Rattle.aql_infer_steps.specs.declared.fault.NoTyping.{NoTyping}

@@ -11,7 +11,7 @@ use aql_infer_steps::fault::NoTyping;
 use aql_infer_steps::positions::{Position, Positions};
 pub use aql_infer_steps::typed::Typed;
 use aql_syntax::ast::{Decl, Decls};
-use aql_types::ty::Scheme;
+use aql_ty::ty::Scheme;
 use aql_value::Memory;
 use std::alloc::Global;
 

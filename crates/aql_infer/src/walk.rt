@@ -23,7 +23,7 @@ use aql_infer_steps::positions::Positions;
 use aql_infer_steps::sketch::Sketch;
 use aql_infer_steps::store::{Store, equal_types, new_variable, require};
 use aql_syntax::ast::{Bind, Expr, LetBind, Pattern, Qual};
-use aql_types::ty::Ty;
+use aql_ty::ty::Ty;
 use aql_value::Memory;
 use std::alloc::Global;
 

@@ -6,7 +6,7 @@ use Rattle.std.proofs.lemmas.Option.{slice_get-get_or}
 use Rattle.aql_value.specs.Partial.{or_else}
 use Rattle.aql_names.specs.Named.{last_named}
 use Rattle.aql_names.specs.Laws.Named.{last_named_inside}
-use Rattle.aql_types.specs.View.{sort_of}
+use Rattle.aql_ty.specs.View.{sort_of}
 use Rattle.aql_syntax.specs.Tree.{Name}
 use Rattle.aql_syntax.specs.Names.{names_equal, find}
 use Rattle.aql_syntax.specs.Typing.{Locals}

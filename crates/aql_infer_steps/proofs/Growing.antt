@@ -1,7 +1,7 @@
 -- Patterns as the code has them, and the local names that they bind.
 use Rattle.std.proofs.Common.{ℕ, ◌≡◌, ◌+◌, ◌<◌, List, [], ◌∷◌, ◌++◌, Option, Some, None, refl, sym, ap, ◌∙◌, length, drop, get_or}
-use Rattle.aql_types.specs.Types.{Ty, Tys, no_type, type, natural, append}
-use Rattle.aql_types.specs.Laws.View.{append_assoc_types, append_none}
+use Rattle.aql_ty.specs.Types.{Ty, Tys, no_type, type, natural, append}
+use Rattle.aql_ty.specs.Laws.View.{append_assoc_types, append_none}
 use Rattle.aql_syntax.specs.Tree.{Pats, count_pats, axes}
 use Rattle.aql_syntax.specs.Typing.{Locals}
 use Rattle.aql_syntax.specs.View.{pat_of, pats_of}

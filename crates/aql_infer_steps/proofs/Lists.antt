@@ -2,11 +2,11 @@
 use Rattle.std.proofs.Common.{ℕ, suc, ◌≡◌, ◌+◌, ◌<◌, ◌≤◌, List, [], ◌∷◌, ◌++◌, Option, Some, None, refl, sym, ap, ◌∙◌, arith, length, drop, get_or, add-one}
 use Rattle.std.proofs.lemmas.List.{at_drop_all}
 use Rattle.std.proofs.Math.Seq.{drop-cons}
-use Rattle.aql_types.specs.Types as types
-use Rattle.aql_types.specs.Types.{Ty, Tys, Subst, no_type, type, natural, append, apply, apply_all, tys_of}
-use Rattle.aql_types.specs.View.{type_of, types_of}
-use Rattle.aql_types.specs.Laws.View.{types_last, types_from, append_assoc_types, append_none}
-use Rattle.aql_types.specs.declared.ty.Ty as code
+use Rattle.aql_ty.specs.Types as types
+use Rattle.aql_ty.specs.Types.{Ty, Tys, Subst, no_type, type, natural, append, apply, apply_all, tys_of}
+use Rattle.aql_ty.specs.View.{type_of, types_of}
+use Rattle.aql_ty.specs.Laws.View.{types_last, types_from, append_assoc_types, append_none}
+use Rattle.aql_ty.specs.declared.ty.Ty as code
 use Rattle.aql_syntax.specs.Typing.{field_type, field_types, record_type}
 use Rattle.aql_syntax.specs.declared.ast.Kind.{Kind}
 use Rattle.aql_infer_steps.specs.Constraints.{State, Made, after, equate, equate_each, literal_parts}

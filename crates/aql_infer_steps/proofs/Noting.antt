@@ -6,7 +6,7 @@ use Rattle.indexmap.specs.IndexMap.{insert_entry}
 use Rattle.aql_value.specs.declared.memory.Memory.{Memory}
 use Rattle.aql_value.specs.Lists.{Every}
 use Rattle.aql_value.specs.Laws.Lists.{Every-impl}
-use Rattle.aql_types.specs.Types.{Ty, no_type, type, append, natural, apply}
+use Rattle.aql_ty.specs.Types.{Ty, no_type, type, append, natural, apply}
 use Rattle.aql_type_graph.specs.declared.node.Equation as node
 use Rattle.aql_type_graph.specs.declared.graph.Graph.{Graph}
 use Rattle.aql_type_graph.specs.Shapes as shape

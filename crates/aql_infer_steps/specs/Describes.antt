@@ -1,6 +1,6 @@
 -- When a list of schemes says what the earlier positions have; local names under a substitution.
 use Rattle.std.proofs.Common.{ℕ, ◌≡◌, ◌<◌, List, [], ◌∷◌, Option, Some, None}
-use Rattle.aql_types.specs.Types.{Ty, Subst, apply, IsWithin, Sort, value, macro, apply_sort}
+use Rattle.aql_ty.specs.Types.{Ty, Subst, apply, IsWithin, Sort, value, macro, apply_sort}
 use Rattle.aql_syntax.specs.Tree.{Name}
 use Rattle.aql_syntax.specs.Names.{find}
 use Rattle.aql_syntax.specs.Typing.{Environment}

@@ -1,8 +1,8 @@
 -- Types without variables, which every instance leaves as they are.
 use Rattle.std.specs.Prelude.{ℕ, ◌≡◌, ◌&&◌, List, map, Bool, true, false, Some}
-use Rattle.aql_types.specs.Types as types
-use Rattle.aql_types.specs.Types.{Ty, natural, truth, var, product, set_of, array_of, Tys, no_type, type, Sort, value, macro}
-use Rattle.aql_types.specs.View.{sort_of}
+use Rattle.aql_ty.specs.Types as types
+use Rattle.aql_ty.specs.Types.{Ty, natural, truth, var, product, set_of, array_of, Tys, no_type, type, Sort, value, macro}
+use Rattle.aql_ty.specs.View.{sort_of}
 use Rattle.aql_syntax.specs.Names.{find}
 use Rattle.aql_names.specs.Named.{Name}
 use Rattle.aql_infer_steps.specs.View.{scheme_of, schemes_of, sort_at, names_of}

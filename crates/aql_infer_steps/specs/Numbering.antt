@@ -1,7 +1,7 @@
 -- The numbering of the variables of what a declaration has, by first appearance.
 use Rattle.std.proofs.Common.{ℕ, zero, suc, ◌≡◌, true, List, [], ◌∷◌}
-use Rattle.aql_types.specs.Types.{var, Subst, Sort, apply_sort}
-use Rattle.aql_types.specs.Variables.{is_one_of, variable_index, sort_variables}
+use Rattle.aql_ty.specs.Types.{var, Subst, Sort, apply_sort}
+use Rattle.aql_ty.specs.Variables.{is_one_of, variable_index, sort_variables}
 
 -- the variable at an index
 unfoldable pub at_index : ℕ → List ℕ → ℕ

@@ -1,8 +1,8 @@
 -- The principal sorts of a script's declarations.
 use Rattle.std.specs.Prelude.{List, [], ◌∷◌}
-use Rattle.aql_types.specs.Types.{Sort}
-use Rattle.aql_types.specs.View.{sort_of}
-use Rattle.aql_types.specs.declared.ty.Scheme as code_scheme
+use Rattle.aql_ty.specs.Types.{Sort}
+use Rattle.aql_ty.specs.View.{sort_of}
+use Rattle.aql_ty.specs.declared.ty.Scheme as code_scheme
 use Rattle.aql_syntax.specs.Tree.{Declaration}
 use Rattle.aql_syntax.specs.Typing.{environment_of, IsPrincipal}
 use Rattle.aql_infer_steps.specs.Numbering.{IsNumbered}

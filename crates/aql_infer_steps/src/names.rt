@@ -1,8 +1,8 @@
 //! Local names, and what the earlier positions have.
 
 ghost use Rattle.std.specs.Prelude.{◌≡◌, ◌∷◌, IfOk, OnOk, Some};
-ghost use Rattle.aql_types.specs.Types.{apply};
-ghost use Rattle.aql_types.specs.View.{type_of, sort_of};
+ghost use Rattle.aql_ty.specs.Types.{apply};
+ghost use Rattle.aql_ty.specs.View.{type_of, sort_of};
 ghost use Rattle.aql_syntax.specs.Names.{names_equal, find};
 ghost use Rattle.aql_infer_steps.specs.Constraints.{raise_variables, fresh_variables, make_value, make_global, make_name, make_macro, make_call};
 ghost use Rattle.aql_infer_steps.specs.View.{sketch_type, sketch_in, sort_at, part_of, state_of, locals_of, schemes_of, Extends, MakesType};
@@ -12,7 +12,7 @@ use crate::fault::NoTyping;
 use crate::positions::{Ground, Position, Positions};
 use crate::sketch::{Instance, Part, Sketch};
 use crate::store::{Store, equal_types, use_type};
-use aql_types::ty::{Scheme, Ty};
+use aql_ty::ty::{Scheme, Ty};
 use aql_value::made::both;
 use aql_value::{Memory, Str};
 use std::alloc::Global;

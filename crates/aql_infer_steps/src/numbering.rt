@@ -1,17 +1,17 @@
 //! Instances of schemes, and their variables numbered by first appearance.
 
 ghost use Rattle.std.specs.Prelude.{◌≡◌, IfOk};
-ghost use Rattle.aql_types.specs.Types.{apply, apply_all, apply_sort};
-ghost use Rattle.aql_types.specs.View.{type_of, types_of, sort_of};
+ghost use Rattle.aql_ty.specs.Types.{apply, apply_all, apply_sort};
+ghost use Rattle.aql_ty.specs.View.{type_of, types_of, sort_of};
 ghost use Rattle.aql_type_solve.specs.Solution.{subst_in};
 ghost use Rattle.aql_infer_steps.specs.Numbering.{renumbering};
 ghost use Rattle.aql_infer_steps.specs.View.{draft_sort, sketch_type, sketch_types, instance_type};
 
 use crate::positions::Positions;
 use crate::sketch::{Draft, Instance, Sketch};
+use aql_ty::ty::{Scheme, Ty, row};
+use aql_ty::variables::find_index;
 use aql_type_solve::solve::Solution;
-use aql_types::ty::{Scheme, Ty, row};
-use aql_types::variables::find_index;
 use aql_value::Memory;
 use aql_value::made::{both, make_box};
 use std::alloc::Global;
@@ -133,7 +133,7 @@ pub fn renumber_scheme(alloc: Global, s: &Scheme, names: &[u64]) -> Result<Schem
 
 // The type with each variable by its index.
 #[cycle(renumber)]
-#[tactic(auto, using(aql_types::specs::Laws::View::type_of_row))]
+#[tactic(auto, using(aql_ty::specs::Laws::View::type_of_row))]
 fn renumber(alloc: Global, t: &Ty, names: &[u64]) -> Result<Ty, Memory>
     ensures { IfOk result (λ made. type_of made ≡ apply (renumbering names.now) (type_of t.now)) }
 {
@@ -155,7 +155,7 @@ fn renumber(alloc: Global, t: &Ty, names: &[u64]) -> Result<Ty, Memory>
 }
 
 #[cycle(renumber)]
-#[tactic(auto, using(aql_types::specs::Laws::View::list_steps))]
+#[tactic(auto, using(aql_ty::specs::Laws::View::list_steps))]
 fn renumber_all(alloc: Global, ts: &[Ty], names: &[u64]) -> Result<Vec<Ty>, Memory>
     ensures { IfOk result (λ made. types_of made.items ≡ apply_all (renumbering names.now)
         (types_of ts.now)) }

@@ -1,7 +1,7 @@
 //! What an operation asks of the types of its parts, and its own type.
 
 ghost use Rattle.std.specs.Prelude.{◌≡◌, ◌++◌, IfOk, length};
-ghost use Rattle.aql_types.specs.Types as types;
+ghost use Rattle.aql_ty.specs.Types as types;
 ghost use Rattle.aql_infer_steps.specs.Constraints as constraints;
 ghost use Rattle.aql_infer_steps.specs.Constraints.{equate_each, pair_type, made_truth, made_truths, made_either, made_choice, made_empty, made_arith, made_compare, made_union, made_gen, made_get, made_sub, made_dim, made_index, made_literal, made_tuple};
 ghost use Rattle.aql_infer_steps.specs.View.{sketch_type, state_of, types_in, MakesType, GivesState};
@@ -10,8 +10,8 @@ use crate::fault::NoTyping;
 use crate::positions::Positions;
 use crate::sketch::{Sketch, tuple_of};
 use crate::store::{Store, becomes, equal_types, new_variable, require, use_type};
-use aql_types::index::index_type;
-use aql_types::ty::Ty;
+use aql_ty::index::index_type;
+use aql_ty::ty::Ty;
 use aql_value::Memory;
 use aql_value::made::make_pair_list;
 use std::alloc::Global;

@@ -14,7 +14,7 @@ use crate::positions::Positions;
 use crate::sketch::{Sketch, tuple_of};
 use crate::store::{Store, becomes, equal_types, new_variable};
 use aql_syntax::ast::Pattern;
-use aql_types::ty::Ty;
+use aql_ty::ty::Ty;
 use std::alloc::Global;
 
 /// The type that a pattern matches. The names that it binds are added to the local names.

@@ -1,15 +1,15 @@
 //! What the earlier positions have, in order, with an index of their names.
 
 ghost use Rattle.std.specs.Prelude.{◌≡◌, ◌++◌, ◌∷◌, [], OnOk, OnErr, MatchOption, None, length};
-ghost use Rattle.aql_types.specs.Types.{natural};
-ghost use Rattle.aql_types.specs.View.{type_of, types_of, sort_of};
+ghost use Rattle.aql_ty.specs.Types.{natural};
+ghost use Rattle.aql_ty.specs.View.{type_of, types_of, sort_of};
 ghost use Rattle.aql_syntax.specs.Names.{find};
 ghost use Rattle.aql_infer_steps.specs.View.{schemes_of, sort_at, part_of};
 ghost use Rattle.aql_infer_steps.specs.Ground.{is_ground, are_ground, ground_of, IsLatest};
 
 use crate::sketch::{Instance, Part};
 use aql_names::names::Names;
-use aql_types::ty::{Scheme, Ty};
+use aql_ty::ty::{Scheme, Ty};
 use aql_value::{Memory, Str};
 use std::alloc::Global;
 use std::marker::Model;
@@ -166,7 +166,7 @@ fn scheme_ground(s: &Scheme) -> Ground
 
 // Whether no variable stands in a type.
 #[cycle(ground)]
-#[tactic(auto, using(aql_types::specs::Laws::View::type_of_row))]
+#[tactic(auto, using(aql_ty::specs::Laws::View::type_of_row))]
 fn has_no_variable(t: &Ty) -> bool
     ensures { result ≡ is_ground (type_of t.now) }
 {
@@ -182,7 +182,7 @@ fn has_no_variable(t: &Ty) -> bool
 }
 
 #[cycle(ground)]
-#[tactic(auto, using(aql_types::specs::Laws::View::list_steps))]
+#[tactic(auto, using(aql_ty::specs::Laws::View::list_steps))]
 fn have_no_variable(ts: &[Ty]) -> bool
     ensures { result ≡ are_ground (types_of ts.now) }
 {

@@ -1,17 +1,17 @@
 //! The types of readers.
 
 ghost use Rattle.std.specs.Prelude.{◌≡◌, ◌∷◌, [], IfOk};
-ghost use Rattle.aql_types.specs.Types as types;
-ghost use Rattle.aql_types.specs.Types.{natural, tys_of, index_type};
-ghost use Rattle.aql_types.specs.View.{type_of, types_of};
+ghost use Rattle.aql_ty.specs.Types as types;
+ghost use Rattle.aql_ty.specs.Types.{natural, tys_of, index_type};
+ghost use Rattle.aql_ty.specs.View.{type_of, types_of};
 ghost use Rattle.aql_syntax.specs.Typing as typing;
 ghost use Rattle.aql_syntax.specs.Typing.{field_type, field_types, record_type};
 ghost use Rattle.aql_syntax.specs.View.{reader_of};
 ghost use Rattle.aql_infer_steps.specs.Constraints.{reader_fits};
 
 use aql_syntax::ast::{Kind, Reader};
-use aql_types::index::index_type;
-use aql_types::ty::{Ty, row};
+use aql_ty::index::index_type;
+use aql_ty::ty::{Ty, row};
 use aql_value::Memory;
 use aql_value::made::make_pair_list;
 use std::alloc::Global;
@@ -105,7 +105,7 @@ fn slab(alloc: Global, rank: u64) -> Result<Ty, Memory>
 }
 
 // File, variable, start, count and stride.
-#[tactic(auto, using(aql_types::specs::Laws::View::list_steps))]
+#[tactic(auto, using(aql_ty::specs::Laws::View::list_steps))]
 fn strided_slab(alloc: Global, rank: u64) -> Result<Ty, Memory>
     ensures { IfOk result (λ t. type_of t ≡ types.product
         (tys_of (types.text ∷ types.text ∷ index_type rank ∷ index_type rank ∷ index_type rank

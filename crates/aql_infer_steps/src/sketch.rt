@@ -1,11 +1,11 @@
 //! Types under way: what an earlier position has stands in them as a reference.
 
 ghost use Rattle.std.specs.Prelude.{◌≡◌, IfOk};
-ghost use Rattle.aql_types.specs.Types as types;
+ghost use Rattle.aql_ty.specs.Types as types;
 ghost use Rattle.aql_infer_steps.specs.View.{sketch_type, sketch_types};
 
 use crate::positions::Positions;
-use aql_types::ty::Ty;
+use aql_ty::ty::Ty;
 use aql_value::Memory;
 use std::alloc::Global;
 

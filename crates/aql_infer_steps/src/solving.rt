@@ -7,8 +7,8 @@ ghost use Rattle.aql_infer_steps.specs.View.{state_of};
 use crate::nodes::make_graph;
 use crate::positions::Positions;
 use crate::store::Store;
+use aql_ty::fault::UnifyFault;
 use aql_type_solve::solve::{Solution, solve_graph};
-use aql_types::fault::UnifyFault;
 use std::alloc::Global;
 
 /// A most general solution of the equations under which the types that are used and both sides of each equation are within the

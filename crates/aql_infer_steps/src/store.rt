@@ -7,7 +7,7 @@ ghost use Rattle.aql_infer_steps.specs.View.{sketch_type, state_of, MakesState, 
 use crate::fault::NoTyping;
 use crate::positions::Positions;
 use crate::sketch::Sketch;
-use aql_types::ty::Ty;
+use aql_ty::ty::Ty;
 use aql_value::Memory;
 use aql_value::made::both;
 use std::alloc::Global;

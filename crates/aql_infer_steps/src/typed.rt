@@ -1,6 +1,6 @@
 //! The schemes of a script's declarations.
 
-use aql_types::ty::Scheme;
+use aql_ty::ty::Scheme;
 
 /// The schemes of declarations, one a position.
 #[derive(Drop)]

@@ -1,6 +1,6 @@
 -- The types of the prelude's declarations, each a derivation over those before it.
 use Rattle.std.specs.Prelude.{List, [], ◌∷◌}
-use Rattle.aql_types.specs.Types.{Sort}
+use Rattle.aql_ty.specs.Types.{Sort}
 use Rattle.aql_syntax.specs.Tree.{Declaration}
 use Rattle.aql_syntax.specs.Typing.{DeclHas, environment_of}
 use Rattle.aql_prelude.specs.Prelude.{prelude_decls}

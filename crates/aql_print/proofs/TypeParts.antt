@@ -1,7 +1,7 @@
 -- The parts of a tuple type one after another.
 use Rattle.std.proofs.Common.{ℕ, suc, zero, ◌≡◌, List, [], ◌∷◌, length, get_or, refl, ap}
-use Rattle.aql_types.specs.View.{type_of, types_of}
-use Rattle.aql_types.specs.declared.ty.Ty.{Ty}
+use Rattle.aql_ty.specs.View.{type_of, types_of}
+use Rattle.aql_ty.specs.declared.ty.Ty.{Ty}
 use Rattle.aql_print.specs.TypeText.{part_text, part_texts, type_text}
 
 pub length-parts : (ts : List Ty) (vs : List ℕ) → length (part_texts (types_of ts) vs) ≡ length ts

@@ -1,8 +1,8 @@
 -- The text of a type and of what a declaration has, in ASCII bytes.
 use Rattle.std.specs.Prelude.{ℕ, ◌+◌, ◌/◌, ◌%◌, ◌==◌, List, [], ◌∷◌, ◌++◌, codes, decimal, if◌then◌else◌}
-use Rattle.aql_types.specs.Types as types
-use Rattle.aql_types.specs.Types.{Ty, natural, truth, var, product, set_of, array_of, Tys, no_type, type, Sort, value, macro}
-use Rattle.aql_types.specs.Variables.{variable_index, sort_variables}
+use Rattle.aql_ty.specs.Types as types
+use Rattle.aql_ty.specs.Types.{Ty, natural, truth, var, product, set_of, array_of, Tys, no_type, type, Sort, value, macro}
+use Rattle.aql_ty.specs.Variables.{variable_index, sort_variables}
 use Rattle.aql_print.specs.Joined.{join_texts}
 
 -- variable n, counted from 0: `'a` to `'z`, then `'a1` to `'z1`, `'a2` and so on

@@ -1,12 +1,12 @@
 ghost use Rattle.std.specs.Prelude.{◌≡◌, ◌+◌, ◌++◌, ◌∷◌, [], OnOk, IfOk, decimal, codes};
-ghost use Rattle.aql_types.specs.View.{type_of, types_of, sort_of};
+ghost use Rattle.aql_ty.specs.View.{type_of, types_of, sort_of};
 ghost use Rattle.aql_print.specs.Appends.{AppendsPrefix};
 ghost use Rattle.aql_print.specs.Joined.{join_texts};
 ghost use Rattle.aql_print.specs.TypeText.{variable_text, part_text, part_texts, type_text, scheme_text};
 
 use crate::bytes::{put, put_before, put_number};
-use aql_types::ty::{Scheme, Ty};
-use aql_types::variables::{find_index, scheme_variables};
+use aql_ty::ty::{Scheme, Ty};
+use aql_ty::variables::{find_index, scheme_variables};
 use aql_value::Memory;
 use std::alloc::Global;
 
@@ -66,7 +66,7 @@ fn add_variable(n: u64, text: Vec<u8>) -> Result<Vec<u8>, Memory>
 
 // Adds the text of a type.
 #[cycle(add_type)]
-#[tactic(auto, using(aql_types::specs::Laws::View::type_of_row))]
+#[tactic(auto, using(aql_ty::specs::Laws::View::type_of_row))]
 fn add_type(t: &Ty, names: &[u64], text: Vec<u8>) -> Result<Vec<u8>, Memory>
     ensures { IfOk result (λ made. made.items ≡ text.items ++ type_text (type_of t.now) names.now) }
 {

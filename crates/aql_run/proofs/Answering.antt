@@ -11,13 +11,13 @@ use Rattle.std.specs.Option.{ForSome}
 use Rattle.aql_outside.specs.Contents.{Content}
 use Rattle.aql_value.specs.Datum.{Datum}
 use Rattle.aql_value.specs.Laws.Lists.{slice_get-append_left, slice_get-append_right}
-use Rattle.aql_types.specs.Types.{Sort}
+use Rattle.aql_ty.specs.Types.{Sort}
 use Rattle.aql_syntax.specs.Script.{Earlier, globals_of, outcome_after}
 use Rattle.aql_syntax.specs.Size.{IsWithinLimits, AreWithinLimits}
 use Rattle.aql_syntax.specs.Tree.{Declaration, declared_name}
 use Rattle.aql_syntax.specs.View.{decls_of}
 use Rattle.aql_syntax.specs.Laws.View.{length-decls_of}
-use Rattle.aql_words.specs.Settings.{Settings}
+use Rattle.aql_options.specs.Settings.{Settings}
 use Rattle.aql_value.specs.Partial.{◌>>=◌}
 use Rattle.nrca_term.specs.Meaning.{Outcomes, outcome}
 use Rattle.aql_prelude.specs.Prelude.{prelude_count}

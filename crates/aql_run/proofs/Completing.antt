@@ -4,7 +4,7 @@ use Rattle.std.specs.Prelude.{Bool, Option, Some, None, option_map, if◌then◌
 use Rattle.std.specs.List.{slice_get}
 use Rattle.aql_outside.specs.Causes.{Rose}
 use Rattle.aql_outside.specs.Contents.{Content}
-use Rattle.aql_types.specs.Types.{Sort}
+use Rattle.aql_ty.specs.Types.{Sort}
 use Rattle.aql_syntax.specs.Grammar.{ReadsScript}
 use Rattle.aql_syntax.specs.Lexis.{Lexeme}
 use Rattle.aql_syntax.specs.Script.{Earlier, globals_of}
@@ -33,8 +33,8 @@ use Rattle.aql_session.specs.Step.{HasFileFault, HasTableFault, IsAffordable, Is
 use Rattle.aql_session.specs.declared.answer.Answer.{Answer}
 use Rattle.aql_session.specs.declared.answer.StepFault.{StepFault}
 use Rattle.aql_session.specs.declared.answer.StepFault.TheVariants as faults
-use Rattle.aql_words.specs.Words.{options_of}
-use Rattle.aql_words.specs.Settings.{Settings, settings_of}
+use Rattle.aql_options.specs.Words.{options_of}
+use Rattle.aql_options.specs.Settings.{Settings, settings_of}
 use Rattle.aql_run.specs.Answered.{AreAnswered, reach}
 use Rattle.aql_run.specs.Laws.Answered.{told_at}
 use Rattle.aql_run.specs.Complete.{work_of, AreOutcomes, IsWithinBudget, IsSound, EndsWell, Tokenised}

@@ -8,10 +8,10 @@ use Rattle.aql_value.specs.Datum.{Datum}
 use Rattle.aql_syntax.specs.Size.{AreWithinLimits}
 use Rattle.aql_syntax.specs.Tree.{Declaration}
 use Rattle.nrca_term.specs.Meaning.{Outcomes}
-use Rattle.aql_words.specs.Words.{HasReading, options_of}
-use Rattle.aql_words.specs.declared.words.Options.{Options}
-use Rattle.aql_words.specs.declared.fault.WordFault.{WordFault}
-use Rattle.aql_words.specs.declared.fault.WordFault.TheVariants as wording
+use Rattle.aql_options.specs.Words.{HasReading, options_of}
+use Rattle.aql_options.specs.declared.words.Options.{Options}
+use Rattle.aql_options.specs.declared.fault.WordFault.{WordFault}
+use Rattle.aql_options.specs.declared.fault.WordFault.TheVariants as wording
 use Rattle.aql_prelude.specs.Prelude.{prelude_count}
 use Rattle.aql_script.specs.Laws.Position.{drop_prelude}
 use Rattle.aql_script.specs.Script.{Prepares, ReadsAlone, AreTyped, positions}
@@ -22,7 +22,7 @@ use Rattle.aql_session.specs.Device.{Device}
 use Rattle.aql_session.specs.declared.answer.Answer.{Answer}
 use Rattle.aql_session.specs.declared.answer.StepFault.{StepFault}
 use Rattle.aql_session.specs.declared.answer.StepFault.TheVariants as faults
-use Rattle.aql_words.specs.Settings.{Settings, settings_of}
+use Rattle.aql_options.specs.Settings.{Settings, settings_of}
 use Rattle.aql_run.specs.Answered.{AreAnswered, IsStopped, ReadNoFile, reach}
 use Rattle.aql_run.specs.Laws.Answered.{are_values}
 use Rattle.aql_run.specs.Entry.{entry, entries}

@@ -23,7 +23,7 @@ use Rattle.aql_session.specs.declared.answer.Answer.{Answer}
 use Rattle.aql_session.specs.declared.answer.StepFault.{StepFault}
 use Rattle.aql_session.specs.declared.answer.StepFault.TheVariants as faults
 use Rattle.aql_prelude.specs.Prelude.{prelude_count}
-use Rattle.aql_words.specs.Settings.{Settings}
+use Rattle.aql_options.specs.Settings.{Settings}
 use Rattle.aql_run.specs.Answered.{AreAnswered, IsStopped, ReadNoFile, reach}
 use Rattle.aql_run.specs.Entry.{entry, entries}
 use Rattle.aql_run.specs.Steps.{own, sorts_in, IsPrepared, Declared, AnswersOne, NextReadsNoFile, CutsEntry, Halts, IsOver, Going, AllAnswered, CutsLines, EndsEarly}

@@ -18,7 +18,7 @@ use Rattle.aql_session.specs.Step.{IsOutcome, OutcomesFit, BindsPosition, ReadsN
 use Rattle.aql_prelude.specs.Prelude.{prelude_count}
 use Rattle.aql_run.specs.Answered.{AreAnswered}
 use Rattle.aql_run.specs.Laws.Answered.{is_macro, macro_at}
-use Rattle.aql_words.specs.Settings.{Settings}
+use Rattle.aql_options.specs.Settings.{Settings}
 use Rattle.aql_run.specs.Steps.{own, sorts_in, IsPrepared, Declared, Progress}
 use Rattle.aql_run.proofs.Answering.{map_take_next, onto_next, next_is}
 

@@ -4,7 +4,7 @@ use Rattle.std.specs.List.{slice_get}
 use Rattle.std.specs.Option.{ForSome}
 use Rattle.aql_outside.specs.Contents.{Content}
 use Rattle.aql_value.specs.Datum.{Datum}
-use Rattle.aql_types.specs.Types.{Sort}
+use Rattle.aql_ty.specs.Types.{Sort}
 use Rattle.aql_syntax.specs.Script.{Earlier, globals_of, outcome_after}
 use Rattle.aql_syntax.specs.Tree.{Declaration}
 use Rattle.nrca_term.specs.Meaning.{Outcomes}
@@ -17,7 +17,7 @@ use Rattle.aql_session.specs.declared.answer.Answer.{Answer}
 use Rattle.aql_session.specs.declared.answer.StepFault.{StepFault}
 use Rattle.aql_session.specs.declared.answer.StepFault.TheVariants as faults
 use Rattle.aql_script.specs.Script.{positions}
-use Rattle.aql_words.specs.Settings.{Settings}
+use Rattle.aql_options.specs.Settings.{Settings}
 
 -- the answer of a declaration after others, and its outcome: what it denotes or reads; where the files are told, the script's
 -- outcome over them; and which term counts, with what it and reading the outcome took

@@ -18,7 +18,7 @@ use Rattle.aql_session.specs.Asked.{Asked}
 use Rattle.aql_session.specs.Bound.{earlier_of}
 use Rattle.aql_session.specs.Reading.{reading, IsFaultless}
 use Rattle.aql_session.specs.Step.{IsAffordable, IsOutcome, asks}
-use Rattle.aql_words.specs.Words.{HasReading, options_of}
+use Rattle.aql_options.specs.Words.{HasReading, options_of}
 use Rattle.aql_run.specs.Outcome.{Told, IsScript}
 use Rattle.aql_run.specs.declared.status.Status.{Status}
 use Rattle.aql_run.specs.declared.status.Status.TheVariants as status

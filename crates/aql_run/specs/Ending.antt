@@ -6,17 +6,17 @@ use Rattle.aql_session.specs.Device.{Device}
 use Rattle.aql_session.specs.declared.answer.Answer.{Answer}
 use Rattle.aql_session.specs.declared.answer.StepFault.{StepFault}
 use Rattle.aql_session.specs.declared.answer.StepFault.TheVariants as faults
-use Rattle.aql_words.specs.Words.{HasReading, options_of}
-use Rattle.aql_words.specs.declared.words.Options.{Options}
-use Rattle.aql_words.specs.declared.fault.WordFault.{WordFault}
-use Rattle.aql_words.specs.declared.fault.WordFault.TheVariants as wording
+use Rattle.aql_options.specs.Words.{HasReading, options_of}
+use Rattle.aql_options.specs.declared.words.Options.{Options}
+use Rattle.aql_options.specs.declared.fault.WordFault.{WordFault}
+use Rattle.aql_options.specs.declared.fault.WordFault.TheVariants as wording
 use Rattle.aql_script.specs.declared.preparing.Prepared.{Prepared}
 use Rattle.aql_script.specs.declared.fault.ScriptFault.{ScriptFault}
 use Rattle.aql_script.specs.declared.fault.ScriptFault.TheVariants as refused
 use Rattle.aql_script.specs.Script.{Prepares, ReadsAlone}
 use Rattle.aql_run.specs.Lines.{at_byte, in_declaration}
 use Rattle.aql_run.specs.Sample.{sample_text}
-use Rattle.aql_words.specs.Settings.{Settings}
+use Rattle.aql_options.specs.Settings.{Settings}
 use Rattle.aql_run.specs.Steps.{own, IsPrepared, AnswersAll, EndsAt}
 use Rattle.aql_run.specs.declared.steps.Halt.{Halt}
 use Rattle.aql_run.specs.Codes.{code_of}

@@ -4,7 +4,7 @@ use Rattle.std.specs.Borrow.{Bor}
 use Rattle.std.specs.Global.{Box}
 use Rattle.aql_value.specs.Datum.{Datum}
 use Rattle.aql_value.specs.Meaning.{datum}
-use Rattle.aql_types.specs.View.{sort_of}
+use Rattle.aql_ty.specs.View.{sort_of}
 use Rattle.nrca_array.specs.Held.{held_datum}
 use Rattle.nrca_array.specs.declared.held.Held.{Held}
 use Rattle.nrca_encoded.specs.declared.ran.Graph.{Graph}

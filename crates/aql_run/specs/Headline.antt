@@ -6,7 +6,7 @@ use Rattle.aql_run.specs.Codes.{code_of}
 use Rattle.aql_run.specs.declared.status.Status.{Status}
 use Rattle.aql_run.specs.declared.status.Status.TheVariants as statuses
 use Rattle.aql_session.specs.Device.{Device}
-use Rattle.aql_words.specs.Words.{options_of}
+use Rattle.aql_options.specs.Words.{options_of}
 use Rattle.aql_run.specs.Complete.{EndsWell}
 use Rattle.aql_run.specs.Devices.{Devices, told_by}
 use Rattle.aql_run.specs.Outcome.{RunsWords}

@@ -4,7 +4,7 @@ use Rattle.std.specs.Io.KnownBytes.{IsAtEnd}
 use Rattle.std.specs.Option.{ForSome}
 use Rattle.aql_outside.specs.Causes.{Rose}
 use Rattle.aql_outside.specs.Contents.{Content}
-use Rattle.aql_types.specs.Types.{Sort}
+use Rattle.aql_ty.specs.Types.{Sort}
 use Rattle.aql_syntax.specs.Grammar.{SyntaxFaultAt}
 use Rattle.aql_syntax.specs.Lexis.{Lexeme, TextFaultAt}
 use Rattle.aql_syntax.specs.Script.{values}
@@ -19,8 +19,8 @@ use Rattle.aql_session.specs.Reading.{reading}
 use Rattle.aql_session.specs.declared.answer.Answer.{Answer}
 use Rattle.aql_session.specs.declared.answer.StepFault.{StepFault}
 use Rattle.aql_session.specs.declared.answer.StepFault.TheVariants as faults
-use Rattle.aql_words.specs.Words.{HasReading, options_of}
-use Rattle.aql_words.specs.Settings.{Settings, settings_of}
+use Rattle.aql_options.specs.Words.{HasReading, options_of}
+use Rattle.aql_options.specs.Settings.{Settings, settings_of}
 use Rattle.aql_run.specs.Answered.{AreAnswered, IsStopped, ReadNoFile, reach}
 use Rattle.aql_run.specs.Entry.{entries}
 use Rattle.aql_run.specs.Lines.{at_byte, in_declaration, of_file, of_table}

@@ -4,7 +4,7 @@ use Rattle.std.specs.List.{slice_get}
 use Rattle.std.specs.Io.KnownBytes.{Appends}
 use Rattle.aql_outside.specs.Contents.{Content}
 use Rattle.aql_value.specs.Datum.{Datum}
-use Rattle.aql_types.specs.Types.{Sort}
+use Rattle.aql_ty.specs.Types.{Sort}
 use Rattle.aql_infer_steps.specs.Typed.{sorts_of}
 use Rattle.aql_syntax.specs.Size.{AreWithinLimits}
 use Rattle.aql_syntax.specs.Tree.{Declaration}
@@ -18,7 +18,7 @@ use Rattle.aql_session.specs.Device.{Device}
 use Rattle.aql_session.specs.Step.{IsOverTurns, OutcomesFit, ReadsNoFile}
 use Rattle.aql_session.specs.declared.answer.Answer.{Answer}
 use Rattle.aql_session.specs.declared.answer.StepFault.TheVariants as faults
-use Rattle.aql_words.specs.Settings.{Settings}
+use Rattle.aql_options.specs.Settings.{Settings}
 use Rattle.aql_run.specs.Answered.{AreAnswered, IsStopped, ReadNoFile, reach}
 use Rattle.aql_run.specs.Entry.{entry, entries}
 use Rattle.aql_run.specs.declared.steps.Halt.{Halt}

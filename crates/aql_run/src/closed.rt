@@ -2,17 +2,17 @@
 //! that stay closed in the proofs above.
 ghost use Rattle.std.specs.Prelude.{◌≡◌, [], map, IfOk, IsErrOf};
 ghost use Rattle.std.specs.String.{string_bytes};
-ghost use Rattle.aql_words.specs.Words.{AreInRange};
+ghost use Rattle.aql_options.specs.Words.{AreInRange};
 ghost use Rattle.aql_session.specs.Device.{sink_of, files_of, BlamesSink, BlamesFiles};
-ghost use Rattle.aql_words.specs.Settings.{settings_of};
+ghost use Rattle.aql_options.specs.Settings.{settings_of};
 ghost use Rattle.aql_run.specs.Steps.{IsOfDevice};
 ghost use Rattle.aql_run.specs.Ending.{Answering, ReadsOptions, IsReady, Readies};
 
 use crate::steps::{Halt, answer_all};
+use aql_options::{WordFault, read_words};
 use aql_outside::{Files, Gate, Sink};
 use aql_script::{Prepared, ScriptFault, prepare};
 use aql_session::{Answer, Options};
-use aql_words::{WordFault, read_words};
 use std::alloc::Global;
 use std::thread::Threads;
 

@@ -29,9 +29,9 @@ mod steps;
 mod writing;
 
 pub use crate::sample::sample_script;
+pub use aql_options::{WordFault, read_words};
 use aql_outside::{Files, Gate, Sink, Source};
 pub use aql_session::Options;
-pub use aql_words::{WordFault, read_words};
 use closed::Machine;
 use laws::tokens_exist;
 pub use report::{Answers, Report, Stop};

@@ -1,10 +1,10 @@
 //! A run, from the words to the last line.
 ghost use Rattle.std.specs.Prelude.{◌≡◌, ◌≢◌, ◌≤◌, ◌+◌, ◌⊎◌, List, ℕ, [], codes, map, IfOk, None, Some};
 ghost use Rattle.std.specs.String.{string_bytes};
-ghost use Rattle.aql_words.specs.Words.{AreInRange};
+ghost use Rattle.aql_options.specs.Words.{AreInRange};
 ghost use Rattle.aql_session.specs.Device.{source_of, sink_of, files_of, BlamesSink};
 ghost use Rattle.aql_run.specs.Lines.{in_declaration};
-ghost use Rattle.aql_words.specs.Settings.{settings_of};
+ghost use Rattle.aql_options.specs.Settings.{settings_of};
 ghost use Rattle.aql_run.specs.Devices.{NoticesFiles, NoticesInput};
 ghost use Rattle.aql_run.specs.Ending.{AnswersEach, HasSample, EndsWith, IsReady, Refused, Responds, Running, Samples, Serving, Stopped};
 
@@ -16,11 +16,11 @@ use crate::sample::sample_script;
 use crate::status::Status;
 use crate::steps::Halt;
 use crate::writing::write_all;
+use aql_options::WordFault;
 use aql_outside::{Files, Gate, Sink, Source};
 use aql_script::{Prepared, ScriptFault};
 use aql_session::{Answer, Options, StepFault};
 use aql_value::Memory;
-use aql_words::WordFault;
 use std::alloc::Global;
 use std::thread::Threads;
 

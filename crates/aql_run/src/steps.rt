@@ -1,11 +1,11 @@
 //! The declarations of a script, one after another.
 ghost use Rattle.std.specs.Prelude.{◌≡◌, ◌≤◌, ◌<◌, ◌+◌, ◌-◌, ◌∷◌, [], length, vec_len, OnOk, IfOk, IfErr, IsOk, IsErrOf, Some};
-ghost use Rattle.aql_words.specs.Words.{AreInRange};
+ghost use Rattle.aql_options.specs.Words.{AreInRange};
 ghost use Rattle.aql_prelude.specs.Prelude.{prelude_count};
 ghost use Rattle.aql_session.specs.Bound.{outcomes};
 ghost use Rattle.aql_session.specs.Device.{sink_of, files_of, BlamesSink, BlamesFiles};
 ghost use Rattle.aql_run.specs.Entry.{entry, lent_value};
-ghost use Rattle.aql_words.specs.Settings.{settings_of};
+ghost use Rattle.aql_options.specs.Settings.{settings_of};
 ghost use Rattle.aql_run.specs.Steps.{IsPrepared, Progress, AnswersOne, Halts, IsNoFault, IsOver, Declared, NextReadsNoFile, AnswersAll, EndsAt, IsOfDevice};
 ghost use Rattle.aql_run.specs.Writing.{WritesFront};
 

@@ -9,9 +9,9 @@ use Rattle.aql_value.specs.Meaning as meaning
 use Rattle.aql_value.specs.Operations.{as_natural, as_text, as_tuple, index_numbers}
 use Rattle.aql_value.specs.Partial.{◌>>=◌, each}
 use Rattle.aql_value.specs.declared.value.Value.{Value}
-use Rattle.aql_types.specs.Types as types
-use Rattle.aql_types.specs.Types.{IsRank, IsType, IsWithin, index_type, tys_of}
-use Rattle.aql_types.specs.ValueTypes.{HasType, AllHaveTypes}
+use Rattle.aql_ty.specs.Types as types
+use Rattle.aql_ty.specs.Types.{IsRank, IsType, IsWithin, index_type, tys_of}
+use Rattle.aql_ty.specs.ValueTypes.{HasType, AllHaveTypes}
 use Rattle.aql_syntax.specs.Tree as tree
 use Rattle.aql_syntax.specs.Tree.{Reader}
 use Rattle.aql_syntax.specs.Typing.{reader_type, argument_type, record_type}

@@ -6,9 +6,9 @@ use Rattle.aql_value.specs.Datum.{Datum, Table, data_of}
 use Rattle.aql_value.specs.Indices.{product}
 use Rattle.aql_value.specs.Laws.Lists.{Every-impl}
 use Rattle.aql_value.specs.Valid.{IsValue}
-use Rattle.aql_types.specs.Types as types
-use Rattle.aql_types.specs.Types.{Ty, IsWithin}
-use Rattle.aql_types.specs.ValueTypes.{HasType}
+use Rattle.aql_ty.specs.Types as types
+use Rattle.aql_ty.specs.Types.{Ty, IsWithin}
+use Rattle.aql_ty.specs.ValueTypes.{HasType}
 use Rattle.aql_syntax.specs.Tree.{Reader}
 use Rattle.aql_syntax.specs.Typing.{reader_type, argument_type}
 use Rattle.cdf_slab.specs.Numbers.{IsCell}

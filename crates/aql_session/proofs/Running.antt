@@ -8,10 +8,10 @@ use Rattle.std.proofs.lemmas.List.{length-map}
 use Rattle.aql_outside.specs.Contents.{Content}
 use Rattle.aql_value.specs.Datum.{Datum}
 use Rattle.aql_value.specs.Partial.{◌>>=◌}
-use Rattle.aql_types.specs.Types.{Ty, Sort, Subst, apply, value, macro, IsWithin}
-use Rattle.aql_types.specs.ValueTypes.{HasType}
-use Rattle.aql_types.specs.View.{sort_of}
-use Rattle.aql_types.specs.declared.ty.Scheme.{Scheme}
+use Rattle.aql_ty.specs.Types.{Ty, Sort, Subst, apply, value, macro, IsWithin}
+use Rattle.aql_ty.specs.ValueTypes.{HasType}
+use Rattle.aql_ty.specs.View.{sort_of}
+use Rattle.aql_ty.specs.declared.ty.Scheme.{Scheme}
 use Rattle.aql_infer_steps.specs.Typed.{ArePrincipal, sorts_of}
 use Rattle.aql_infer_steps.specs.Laws.Principal.{sort-at}
 use Rattle.aql_syntax.specs.Denotation.{den}

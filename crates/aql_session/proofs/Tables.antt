@@ -8,8 +8,8 @@ use Rattle.std.proofs.lemmas.Bool.{cases_Bool, ltb-false}
 use Rattle.std.proofs.lemmas.Str.{IsUtf8-from_is_utf8, is_utf8-from_IsUtf8}
 use Rattle.aql_outside.specs.Causes.{Rose}
 use Rattle.aql_outside.specs.Contents.{Content}
-use Rattle.aql_types.specs.Types as types
-use Rattle.aql_types.specs.ValueTypes.{HasType}
+use Rattle.aql_ty.specs.Types as types
+use Rattle.aql_ty.specs.ValueTypes.{HasType}
 use Rattle.aql_value.specs.Datum.{Datum}
 use Rattle.aql_value.specs.Valid.{IsValue}
 use Rattle.aql_syntax.specs.Typing.{record_type}

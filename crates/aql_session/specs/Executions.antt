@@ -12,10 +12,10 @@ use Rattle.aql_value.specs.declared.value.Value.{Value}
 use Rattle.aql_value.specs.Operations.{as_natural}
 use Rattle.aql_value.specs.Partial.{◌>>=◌}
 use Rattle.aql_value.specs.Valid.{IsValue}
-use Rattle.aql_types.specs.Types as types
-use Rattle.aql_types.specs.Types.{Ty, Sort}
-use Rattle.aql_types.specs.ValueTypes.{HasType}
-use Rattle.aql_types.specs.View.{sort_of}
+use Rattle.aql_ty.specs.Types as types
+use Rattle.aql_ty.specs.Types.{Ty, Sort}
+use Rattle.aql_ty.specs.ValueTypes.{HasType}
+use Rattle.aql_ty.specs.View.{sort_of}
 use Rattle.aql_syntax.specs.Denotation.{den}
 use Rattle.aql_syntax.specs.Script.{Earlier, globals_of}
 use Rattle.aql_syntax.specs.Size.{before, AreWithinLimits}
@@ -44,7 +44,7 @@ use Rattle.cdf_header.specs.declared.fault.CdfFault.{CdfFault}
 use Rattle.cdf_header.specs.declared.fault.CdfFault.TheVariants as file_faults
 use Rattle.cdf_slab.specs.Slab.{IsShaped, first_zero}
 use Rattle.aql_value.specs.Limits.{most_workers}
-use Rattle.aql_words.specs.Settings.{settings_of}
+use Rattle.aql_options.specs.Settings.{settings_of}
 use Rattle.aql_session.specs.Asked.{Hyperslab, Asked, hyperslab, table, hyperslab_from, asked_of}
 use Rattle.aql_session.specs.Bound.{Bound, earlier_of}
 use Rattle.aql_session.specs.Numbered.{declarations, sorts, declaration_numbered, sort_numbered, so_far, IsCauseOf, UnlessRead}

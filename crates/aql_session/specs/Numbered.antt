@@ -4,7 +4,7 @@ use Rattle.std.specs.List.{slice_get}
 use Rattle.std.specs.Option.{ForSome}
 use Rattle.aql_outside.specs.Contents.{Content}
 use Rattle.aql_outside.specs.declared.device.Files as files
-use Rattle.aql_types.specs.Types.{Sort}
+use Rattle.aql_ty.specs.Types.{Sort}
 use Rattle.aql_infer_steps.specs.Typed.{sorts_of}
 use Rattle.aql_infer_steps.specs.declared.typed.Typed.{Typed}
 use Rattle.aql_syntax.specs.Script.{Earlier}
@@ -12,7 +12,7 @@ use Rattle.aql_syntax.specs.Tree.{Declaration}
 use Rattle.aql_syntax.specs.View.{decls_of}
 use Rattle.aql_syntax.specs.declared.ast.Decls.{Decls}
 use Rattle.nrca_term.specs.Meaning.{Outcomes}
-use Rattle.aql_words.specs.Settings.{Settings}
+use Rattle.aql_options.specs.Settings.{Settings}
 use Rattle.aql_session.specs.Bound.{Bound, earlier_of, outcomes}
 use Rattle.aql_session.specs.Step.{IsAnswer, IsAnswerable, BindsPosition, IsCause, ReadsNoFile}
 use Rattle.aql_session.specs.declared.answer.Answer.{Answer}

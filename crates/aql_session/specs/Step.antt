@@ -7,9 +7,9 @@ use Rattle.aql_outside.specs.Causes.{Rose}
 use Rattle.aql_outside.specs.Contents.{Content}
 use Rattle.aql_value.specs.Datum.{Datum, array, data_of}
 use Rattle.aql_value.specs.Partial.{◌>>=◌}
-use Rattle.aql_types.specs.Types.{Sort}
-use Rattle.aql_types.specs.ValueTypes.{HasType}
-use Rattle.aql_types.specs.View.{sort_of}
+use Rattle.aql_ty.specs.Types.{Sort}
+use Rattle.aql_ty.specs.ValueTypes.{HasType}
+use Rattle.aql_ty.specs.View.{sort_of}
 use Rattle.aql_syntax.specs.Denotation.{den}
 use Rattle.aql_syntax.specs.Script.{Earlier, globals_of, outcome_after}
 use Rattle.aql_syntax.specs.Sound.{declarations_of, OutcomesTyped}

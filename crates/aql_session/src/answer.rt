@@ -3,7 +3,7 @@ ghost use Rattle.std.specs.Prelude.{◌≡◌};
 ghost use Rattle.aql_session.specs.declared.answer.StepFault.TheVariants as faults;
 
 use aql_csv::CsvFault;
-use aql_types::ty::Scheme;
+use aql_ty::ty::Scheme;
 use aql_value::{Memory, Str};
 use cdf_header::CdfFault;
 use nrca_encoded::Graph;

@@ -24,7 +24,7 @@ mod shapes;
 mod step;
 
 pub use answer::{Answer, Ran, StepFault};
+pub use aql_options::Options;
 pub use aql_prelude::prelude;
-pub use aql_words::Options;
 pub use nrca_encoded::{Graph, GraphRan};
 pub use session::Session;

@@ -3,8 +3,8 @@ ghost use Rattle.std.specs.Prelude.{◌≡◌, ◌<◌, ◌≤◌, ◌∷◌, []
 ghost use Rattle.std.specs.Option.{option_map};
 ghost use Rattle.aql_syntax.specs.Typing.{argument_type, reader_type};
 ghost use Rattle.aql_syntax.specs.View.{reader_of};
-ghost use Rattle.aql_types.specs.Types.{IsWithin};
-ghost use Rattle.aql_types.specs.ValueTypes.{HasType};
+ghost use Rattle.aql_ty.specs.Types.{IsWithin};
+ghost use Rattle.aql_ty.specs.ValueTypes.{HasType};
 ghost use Rattle.aql_value.specs.Meaning.{datum};
 ghost use Rattle.aql_value.specs.Operations.{as_natural, as_text, as_tuple, index_numbers};
 ghost use Rattle.aql_value.specs.Partial.{each};

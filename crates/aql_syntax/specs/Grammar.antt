@@ -4,7 +4,7 @@ use Rattle.aql_value.specs.Strict.{Strict}
 use Rattle.aql_value.specs.declared.ops.ArithOp.TheVariants as ariths
 use Rattle.aql_value.specs.declared.ops.CompareOp.{CompareOp}
 use Rattle.aql_value.specs.declared.ops.CompareOp.TheVariants as compares
-use Rattle.aql_types.specs.Types.{IsRank}
+use Rattle.aql_ty.specs.Types.{IsRank}
 use Rattle.aql_syntax.specs.declared.sign.Sign.TheVariants as signs
 use Rattle.aql_syntax.specs.declared.ast.Kind.{Kind}
 use Rattle.aql_syntax.specs.declared.ast.Kind.TheVariants as field_kinds

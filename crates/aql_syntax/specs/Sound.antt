@@ -1,8 +1,8 @@
 -- Where an expression has a type and a value, the value has the type, under globals of their types.
 use Rattle.std.proofs.Common.{◌≡◌, List, [], ◌∷◌, Some}
 use Rattle.aql_value.specs.Datum.{Datum}
-use Rattle.aql_types.specs.Types.{Ty, Subst, apply, value}
-use Rattle.aql_types.specs.ValueTypes.{HasType}
+use Rattle.aql_ty.specs.Types.{Ty, Subst, apply, value}
+use Rattle.aql_ty.specs.ValueTypes.{HasType}
 use Rattle.aql_syntax.specs.Tree as tree
 use Rattle.aql_syntax.specs.Tree.{Declaration}
 use Rattle.aql_syntax.specs.Script.{Earlier, ReaderMeaning}

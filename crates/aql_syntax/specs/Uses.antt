@@ -2,9 +2,9 @@
 -- a name that comes in has the type of its pattern, an index that of its bound, and a macro takes the type of its argument and
 -- gives that of its application. `Typing` asks it in few places and means the same (`Laws/Uses`).
 use Rattle.std.specs.Prelude.{◌≡◌, List, [], ◌∷◌, ◌↔◌}
-use Rattle.aql_types.specs.Types as types
-use Rattle.aql_types.specs.Types.{Ty, natural, Tys, no_type, type, IsRank, IsWithin, Sort, value, macro}
-use Rattle.aql_types.specs.OperationTypes.{strict_rule}
+use Rattle.aql_ty.specs.Types as types
+use Rattle.aql_ty.specs.Types.{Ty, natural, Tys, no_type, type, IsRank, IsWithin, Sort, value, macro}
+use Rattle.aql_ty.specs.OperationTypes.{strict_rule}
 use Rattle.aql_syntax.specs.Tree.{Name, Pat, bind, any, equals, refers, tuple, Pats, no_pat, pat, Tree, name, op, members, comp, tab, bindings, choice, conjunction, disjunction, negation, default, apply, function, summap, Trees, no_tree, tree, Axes, no_axis, axis, Quals, no_qual, from, cells, same, test, Defs, no_def, def, Declaration, val, mac, read, bare, count_pats, count_axes, axes}
 use Rattle.aql_syntax.specs.Names.{find}
 use Rattle.aql_syntax.specs.Typing.{Environment, Locals, NameHas, MacroTakes, constant_type, with_indices, reader_type, argument_type, Has, DeclHas, environment_of}

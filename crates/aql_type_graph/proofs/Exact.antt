@@ -3,9 +3,9 @@ use Rattle.std.proofs.Common.{ℕ, zero, suc, ◌≡◌, ◌<◌, ◌≤◌, Opt
 use Rattle.std.specs.Prelude.{IsSome}
 use Rattle.std.proofs.lemmas.Bool.{cases_lt, lt-ltb, le-ltb}
 use Rattle.std.proofs.lemmas.List.{get_or_past}
-use Rattle.aql_types.specs.Types as types
-use Rattle.aql_types.specs.Types.{Ty, Subst, levels, nodes, apply, IsType, IsWithin}
-use Rattle.aql_types.specs.Unifiers.{AllUnify}
+use Rattle.aql_ty.specs.Types as types
+use Rattle.aql_ty.specs.Types.{Ty, Subst, levels, nodes, apply, IsType, IsWithin}
+use Rattle.aql_ty.specs.Unifiers.{AllUnify}
 use Rattle.aql_type_graph.specs.declared.extent.Extent.{Extent}
 use Rattle.aql_type_graph.specs.declared.node.Equation.{Equation}
 use Rattle.aql_type_graph.specs.Shapes.{Valuation, parts}

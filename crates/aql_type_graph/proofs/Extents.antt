@@ -4,8 +4,8 @@ use Rattle.std.proofs.Math.Dec.{leb}
 use Rattle.std.proofs.lemmas.Bool.{leb-true, le-leb, cases_lt}
 use Rattle.std.proofs.lemmas.Option.{same_Some}
 use Rattle.aql_value.specs.Lists.{Every}
-use Rattle.aql_types.specs.Types.{Ty, levels, levels_all, nodes, nodes_all, IsType, AreTypes}
-use Rattle.aql_types.specs.Laws.Types.{positive}
+use Rattle.aql_ty.specs.Types.{Ty, levels, levels_all, nodes, nodes_all, IsType, AreTypes}
+use Rattle.aql_ty.specs.Laws.Types.{positive}
 use Rattle.aql_type_graph.specs.declared.extent.Extent.{Extent}
 use Rattle.aql_type_graph.specs.Shapes.{Shape, Valuation, parts, types_at, is_formed}
 use Rattle.aql_type_graph.specs.Forms.{Form, at}

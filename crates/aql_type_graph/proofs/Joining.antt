@@ -1,7 +1,7 @@
 -- Two roots made one have the same solutions as their equation.
 use Rattle.std.proofs.Common.{ℕ, zero, suc, ◌≡◌, ◌+◌, ◌<◌, List, [], ◌∷◌, ◌++◌, length, set, refl, sym, ap, ◌∙◌, subst, arith, length-set, length-append, get_or-set_same, get_or-set_other, true, false, take, get_or, add-one}
 use Rattle.aql_value.specs.Lists.{Every}
-use Rattle.aql_types.specs.Types.{Ty, Subst}
+use Rattle.aql_ty.specs.Types.{Ty, Subst}
 use Rattle.aql_type_graph.specs.declared.node.Equation.{Equation}
 use Rattle.aql_type_graph.specs.Shapes.{Valuation, parts}
 use Rattle.aql_type_graph.specs.Forms.{Form, at}

@@ -1,7 +1,7 @@
 -- The types that the nodes of a solved graph stand for, down to a number of levels, and how large they are.
 use Rattle.std.specs.Prelude.{ℕ, zero, suc, ◌≡◌, ◌<◌, ◌+◌, max, Option, Some, None, List, [], ◌∷◌, length, slice_index_or, nat_le, if◌then◌else◌, Bool, true, false, IsSome}
-use Rattle.aql_types.specs.Types as types
-use Rattle.aql_types.specs.Types.{Ty}
+use Rattle.aql_ty.specs.Types as types
+use Rattle.aql_ty.specs.Types.{Ty}
 use Rattle.aql_type_graph.specs.declared.extent.Extent.{Extent}
 use Rattle.aql_type_graph.specs.Shapes.{parts, is_formed}
 use Rattle.aql_type_graph.specs.Forms.{Form, at}

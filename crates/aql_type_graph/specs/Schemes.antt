@@ -1,6 +1,6 @@
 -- Instances of a scheme, of which the nodes that many graphs share are not copied.
 use Rattle.std.specs.Prelude.{ℕ, ◌≡◌, ◌+◌, ◌-◌, ◌<◌, ◌≤◌, List, ◌++◌, length, map, take, nat_lt, if◌then◌else◌}
-use Rattle.aql_types.specs.Types.{var, Subst, apply}
+use Rattle.aql_ty.specs.Types.{var, Subst, apply}
 use Rattle.aql_type_graph.specs.Shapes as shape
 use Rattle.aql_type_graph.specs.Shapes.{Shape}
 use Rattle.aql_type_graph.specs.Forms.{Form, at}

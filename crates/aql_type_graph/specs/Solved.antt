@@ -1,10 +1,10 @@
 -- What solving a graph answers, said of types.
 use Rattle.std.specs.Prelude.{ℕ, ◌≡◌, ◌<◌, List, length, slice_index, nat_lt, if◌then◌else◌, Result, Ok, Err}
-use Rattle.aql_types.specs.Types as types
-use Rattle.aql_types.specs.Types.{Subst, apply}
-use Rattle.aql_types.specs.Unifiers.{AllUnify}
-use Rattle.aql_types.specs.declared.fault.UnifyFault.{UnifyFault}
-use Rattle.aql_types.specs.declared.fault.UnifyFault.TheVariants as faults
+use Rattle.aql_ty.specs.Types as types
+use Rattle.aql_ty.specs.Types.{Subst, apply}
+use Rattle.aql_ty.specs.Unifiers.{AllUnify}
+use Rattle.aql_ty.specs.declared.fault.UnifyFault.{UnifyFault}
+use Rattle.aql_ty.specs.declared.fault.UnifyFault.TheVariants as faults
 use Rattle.aql_type_graph.specs.declared.node.Equation.{Equation}
 use Rattle.aql_type_graph.specs.Forms.{Form}
 use Rattle.aql_type_graph.specs.Trees.{equations_of, AllWithin, AreHomes, type_at}

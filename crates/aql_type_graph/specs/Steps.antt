@@ -1,9 +1,9 @@
 -- What the steps of solving do.
 use Rattle.std.specs.Prelude.{ℕ, ◌≡◌, ◌<◌, ◌≤◌, ◌+◌, List, [], ◌∷◌, ◌++◌, length, sum_by, slice_set, Bool, true, false, Option, Some, None, Result, Ok, Err, Vec}
 use Rattle.std.specs.Global.{Global}
-use Rattle.aql_types.specs.Types.{Subst}
-use Rattle.aql_types.specs.declared.fault.UnifyFault.{UnifyFault}
-use Rattle.aql_types.specs.declared.fault.UnifyFault.TheVariants as faults
+use Rattle.aql_ty.specs.Types.{Subst}
+use Rattle.aql_ty.specs.declared.fault.UnifyFault.{UnifyFault}
+use Rattle.aql_ty.specs.declared.fault.UnifyFault.TheVariants as faults
 use Rattle.aql_type_graph.specs.declared.node.Node.{Node}
 use Rattle.aql_type_graph.specs.declared.node.Node.TheVariants as node
 use Rattle.aql_type_graph.specs.declared.node.Equation.{Equation}

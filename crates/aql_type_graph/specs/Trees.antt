@@ -1,9 +1,9 @@
 -- The types that the nodes are before their equations are solved, shared parts written out.
 use Rattle.std.specs.Prelude.{ℕ, zero, suc, ◌≡◌, ◌<◌, List, [], ◌∷◌, length, slice_index}
 use Rattle.aql_value.specs.Lists.{Every}
-use Rattle.aql_types.specs.Types as types
-use Rattle.aql_types.specs.Types.{Ty, Subst, apply, IsWithin}
-use Rattle.aql_types.specs.Unifiers.{Equations}
+use Rattle.aql_ty.specs.Types as types
+use Rattle.aql_ty.specs.Types.{Ty, Subst, apply, IsWithin}
+use Rattle.aql_ty.specs.Unifiers.{Equations}
 use Rattle.aql_type_graph.specs.declared.node.Equation.{Equation}
 use Rattle.aql_type_graph.specs.Shapes.{Valuation, whole, parts}
 use Rattle.aql_type_graph.specs.Forms.{Form, at}

@@ -1,7 +1,7 @@
 -- A graph as a list of flat equations: node i stands for a type, and says what that is by the types of other nodes.
 use Rattle.std.specs.Prelude.{ℕ, ◌≡◌, ◌<◌, List, [], ◌∷◌, length}
 use Rattle.aql_value.specs.Lists.{Every}
-use Rattle.aql_types.specs.Types.{Ty, Subst}
+use Rattle.aql_ty.specs.Types.{Ty, Subst}
 use Rattle.aql_type_graph.specs.declared.node.Equation.{Equation}
 use Rattle.aql_type_graph.specs.Shapes.{Valuation, whole, parts}
 use Rattle.aql_type_graph.specs.Forms.{Form, at}

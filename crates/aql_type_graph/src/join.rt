@@ -10,7 +10,7 @@ ghost use Rattle.aql_type_graph.specs.Schemes.{AreApart};
 use crate::cells::{node_at, parts_of, put};
 use crate::node::{Equation, Node};
 use crate::root::root;
-use aql_types::fault::UnifyFault;
+use aql_ty::fault::UnifyFault;
 use aql_value::Memory;
 
 /// The equation's two roots are made one, and their parts are to become one. The closed nodes at the front

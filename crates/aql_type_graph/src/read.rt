@@ -1,7 +1,7 @@
 //! The types that the nodes of a solved graph stand for, as trees.
 
 ghost use Rattle.std.specs.Prelude.{◌≡◌, IfOk};
-ghost use Rattle.aql_types.specs.View.{type_of, types_of};
+ghost use Rattle.aql_ty.specs.View.{type_of, types_of};
 ghost use Rattle.aql_type_graph.specs.Shapes.{types_at};
 ghost use Rattle.aql_type_graph.specs.Forms.{forms, at};
 ghost use Rattle.aql_type_graph.specs.Trees.{form_type};
@@ -12,7 +12,7 @@ use crate::cells::{node_at, parts_of};
 use crate::measure::end_of;
 use crate::node::Node;
 use crate::solve::{LEVELS, SolvedGraph};
-use aql_types::ty::{Ty, row};
+use aql_ty::ty::{Ty, row};
 use aql_value::Memory;
 use std::alloc::Global;
 
@@ -37,7 +37,7 @@ fn read(alloc: Global, ns: &[Node], ps: &[u32], i: usize, left: u16) -> Result<T
 
 // The type of a root, its parts down to that many levels.
 #[cycle(read)]
-#[tactic(auto, using(aql_types::specs::Laws::View::type_of_row))]
+#[tactic(auto, using(aql_ty::specs::Laws::View::type_of_row))]
 fn read_node(alloc: Global, ns: &[Node], ps: &[u32], e: usize, left: u16) -> Result<Ty, Memory>
     ensures { IfOk result (λ t. type_of t ≡ form_type (extents.read left (forms ps.now ns.now))
         (at (forms ps.now ns.now) e)) }
@@ -67,7 +67,7 @@ fn read_node(alloc: Global, ns: &[Node], ps: &[u32], e: usize, left: u16) -> Res
 }
 
 #[cycle(read)]
-#[tactic(auto, using(aql_types::specs::Laws::View::types_last, crate::proofs::ReadOut::types_next))]
+#[tactic(auto, using(aql_ty::specs::Laws::View::types_last, crate::proofs::ReadOut::types_next))]
 fn read_all(
     alloc: Global,
     ns: &[Node],

@@ -13,7 +13,7 @@ use crate::graph::Graph;
 use crate::measure::all_within;
 use crate::node::{Equation, Node};
 use crate::take::{flatten, take_all};
-use aql_types::fault::UnifyFault;
+use aql_ty::fault::UnifyFault;
 use std::alloc::Global;
 
 /// The most levels that a type within the limits has.

@@ -9,7 +9,7 @@ ghost use Rattle.aql_type_graph.specs.Steps.{Taken, SameFirst, KeepsNodes, Links
 use crate::join::step;
 use crate::node::{Equation, Node};
 use crate::root::{link_of, shorten};
-use aql_types::fault::UnifyFault;
+use aql_ty::fault::UnifyFault;
 
 /// Takes all equations, the last first. The closed nodes at the front stay as they are.
 pub(crate) fn take_all(

@@ -3,13 +3,13 @@ use Rattle.std.proofs.Common.{ℕ, ◌≡◌, ◌+◌, ◌<◌, Bool, true, fals
 use Rattle.std.proofs.lemmas.Bool.{cases_lt, lt-ltb, le-ltb}
 use Rattle.aql_value.specs.Laws.Lists.{length-below}
 use Rattle.aql_value.specs.Lists.{onto}
-use Rattle.aql_types.specs.Types as types
-use Rattle.aql_types.specs.Types.{Ty, Tys, no_type, type, natural, Subst, apply, apply_all, IsWithin, fits}
-use Rattle.aql_types.specs.Unifiers.{Equations, AllUnify, SidesWithin, IsSolution, IsBest}
-use Rattle.aql_types.specs.Unifiers as unifiers
-use Rattle.aql_types.specs.Laws.Types.{PartsWithin, parts_within, first_within, rest_within, member_within, cell_within, row_is, fits_within, within_fits, natural_within}
-use Rattle.aql_types.specs.declared.fault.UnifyFault.{UnifyFault}
-use Rattle.aql_types.specs.declared.fault.UnifyFault.TheVariants as faults
+use Rattle.aql_ty.specs.Types as types
+use Rattle.aql_ty.specs.Types.{Ty, Tys, no_type, type, natural, Subst, apply, apply_all, IsWithin, fits}
+use Rattle.aql_ty.specs.Unifiers.{Equations, AllUnify, SidesWithin, IsSolution, IsBest}
+use Rattle.aql_ty.specs.Unifiers as unifiers
+use Rattle.aql_ty.specs.Laws.Types.{PartsWithin, parts_within, first_within, rest_within, member_within, cell_within, row_is, fits_within, within_fits, natural_within}
+use Rattle.aql_ty.specs.declared.fault.UnifyFault.{UnifyFault}
+use Rattle.aql_ty.specs.declared.fault.UnifyFault.TheVariants as faults
 use Rattle.aql_type_graph.specs.declared.node.Equation.{Equation}
 use Rattle.aql_type_graph.specs.declared.graph.Graph.{Graph}
 use Rattle.aql_type_graph.specs.Forms.{Form}

@@ -1,10 +1,10 @@
 -- What a graph has more where the nodes of types were pushed: those of the types and of their parts alone.
 use Rattle.std.specs.Prelude.{ℕ, ◌≡◌, ◌+◌, ◌<◌, ◌≤◌, List, ◌++◌, length}
 use Rattle.aql_value.specs.Lists.{Every}
-use Rattle.aql_types.specs.Types as types
-use Rattle.aql_types.specs.Types.{Ty, Tys, Subst, apply, IsWithin}
-use Rattle.aql_types.specs.Unifiers.{Equations, SidesWithin}
-use Rattle.aql_types.specs.Unifiers as unifiers
+use Rattle.aql_ty.specs.Types as types
+use Rattle.aql_ty.specs.Types.{Ty, Tys, Subst, apply, IsWithin}
+use Rattle.aql_ty.specs.Unifiers.{Equations, SidesWithin}
+use Rattle.aql_ty.specs.Unifiers as unifiers
 use Rattle.aql_type_graph.specs.declared.node.Equation.{Equation}
 use Rattle.aql_type_graph.specs.declared.graph.Graph.{Graph}
 use Rattle.aql_type_graph.specs.Shapes.{types_at}

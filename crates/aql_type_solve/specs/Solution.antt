@@ -1,10 +1,10 @@
 -- The substitution that a solution is, and what solving answers.
 use Rattle.std.specs.Prelude.{nat_lt, if◌then◌else◌, Result, Ok, Err}
-use Rattle.aql_types.specs.Types as types
-use Rattle.aql_types.specs.Types.{Tys, Subst}
-use Rattle.aql_types.specs.Unifiers.{Equations, SidesWithin, IsBest, IsSolution}
-use Rattle.aql_types.specs.declared.fault.UnifyFault.{UnifyFault}
-use Rattle.aql_types.specs.declared.fault.UnifyFault.TheVariants as faults
+use Rattle.aql_ty.specs.Types as types
+use Rattle.aql_ty.specs.Types.{Tys, Subst}
+use Rattle.aql_ty.specs.Unifiers.{Equations, SidesWithin, IsBest, IsSolution}
+use Rattle.aql_ty.specs.declared.fault.UnifyFault.{UnifyFault}
+use Rattle.aql_ty.specs.declared.fault.UnifyFault.TheVariants as faults
 use Rattle.aql_type_graph.specs.Extents.{read}
 use Rattle.aql_type_graph.specs.Graphs.{solved_forms}
 use Rattle.aql_type_solve.specs.declared.solve.Solution.{Solution}

@@ -2,8 +2,8 @@
 
 ghost use Rattle.std.specs.Prelude.{◌≡◌, IfOk};
 
-use aql_types::equation::Equation;
-use aql_types::ty::Ty;
+use aql_ty::equation::Equation;
+use aql_ty::ty::Ty;
 use aql_value::Memory;
 
 /// One more than the greatest number of a variable, or 0 where there are none. `Memory` where 32 bits do not hold it.

@@ -1,21 +1,21 @@
 //! Types and equations written as nodes of a graph.
 
 ghost use Rattle.std.specs.Prelude.{◌∷◌, [], IfOk};
-ghost use Rattle.aql_types.specs.Types as types;
-ghost use Rattle.aql_types.specs.Types.{apply, apply_all};
-ghost use Rattle.aql_types.specs.View.{type_of, types_of, equation_list};
+ghost use Rattle.aql_ty.specs.Types as types;
+ghost use Rattle.aql_ty.specs.Types.{apply, apply_all};
+ghost use Rattle.aql_ty.specs.View.{type_of, types_of, equation_list};
 ghost use Rattle.aql_type_graph.specs.Graphs.{forms_of};
 ghost use Rattle.aql_type_solve.specs.Pushed.{shift, AreNumbered, IsFresh, Pushes, PushesAll, PushesUses, PushesEquations, Makes};
 
 use crate::count::{count_variables, to_number};
+use aql_ty::equation::Equation;
+use aql_ty::ty::Ty;
 use aql_type_graph::graph::Graph;
 use aql_type_graph::grow::{
     empty_graph, push_array, push_natural, push_set, push_text, push_truth, push_tuple,
     push_variable,
 };
 use aql_type_graph::node;
-use aql_types::equation::Equation;
-use aql_types::ty::Ty;
 use aql_value::Memory;
 use std::alloc::Global;
 

@@ -2,22 +2,22 @@
 
 ghost use Rattle.std.specs.Prelude.{◌≡◌, [], ◌∷◌, IfOk, length};
 ghost use Rattle.aql_value.specs.Lists.{onto};
-ghost use Rattle.aql_types.specs.Types as types;
-ghost use Rattle.aql_types.specs.Types.{Tys};
-ghost use Rattle.aql_types.specs.Unifiers.{Equations};
-ghost use Rattle.aql_types.specs.View.{type_of, types_of, equations_of};
+ghost use Rattle.aql_ty.specs.Types as types;
+ghost use Rattle.aql_ty.specs.Types.{Tys};
+ghost use Rattle.aql_ty.specs.Unifiers.{Equations};
+ghost use Rattle.aql_ty.specs.View.{type_of, types_of, equations_of};
 ghost use Rattle.aql_type_graph.specs.Valuations.{AreIn};
 ghost use Rattle.aql_type_solve.specs.Pushed.{shift, Makes};
 ghost use Rattle.aql_type_solve.specs.Solution.{subst_in, SolvedIn};
 
 use crate::push::make_graph;
+use aql_ty::equation::Equation;
+use aql_ty::fault::UnifyFault;
+use aql_ty::ty::{Ty, row};
 use aql_type_graph::graph::Graph;
 use aql_type_graph::node;
 use aql_type_graph::read::node_type;
 use aql_type_graph::solve::SolvedGraph;
-use aql_types::equation::Equation;
-use aql_types::fault::UnifyFault;
-use aql_types::ty::{Ty, row};
 use aql_value::Memory;
 use std::alloc::Global;
 
@@ -66,7 +66,7 @@ impl Solution {
 
     /// The instance of a type whose variables are raised by a number.
     #[cycle(apply)]
-    #[tactic(auto, using(aql_types::specs::Laws::View::type_of_row))]
+    #[tactic(auto, using(aql_ty::specs::Laws::View::type_of_row))]
     pub fn apply_raised(&self, alloc: Global, t: &Ty, by: u64) -> Result<Ty, Memory>
         ensures { IfOk result (λ made. type_of made
             ≡ types.apply (subst_in self.now) (types.apply (shift by) (type_of t.now))) }
@@ -99,7 +99,7 @@ impl Solution {
 }
 
 #[cycle(apply)]
-#[tactic(auto, using(aql_types::specs::Laws::View::list_steps))]
+#[tactic(auto, using(aql_ty::specs::Laws::View::list_steps))]
 fn apply_all(alloc: Global, s: &Solution, ts: &[Ty], by: u64) -> Result<Vec<Ty>, Memory>
     ensures { IfOk result (λ made. types_of made.items
         ≡ types.apply_all (subst_in s.now) (types.apply_all (shift by) (types_of ts.now))) }

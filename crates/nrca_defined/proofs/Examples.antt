@@ -4,7 +4,7 @@ use Rattle.std.specs.Prelude.{◌≡◌, ◌^◌, ◌+◌, ℕ, zero, suc, Bool,
 use Rattle.aql_value.specs.declared.ops.ArithOp.TheVariants.{Add, Mul, Quotient}
 use Rattle.aql_value.specs.Datum as datum
 use Rattle.aql_value.specs.Datum.{Datum}
-use Rattle.aql_types.specs.Types.{natural}
+use Rattle.aql_ty.specs.Types.{natural}
 use Rattle.nrca_term.specs.Term.{Term}
 use Rattle.nrca_term.specs.Meaning.{outcome, cden}
 use Rattle.nrca_term.specs.Typing.{arg, ctyped, instances, OutcomesHave}

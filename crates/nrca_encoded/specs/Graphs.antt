@@ -2,7 +2,7 @@
 use Rattle.std.specs.Prelude.{◌≡◌, ℕ, ◌≤◌, ◌<◌, List, [], map, Option, Some, None}
 use Rattle.aql_value.specs.Datum.{Datum}
 use Rattle.aql_value.specs.Meaning.{datum}
-use Rattle.aql_types.specs.Types.{Ty}
+use Rattle.aql_ty.specs.Types.{Ty}
 use Rattle.nrca_term.specs.Meaning.{Outcomes, cden}
 use Rattle.nrca_term.specs.Term.{Term, weight_of}
 use Rattle.nrca_term.specs.Turns.{settle}

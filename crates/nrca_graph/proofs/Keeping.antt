@@ -9,7 +9,7 @@ use Rattle.nrca_graph.specs.Kept.{MeansEncoded, HasEncodedTypes, KeepsSums, HasL
 use Rattle.nrca_graph.specs.Laws.Means.{array_free-means}
 use Rattle.nrca_graph.specs.Laws.ArrayFreeTypes.{array_free-typed, instances-kept}
 use Rattle.nrca_graph.specs.Laws.NoArrays.{array_free-has_none}
-use Rattle.aql_types.specs.Types.{Ty}
+use Rattle.aql_ty.specs.Types.{Ty}
 use Rattle.nrca_term.specs.Laws.TypedForm.{well_formed-typed}
 use Rattle.nrca_graph.specs.Laws.Turns.{array_free-turns}
 use Rattle.nrca_graph.specs.Laws.LoopCounts.{array_free-sums, array_free-big_unions}

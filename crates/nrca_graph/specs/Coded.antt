@@ -5,8 +5,8 @@ use Rattle.aql_value.specs.Datum.{Datum}
 use Rattle.aql_value.specs.Indices.{indices}
 use Rattle.aql_value.specs.Meaning.{datum}
 use Rattle.aql_value.specs.Operations.{set_of}
-use Rattle.aql_types.specs.declared.ty.Ty.{Ty}
-use Rattle.aql_types.specs.View.{type_of}
+use Rattle.aql_ty.specs.declared.ty.Ty.{Ty}
+use Rattle.aql_ty.specs.View.{type_of}
 use Rattle.nrca_graph.specs.Encoding.{encoding, graph, pair, pair_type}
 
 -- the graph of an array of these dimensions and cells, each cell encoded, as a set

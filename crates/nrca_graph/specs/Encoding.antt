@@ -6,8 +6,8 @@ use Rattle.aql_value.specs.Datum.{Datum, tuple, set, array, Data, nil, cons, dat
 use Rattle.aql_value.specs.Indices.{indices}
 use Rattle.aql_value.specs.Operations.{index_value, set_of}
 use Rattle.aql_value.specs.Partial.{◌>>=◌}
-use Rattle.aql_types.specs.Types as types
-use Rattle.aql_types.specs.Types.{Ty, Tys, no_type, type, index_type}
+use Rattle.aql_ty.specs.Types as types
+use Rattle.aql_ty.specs.Types.{Ty, Tys, no_type, type, index_type}
 
 -- two values as a tuple
 abbrev pub pair : Datum → Datum → Datum

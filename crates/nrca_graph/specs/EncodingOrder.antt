@@ -2,8 +2,8 @@
 use Rattle.std.proofs.Common.{◌≡◌}
 use Rattle.aql_value.specs.Datum.{Datum}
 use Rattle.aql_value.specs.Order.{datum_cmp}
-use Rattle.aql_types.specs.Types.{Ty}
-use Rattle.aql_types.specs.ValueTypes.{HasType}
+use Rattle.aql_ty.specs.Types.{Ty}
+use Rattle.aql_ty.specs.ValueTypes.{HasType}
 use Rattle.nrca_graph.specs.Encoding.{encoding}
 
 -- what the order of the cells of a type gives for lists of them

@@ -1,8 +1,8 @@
 -- What the array-free form keeps, as said of a term and of another one.
 use Rattle.std.specs.Prelude.{◌≡◌, ◌+◌, ◌≤◌, List, map}
 use Rattle.aql_value.specs.Datum.{Datum}
-use Rattle.aql_types.specs.Types.{Ty}
-use Rattle.aql_types.specs.ValueTypes.{HaveTypes}
+use Rattle.aql_ty.specs.Types.{Ty}
+use Rattle.aql_ty.specs.ValueTypes.{HaveTypes}
 use Rattle.nrca_term.specs.Term.{Term}
 use Rattle.nrca_term.specs.Meaning.{Outcomes, cden}
 use Rattle.nrca_term.specs.Typing.{ctyped, instances, OutcomesHave}

@@ -32,8 +32,8 @@ pub mod TypedTerms
 pub mod Unions
 use Rattle.std.specs.Prelude.{◌≡◌, ◌<◌, ◌^◌, List, map}
 use Rattle.aql_value.specs.Datum.{Datum}
-use Rattle.aql_types.specs.Types.{Ty, Subst, apply, IsType}
-use Rattle.aql_types.specs.ValueTypes.{HasType, HaveTypes}
+use Rattle.aql_ty.specs.Types.{Ty, Subst, apply, IsType}
+use Rattle.aql_ty.specs.ValueTypes.{HasType, HaveTypes}
 use Rattle.nrca_term.specs.Term.{Term, weight_of}
 use Rattle.nrca_term.specs.Meaning.{Outcomes, cden}
 use Rattle.nrca_term.specs.Typing.{ctyped, instances, OutcomesHave}

@@ -1,20 +1,20 @@
 //! The types of encoded values.
 
 ghost use Rattle.std.specs.Prelude.{◌≡◌, IfOk, IsOkAnd};
-ghost use Rattle.aql_types.specs.Types as types;
-ghost use Rattle.aql_types.specs.View.{type_of, types_of};
+ghost use Rattle.aql_ty.specs.Types as types;
+ghost use Rattle.aql_ty.specs.View.{type_of, types_of};
 ghost use Rattle.nrca_graph.specs.Encoding.{encoding_type, encoding_types, array_type};
 ghost use Rattle.nrca_graph.specs.Coded.{IsPairType};
 
-use aql_types::index::index_type;
-use aql_types::ty::{Ty, row};
+use aql_ty::index::index_type;
+use aql_ty::ty::{Ty, row};
 use aql_value::Memory;
 use aql_value::made::{make_box, make_pair_list};
 use std::alloc::Global;
 
 /// The type of the encoded values of a type: an array's is that of the pairs of its dimensions and its graph.
 #[cycle(encode_type)]
-#[tactic(auto, using(aql_types::specs::Laws::View::type_of_row))]
+#[tactic(auto, using(aql_ty::specs::Laws::View::type_of_row))]
 pub fn encode_type(alloc: Global, t: &Ty) -> Result<Ty, Memory>
     ensures { IfOk result (λ made. type_of made ≡ encoding_type (type_of t.now)) }
 {
@@ -39,7 +39,7 @@ pub fn encode_type(alloc: Global, t: &Ty) -> Result<Ty, Memory>
 }
 
 #[cycle(encode_type)]
-#[tactic(auto, using(aql_types::specs::Laws::View::list_steps))]
+#[tactic(auto, using(aql_ty::specs::Laws::View::list_steps))]
 fn encode_types(alloc: Global, ts: &[Ty]) -> Result<Vec<Ty>, Memory>
     ensures { IfOk result (λ made. types_of made.items ≡ encoding_types (types_of ts.now)) }
 {

@@ -7,7 +7,7 @@ use Rattle.aql_value.specs.Datum.{natural, truth}
 use Rattle.aql_value.specs.Lists.{Every}
 use Rattle.aql_value.specs.Laws.Lists.{Every-impl}
 use Rattle.aql_value.specs.Strict.{Strict}
-use Rattle.aql_types.specs.Types as types
+use Rattle.aql_ty.specs.Types as types
 use Rattle.nrca_term.specs.declared.trace.Rule.TheVariants.{I1, L1, A1, C4}
 use Rattle.nrca_term.specs.declared.trace.Step as code
 use Rattle.nrca_term.specs.Term.{Term, none, part}

@@ -1,7 +1,7 @@
 -- Where a rule fits, and all that its right side keeps (`right-side`): what the functions of the rules promise.
 use Rattle.std.proofs.Common.{◌≡◌, ℕ, Bool, true, false, List}
 use Rattle.aql_value.specs.Datum.{Datum}
-use Rattle.aql_types.specs.Types.{Ty}
+use Rattle.aql_ty.specs.Types.{Ty}
 use Rattle.nrca_term.specs.declared.trace.Rule.{Rule}
 use Rattle.nrca_term.specs.Term.{Term, Closed, IsSmall}
 use Rattle.nrca_term.specs.Meaning.{Outcomes, cden}

@@ -25,8 +25,8 @@ pub mod Weights
 use Rattle.std.specs.Prelude.{◌≡◌, ℕ, ◌+◌, ◌^◌, ◌≤◌, true, List, [], length, Some}
 use Rattle.aql_value.specs.Datum.{Datum}
 use Rattle.aql_value.specs.Lists.{Every}
-use Rattle.aql_types.specs.Types.{Ty}
-use Rattle.aql_types.specs.ValueTypes.{HaveTypes}
+use Rattle.aql_ty.specs.Types.{Ty}
+use Rattle.aql_ty.specs.ValueTypes.{HaveTypes}
 use Rattle.nrca_term.specs.declared.trace.Rule.{Rule}
 use Rattle.nrca_term.specs.declared.trace.Step as code
 use Rattle.nrca_term.specs.Term.{Term, weight_of}

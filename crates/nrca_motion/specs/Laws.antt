@@ -22,8 +22,8 @@ use Rattle.aql_value.specs.Datum.{Datum}
 use Rattle.aql_value.specs.Lists.{Every}
 use Rattle.aql_value.specs.Operations.{as_set, as_truth}
 use Rattle.aql_value.specs.Partial.{◌>>=◌, total}
-use Rattle.aql_types.specs.Types.{Ty}
-use Rattle.aql_types.specs.ValueTypes.{HaveTypes}
+use Rattle.aql_ty.specs.Types.{Ty}
+use Rattle.aql_ty.specs.ValueTypes.{HaveTypes}
 use Rattle.nrca_term.specs.Term.{Term, Form, form_of, parts_of, child_of, binders_of, weight_of, WellFormed}
 use Rattle.nrca_term.specs.Nodes.{if_term, let_term, loop_term}
 use Rattle.nrca_term.specs.Meaning.{Outcomes, cden}

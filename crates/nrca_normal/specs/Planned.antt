@@ -1,6 +1,6 @@
 -- What a plan is, for shapes that tell of the outcomes of the positions.
 use Rattle.std.proofs.Common.{◌≤◌, ◌+◌, ◌^◌, List, [], length, Option}
-use Rattle.aql_types.specs.Types.{Ty}
+use Rattle.aql_ty.specs.Types.{Ty}
 use Rattle.nrca_term.specs.declared.trace.Step.{Step}
 use Rattle.nrca_term.specs.Term.{Term, weight_of}
 use Rattle.nrca_term.specs.View.{term_of}

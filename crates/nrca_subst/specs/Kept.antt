@@ -1,7 +1,7 @@
 -- What shifting and substitution keep, as said of the term before and the term after.
 use Rattle.std.specs.Prelude.{◌≡◌, ℕ, ◌≤◌, List, ◌∷◌, ◌++◌, length, Some, None}
 use Rattle.aql_value.specs.Datum.{Datum}
-use Rattle.aql_types.specs.Types.{Ty}
+use Rattle.aql_ty.specs.Types.{Ty}
 use Rattle.nrca_term.specs.declared.term.Core.{Core}
 use Rattle.nrca_term.specs.Term.{Term}
 use Rattle.nrca_term.specs.View.{term_of}

@@ -1,11 +1,11 @@
--- The types of core terms. Types, the types of the forms that evaluate every part, and which values have a type stand in aql_types.
+-- The types of core terms. Types, the types of the forms that evaluate every part, and which values have a type stand in aql_ty.
 use Rattle.std.specs.Prelude.{◌≡◌, ℕ, List, [], ◌∷◌, ◌++◌, length, map, replicate, Some}
 use Rattle.std.specs.List.{slice_get}
 use Rattle.aql_value.specs.Datum.{Datum}
-use Rattle.aql_types.specs.Types as types
-use Rattle.aql_types.specs.Types.{Ty, natural, truth, Subst, apply, IsRank, IsType}
-use Rattle.aql_types.specs.OperationTypes.{strict_rule}
-use Rattle.aql_types.specs.ValueTypes.{HasType}
+use Rattle.aql_ty.specs.Types as types
+use Rattle.aql_ty.specs.Types.{Ty, natural, truth, Subst, apply, IsRank, IsType}
+use Rattle.aql_ty.specs.OperationTypes.{strict_rule}
+use Rattle.aql_ty.specs.ValueTypes.{HasType}
 use Rattle.nrca_term.specs.Term.{Term, Parts, node, none, part, Form}
 use Rattle.nrca_term.specs.Meaning.{Outcomes, at_position, outcome}
 

@@ -1,8 +1,8 @@
 -- The term of a bare expression is typed.
 use Rattle.std.proofs.Common.{◌≡◌, ℕ, ◌-◌, List, [], ◌++◌, Some, ap}
 use Rattle.std.specs.Prelude.{slice_get}
-use Rattle.aql_types.specs.Types as types
-use Rattle.aql_types.specs.Types.{Ty, Sort, IsType}
+use Rattle.aql_ty.specs.Types as types
+use Rattle.aql_ty.specs.Types.{Ty, Sort, IsType}
 use Rattle.aql_syntax.specs.Size.{before}
 use Rattle.aql_syntax.specs.Tree.{Tree, Declaration, bare}
 use Rattle.aql_syntax.specs.Typing.{Environment, Has, DeclHas, environment_of}

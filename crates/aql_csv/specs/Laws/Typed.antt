@@ -8,8 +8,8 @@ use Rattle.aql_value.specs.Laws.Set.{Every-canon}
 use Rattle.aql_value.specs.Lists.{Every}
 use Rattle.aql_value.specs.Datum as datum
 use Rattle.aql_value.specs.Datum.{Datum, data_of}
-use Rattle.aql_types.specs.Types as types
-use Rattle.aql_types.specs.ValueTypes.{AllHaveTypes, HasType}
+use Rattle.aql_ty.specs.Types as types
+use Rattle.aql_ty.specs.ValueTypes.{AllHaveTypes, HasType}
 use Rattle.aql_syntax.specs.Typing.{field_type, field_types, record_type}
 use Rattle.aql_syntax.specs.declared.ast.Kind.{Kind}
 use Rattle.aql_syntax.specs.declared.ast.Kind.TheVariants as kinds

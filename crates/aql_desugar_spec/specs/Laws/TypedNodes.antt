@@ -6,10 +6,10 @@ use Rattle.aql_value.specs.Lists.{Every}
 use Rattle.aql_value.specs.Laws.Lists.{Every-take, Every-drop}
 use Rattle.aql_value.specs.Strict.{Strict}
 use Rattle.aql_value.specs.declared.ops.CompareOp.TheVariants as compare_op
-use Rattle.aql_types.specs.Types as types
-use Rattle.aql_types.specs.Types.{Ty, natural, truth, Tys, no_type, type, Subst, IsType, AreTypes, apply, apply_all, tys_of, count}
-use Rattle.aql_types.specs.Laws.Types.{count_apply}
-use Rattle.aql_types.specs.OperationTypes.{strict_rule}
+use Rattle.aql_ty.specs.Types as types
+use Rattle.aql_ty.specs.Types.{Ty, natural, truth, Tys, no_type, type, Subst, IsType, AreTypes, apply, apply_all, tys_of, count}
+use Rattle.aql_ty.specs.Laws.Types.{count_apply}
+use Rattle.aql_ty.specs.OperationTypes.{strict_rule}
 use Rattle.aql_syntax.specs.Tree as tree
 use Rattle.aql_syntax.specs.Tree.{Name, Constant, Pat, bind, any, equals, refers, tuple, Pats, no_pat, pat, count_pats}
 use Rattle.aql_syntax.specs.Names.{find}

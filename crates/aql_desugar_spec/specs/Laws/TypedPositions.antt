@@ -2,9 +2,9 @@
 use Rattle.std.proofs.Common.{◌≡◌, ℕ, zero, suc, true, false, List, [], ◌∷◌, ◌++◌, length, Some, if◌then◌else◌, refl, sym, ap, ◌∙◌, subst, arith, append_assoc, length-append, inl, inr}
 use Rattle.std.proofs.lemmas.Bool.{cases_Bool}
 use Rattle.std.specs.List.{slice_get}
-use Rattle.aql_types.specs.Types as types
-use Rattle.aql_types.specs.Types.{Ty, natural, Tys, no_type, type, Subst, apply, apply_all, IsType, AreTypes, is_type, IsWithin, Sort, value, macro, apply_sort}
-use Rattle.aql_types.specs.Laws.Types.{apply-apply, apply_var, true_is_type, is_type_true}
+use Rattle.aql_ty.specs.Types as types
+use Rattle.aql_ty.specs.Types.{Ty, natural, Tys, no_type, type, Subst, apply, apply_all, IsType, AreTypes, is_type, IsWithin, Sort, value, macro, apply_sort}
+use Rattle.aql_ty.specs.Laws.Types.{apply-apply, apply_var, true_is_type, is_type_true}
 use Rattle.aql_syntax.specs.Tree.{Name, Pat, Tree, Declaration, val, mac, read, bare, declared_name}
 use Rattle.aql_syntax.specs.Names.{names_equal, find}
 use Rattle.aql_syntax.specs.Typing.{Environment, DeclHas, IsInstanceOf, if_name, extend, environment_of, IsPrincipal}

@@ -5,9 +5,9 @@ use Rattle.std.proofs.lemmas.List.{length-replicate}
 use Rattle.std.specs.List.{slice_get}
 use Rattle.aql_value.specs.Lists.{Every}
 use Rattle.aql_value.specs.Strict.{Strict}
-use Rattle.aql_types.specs.Types as types
-use Rattle.aql_types.specs.Types.{Ty, natural, truth, Subst, apply, IsType, IsRank, tys_of}
-use Rattle.aql_types.specs.Laws.Types.{natural_types-are}
+use Rattle.aql_ty.specs.Types as types
+use Rattle.aql_ty.specs.Types.{Ty, natural, truth, Subst, apply, IsType, IsRank, tys_of}
+use Rattle.aql_ty.specs.Laws.Types.{natural_types-are}
 use Rattle.aql_syntax.specs.Tree as tree
 use Rattle.aql_syntax.specs.Tree.{Pats, no_pat, pat, Tree, name, op, members, comp, tab, bindings, choice, conjunction, disjunction, negation, default, function, summap, Trees, no_tree, Axes, no_axis, axis, Quals, no_qual, from, cells, same, test, Defs, no_def, def, count_pats, count_axes, axes}
 use Rattle.aql_syntax.specs.Names.{find}

@@ -2,8 +2,8 @@
 use Rattle.std.proofs.Common.{◌≡◌, ◌≤◌, ℕ, zero, suc, ◌+◌, ◌*◌, true, false, List, [], ◌∷◌, length, Option, Some, None, if◌then◌else◌, refl, arith}
 use Rattle.aql_value.specs.Partial.{total}
 use Rattle.aql_value.specs.Strict.{Strict}
-use Rattle.aql_types.specs.Types.{Ty, Sort, value, macro}
-use Rattle.aql_types.specs.OperationTypes.{strict_rule}
+use Rattle.aql_ty.specs.Types.{Ty, Sort, value, macro}
+use Rattle.aql_ty.specs.OperationTypes.{strict_rule}
 use Rattle.aql_syntax.specs.Tree as tree
 use Rattle.aql_syntax.specs.Tree.{Name, Constant, Pat, bind, any, equals, refers, tuple, Pats, no_pat, pat, Tree, name, op, members, comp, tab, bindings, choice, conjunction, disjunction, negation, default, apply, function, summap, Trees, no_tree, Axes, no_axis, axis, Quals, no_qual, from, cells, same, test, Defs, no_def, def, Declaration, val, mac, read, bare, it, declared_name, count_pats, count_axes, axes}
 use Rattle.aql_syntax.specs.Names.{names_equal, find}

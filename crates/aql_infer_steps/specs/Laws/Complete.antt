@@ -1,9 +1,9 @@
 -- Each typing of a declaration comes from a solution of what it asks.
 use Rattle.std.proofs.Common.{ℕ, ◌≡◌, ◌<◌, true, List, [], ◌∷◌, Option, Some, None, refl, sym, ap, ◌∙◌, subst, option_map}
 use Rattle.std.proofs.lemmas.Option.{same_Some}
-use Rattle.aql_types.specs.Types as types
-use Rattle.aql_types.specs.Types.{Ty, natural, Tys, type, Subst, apply, apply_all, IsWithin, Sort, value, macro, apply_sort}
-use Rattle.aql_types.specs.Laws.Types.{row_is, apply-apply, natural_within, truth_within, member_within, cell_within}
+use Rattle.aql_ty.specs.Types as types
+use Rattle.aql_ty.specs.Types.{Ty, natural, Tys, type, Subst, apply, apply_all, IsWithin, Sort, value, macro, apply_sort}
+use Rattle.aql_ty.specs.Laws.Types.{row_is, apply-apply, natural_within, truth_within, member_within, cell_within}
 use Rattle.aql_syntax.specs.Tree.{Name, Pat, bind, any, equals, refers, tuple, Pats, no_pat, pat, Tree, name, op, members, comp, tab, bindings, choice, conjunction, disjunction, negation, default, function, summap, Trees, no_tree, tree, Axes, no_axis, axis, Quals, no_qual, from, cells, same, test, Defs, no_def, def, Reader, plain, signed, strided, records, Declaration, val, mac, read, bare, count_pats, count_axes, axes}
 use Rattle.aql_syntax.specs.Tree as trees
 use Rattle.aql_syntax.specs.Names.{find}

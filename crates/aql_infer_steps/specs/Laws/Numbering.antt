@@ -1,10 +1,10 @@
 -- What follows from the definitions of `Numbering`.
 use Rattle.std.proofs.Common.{ℕ, suc, ◌≡◌, ◌<◌, ◌==◌, ◌||◌, ◌++◌, Bool, true, false, List, [], ◌∷◌, refl, sym, ap, ◌∙◌, arith, if◌then◌else◌, length}
 use Rattle.std.proofs.lemmas.Bool.{eqb-true, eq-eqb}
-use Rattle.aql_types.specs.Types as types
-use Rattle.aql_types.specs.Types.{Ty, natural, truth, var, product, set_of, array_of, Tys, no_type, type, Subst, apply, apply_all, nodes, nodes_all, levels, levels_all, IsType, AreTypes, IsWithin, Sort, value, macro, apply_sort}
-use Rattle.aql_types.specs.Laws.Types.{row_is, apply-apply, apply_var, count_apply}
-use Rattle.aql_types.specs.Variables.{is_one_of, variable_index, variables, variables_all, sort_variables}
+use Rattle.aql_ty.specs.Types as types
+use Rattle.aql_ty.specs.Types.{Ty, natural, truth, var, product, set_of, array_of, Tys, no_type, type, Subst, apply, apply_all, nodes, nodes_all, levels, levels_all, IsType, AreTypes, IsWithin, Sort, value, macro, apply_sort}
+use Rattle.aql_ty.specs.Laws.Types.{row_is, apply-apply, apply_var, count_apply}
+use Rattle.aql_ty.specs.Variables.{is_one_of, variable_index, variables, variables_all, sort_variables}
 use Rattle.aql_infer_steps.specs.Numbering.{at_index, renumbering, number, undo_numbering, names_back, IsNumbered}
 
 at_index-index : (x : ℕ) (ys : List ℕ) → is_one_of x ys ≡ true → at_index (variable_index x ys) ys ≡ x

@@ -6,10 +6,10 @@ use Rattle.std.specs.Cmp.Derive.{both_true}
 use Rattle.std.proofs.Math.Dec.{leb}
 use Rattle.std.proofs.lemmas.Bool.{leb-true, le-leb}
 use Rattle.aql_value.specs.Strict.{Strict}
-use Rattle.aql_types.specs.Types as types
-use Rattle.aql_types.specs.Types.{Ty, natural, no_type, type, Subst, apply, apply_all, IsRank, IsWithin, tys_of}
-use Rattle.aql_types.specs.OperationTypes.{strict_rule}
-use Rattle.aql_types.specs.Laws.Types.{natural_within, cell_within, index_type-apply}
+use Rattle.aql_ty.specs.Types as types
+use Rattle.aql_ty.specs.Types.{Ty, natural, no_type, type, Subst, apply, apply_all, IsRank, IsWithin, tys_of}
+use Rattle.aql_ty.specs.OperationTypes.{strict_rule}
+use Rattle.aql_ty.specs.Laws.Types.{natural_within, cell_within, index_type-apply}
 use Rattle.aql_syntax.specs.Typing.{OperandWithin, FirstWithin}
 use Rattle.aql_infer_steps.specs.Constraints.{State, Making, pure, fresh, is_rank, equate_each, with_none, with_one, with_two, with_first, literal_parts, pair_type, made_arith, made_compare, made_empty, made_single, made_union, made_gen, made_get, made_sub, made_dim, made_index, make_op}
 use Rattle.aql_infer_steps.specs.Laws.Steps.{Sound, sound_after, sound_made, sound_none, weaker, sound_fresh, sound_equate, sound_within, sound_guard, Agrees, later_later, Stays, on, Found, found_after, found_made, found_equate, found_within, found_guard, found_fresh}

@@ -1,9 +1,9 @@
 -- What follows from the definitions of `Principal`.
 use Rattle.std.proofs.Common.{ℕ, zero, suc, ◌-◌, ◌≡◌, ◌<◌, Bool, true, false, List, [], ◌∷◌, ◌++◌, take, reverse, slice_get, append-nil, append_assoc, Option, Some, None, refl, sym, ap, ◌∙◌, subst, if◌then◌else◌}
 use mathlib.Core.List.{reverse-cons}
-use Rattle.aql_types.specs.Types.{Ty, var, Tys, no_type, type, Subst, apply, IsWithin, Sort, value, macro, apply_sort}
-use Rattle.aql_types.specs.Unifiers.{Equations, AllUnify, AllWithin, IsBest}
-use Rattle.aql_types.specs.Laws.Types.{apply-apply, apply_same, apply_sort-apply}
+use Rattle.aql_ty.specs.Types.{Ty, var, Tys, no_type, type, Subst, apply, IsWithin, Sort, value, macro, apply_sort}
+use Rattle.aql_ty.specs.Unifiers.{Equations, AllUnify, AllWithin, IsBest}
+use Rattle.aql_ty.specs.Laws.Types.{apply-apply, apply_same, apply_sort-apply}
 use Rattle.aql_syntax.specs.Tree.{Name, Declaration, declared_name}
 use Rattle.aql_syntax.specs.Names.{names_equal, find}
 use Rattle.aql_syntax.specs.Size.{before}
@@ -15,7 +15,7 @@ use Rattle.aql_syntax.specs.Written.{DeclWritten}
 use Rattle.aql_syntax.specs.Laws.Sound.{value-is, argument-is, result-is}
 use Rattle.aql_infer_steps.specs.Laws.Sound.{decl_sound}
 use Rattle.aql_infer_steps.specs.Laws.Complete.{IsSort, decl_found, macros}
-use Rattle.aql_types.specs.Variables.{sort_variables, variable_index}
+use Rattle.aql_ty.specs.Variables.{sort_variables, variable_index}
 use Rattle.aql_infer_steps.specs.Numbering.{names_back, IsNumbered}
 use Rattle.aql_infer_steps.specs.Laws.Numbering.{number_undone, number_closed, named_within, number_numbered}
 use Rattle.aql_infer_steps.specs.Principal.{IsInferred, HasNoSolution, IsNotInferred}

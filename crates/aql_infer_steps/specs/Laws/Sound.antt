@@ -1,8 +1,8 @@
 -- Whatever solves what a declaration asks gives it a typing.
 use Rattle.std.proofs.Common.{ℕ, ◌≡◌, List, [], ◌∷◌, Option, Some, None, refl, sym, ap, ◌∙◌, subst, option_map}
-use Rattle.aql_types.specs.Types as types
-use Rattle.aql_types.specs.Types.{Ty, natural, no_type, type, Subst, apply, apply_all, index_type, IsWithin, Sort, value, macro, apply_sort}
-use Rattle.aql_types.specs.Laws.Types.{row_is, apply-apply, index_type-apply}
+use Rattle.aql_ty.specs.Types as types
+use Rattle.aql_ty.specs.Types.{Ty, natural, no_type, type, Subst, apply, apply_all, index_type, IsWithin, Sort, value, macro, apply_sort}
+use Rattle.aql_ty.specs.Laws.Types.{row_is, apply-apply, index_type-apply}
 use Rattle.aql_syntax.specs.Tree.{Name, Constant, number, bytes, Pat, bind, any, equals, refers, tuple, Pats, no_pat, pat, Tree, name, op, members, comp, tab, bindings, choice, conjunction, disjunction, negation, default, function, summap, Trees, no_tree, tree, Axes, no_axis, axis, Quals, no_qual, from, cells, same, test, Defs, no_def, def, Reader, plain, signed, strided, records, Declaration, val, mac, read, bare, count_pats, count_axes, axes}
 use Rattle.aql_syntax.specs.Tree as trees
 use Rattle.aql_syntax.specs.Names.{find}

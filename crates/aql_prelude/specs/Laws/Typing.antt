@@ -1,9 +1,9 @@
 -- What follows from the definitions of `Typing`.
 use Rattle.std.specs.Prelude.{zero, suc, List, [], ◌∷◌, codes}
 use Rattle.std.proofs.Common.{refl, lit≤}
-use Rattle.aql_types.specs.Types as types
-use Rattle.aql_types.specs.Types.{Ty, natural, var, no_type, type, Subst, macro}
-use Rattle.aql_types.specs.Laws.Types.{fits_within}
+use Rattle.aql_ty.specs.Types as types
+use Rattle.aql_ty.specs.Types.{Ty, natural, var, no_type, type, Subst, macro}
+use Rattle.aql_ty.specs.Laws.Types.{fits_within}
 use Rattle.aql_syntax.specs.Tree.{Declaration}
 use Rattle.aql_syntax.specs.Typing.{DeclHas, environment_of}
 use Rattle.aql_prelude.specs.Prelude as prelude

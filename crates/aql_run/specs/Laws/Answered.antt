@@ -8,7 +8,7 @@ use Rattle.std.specs.Prelude.{Option, Some, None, replicate}
 use Rattle.aql_outside.specs.Contents.{Content}
 use Rattle.aql_value.specs.Datum.{Datum}
 use Rattle.aql_value.specs.Laws.Lists.{slice_get-append_left, entry-there}
-use Rattle.aql_types.specs.Types.{Sort}
+use Rattle.aql_ty.specs.Types.{Sort}
 use Rattle.aql_syntax.specs.Matching.{Globals}
 use Rattle.aql_syntax.specs.Script.{ReaderMeaning, Earlier, globals_of, outcome_after, then_after, outcomes_after, values}
 use Rattle.aql_syntax.specs.Tree.{Declaration, val, mac, read, bare}
@@ -21,7 +21,7 @@ use Rattle.aql_session.specs.Reading.{reading}
 use Rattle.aql_session.specs.Step.{IsOutcome}
 use Rattle.aql_session.specs.declared.answer.Answer.{Answer}
 use Rattle.aql_run.specs.Answered.{AreAnswered}
-use Rattle.aql_words.specs.Settings.{Settings}
+use Rattle.aql_options.specs.Settings.{Settings}
 
 -- ---- lists
 

@@ -7,8 +7,8 @@ use Rattle.std.proofs.lemmas.Option.{slice_get_within}
 use Rattle.aql_value.specs.Strict.{Strict}
 use Rattle.aql_value.specs.declared.ops.ArithOp.{ArithOp}
 use Rattle.aql_value.specs.declared.ops.ArithOp.TheVariants as ariths
-use Rattle.aql_types.specs.Types.{natural, value}
-use Rattle.aql_types.specs.Laws.Types.{fits_within}
+use Rattle.aql_ty.specs.Types.{natural, value}
+use Rattle.aql_ty.specs.Laws.Types.{fits_within}
 use Rattle.aql_syntax.specs.Script.{Earlier}
 use Rattle.aql_syntax.specs.Tree.{Tree, Declaration, bare}
 use Rattle.aql_syntax.specs.Typing.{Environment, Has, DeclHas, environment_of}
@@ -20,8 +20,8 @@ use Rattle.aql_prelude.specs.Laws.Typing.{prelude_typed}
 use Rattle.aql_script.specs.Script.{positions}
 use Rattle.aql_script.proofs.Examples.{number, product, sum, one_sum, sum_read, sum_limits}
 use Rattle.aql_session.specs.Bound.{earlier_of}
-use Rattle.aql_words.specs.Words.{options_of}
-use Rattle.aql_words.specs.Laws.Examples.{name_read}
+use Rattle.aql_options.specs.Words.{options_of}
+use Rattle.aql_options.specs.Laws.Examples.{name_read}
 use Rattle.aql_run.specs.Complete.{AreOutcomes, IsWithinBudget, IsSound}
 
 -- ---- the typings

@@ -3,8 +3,8 @@ use Rattle.std.proofs.Common.{◌≡◌, true, false, [], ◌∷◌, Option, Som
 use Rattle.std.proofs.lemmas.Slice.Eq.{bytes_eq-Decides}
 use Rattle.aql_value.specs.Datum.{Datum}
 use Rattle.aql_value.specs.Partial.{◌>>=◌}
-use Rattle.aql_types.specs.Types as types
-use Rattle.aql_types.specs.Types.{Subst}
+use Rattle.aql_ty.specs.Types as types
+use Rattle.aql_ty.specs.Types.{Subst}
 use Rattle.aql_syntax.specs.Tree.{Name, Pat, Tree, apply, mac}
 use Rattle.aql_syntax.specs.Names.{names_equal, find}
 use Rattle.aql_syntax.specs.Matching.{Env, Globals, outcome_of, lookup, on_match, match}

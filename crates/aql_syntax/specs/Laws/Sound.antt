@@ -16,12 +16,12 @@ use Rattle.aql_value.specs.Laws.Partial.{then-is, each-values, each-length}
 use Rattle.aql_value.specs.Operations.{as_natural, as_truth, as_set, as_array, part_of, in_range, sum_of, array_of, dims_of, cell_of, set_of}
 use Rattle.aql_value.specs.Indices.{cell}
 use Rattle.aql_value.specs.Strict.{Strict, strict_value}
-use Rattle.aql_types.specs.Types as types
-use Rattle.aql_types.specs.Types.{Ty, Tys, no_type, type, natural, Subst, apply, apply_all, IsRank, IsWithin, Sort, value, macro, apply_sort, tys_of, index_type}
-use Rattle.aql_types.specs.Laws.Types.{apply-apply, apply_var}
-use Rattle.aql_types.specs.OperationTypes.{strict_rule}
-use Rattle.aql_types.specs.ValueTypes.{HasType, HaveTypes}
-use Rattle.aql_types.specs.Laws.Operation.{set-members, has-set, has-array, array-table, strict-sound, part-sound, cell-found}
+use Rattle.aql_ty.specs.Types as types
+use Rattle.aql_ty.specs.Types.{Ty, Tys, no_type, type, natural, Subst, apply, apply_all, IsRank, IsWithin, Sort, value, macro, apply_sort, tys_of, index_type}
+use Rattle.aql_ty.specs.Laws.Types.{apply-apply, apply_var}
+use Rattle.aql_ty.specs.OperationTypes.{strict_rule}
+use Rattle.aql_ty.specs.ValueTypes.{HasType, HaveTypes}
+use Rattle.aql_ty.specs.Laws.Operation.{set-members, has-set, has-array, array-table, strict-sound, part-sound, cell-found}
 use Rattle.aql_syntax.specs.Tree as tree
 use Rattle.aql_syntax.specs.Tree.{Name, Pat, Pats, Tree, Trees, Axes, Quals, Defs, Declaration, count_pats, count_axes, axes}
 use Rattle.aql_syntax.specs.Names.{names_equal, find}

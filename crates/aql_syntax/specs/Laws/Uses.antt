@@ -1,10 +1,10 @@
 -- Each type that a typing uses is within the limits.
 use Rattle.std.proofs.Common.{◌≡◌, ◌↔◌, ℕ, zero, suc, List, [], ◌∷◌, ◌++◌, replicate, Bool, true, false, Option, Some, None, sym, subst}
 use Rattle.aql_value.specs.Strict.{Strict}
-use Rattle.aql_types.specs.Types as types
-use Rattle.aql_types.specs.Types.{Ty, natural, Tys, no_type, type, IsRank, IsWithin, Sort, value, macro, tys_of, index_type}
-use Rattle.aql_types.specs.Laws.Types.{natural_within, truth_within, member_within, cell_within, PartsWithin, parts_within, first_within, rest_within}
-use Rattle.aql_types.specs.OperationTypes.{strict_rule}
+use Rattle.aql_ty.specs.Types as types
+use Rattle.aql_ty.specs.Types.{Ty, natural, Tys, no_type, type, IsRank, IsWithin, Sort, value, macro, tys_of, index_type}
+use Rattle.aql_ty.specs.Laws.Types.{natural_within, truth_within, member_within, cell_within, PartsWithin, parts_within, first_within, rest_within}
+use Rattle.aql_ty.specs.OperationTypes.{strict_rule}
 use Rattle.aql_syntax.specs.Tree as tree
 use Rattle.aql_syntax.specs.Tree.{Name, Pat, Pats, Tree, Trees, Axes, Quals, Defs, Declaration, declared_name, count_pats, count_axes, axes}
 use Rattle.aql_syntax.specs.Names.{names_equal, find}

@@ -1,10 +1,10 @@
 //! Equations between types: what solves and what does not, and instances that are written out.
 
 use crate::tests::same::assert_same;
+use aql_ty::equation::Equation;
+use aql_ty::fault::UnifyFault;
+use aql_ty::ty::{Ty, row};
 use aql_type_solve::solve::{Solution, solve};
-use aql_types::equation::Equation;
-use aql_types::fault::UnifyFault;
-use aql_types::ty::{Ty, row};
 use aql_value::Memory;
 use aql_value::made::{both, make_box, make_list, make_pair_list};
 use std::alloc::Global;

@@ -3,6 +3,8 @@
 ghost use Rattle.std.specs.Prelude.{◌<◌, ◌↔◌, IsTrue, length};
 
 use crate::tests::same::assert_same;
+use aql_ty::fault::UnifyFault;
+use aql_ty::ty::Ty;
 use aql_type_graph::graph::Graph;
 use aql_type_graph::grow::{
     empty_graph, push_array, push_natural, push_set, push_truth, push_tuple, push_variable,
@@ -11,8 +13,6 @@ use aql_type_graph::inside::are_nodes;
 use aql_type_graph::node::Equation;
 use aql_type_graph::read::node_type;
 use aql_type_graph::solve::{SolvedGraph, solve};
-use aql_types::fault::UnifyFault;
-use aql_types::ty::Ty;
 use aql_value::Memory;
 use std::alloc::{AllocFailed, Global};
 

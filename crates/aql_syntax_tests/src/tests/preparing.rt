@@ -8,7 +8,7 @@ use aql_prelude::{COUNT, prelude};
 use aql_print::print_scheme;
 use aql_script::{ScriptFault, prepare};
 use aql_syntax::ast::{Decl, Decls};
-use aql_types::ty::Scheme;
+use aql_ty::ty::Scheme;
 use aql_value::Memory;
 use std::alloc::{AllocError, Global};
 use std::process::Abort;

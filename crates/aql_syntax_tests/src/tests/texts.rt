@@ -1,7 +1,7 @@
 ghost use Rattle.std.specs.Prelude.{◌≡◌, ◌≤◌, length, IfOk};
 
 use aql_print::{print_core, print_held, print_moves, print_scheme, print_trace, print_value};
-use aql_types::ty::{Scheme, Ty, row};
+use aql_ty::ty::{Scheme, Ty, row};
 use aql_value::made::{both, make_box, make_boxes, make_list, make_pair_list};
 use aql_value::{ArithOp, Cells, CompareOp, Dims, Items, Memory, Parts, Str, Value, canon};
 use nrca_array::{Flat, Held};

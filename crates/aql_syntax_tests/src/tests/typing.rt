@@ -3,7 +3,7 @@ use aql_infer::check::{Typed, check};
 use aql_infer::fault::TypeFault;
 use aql_syntax::ast::{Decl, Decls, Expr};
 use aql_syntax::build::members;
-use aql_types::ty::{Scheme, Ty};
+use aql_ty::ty::{Scheme, Ty};
 use aql_value::made::{make_boxes, make_list, make_pair_list};
 use aql_value::{CompareOp, Memory};
 use std::alloc::Global;

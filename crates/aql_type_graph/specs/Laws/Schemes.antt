@@ -3,9 +3,9 @@ use Rattle.std.proofs.Common.{ℕ, zero, suc, ◌≡◌, ◌+◌, ◌-◌, ◌<�
 use Rattle.std.proofs.lemmas.Bool.{cases_lt, lt-ltb, le-ltb}
 use Rattle.std.proofs.lemmas.List.{get_or_past, get_or-append_right, get_or-map, length-map, take-append-drop}
 use Rattle.aql_value.specs.Lists.{Every}
-use Rattle.aql_types.specs.Types as types
-use Rattle.aql_types.specs.Types.{apply}
-use Rattle.aql_types.specs.Laws.Types.{row_is}
+use Rattle.aql_ty.specs.Types as types
+use Rattle.aql_ty.specs.Types.{apply}
+use Rattle.aql_ty.specs.Laws.Types.{row_is}
 use Rattle.aql_type_graph.specs.Shapes as shape
 use Rattle.aql_type_graph.specs.Shapes.{Shape, Valuation, parts, types_at, whole}
 use Rattle.aql_type_graph.specs.Forms.{Form, at}

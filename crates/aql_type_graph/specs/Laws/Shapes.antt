@@ -5,9 +5,9 @@ use Rattle.std.specs.Cmp.Derive.{both_true}
 use Rattle.std.proofs.Math.Dec.{leb}
 use Rattle.std.proofs.lemmas.Bool.{eqb-true, leb-true, le-leb}
 use Rattle.aql_value.specs.Lists.{Every}
-use Rattle.aql_types.specs.Types as types
-use Rattle.aql_types.specs.Types.{Ty, Tys, no_type, type, Subst, apply, apply_all, levels, levels_all, nodes, nodes_all, count, IsType, AreTypes}
-use Rattle.aql_types.specs.Laws.Types.{row_is}
+use Rattle.aql_ty.specs.Types as types
+use Rattle.aql_ty.specs.Types.{Ty, Tys, no_type, type, Subst, apply, apply_all, levels, levels_all, nodes, nodes_all, count, IsType, AreTypes}
+use Rattle.aql_ty.specs.Laws.Types.{row_is}
 use Rattle.aql_type_graph.specs.Shapes as shape
 use Rattle.aql_type_graph.specs.Shapes.{Shape, Valuation, parts, types_at, whole, alike, is_formed}
 use Rattle.aql_type_graph.specs.Valuations.{Equal}

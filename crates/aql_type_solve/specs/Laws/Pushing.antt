@@ -6,15 +6,15 @@ use Rattle.std.proofs.lemmas.Bool.{cases_lt}
 use Rattle.std.proofs.lemmas.List.{append-nil, length-map, take_more}
 use Rattle.aql_value.specs.Lists.{Every}
 use Rattle.aql_value.specs.Laws.Lists.{Every-impl, Every-append}
-use Rattle.aql_types.specs.Types as types
-use Rattle.aql_types.specs.Types.{Ty, Tys, no_type, type, Subst, apply, apply_all, IsWithin, append}
-use Rattle.aql_types.specs.Unifiers.{Equations, SidesWithin}
-use Rattle.aql_types.specs.Unifiers as unifiers
-use Rattle.aql_types.specs.Laws.Types.{PartsWithin, parts_within, first_within, rest_within, member_within, cell_within, row_is, apply_same, apply_all_same, apply_var, apply_all_var, apply_all-append}
-use Rattle.aql_types.specs.declared.ty.Ty as code
-use Rattle.aql_types.specs.declared.equation.Equation as code_equation
-use Rattle.aql_types.specs.View.{type_of, types_of, equation_list}
-use Rattle.aql_types.specs.Laws.View.{types_last}
+use Rattle.aql_ty.specs.Types as types
+use Rattle.aql_ty.specs.Types.{Ty, Tys, no_type, type, Subst, apply, apply_all, IsWithin, append}
+use Rattle.aql_ty.specs.Unifiers.{Equations, SidesWithin}
+use Rattle.aql_ty.specs.Unifiers as unifiers
+use Rattle.aql_ty.specs.Laws.Types.{PartsWithin, parts_within, first_within, rest_within, member_within, cell_within, row_is, apply_same, apply_all_same, apply_var, apply_all_var, apply_all-append}
+use Rattle.aql_ty.specs.declared.ty.Ty as code
+use Rattle.aql_ty.specs.declared.equation.Equation as code_equation
+use Rattle.aql_ty.specs.View.{type_of, types_of, equation_list}
+use Rattle.aql_ty.specs.Laws.View.{types_last}
 use Rattle.aql_type_graph.specs.declared.node.Equation.{Equation}
 use Rattle.aql_type_graph.specs.declared.graph.Graph.{Graph}
 use Rattle.aql_type_graph.specs.Shapes as shape

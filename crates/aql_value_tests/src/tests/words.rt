@@ -1,5 +1,5 @@
 use crate::tests::same::assert_same;
-use aql_words::{Options, WordFault, read_words};
+use aql_options::{Options, WordFault, read_words};
 use std::alloc::{AllocError, Global};
 
 fn push_word(alloc: Global, all: &mut Vec<String>, word: &str) -> Result<(), AllocError> {

@@ -10,10 +10,10 @@ use Rattle.aql_value.specs.Lists.{Every}
 use Rattle.aql_value.specs.Operations.{as_natural, as_set, sum_of}
 use Rattle.aql_value.specs.Partial.{◌>>=◌, each, or_else}
 use Rattle.aql_value.specs.Strict.{strict_value}
-use Rattle.aql_types.specs.Laws.Operation.{has-append, has-length}
-use Rattle.aql_types.specs.Types as types
-use Rattle.aql_types.specs.Types.{Ty, natural}
-use Rattle.aql_types.specs.ValueTypes.{HasType, HaveTypes}
+use Rattle.aql_ty.specs.Laws.Operation.{has-append, has-length}
+use Rattle.aql_ty.specs.Types as types
+use Rattle.aql_ty.specs.Types.{Ty, natural}
+use Rattle.aql_ty.specs.ValueTypes.{HasType, HaveTypes}
 use Rattle.nrca_term.specs.Term.{Term, Parts, node, none, part, Form, count, WellFormed}
 use Rattle.nrca_term.specs.Meaning.{Outcomes, Part, worth, form_value, members_value, loop_values, cden, part_values}
 use Rattle.nrca_term.specs.Places.{otherwise, entry_values}

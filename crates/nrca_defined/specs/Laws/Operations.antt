@@ -8,10 +8,10 @@ use Rattle.aql_value.specs.Laws.Set.{length_canon}
 use Rattle.aql_value.specs.Operations.{as_natural, only, get_of, arith_of, cell_of}
 use Rattle.aql_value.specs.Partial.{◌>>=◌, each}
 use Rattle.aql_value.specs.Strict.{Strict, strict_value}
-use Rattle.aql_types.specs.Types as types
-use Rattle.aql_types.specs.Types.{Ty, natural}
-use Rattle.aql_types.specs.ValueTypes.{HasType, HaveTypes}
-use Rattle.aql_types.specs.OperationTypes.{strict_rule}
+use Rattle.aql_ty.specs.Types as types
+use Rattle.aql_ty.specs.Types.{Ty, natural}
+use Rattle.aql_ty.specs.ValueTypes.{HasType, HaveTypes}
+use Rattle.aql_ty.specs.OperationTypes.{strict_rule}
 use Rattle.nrca_term.specs.Firm.{strict_sure}
 use Rattle.nrca_laws.specs.Operations.{Valued}
 use Rattle.nrca_laws.specs.Laws.Operations.{set-is, strict-defined}

@@ -6,9 +6,9 @@ use Rattle.std.specs.List.{slice_get}
 use Rattle.std.specs.Option.{option_map}
 use Rattle.aql_value.specs.Lists.{Every}
 use Rattle.aql_value.specs.Strict.{Strict}
-use Rattle.aql_types.specs.Types as types
-use Rattle.aql_types.specs.Types.{Ty, IsType, tys_of, index_type}
-use Rattle.aql_types.specs.OperationTypes.{strict_rule}
+use Rattle.aql_ty.specs.Types as types
+use Rattle.aql_ty.specs.Types.{Ty, IsType, tys_of, index_type}
+use Rattle.aql_ty.specs.OperationTypes.{strict_rule}
 use Rattle.nrca_term.specs.Term.{Term, Parts, node, none, part, Form, terms_in}
 use Rattle.nrca_term.specs.Meaning.{at_position}
 use Rattle.nrca_term.specs.Typing.{Arg, arg, form_rule, ctyped, parts_typed, instances}

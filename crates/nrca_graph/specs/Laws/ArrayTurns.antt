@@ -18,9 +18,9 @@ use Rattle.aql_value.specs.Laws.Operations.{array_of-made}
 use Rattle.aql_value.specs.Partial.{◌>>=◌, each, total, if_some}
 use Rattle.aql_value.specs.Laws.Partial.{total-map}
 use Rattle.aql_value.specs.Strict.{Strict}
-use Rattle.aql_types.specs.Types as types
-use Rattle.aql_types.specs.Types.{Ty, IsRank, index_type}
-use Rattle.aql_types.specs.ValueTypes.{HasType}
+use Rattle.aql_ty.specs.Types as types
+use Rattle.aql_ty.specs.Types.{Ty, IsRank, index_type}
+use Rattle.aql_ty.specs.ValueTypes.{HasType}
 use Rattle.nrca_term.specs.Term.{Term, Parts, none, part, WellFormed, terms_in}
 use Rattle.nrca_term.specs.Nodes.{variable, number, bottom_term, proj_term, arith_term, compare_term, get_term, empty_term, single_term, if_term}
 use Rattle.nrca_term.specs.Typing.{arg}

@@ -11,9 +11,9 @@ use Rattle.aql_value.specs.Partial.{◌>>=◌, each, concat}
 use Rattle.aql_value.specs.Laws.Partial.{each-ext, each-map, each-then, each-values}
 use Rattle.aql_value.specs.Laws.Set.{Every-canon}
 use Rattle.std.proofs.lemmas.List.{map-append}
-use Rattle.aql_types.specs.Types as types
-use Rattle.aql_types.specs.Types.{Ty}
-use Rattle.aql_types.specs.ValueTypes.{HasType}
+use Rattle.aql_ty.specs.Types as types
+use Rattle.aql_ty.specs.Types.{Ty}
+use Rattle.aql_ty.specs.ValueTypes.{HasType}
 use Rattle.nrca_graph.specs.Encoding.{encoding, encode_outcome}
 use Rattle.nrca_graph.specs.Laws.EncodingOrder.{encoding-order, encoding-set, encodings-ascend}
 

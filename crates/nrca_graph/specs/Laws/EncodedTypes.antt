@@ -6,11 +6,11 @@ use Rattle.aql_value.specs.Indices.{indices}
 use Rattle.aql_value.specs.Lists.{Every}
 use Rattle.aql_value.specs.Laws.RowMajor.{indices_lengths}
 use Rattle.aql_value.specs.Operations.{index_value}
-use Rattle.aql_types.specs.Types as types
-use Rattle.aql_types.specs.Types.{Ty, Tys, no_type, type, truth, text, IsType, AreTypes, Subst, apply, apply_all, count, index_type}
-use Rattle.aql_types.specs.Laws.Operation.{index_value-has}
-use Rattle.aql_types.specs.ValueTypes.{HasType, AllHaveTypes}
-use Rattle.aql_types.specs.Laws.Types.{index_type-apply, natural_types-are}
+use Rattle.aql_ty.specs.Types as types
+use Rattle.aql_ty.specs.Types.{Ty, Tys, no_type, type, truth, text, IsType, AreTypes, Subst, apply, apply_all, count, index_type}
+use Rattle.aql_ty.specs.Laws.Operation.{index_value-has}
+use Rattle.aql_ty.specs.ValueTypes.{HasType, AllHaveTypes}
+use Rattle.aql_ty.specs.Laws.Types.{index_type-apply, natural_types-are}
 use Rattle.nrca_graph.specs.Encoding.{pair, graph, encoding, pair_type, array_type, encoding_type, encoding_types}
 use Rattle.nrca_graph.specs.Laws.IndexOrder.{indices-ascend}
 use Rattle.nrca_graph.specs.Laws.EncodingOrder.{encoding-order, encoding-set, encoding-array, encodings-ascend, encodings-list, graph-ascends}

@@ -19,9 +19,9 @@ use Rattle.aql_value.specs.Order.{datum_cmp, data_cmp}
 use Rattle.aql_value.specs.Laws.Order.{datum_cmp-total, then_equal}
 use Rattle.aql_value.specs.Laws.RowMajor.{indices_lengths}
 use Rattle.std.specs.FinSet.{nat_cmp-IsAntisymmetric, slice_cmp-IsAntisymmetric}
-use Rattle.aql_types.specs.Types as types
-use Rattle.aql_types.specs.Types.{Ty, Tys, no_type, type, truth, text}
-use Rattle.aql_types.specs.ValueTypes.{HasType, AllHaveTypes}
+use Rattle.aql_ty.specs.Types as types
+use Rattle.aql_ty.specs.Types.{Ty, Tys, no_type, type, truth, text}
+use Rattle.aql_ty.specs.ValueTypes.{HasType, AllHaveTypes}
 use Rattle.nrca_graph.specs.Encoding.{pair, graph, encoding, encodings}
 use Rattle.nrca_graph.specs.Laws.IndexOrder.{index-order, indices-ascend}
 use Rattle.nrca_graph.specs.EncodingOrder.{KeepsOrder, IsOrderedAs}

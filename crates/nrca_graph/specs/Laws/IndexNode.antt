@@ -16,9 +16,9 @@ use Rattle.aql_value.specs.Partial.{◌>>=◌, each, concat}
 use Rattle.aql_value.specs.Laws.Partial.{each-map, each-ext, each-defined}
 use Rattle.aql_value.specs.Laws.RowMajor.{indices_lengths}
 use Rattle.aql_value.specs.Strict.{Strict, strict_value}
-use Rattle.aql_types.specs.Types as types
-use Rattle.aql_types.specs.Types.{Ty, IsRank, index_type}
-use Rattle.aql_types.specs.ValueTypes.{HasType, HaveTypes}
+use Rattle.aql_ty.specs.Types as types
+use Rattle.aql_ty.specs.Types.{Ty, IsRank, index_type}
+use Rattle.aql_ty.specs.ValueTypes.{HasType, HaveTypes}
 use Rattle.nrca_term.specs.Term.{Term, Parts, none, part, terms_in}
 use Rattle.nrca_term.specs.Nodes.{variable, bottom_term}
 use Rattle.nrca_term.specs.Typing.{arg}

@@ -8,9 +8,9 @@ use Rattle.aql_value.specs.Laws.Lists.{Every-impl}
 use Rattle.aql_value.specs.Operations.{as_natural, as_truth, as_set, union_all, sum_of, in_range}
 use Rattle.aql_value.specs.Partial.{◌>>=◌, each, or_else}
 use Rattle.aql_value.specs.Laws.Partial.{each-ext, each-map, each-then}
-use Rattle.aql_types.specs.Types as types
-use Rattle.aql_types.specs.Types.{Ty}
-use Rattle.aql_types.specs.ValueTypes.{HasType, HaveTypes}
+use Rattle.aql_ty.specs.Types as types
+use Rattle.aql_ty.specs.Types.{Ty}
+use Rattle.aql_ty.specs.ValueTypes.{HasType, HaveTypes}
 use Rattle.nrca_term.specs.Term.{Form}
 use Rattle.nrca_term.specs.Typing.{Arg, arg, form_rule}
 use Rattle.nrca_term.specs.Meaning.{Outcomes, outcome, Part, worth, form_value}

@@ -17,8 +17,8 @@ use Rattle.aql_value.specs.Laws.Operations.{each-naturals, array_of-made}
 use Rattle.aql_value.specs.Partial.{◌>>=◌, each, concat}
 use Rattle.aql_value.specs.Laws.Partial.{each-append, each-length}
 use Rattle.aql_value.specs.Strict.{Strict, strict_value}
-use Rattle.aql_types.specs.Types as types
-use Rattle.aql_types.specs.Types.{Ty, IsRank}
+use Rattle.aql_ty.specs.Types as types
+use Rattle.aql_ty.specs.Types.{Ty, IsRank}
 use Rattle.nrca_term.specs.Term.{Term, Parts, terms_in}
 use Rattle.nrca_term.specs.Nodes.{bottom_term, if_term, tuple_term}
 use Rattle.nrca_term.specs.Typing.{Arg, arg}

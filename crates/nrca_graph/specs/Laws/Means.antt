@@ -4,11 +4,11 @@ use Rattle.std.proofs.lemmas.List.{map-append}
 use Rattle.aql_value.specs.Datum.{Datum}
 use Rattle.aql_value.specs.Partial.{◌>>=◌, each}
 use Rattle.aql_value.specs.Strict.{Strict, strict_value}
-use Rattle.aql_types.specs.Types as types
-use Rattle.aql_types.specs.Types.{Ty, index_type}
-use Rattle.aql_types.specs.Laws.Operation.{has-append}
-use Rattle.aql_types.specs.OperationTypes.{strict_rule}
-use Rattle.aql_types.specs.ValueTypes.{HaveTypes}
+use Rattle.aql_ty.specs.Types as types
+use Rattle.aql_ty.specs.Types.{Ty, index_type}
+use Rattle.aql_ty.specs.Laws.Operation.{has-append}
+use Rattle.aql_ty.specs.OperationTypes.{strict_rule}
+use Rattle.aql_ty.specs.ValueTypes.{HaveTypes}
 use Rattle.nrca_term.specs.Term.{Term, Parts, node, none, part, Form, weight_of, parts_weight, terms_in}
 use Rattle.nrca_term.specs.Laws.Measure.{parts_weight-count}
 use Rattle.nrca_term.specs.Typing.{Arg, arg, form_rule, ctyped, parts_typed, OutcomesHave}

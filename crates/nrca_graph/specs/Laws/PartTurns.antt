@@ -7,9 +7,9 @@ use Rattle.aql_value.specs.Lists.{Every}
 use Rattle.aql_value.specs.Operations.{as_natural, as_truth, as_set, push_index}
 use Rattle.aql_value.specs.Partial.{◌>>=◌, each, total, if_some}
 use Rattle.aql_value.specs.Strict.{Strict, gen_turns}
-use Rattle.aql_types.specs.Types as types
-use Rattle.aql_types.specs.Types.{Ty}
-use Rattle.aql_types.specs.ValueTypes.{HasType, HaveTypes}
+use Rattle.aql_ty.specs.Types as types
+use Rattle.aql_ty.specs.Types.{Ty}
+use Rattle.aql_ty.specs.ValueTypes.{HasType, HaveTypes}
 use Rattle.nrca_term.specs.Term.{Form}
 use Rattle.nrca_term.specs.Typing.{Arg, arg, form_rule}
 use Rattle.nrca_term.specs.Meaning.{Part, here, worth, members_value, bounds_value}

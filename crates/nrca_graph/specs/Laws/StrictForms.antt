@@ -11,10 +11,10 @@ use Rattle.aql_value.specs.Partial.{◌>>=◌}
 use Rattle.aql_value.specs.Laws.Set.{ascending_below}
 use Rattle.aql_value.specs.Strict.{Strict, strict_value, nullary, unary, binary}
 use Rattle.std.proofs.lemmas.List.{map-append}
-use Rattle.aql_types.specs.Types as types
-use Rattle.aql_types.specs.Types.{Ty, tys_of}
-use Rattle.aql_types.specs.OperationTypes.{strict_rule}
-use Rattle.aql_types.specs.ValueTypes.{HasType, HaveTypes}
+use Rattle.aql_ty.specs.Types as types
+use Rattle.aql_ty.specs.Types.{Ty, tys_of}
+use Rattle.aql_ty.specs.OperationTypes.{strict_rule}
+use Rattle.aql_ty.specs.ValueTypes.{HasType, HaveTypes}
 use Rattle.nrca_graph.specs.Encoding.{encoding, encode_outcome}
 use Rattle.nrca_graph.specs.Laws.EncodingOrder.{length-encoded, encoding-order, encoding-set, encodings-list}
 use Rattle.nrca_graph.specs.Laws.EncodedSets.{set_of-encoded}

@@ -13,9 +13,9 @@ use Rattle.aql_value.specs.Laws.Partial.{each-length, each-get}
 use Rattle.aql_value.specs.Laws.RowMajor.{indices_lengths}
 use Rattle.aql_value.specs.Strict.{Strict, strict_value}
 use Rattle.aql_value.specs.Lists.{onto}
-use Rattle.aql_types.specs.Types as types
-use Rattle.aql_types.specs.Types.{Ty, IsRank}
-use Rattle.aql_types.specs.ValueTypes.{HasType}
+use Rattle.aql_ty.specs.Types as types
+use Rattle.aql_ty.specs.Types.{Ty, IsRank}
+use Rattle.aql_ty.specs.ValueTypes.{HasType}
 use Rattle.nrca_term.specs.Term.{Term, Parts, none, part, terms_in}
 use Rattle.nrca_term.specs.Nodes.{variable, proj_term, get_term}
 use Rattle.nrca_term.specs.Typing.{arg}

@@ -11,8 +11,8 @@ use Rattle.aql_value.specs.Partial.{◌>>=◌, each}
 use Rattle.aql_value.specs.Laws.Partial.{each-length}
 use Rattle.aql_value.specs.Laws.RowMajor.{indices_lengths}
 use Rattle.aql_value.specs.Lists.{onto}
-use Rattle.aql_types.specs.Types as types
-use Rattle.aql_types.specs.Types.{Ty, IsRank}
+use Rattle.aql_ty.specs.Types as types
+use Rattle.aql_ty.specs.Types.{Ty, IsRank}
 use Rattle.nrca_term.specs.Term.{Term, Parts, terms_in}
 use Rattle.nrca_term.specs.Typing.{Arg, arg}
 use Rattle.nrca_term.specs.Meaning.{Outcomes, Part, here, worth, tab_value, cden, part_values}

@@ -6,9 +6,9 @@ use Rattle.aql_value.specs.Datum.{Datum}
 use Rattle.aql_value.specs.Operations.{push_index}
 use Rattle.aql_value.specs.Partial.{◌>>=◌, each}
 use Rattle.aql_value.specs.Laws.Partial.{then-is}
-use Rattle.aql_types.specs.Types as types
-use Rattle.aql_types.specs.Types.{Ty}
-use Rattle.aql_types.specs.ValueTypes.{HaveTypes}
+use Rattle.aql_ty.specs.Types as types
+use Rattle.aql_ty.specs.Types.{Ty}
+use Rattle.aql_ty.specs.ValueTypes.{HaveTypes}
 use Rattle.nrca_term.specs.Term.{Term, Parts, none, part, count, terms_in}
 use Rattle.nrca_term.specs.Typing.{Arg, arg, parts_typed}
 use Rattle.nrca_term.specs.Meaning.{Outcomes, Part, here, worth, cden, part_values}

@@ -11,10 +11,10 @@ use Rattle.aql_value.specs.Laws.Operations.{each-naturals}
 use Rattle.aql_value.specs.Partial.{◌>>=◌, each, total}
 use Rattle.aql_value.specs.Laws.Partial.{each-length, total-map, total-split}
 use Rattle.aql_value.specs.Strict.{Strict}
-use Rattle.aql_types.specs.Types as types
-use Rattle.aql_types.specs.Types.{Ty, index_type}
-use Rattle.aql_types.specs.ValueTypes.{HaveTypes}
-use Rattle.aql_types.specs.Laws.Operation.{has-append}
+use Rattle.aql_ty.specs.Types as types
+use Rattle.aql_ty.specs.Types.{Ty, index_type}
+use Rattle.aql_ty.specs.ValueTypes.{HaveTypes}
+use Rattle.aql_ty.specs.Laws.Operation.{has-append}
 use Rattle.nrca_term.specs.Term.{Term, Parts, node, none, part, plain, Form, WellFormed, weight_of, parts_weight, terms_in}
 use Rattle.nrca_term.specs.Nodes.{variable}
 use Rattle.nrca_term.specs.Typing.{Arg, arg, form_rule, ctyped, parts_typed, OutcomesHave}

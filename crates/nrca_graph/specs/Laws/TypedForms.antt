@@ -8,8 +8,8 @@ use Rattle.aql_value.specs.Lists.{Every, below}
 use Rattle.aql_value.specs.Laws.Lists.{Every-below, length-below}
 use Rattle.aql_value.specs.Operations.{is_rank}
 use Rattle.aql_value.specs.Strict.{Strict}
-use Rattle.aql_types.specs.Types as types
-use Rattle.aql_types.specs.Types.{Ty, IsType, index_type}
+use Rattle.aql_ty.specs.Types as types
+use Rattle.aql_ty.specs.Types.{Ty, IsType, index_type}
 use Rattle.nrca_term.specs.Term.{Term}
 use Rattle.nrca_term.specs.Nodes.{variable, number, truth_term, bottom_term, if_term, tuple_term, proj_term, arith_term, less_term, empty_term, single_term, get_term}
 use Rattle.nrca_term.specs.Rules.{lets, sizes_term, index_variables}

@@ -7,9 +7,9 @@ use Rattle.aql_value.specs.declared.ops.CompareOp.{CompareOp}
 use Rattle.aql_value.specs.declared.ops.CompareOp.TheVariants as compare_op
 use Rattle.aql_value.specs.Strict.{Strict}
 use Rattle.aql_value.specs.Lists.{onto}
-use Rattle.aql_types.specs.Types as types
-use Rattle.aql_types.specs.Types.{Ty, IsType, index_type}
-use Rattle.aql_types.specs.OperationTypes.{strict_rule}
+use Rattle.aql_ty.specs.Types as types
+use Rattle.aql_ty.specs.Types.{Ty, IsType, index_type}
+use Rattle.aql_ty.specs.OperationTypes.{strict_rule}
 use Rattle.nrca_term.specs.Term.{Term, node, none, plain, Form}
 use Rattle.nrca_term.specs.Nodes.{variable, number, bottom_term, let_term, if_term, tuple_term, proj_term, arith_term, compare_term, empty_term, single_term, union_term, big_union_term, gen_term, get_term}
 use Rattle.nrca_term.specs.Rules.{lets, sizes_term, index_variables}

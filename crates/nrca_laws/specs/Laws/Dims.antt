@@ -14,9 +14,9 @@ use Rattle.aql_value.specs.Laws.Operations.{array_of-made, array_of-is, part_of-
 use Rattle.aql_value.specs.Partial.{◌>>=◌, each}
 use Rattle.aql_value.specs.Laws.Partial.{then-is, then-ext, each-map, each-none, each-each, each-ext}
 use Rattle.aql_value.specs.Strict.{Strict}
-use Rattle.aql_types.specs.Types as types
-use Rattle.aql_types.specs.Types.{Ty}
-use Rattle.aql_types.specs.ValueTypes.{HasType}
+use Rattle.aql_ty.specs.Types as types
+use Rattle.aql_ty.specs.Types.{Ty}
+use Rattle.aql_ty.specs.ValueTypes.{HasType}
 use Rattle.nrca_term.specs.Term.{Term, Parts, node, none, part, Form}
 use Rattle.nrca_term.specs.Nodes.{variable, let_term, tab_term, sub_term, dim_term}
 use Rattle.nrca_term.specs.Typing.{Arg, ctyped, parts_typed}

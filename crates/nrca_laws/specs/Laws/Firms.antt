@@ -18,10 +18,10 @@ use Rattle.aql_value.specs.Laws.Operations.{array_of-made}
 use Rattle.aql_value.specs.Partial.{◌>>=◌, each, or_else}
 use Rattle.aql_value.specs.Laws.Partial.{then-is, each-total}
 use Rattle.aql_value.specs.Strict.{Strict, strict_value}
-use Rattle.aql_types.specs.Types as types
-use Rattle.aql_types.specs.Types.{Ty, natural, truth}
-use Rattle.aql_types.specs.ValueTypes.{HasType, HaveTypes}
-use Rattle.aql_types.specs.Laws.Operation.{has-append, has-length}
+use Rattle.aql_ty.specs.Types as types
+use Rattle.aql_ty.specs.Types.{Ty, natural, truth}
+use Rattle.aql_ty.specs.ValueTypes.{HasType, HaveTypes}
+use Rattle.aql_ty.specs.Laws.Operation.{has-append, has-length}
 use Rattle.nrca_term.specs.Term.{Term, Parts, node, none, part, Form, child_of, count, WellFormed}
 use Rattle.nrca_term.specs.Meaning.{Outcomes, outcome, Part, worth, here, form_value, test_value, members_value, loop_values, bounds_value, cden, part_values}
 use Rattle.nrca_term.specs.Places.{branch, otherwise, indices_of, entry_values}

@@ -8,11 +8,11 @@ use Rattle.aql_value.specs.Laws.Datum.{list_of-data_of}
 use Rattle.aql_value.specs.Operations.{as_set, part_of, union_of, gen_of, dim_of, arith_of}
 use Rattle.aql_value.specs.Laws.Operations.{part_of-tuple}
 use Rattle.aql_value.specs.Strict.{Strict, strict_value, unary, binary}
-use Rattle.aql_types.specs.Types as types
-use Rattle.aql_types.specs.Types.{Ty, natural, tys_of}
-use Rattle.aql_types.specs.ValueTypes.{HasType, HaveTypes}
-use Rattle.aql_types.specs.OperationTypes.{strict_rule}
-use Rattle.aql_types.specs.Laws.Operation.{has-length}
+use Rattle.aql_ty.specs.Types as types
+use Rattle.aql_ty.specs.Types.{Ty, natural, tys_of}
+use Rattle.aql_ty.specs.ValueTypes.{HasType, HaveTypes}
+use Rattle.aql_ty.specs.OperationTypes.{strict_rule}
+use Rattle.aql_ty.specs.Laws.Operation.{has-length}
 use Rattle.nrca_term.specs.Firm.{strict_sure}
 use Rattle.aql_value.specs.Indices.{indices, product}
 use Rattle.aql_value.specs.Laws.Indices.{length_indices}

@@ -4,8 +4,8 @@ use Rattle.std.proofs.Common.{◌^◌, ◌≡◌, ℕ, ◌+◌, List, [], ◌∷
 use Rattle.aql_value.specs.Lists.{Every}
 use Rattle.aql_value.specs.Laws.Lists.{Every-join}
 use Rattle.aql_value.specs.Valid.{IsValue}
-use Rattle.aql_types.specs.Types.{Ty}
-use Rattle.aql_types.specs.ValueTypes.{HaveTypes}
+use Rattle.aql_ty.specs.Types.{Ty}
+use Rattle.aql_ty.specs.ValueTypes.{HaveTypes}
 use Rattle.nrca_term.specs.declared.trace.Rule.{Rule}
 use Rattle.nrca_term.specs.Term.{Term, weight_of}
 use Rattle.nrca_term.specs.Meaning.{Outcomes, cden}

@@ -1,9 +1,9 @@
 -- The types of the parts of a typed node, and the type of a node from those of its parts.
 use Rattle.std.proofs.Common.{◌≡◌, ℕ, zero, suc, List, [], ◌∷◌, ◌++◌, length, map, replicate, refl, sym, ap, subst, ◌∙◌, arith, ◌+◌, ◌-◌, true, Some}
 use Rattle.aql_value.specs.Strict.{Strict}
-use Rattle.aql_types.specs.Types as types
-use Rattle.aql_types.specs.Types.{Ty, natural, truth, IsRank, IsType}
-use Rattle.aql_types.specs.OperationTypes.{strict_rule}
+use Rattle.aql_ty.specs.Types as types
+use Rattle.aql_ty.specs.Types.{Ty, natural, truth, IsRank, IsType}
+use Rattle.aql_ty.specs.OperationTypes.{strict_rule}
 use Rattle.nrca_term.specs.Term.{Term, Parts, node, none, part, plain, Form}
 use Rattle.nrca_term.specs.Nodes.{let_term, if_term, default_term, big_union_term, sum_term, tab_term, variable, number, sub_term, dim_term, single_term}
 use Rattle.nrca_term.specs.Typing.{Arg, arg, ctyped, parts_typed}

@@ -7,9 +7,9 @@ use Rattle.aql_value.specs.Datum as datum
 use Rattle.aql_value.specs.Order.{datum_cmp}
 use Rattle.aql_value.specs.Ops.{arith_by, compare_by}
 use Rattle.aql_value.specs.declared.ops.CompareOp.TheVariants.{Less}
-use Rattle.aql_types.specs.Types as types
-use Rattle.aql_types.specs.Types.{Ty, Tys, no_type, type, natural, truth, IsType, tys_of, index_type}
-use Rattle.aql_types.specs.OperationTypes.{strict_rule}
+use Rattle.aql_ty.specs.Types as types
+use Rattle.aql_ty.specs.Types.{Ty, Tys, no_type, type, natural, truth, IsType, tys_of, index_type}
+use Rattle.aql_ty.specs.OperationTypes.{strict_rule}
 use Rattle.nrca_term.specs.declared.trace.Rule.{Rule}
 use Rattle.nrca_term.specs.declared.trace.Rule.TheVariants.{B1, K1, I1, I2, L1, L2, L3, P1, P2, S1, S2, S3, S4, S5, S6, S7, S8, S9, A1, A2, A3, A4, A5, A6, A7, C1, C2, C3, C4, N1, N2}
 use Rattle.nrca_term.specs.Term.{Term, Parts, node, none, part, plain, Form}

@@ -4,8 +4,8 @@ use Rattle.std.specs.List.{slice_get}
 use Rattle.std.proofs.lemmas.Bool.{cases_lt, lt-ltb, le-ltb, eqb-true}
 use Rattle.std.proofs.Math.Nat.{mul-add, mul_comm}
 use Rattle.aql_value.specs.Strict.{Strict}
-use Rattle.aql_types.specs.Types as types
-use Rattle.aql_types.specs.Types.{Ty}
+use Rattle.aql_ty.specs.Types as types
+use Rattle.aql_ty.specs.Types.{Ty}
 use Rattle.nrca_term.specs.Typing.{Arg, ctyped, parts_typed}
 use Rattle.nrca_term.specs.Term.{Term, Parts, node, none, part, plain, Form, weight_of, parts_weight, form_weight, list_weight, WellFormed, PartsWellFormed}
 use Rattle.nrca_term.specs.Nodes.{number, tab_term, sub_term, literal_term}

@@ -4,7 +4,7 @@ use Rattle.std.proofs.Math.Nat.{mul-add, mul_comm}
 use Rattle.std.proofs.lemmas.Nat.{mul-le}
 use Rattle.nrca_term.specs.Term.{weight_of}
 use Rattle.nrca_term.specs.Measure.{nodes_of, parts_nodes}
-use Rattle.aql_types.specs.Types.{Ty}
+use Rattle.aql_ty.specs.Types.{Ty}
 use Rattle.nrca_term.specs.Term.{Term, Parts, Form, node, none, part, form_of, parts_of, child_of, binders_of, WellFormed}
 use Rattle.nrca_term.specs.Nodes.{let_term, if_term, loop_term}
 use Rattle.nrca_term.specs.Meaning.{Outcomes}

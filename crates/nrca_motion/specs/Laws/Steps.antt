@@ -5,9 +5,9 @@ use Rattle.aql_value.specs.Lists.{Every}
 use Rattle.aql_value.specs.Laws.Lists.{Every-join}
 use Rattle.aql_value.specs.Operations.{as_set, as_truth}
 use Rattle.aql_value.specs.Partial.{◌>>=◌}
-use Rattle.aql_types.specs.Types as types
-use Rattle.aql_types.specs.Types.{Ty}
-use Rattle.aql_types.specs.ValueTypes.{HaveTypes}
+use Rattle.aql_ty.specs.Types as types
+use Rattle.aql_ty.specs.Types.{Ty}
+use Rattle.aql_ty.specs.ValueTypes.{HaveTypes}
 use Rattle.aql_value.specs.Laws.Datum.{list_of-data_of}
 use Rattle.nrca_term.specs.Term.{Term, Form, form_of, parts_of, child_of, binders_of, form_binders}
 use Rattle.nrca_term.specs.Nodes.{let_term, loop_term}

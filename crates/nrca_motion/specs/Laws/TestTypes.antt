@@ -1,7 +1,7 @@
 -- A test that goes out of a loop keeps every type.
 use Rattle.std.proofs.Common.{◌≡◌, ℕ, List, [], ◌∷◌, ◌++◌, refl, sym, subst}
-use Rattle.aql_types.specs.Types as types
-use Rattle.aql_types.specs.Types.{Ty, IsType}
+use Rattle.aql_ty.specs.Types as types
+use Rattle.aql_ty.specs.Types.{Ty, IsType}
 use Rattle.nrca_term.specs.Term.{Term, none, part, Form}
 use Rattle.nrca_term.specs.Nodes.{if_term, loop_term, empty_term, number}
 use Rattle.nrca_term.specs.Typing.{arg, ctyped, parts_typed}

@@ -1,7 +1,7 @@
 -- Each move keeps the weight.
 use Rattle.std.proofs.Common.{◌≡◌, ℕ, zero, suc, ◌+◌, Some, refl, sym, ap, ◌∙◌, arith}
 use Rattle.std.proofs.Common.{List, [], ◌∷◌}
-use Rattle.aql_types.specs.Types.{Ty}
+use Rattle.aql_ty.specs.Types.{Ty}
 use Rattle.nrca_term.specs.Term.{Term, Parts, node, none, part, Form, parts_of, child_of, binders_of, set_child, weight_of, parts_weight, WellFormed}
 use Rattle.nrca_term.specs.Nodes.{variable, let_term, if_term, loop_term}
 use Rattle.nrca_term.specs.Meaning.{Outcomes}

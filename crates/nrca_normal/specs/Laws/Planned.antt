@@ -1,8 +1,8 @@
 -- What a plan is follows from rewritings that lead to a term at whose places no rule may be applied.
 use Rattle.std.proofs.Common.{◌+◌, List, [], ◌∷◌, Option, sym, subst, arith}
 use Rattle.aql_value.specs.Laws.Lists.{Every-join}
-use Rattle.aql_types.specs.Types.{Ty}
-use Rattle.aql_types.specs.ValueTypes.{HaveTypes}
+use Rattle.aql_ty.specs.Types.{Ty}
+use Rattle.aql_ty.specs.ValueTypes.{HaveTypes}
 use Rattle.nrca_term.specs.declared.trace.Step.{Step}
 use Rattle.nrca_term.specs.Term.{Term, weight_of}
 use Rattle.nrca_term.specs.View.{term_of}

@@ -2,7 +2,7 @@
 use Rattle.std.proofs.Common.{◌≡◌, ℕ, zero, suc, ◌+◌, ◌*◌, ◌<◌, ◌≤◌, List, [], ◌∷◌, ◌++◌, length, Option, Some, sym, ap, subst, arith, inl}
 use Rattle.std.proofs.lemmas.Nat.{mul-le}
 use Rattle.std.proofs.lemmas.List.{length-append}
-use Rattle.aql_types.specs.Types.{Ty}
+use Rattle.aql_ty.specs.Types.{Ty}
 use Rattle.nrca_term.specs.declared.trace.Step.{Step}
 use Rattle.nrca_term.specs.Term.{Term, Parts, node, none, part, parts_of, child_of, binders_of, count, weight_of}
 use Rattle.nrca_term.specs.Typing.{Arg, ctyped, parts_typed, instances}

@@ -12,10 +12,10 @@ use Rattle.aql_value.specs.Operations.{as_natural, as_set, in_range, set_of, uni
 use Rattle.aql_value.specs.Partial.{◌>>=◌, each, concat, or_else}
 use Rattle.aql_value.specs.Laws.Partial.{then-is, each-values}
 use Rattle.aql_value.specs.Strict.{strict_value}
-use Rattle.aql_types.specs.Types as types
-use Rattle.aql_types.specs.Types.{Ty, natural, truth}
-use Rattle.aql_types.specs.ValueTypes.{HasType, HaveTypes}
-use Rattle.aql_types.specs.Laws.Operation.{has-get, has-append, some-has, as-type, has-set, set-members, has-array, strict-sound}
+use Rattle.aql_ty.specs.Types as types
+use Rattle.aql_ty.specs.Types.{Ty, natural, truth}
+use Rattle.aql_ty.specs.ValueTypes.{HasType, HaveTypes}
+use Rattle.aql_ty.specs.Laws.Operation.{has-get, has-append, some-has, as-type, has-set, set-members, has-array, strict-sound}
 use Rattle.nrca_term.specs.Term.{Term, Parts, node, none, part, Form}
 use Rattle.nrca_term.specs.Typing.{Arg, arg, form_rule, ctyped, parts_typed, OutcomesHave}
 use Rattle.nrca_term.specs.Meaning.{Outcomes, Part, worth, here, form_value, test_value, members_value, loop_values, bounds_value, at_length, cden, part_values}

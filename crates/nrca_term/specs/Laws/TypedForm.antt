@@ -4,8 +4,8 @@ use Rattle.std.specs.List.{slice_get}
 use Rattle.std.proofs.lemmas.List.{length-append}
 use Rattle.std.proofs.lemmas.Option.{slice_get_within}
 use Rattle.std.proofs.lemmas.Bool.{cases_Bool, ltb-true, ltb-false, lt-ltb, le-ltb}
-use Rattle.aql_types.specs.Types as types
-use Rattle.aql_types.specs.Types.{Ty, natural, truth}
+use Rattle.aql_ty.specs.Types as types
+use Rattle.aql_ty.specs.Types.{Ty, natural, truth}
 use Rattle.nrca_term.specs.Term.{Term, Parts, node, none, part, Form, weight_of, parts_weight, form_weight, form_binders, LeafIsBare, WellFormed, PartsWellFormed, FormClosed, Closed, PartsClosed}
 use Rattle.nrca_term.specs.Typing.{Arg, arg, form_rule, ctyped, parts_typed}
 use Rattle.nrca_term.specs.Subst.{top_var, parts_top, form_top}

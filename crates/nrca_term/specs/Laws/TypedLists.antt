@@ -1,6 +1,6 @@
 -- Terms that have the types of a list.
 use Rattle.std.proofs.Common.{◌≡◌, ℕ, suc, List, [], ◌∷◌, length, refl, ap}
-use Rattle.aql_types.specs.Types.{Ty}
+use Rattle.aql_ty.specs.Types.{Ty}
 use Rattle.nrca_term.specs.Term.{Term}
 use Rattle.nrca_term.specs.Typing.{ctyped}
 

@@ -10,16 +10,16 @@ use Rattle.aql_value.specs.Laws.Lists.{Every-impl, Every-onto, Every-nested}
 use Rattle.aql_value.specs.Operations.{as_set, push_index}
 use Rattle.aql_value.specs.Partial.{◌>>=◌, concat}
 use Rattle.aql_value.specs.Laws.Partial.{then-is}
-use Rattle.aql_types.specs.Types as types
-use Rattle.aql_types.specs.Types.{Ty, natural, truth}
+use Rattle.aql_ty.specs.Types as types
+use Rattle.aql_ty.specs.Types.{Ty, natural, truth}
 use Rattle.nrca_term.specs.Term.{Term, Parts, node, none, part, Form, child_of}
-use Rattle.aql_types.specs.ValueTypes.{HasType, HaveTypes}
+use Rattle.aql_ty.specs.ValueTypes.{HasType, HaveTypes}
 use Rattle.nrca_term.specs.Typing.{Arg, arg, form_rule, ctyped, parts_typed}
 use Rattle.nrca_term.specs.Meaning.{Part, worth, test_value, members_value, bounds_value, part_values}
 use Rattle.nrca_term.specs.Places.{branch, otherwise, indices_of, entry_values, entered_in, place_of, put_at, on_child, reach, reach_each}
 use Rattle.nrca_term.specs.Laws.Entering.{bounds-length}
 use Rattle.nrca_term.specs.Laws.Measure.{through}
-use Rattle.aql_types.specs.Laws.Operation.{set-members, has-append}
+use Rattle.aql_ty.specs.Laws.Operation.{set-members, has-append}
 use Rattle.nrca_term.specs.Laws.Sound.{AllSound, sound-get, sounds, sound-length, length-tab, index-have, parts-sound}
 use Rattle.nrca_term.specs.TypedPlaces.{TypedPlace, Keeps}
 

@@ -3,7 +3,7 @@ use Rattle.std.proofs.Common.{◌≡◌, ℕ, suc, ◌+◌, ◌-◌, ◌<◌, �
 use Rattle.std.specs.List.{slice_get}
 use Rattle.std.proofs.lemmas.Bool.{cases_Bool, cases_lt, lt-ltb, le-ltb, eqb-true, eqb-false}
 use Rattle.aql_value.specs.Laws.Lists.{slice_get-append_left, slice_get-append_right}
-use Rattle.aql_types.specs.Types.{Ty, IsType}
+use Rattle.aql_ty.specs.Types.{Ty, IsType}
 use Rattle.nrca_term.specs.Term.{Term, Parts, node, none, part, Form}
 use Rattle.nrca_term.specs.Typing.{Arg, form_rule, ctyped, parts_typed}
 use Rattle.nrca_term.specs.Laws.TypingShift.{ctyped-shift_term, under_types}

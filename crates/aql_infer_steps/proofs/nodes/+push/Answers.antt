@@ -1,7 +1,7 @@
 use Rattle.std.proofs.Common.{arith, refl, ap, sym, ◌∙◌}
 use denote.Param.Weighed.{at_most}
-use Rattle.aql_types.specs.Types as types
-use Rattle.aql_types.specs.View.{type_of}
+use Rattle.aql_ty.specs.Types as types
+use Rattle.aql_ty.specs.View.{type_of}
 use Rattle.aql_type_graph.specs.Shapes as shape
 use Rattle.aql_type_solve.specs.Laws.Pushing.{set_ok, array_ok, tuple_ok}
 use Rattle.aql_infer_steps.specs.View.{sketch_type, sketch_types}

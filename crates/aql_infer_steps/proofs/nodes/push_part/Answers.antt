@@ -1,4 +1,4 @@
-use Rattle.aql_types.specs.View.{type_of}
+use Rattle.aql_ty.specs.View.{type_of}
 use Rattle.aql_infer_steps.proofs.Noting.{part_ok, no_part}
 use Rattle.aql_infer_steps.proofs.nodes.push_part.Goals as goal
 

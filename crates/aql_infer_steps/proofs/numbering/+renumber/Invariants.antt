@@ -1,6 +1,6 @@
 use Rattle.std.proofs.Common.{◌≡◌, drop}
-use Rattle.aql_types.specs.Types.{append, apply_all}
-use Rattle.aql_types.specs.View.{types_of}
+use Rattle.aql_ty.specs.Types.{append, apply_all}
+use Rattle.aql_ty.specs.View.{types_of}
 use Rattle.aql_infer_steps.specs.Numbering.{renumbering}
 use Rattle.aql_infer_steps.proofs.numbering.+renumber.Given as goal
 

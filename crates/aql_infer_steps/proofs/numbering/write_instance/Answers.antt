@@ -1,6 +1,6 @@
 use Rattle.std.proofs.Common.{◌≡◌, ◌∙◌, ap, sym, subst, IfOk}
-use Rattle.aql_types.specs.Types.{apply}
-use Rattle.aql_types.specs.View.{type_of}
+use Rattle.aql_ty.specs.Types.{apply}
+use Rattle.aql_ty.specs.View.{type_of}
 use Rattle.aql_type_solve.specs.Solution.{subst_in}
 use Rattle.aql_infer_steps.specs.Constraints.{raise_variables}
 use Rattle.aql_infer_steps.proofs.Sketching.{shift_raised}

@@ -1,5 +1,5 @@
 use Rattle.std.proofs.Common.{◌≡◌, drop}
-use Rattle.aql_types.specs.Types.{append}
+use Rattle.aql_ty.specs.Types.{append}
 use Rattle.aql_syntax.specs.View.{pats_of}
 use Rattle.aql_infer_steps.specs.Constraints.{make_pats, after, pure}
 use Rattle.aql_infer_steps.specs.View.{sketch_types, state_of, locals_of, schemes_of, Extends}

@@ -1,5 +1,5 @@
 use Rattle.std.proofs.Common.{◌≡◌, drop}
-use Rattle.aql_types.specs.View.{types_of}
+use Rattle.aql_ty.specs.View.{types_of}
 use Rattle.aql_infer_steps.specs.Ground.{are_ground}
 use Rattle.aql_infer_steps.proofs.positions.+ground.Given as goal
 

@@ -1,6 +1,6 @@
 use Rattle.std.proofs.Common.{◌≡◌, drop}
-use Rattle.aql_types.specs.Types.{append}
-use Rattle.aql_types.specs.View.{types_of}
+use Rattle.aql_ty.specs.Types.{append}
+use Rattle.aql_ty.specs.View.{types_of}
 use Rattle.aql_syntax.specs.Typing.{field_types}
 use Rattle.aql_infer_steps.proofs.readers.fields.Given as goal
 

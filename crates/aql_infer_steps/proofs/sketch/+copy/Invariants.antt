@@ -1,5 +1,5 @@
 use Rattle.std.proofs.Common.{◌≡◌, drop}
-use Rattle.aql_types.specs.Types.{append}
+use Rattle.aql_ty.specs.Types.{append}
 use Rattle.aql_infer_steps.specs.View.{sketch_types}
 use Rattle.aql_infer_steps.proofs.sketch.+copy.Given as goal
 

@@ -1,6 +1,6 @@
 use Rattle.std.proofs.Common.{[], ◌∷◌, ◌++◌, ap, ◌∙◌, sym, arith}
 use Rattle.std.proofs.lemmas.List.{take_all}
-use Rattle.aql_types.specs.View.{type_of, types_of}
+use Rattle.aql_ty.specs.View.{type_of, types_of}
 use Rattle.aql_print.specs.Joined.{join_texts}
 use Rattle.aql_print.specs.TypeText.{part_text, part_texts, type_text}
 use Rattle.aql_print.specs.Laws.Prefix.{both_whole}

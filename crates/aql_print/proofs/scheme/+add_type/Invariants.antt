@@ -1,5 +1,5 @@
 use Rattle.std.proofs.Common.{◌≡◌, ◌++◌, take, codes}
-use Rattle.aql_types.specs.View.{types_of}
+use Rattle.aql_ty.specs.View.{types_of}
 use Rattle.aql_print.specs.Joined.{join_texts}
 use Rattle.aql_print.specs.TypeText.{part_texts}
 use Rattle.aql_print.proofs.scheme.+add_type.Given as goal

@@ -1,5 +1,5 @@
 use Rattle.aql_session.specs.Device.{sink_of, files_of}
-use Rattle.aql_words.specs.Settings.{settings_of}
+use Rattle.aql_options.specs.Settings.{settings_of}
 use Rattle.aql_run.proofs.Endings.{answering, is_prepared}
 use Rattle.aql_run.proofs.closed.answer_each.Goals as goal
 

@@ -1,7 +1,7 @@
 use Rattle.std.proofs.Common.{◌∙◌, ◌+◌, ap}
 use Rattle.std.proofs.KnownBytes.{Appends-trans}
 use Rattle.aql_session.specs.Device.{sink_of, files_of}
-use Rattle.aql_words.specs.Settings.{settings_of}
+use Rattle.aql_options.specs.Settings.{settings_of}
 use Rattle.aql_run.proofs.Endings.{answers_done, answers_memory, answers_sink, answers_fault}
 use Rattle.aql_run.proofs.serving.answer.Goals as goal
 

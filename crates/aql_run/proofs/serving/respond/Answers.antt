@@ -1,6 +1,6 @@
 use Rattle.std.proofs.Common.{refl}
 use Rattle.aql_session.specs.Device.{sink_of, files_of}
-use Rattle.aql_words.specs.Settings.{settings_of}
+use Rattle.aql_options.specs.Settings.{settings_of}
 use Rattle.aql_run.proofs.Endings.{ready_of, responds, responds_refused}
 use Rattle.aql_run.proofs.serving.respond.Goals as goal
 

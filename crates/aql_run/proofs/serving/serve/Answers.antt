@@ -1,7 +1,7 @@
 use Rattle.std.proofs.Common.{sym, ◌∙◌}
 use Rattle.std.proofs.KnownBytes.{Consumes-nil}
 use Rattle.aql_session.specs.Device.{source_of, sink_of, files_of}
-use Rattle.aql_words.specs.Settings.{settings_of}
+use Rattle.aql_options.specs.Settings.{settings_of}
 use Rattle.aql_run.proofs.Endings.{ends_sample}
 use Rattle.aql_run.proofs.serving.serve.Goals as goal
 

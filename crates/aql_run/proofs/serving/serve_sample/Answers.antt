@@ -1,7 +1,7 @@
 use Rattle.std.proofs.Common.{refl, ◌∙◌}
 use Rattle.std.proofs.KnownBytes.{Appends-nil}
 use Rattle.aql_session.specs.Device.{sink_of, files_of}
-use Rattle.aql_words.specs.Settings.{settings_of}
+use Rattle.aql_options.specs.Settings.{settings_of}
 use Rattle.aql_run.proofs.Endings.{ends_unmade, samples}
 use Rattle.aql_run.proofs.serving.serve_sample.Goals as goal
 

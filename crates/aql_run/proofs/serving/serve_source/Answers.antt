@@ -2,7 +2,7 @@ use Rattle.std.proofs.Common.{refl, ap, subst}
 use Rattle.std.proofs.KnownBytes.{Appends-nil}
 use Rattle.std.specs.Prelude.{Err}
 use Rattle.aql_session.specs.Device.{source_of, sink_of, files_of}
-use Rattle.aql_words.specs.Settings.{settings_of}
+use Rattle.aql_options.specs.Settings.{settings_of}
 use Rattle.aql_run.specs.Reading.{ReadFails}
 use Rattle.aql_run.proofs.Endings.{ends_read, ends_unread, ends_long, ends_input}
 use Rattle.aql_run.proofs.serving.serve_source.Goals as goal

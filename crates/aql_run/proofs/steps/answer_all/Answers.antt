@@ -1,6 +1,6 @@
 use Rattle.std.proofs.Common.{ap, arith, ◌∙◌, ◌≡◌}
 use Rattle.aql_outside.specs.Laws.Causes.{blamed_then}
-use Rattle.aql_words.specs.Settings.{settings_of}
+use Rattle.aql_options.specs.Settings.{settings_of}
 use Rattle.aql_run.proofs.Going.{begins, goes_on, ends_here, all_here, no_memory}
 use Rattle.aql_run.proofs.steps.answer_all.Goals as goal
 

@@ -1,5 +1,5 @@
 use Rattle.std.specs.Prelude.{◌≡◌}
-use Rattle.aql_words.specs.Settings.{settings_of}
+use Rattle.aql_options.specs.Settings.{settings_of}
 use Rattle.aql_run.proofs.Going.{Before}
 use Rattle.aql_run.proofs.steps.answer_all.Given as goal
 

@@ -8,7 +8,7 @@ use Rattle.aql_session.specs.declared.answer.Answer.{Answer}
 use Rattle.aql_run.specs.Entry.{entry}
 use Rattle.aql_run.specs.Writing.{WritesFront}
 use Rattle.aql_outside.specs.Laws.Causes.{blamed_as, none_blamed}
-use Rattle.aql_words.specs.Settings.{settings_of}
+use Rattle.aql_options.specs.Settings.{settings_of}
 use Rattle.aql_run.proofs.Answering.{next_within, has_stepped, stopped, wrote, halted, outcome_last, next_unread}
 use Rattle.aql_run.proofs.steps.answer_next.Goals as goal
 

@@ -1,7 +1,7 @@
 use Rattle.std.proofs.Common.{ℕ, List, sym, ◌∙◌, ap, ◌≡◌, arith, length, subst, [], Result, Ok, Err, Vec}
 use Rattle.std.specs.Prelude.{OnOk}
 use Rattle.std.specs.Global.{Global}
-use Rattle.aql_types.specs.declared.fault.UnifyFault.{UnifyFault}
+use Rattle.aql_ty.specs.declared.fault.UnifyFault.{UnifyFault}
 use Rattle.aql_type_graph.specs.declared.node.Equation.{Equation}
 use Rattle.aql_type_graph.specs.Forms.{Form, forms}
 use Rattle.aql_type_graph.specs.Steps.{SameFirst}

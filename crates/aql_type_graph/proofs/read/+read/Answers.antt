@@ -1,8 +1,8 @@
 use Rattle.std.proofs.Common.{ℕ, ◌≡◌, ◌-◌, ◌<◌, List, Result, Ok, Err, arith}
 use Rattle.std.specs.Prelude.{IfOk}
 use Rattle.aql_value.specs.declared.memory.Memory.{Memory}
-use Rattle.aql_types.specs.declared.ty.Ty as code_ty
-use Rattle.aql_types.specs.View.{type_of}
+use Rattle.aql_ty.specs.declared.ty.Ty as code_ty
+use Rattle.aql_ty.specs.View.{type_of}
 use Rattle.aql_type_graph.specs.Forms.{Form, forms, at}
 use Rattle.aql_type_graph.specs.Trees.{form_type}
 use Rattle.aql_type_graph.specs.Extents.{end, read}

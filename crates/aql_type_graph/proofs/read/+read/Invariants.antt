@@ -1,5 +1,5 @@
 use Rattle.std.proofs.Common.{◌≡◌, ◌+◌, ◌*◌, take}
-use Rattle.aql_types.specs.View.{types_of}
+use Rattle.aql_ty.specs.View.{types_of}
 use Rattle.aql_type_graph.specs.Shapes.{types_at}
 use Rattle.aql_type_graph.specs.Forms.{forms}
 use Rattle.aql_type_graph.specs.Extents.{read}

@@ -1,7 +1,7 @@
 use Rattle.std.proofs.Common.{ℕ, ◌≡◌, ◌∙◌, List, length, sym, subst, arith, Ok, Err, ap}
 use Rattle.std.proofs.lemmas.List.{with_items_is}
-use Rattle.aql_types.specs.declared.fault.UnifyFault.{UnifyFault}
-use Rattle.aql_types.specs.declared.fault.UnifyFault.TheVariants as faults
+use Rattle.aql_ty.specs.declared.fault.UnifyFault.{UnifyFault}
+use Rattle.aql_ty.specs.declared.fault.UnifyFault.TheVariants as faults
 use Rattle.aql_type_graph.specs.declared.node.Node.{Node}
 use Rattle.aql_type_graph.specs.declared.node.Equation.{Equation}
 use Rattle.aql_type_graph.specs.declared.graph.Graph.{Graph}

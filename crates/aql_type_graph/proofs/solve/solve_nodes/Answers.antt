@@ -1,6 +1,6 @@
 use Rattle.std.proofs.Common.{List, Err, subst, sym}
-use Rattle.aql_types.specs.declared.fault.UnifyFault.{UnifyFault}
-use Rattle.aql_types.specs.declared.fault.UnifyFault.TheVariants as faults
+use Rattle.aql_ty.specs.declared.fault.UnifyFault.{UnifyFault}
+use Rattle.aql_ty.specs.declared.fault.UnifyFault.TheVariants as faults
 use Rattle.aql_type_graph.specs.declared.node.Equation.{Equation}
 use Rattle.aql_type_graph.specs.Forms.{Form, forms}
 use Rattle.aql_type_graph.specs.Valuations.{AreIn}

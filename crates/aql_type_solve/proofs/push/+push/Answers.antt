@@ -1,8 +1,8 @@
 use Rattle.std.proofs.Common.{ap, sym, ◌∙◌}
-use Rattle.aql_types.specs.Types as types
-use Rattle.aql_types.specs.Types.{apply, apply_all}
-use Rattle.aql_types.specs.View.{type_of, types_of}
-use Rattle.aql_types.specs.Laws.View.{type_of_row}
+use Rattle.aql_ty.specs.Types as types
+use Rattle.aql_ty.specs.Types.{apply, apply_all}
+use Rattle.aql_ty.specs.View.{type_of, types_of}
+use Rattle.aql_ty.specs.Laws.View.{type_of_row}
 use Rattle.aql_type_graph.specs.Shapes as shape
 use Rattle.aql_type_solve.specs.Pushed.{shift}
 use Rattle.aql_type_solve.specs.Laws.Pushing.{kept_numbered, leaf_ok, set_ok, array_ok, tuple_ok, next_type}

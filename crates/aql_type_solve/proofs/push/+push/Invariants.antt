@@ -1,6 +1,6 @@
 use Rattle.std.proofs.Common.{take}
-use Rattle.aql_types.specs.Types.{apply_all}
-use Rattle.aql_types.specs.View.{types_of}
+use Rattle.aql_ty.specs.Types.{apply_all}
+use Rattle.aql_ty.specs.View.{types_of}
 use Rattle.aql_type_graph.specs.Graphs.{forms_of}
 use Rattle.aql_type_solve.specs.Pushed.{shift, AreNumbered, PushesAll}
 use Rattle.aql_type_solve.proofs.push.+push.Given as goal

@@ -1,4 +1,4 @@
-use Rattle.aql_types.specs.View.{types_of, equation_list}
+use Rattle.aql_ty.specs.View.{types_of, equation_list}
 use Rattle.aql_type_solve.specs.Laws.Pushing.{made_ok}
 use Rattle.aql_type_solve.proofs.push.make_graph.Goals as goal
 

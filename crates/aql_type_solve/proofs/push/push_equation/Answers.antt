@@ -1,5 +1,5 @@
 use Rattle.std.proofs.Common.{subst}
-use Rattle.aql_types.specs.View.{type_of}
+use Rattle.aql_ty.specs.View.{type_of}
 use Rattle.aql_type_solve.specs.Pushed.{Pushes}
 use Rattle.aql_type_solve.specs.Laws.Pushing.{shift_none, sides_pushed}
 use Rattle.aql_type_solve.proofs.push.push_equation.Goals as goal

@@ -1,4 +1,4 @@
-use Rattle.aql_types.specs.View.{equation_list}
+use Rattle.aql_ty.specs.View.{equation_list}
 use Rattle.aql_type_graph.specs.Graphs.{forms_of}
 use Rattle.aql_type_solve.specs.Pushed.{AreNumbered, PushesEquations}
 use Rattle.aql_type_solve.proofs.push.push_equations.Given as goal

@@ -1,6 +1,6 @@
 use Rattle.std.proofs.Common.{subst, ap, ◌∙◌}
-use Rattle.aql_types.specs.Types.{apply_all}
-use Rattle.aql_types.specs.View.{types_of}
+use Rattle.aql_ty.specs.Types.{apply_all}
+use Rattle.aql_ty.specs.View.{types_of}
 use Rattle.aql_type_solve.specs.Pushed.{shift, PushesUses}
 use Rattle.aql_type_solve.specs.Laws.Pushing.{shift_none_all, pushed_uses}
 use Rattle.aql_type_solve.proofs.push.push_uses.Goals as goal

@@ -1,6 +1,6 @@
 use Rattle.std.proofs.Common.{◌≡◌, drop}
-use Rattle.aql_types.specs.Types.{append, apply_all}
-use Rattle.aql_types.specs.View.{types_of}
+use Rattle.aql_ty.specs.Types.{append, apply_all}
+use Rattle.aql_ty.specs.View.{types_of}
 use Rattle.aql_type_solve.specs.Pushed.{shift}
 use Rattle.aql_type_solve.specs.Solution.{subst_in}
 use Rattle.aql_type_solve.proofs.solve.+apply.Given as goal

@@ -1,4 +1,4 @@
-use Rattle.aql_types.specs.View.{types_of, equation_list}
+use Rattle.aql_ty.specs.View.{types_of, equation_list}
 use Rattle.aql_type_solve.proofs.solve.solve.Goals as goal
 
 pub returns : goal.returns

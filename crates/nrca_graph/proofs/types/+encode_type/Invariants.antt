@@ -1,6 +1,6 @@
 use Rattle.std.proofs.Common.{◌≡◌, drop}
-use Rattle.aql_types.specs.Types.{append}
-use Rattle.aql_types.specs.View.{types_of}
+use Rattle.aql_ty.specs.Types.{append}
+use Rattle.aql_ty.specs.View.{types_of}
 use Rattle.nrca_graph.specs.Encoding.{encoding_types}
 use Rattle.nrca_graph.proofs.types.+encode_type.Given as goal
 

@@ -3,7 +3,7 @@
 use crate::tests::graph::texts::assert_text;
 use crate::tests::values::{array, grid, set};
 use aql_print::{print_scheme, print_value};
-use aql_types::ty::{Scheme, Ty};
+use aql_ty::ty::{Scheme, Ty};
 use aql_value::made::{make_box, make_pair_list};
 use aql_value::{Items, Memory, Value, canon};
 use nrca_graph::{encode, encode_type};

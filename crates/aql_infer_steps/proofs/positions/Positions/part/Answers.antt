@@ -1,6 +1,6 @@
 use Rattle.std.proofs.Common.{◌≡◌, ◌∙◌, ap, sym, subst, MatchOption}
-use Rattle.aql_types.specs.Types.{natural}
-use Rattle.aql_types.specs.View.{type_of, sort_of}
+use Rattle.aql_ty.specs.Types.{natural}
+use Rattle.aql_ty.specs.View.{type_of, sort_of}
 use Rattle.aql_infer_steps.specs.View.{part_of, sort_at}
 use Rattle.aql_infer_steps.specs.declared.positions.Position.{Position}
 use Rattle.aql_infer_steps.proofs.Sketching.{sort_here, part_none}

@@ -1,7 +1,0 @@
-use Rattle.std.proofs.Common.{◌≡◌, drop}
-use Rattle.aql_types.specs.View.{types_of}
-use Rattle.aql_types.specs.Variables.{variables_all}
-use Rattle.aql_types.proofs.variables.+variables_of.Given as goal
-
-abbrev pub invariant-variables_of_all-loop-t : goal.invariant-variables_of_all-loop-t
-invariant-variables_of_all-loop-t l = variables_all (types_of (drop l.t-index l.ts)) l.seen.items ≡ variables_all (types_of l.ts) l.initial.seen.items
