@@ -16,7 +16,7 @@ use Rattle.nrca_loops.specs.declared.done.Counted.{Counted}
 use Rattle.nrca_loops.specs.Parts.{strict_of}
 use Rattle.nrca_loops.specs.Within.{Within}
 use Rattle.nrca_loops.specs.Laws.Run.{range_whole, total-range_within}
-use Rattle.nrca_quick.specs.Laws.Lent.{term_at}
+use Rattle.nrca_numbers.specs.Laws.Lent.{term_at}
 use Rattle.nrca_eval.specs.Parts.{is_strict_form}
 
 pub member_weight : (cs ds : List Core) (i : ℕ) (x : Core) → cs ≡ ds → i < length cs → x ≡ get_or cs i x → weight_of (term_of x) ≤ list_weight (map term_of ds)

@@ -4,14 +4,13 @@ ghost use Rattle.std.specs.Prelude.{◌<◌, ◌≤◌, length, IfOk, IfSome};
 ghost use Rattle.aql_value.specs.Datum.{natural};
 ghost use Rattle.aql_value.specs.Indices.{product};
 ghost use Rattle.nrca_loops.specs.Runs.{member_list};
-ghost use Rattle.nrca_quick.specs.Few.{few_set};
-ghost use Rattle.nrca_blocks.specs.Runs.{AreCells, AreRun};
+ghost use Rattle.nrca_numbers.specs.Few.{few_set};
+ghost use Rattle.nrca_numbers.specs.Runs.{AreCells, AreRun};
 ghost use Rattle.nrca_eval.specs.Loops.{IsSum};
 
 use aql_value::{Dims, Memory};
-use nrca_blocks::{cells_run, few_run, numbers_run, sum_all};
 use nrca_loops::{Env, Globals, Members};
-use nrca_quick::AtMostOne;
+use nrca_numbers::{AtMostOne, cells_run, few_run, numbers_run, sum_all};
 use nrca_term::Core;
 use std::alloc::Global;
 

@@ -6,7 +6,7 @@ ghost use Rattle.nrca_term.specs.Term.{form_of};
 ghost use Rattle.nrca_term.specs.View.{term_of, terms_of};
 ghost use Rattle.nrca_eval.specs.Parts.{is_strict_form, part_terms};
 ghost use Rattle.nrca_loops.specs.Evaluates.{Evaluates, EvaluatesAll, EvaluatesSet, default_of, if_of, let_of, sum_loop, tab_of, union_loop};
-ghost use Rattle.nrca_quick.specs.Lending.{lent_datum};
+ghost use Rattle.nrca_numbers.specs.Lending.{lent_datum};
 ghost use Rattle.nrca_eval.specs.Loops.{EvaluatesCell};
 
 use crate::index::strict_kept;
@@ -21,8 +21,8 @@ use nrca_loops::{
     Counted, Env, Members, as_members, from_box, keep_part, members_below, members_of_both,
     parts_kept, position, to_box, truth_kept, variable,
 };
+use nrca_numbers::{Lent, lent_part, lent_value, quick_test};
 use nrca_par::EvalFault;
-use nrca_quick::{Lent, lent_part, lent_value, quick_test};
 use nrca_term::{Core, Terms};
 use std::thread::Threads;
 

@@ -5,14 +5,14 @@ ghost use Rattle.aql_value.specs.Operations.{dim_of};
 ghost use Rattle.nrca_forms.specs.Made.{kept_cell};
 ghost use Rattle.nrca_loops.specs.Values.{boxed_value};
 ghost use Rattle.nrca_loops.specs.Within.{Within};
-ghost use Rattle.nrca_quick.specs.Lending.{lent_datum};
+ghost use Rattle.nrca_numbers.specs.Lending.{lent_datum};
 
 use aql_value::Memory;
 use nrca_array::Held;
 use nrca_forms::{cell_boxed, dim_boxed, value_cell_boxed, value_dim_boxed};
 use nrca_loops::Counted;
+use nrca_numbers::Lent;
 use nrca_par::EvalFault;
-use nrca_quick::Lent;
 use std::alloc::Global;
 
 /// The cell of an array that is lent at the index that values are. It alone is copied.

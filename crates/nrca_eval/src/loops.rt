@@ -16,13 +16,12 @@ use crate::pieces::in_pieces;
 use aql_outside::Gate;
 use aql_value::{Dims, Value};
 use nrca_array::{Builder, Held};
-use nrca_blocks::{add_cells, add_sets, in_blocks};
 use nrca_loops::{
     Counted, Env, Members, Next, cells_and, from_box, join_done, join_sums, joined_cells,
     joined_sets, joined_sums, set_index, sum_and, zeros,
 };
+use nrca_numbers::{add_cells, add_sets, chosen_branch, few, in_blocks, members_and_few, quick};
 use nrca_par::EvalFault;
-use nrca_quick::{chosen_branch, few, members_and_few, quick};
 use nrca_sets::{Gather, Set};
 use nrca_term::Core;
 use std::thread::Threads;

@@ -6,7 +6,7 @@ ghost use Rattle.aql_value.specs.Canon.{canon};
 ghost use Rattle.aql_value.specs.Meaning.{datum};
 ghost use Rattle.nrca_loops.specs.Values.{held_value, set_in};
 ghost use Rattle.nrca_eval.specs.Added.{added_in, added_list, single_list};
-ghost use Rattle.nrca_quick.specs.Few.{AddsSet};
+ghost use Rattle.nrca_numbers.specs.Few.{AddsSet};
 
 use aql_value::{Memory, Value};
 use nrca_array::Held;

@@ -25,15 +25,15 @@ use Rattle.nrca_loops.specs.Runs.{member_list, members_value, list_with, lists_j
 use Rattle.nrca_loops.specs.Values.{values, boxed_value, held_value, set_in}
 use Rattle.nrca_loops.specs.Within.{itself}
 use Rattle.nrca_loops.specs.Laws.Within.{err_within, same_within}
-use Rattle.nrca_blocks.specs.Laws.Union.{sets_more, sets_nothing}
+use Rattle.nrca_numbers.specs.Laws.Union.{sets_more, sets_nothing}
 use Rattle.nrca_eval.specs.Laws.Form.{count-terms_in, child_of-terms_in, strict_whole, strict_taken, sum_whole, sum_taken, union_whole, union_taken, tab_none, tab_whole, tab_idle, tab_taken}
 use Rattle.nrca_eval.specs.Runs.{run_values, run_turns, cell_values, cell_turns}
 use Rattle.nrca_eval.proofs.Evaluated.{at_answer, at_fault, member_weight, sub_weight, tab_weight, strict_form, spent_within, spent_whole, written}
 use Rattle.nrca_eval.proofs.Gathering.{spent_block, sets_first, lists_more}
 use Rattle.nrca_eval.proofs.Joined.{total_wider, whole_within}
-use Rattle.nrca_quick.specs.Laws.Few.{few_in}
-use Rattle.nrca_quick.specs.Lending.{lent_datum}
-use Rattle.nrca_quick.specs.Laws.Lent.{term_at, sub_lent, sub_free}
+use Rattle.nrca_numbers.specs.Laws.Few.{few_in}
+use Rattle.nrca_numbers.specs.Lending.{lent_datum}
+use Rattle.nrca_numbers.specs.Laws.Lent.{term_at, sub_lent, sub_free}
 use denote.Param.Send.{sendable}
 use Rattle.std.proofs.Crossing.{crosses}
 use Rattle.nrca_loops.proofs.Crosses.{env-sync, globals-sync, members-sync}

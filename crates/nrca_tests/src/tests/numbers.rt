@@ -8,7 +8,7 @@ use aql_value::made::both;
 use aql_value::{Memory, Value};
 use nrca_array::{Flat, Held};
 use nrca_loops::{Env, Globals};
-use nrca_quick::{AtMostOne, Small, few, quick};
+use nrca_numbers::{AtMostOne, Small, few, quick};
 use std::alloc::Global;
 
 // Position 1 is 7, position 2 is [[3; 5, 6, 7]], position 3 is (3, 2^128-1), position 4 is [[2, 1; 8, 9]], and there is no other.

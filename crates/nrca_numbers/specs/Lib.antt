@@ -1,0 +1,9 @@
+pub mod Blocks
+pub mod Choices
+pub mod Few
+pub mod Lanes
+pub mod Lending
+pub mod Quick
+pub mod Recent
+pub mod Runs
+pub mod Laws

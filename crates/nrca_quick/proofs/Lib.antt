@@ -1,3 +1,0 @@
-mod Cells
-mod Items
-mod Pairs

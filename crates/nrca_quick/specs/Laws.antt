@@ -1,3 +1,0 @@
--- The laws of this crate: what follows from its definitions.
-pub mod Lent
-pub mod Few
