@@ -9,8 +9,8 @@ use Rattle.nrca_term.specs.Nodes.{number, dim_term, literal_term}
 use Rattle.nrca_term.specs.Rules.{in_first, sizes_term, constant_literal}
 use Rattle.nrca_laws.specs.Fitting.{RuleFits, IsRight}
 use Rattle.nrca_laws.specs.Laws.Fitting.{right-side}
-use Rattle.nrca_setrules.specs.Constants.{CountsCells}
-use Rattle.nrca_setrules.specs.Laws.Lists.{literal-parts, numbers-same}
+use Rattle.nrca_term.specs.Cells.{CountsCells}
+use Rattle.nrca_term.specs.Laws.Lists.{literal-parts, numbers-same}
 use Rattle.nrca_arrayrules.specs.Constants.{IsConstantArray}
 
 -- equal ranks and counts make a constant array

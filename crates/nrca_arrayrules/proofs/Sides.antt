@@ -10,7 +10,7 @@ use Rattle.nrca_term.specs.Laws.TypedForm.{top_var-closed}
 use Rattle.nrca_term.specs.Rules.{in_first, sizes_term}
 use Rattle.nrca_laws.specs.Fitting.{RuleFits, IsSmallPart, IsRight}
 use Rattle.nrca_laws.specs.Laws.Fitting.{right-side}
-use Rattle.nrca_setrules.specs.Laws.Lists.{plain-same}
+use Rattle.nrca_term.specs.Laws.Lists.{plain-same}
 
 -- a truth value is not its negation
 pub false-true : false ≡ true → ⊥

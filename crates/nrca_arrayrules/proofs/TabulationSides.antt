@@ -14,7 +14,7 @@ use Rattle.nrca_term.specs.Rules.{dimension_term, dimension_terms, index_variabl
 use Rattle.nrca_laws.specs.Fitting.{RuleFits, IsRight}
 use Rattle.nrca_laws.specs.Laws.Fitting.{right-side}
 use Rattle.nrca_laws.specs.Laws.Keeping.{index_variables-length, dimension_terms-length}
-use Rattle.nrca_setrules.specs.Laws.Lists.{plain-same, plain-split, whole-list}
+use Rattle.nrca_term.specs.Laws.Lists.{plain-same, plain-split, whole-list}
 use Rattle.nrca_arrayrules.proofs.Sides.{false-true}
 use Rattle.nrca_arrayrules.proofs.SubscriptSides.{any-item}
 use Rattle.nrca_arrayrules.proofs.Unshift.{shift-same}

@@ -7,8 +7,7 @@ ghost use Rattle.nrca_term.specs.declared.trace.Rule.TheVariants.{A3, A6};
 ghost use Rattle.nrca_laws.specs.Fitting.{RuleFits, IsRight};
 ghost use Rattle.nrca_arrayrules.specs.Constants.{IsConstantArray};
 
-use nrca_setrules::cell_count;
-use nrca_term::{Core, Terms};
+use nrca_term::{Core, Terms, cell_count};
 use std::mem;
 
 /// Whether the term is the dimensions of a tabulation, at its own rank.

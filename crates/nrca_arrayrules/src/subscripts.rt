@@ -7,8 +7,7 @@ ghost use Rattle.nrca_laws.specs.Fitting.{RuleFits, IsRight};
 ghost use Rattle.nrca_arrayrules.specs.Constants.{AreConstant, IsOffset, IsCell, AreBelow};
 
 use crate::dimensions::is_constant;
-use nrca_setrules::cell_count;
-use nrca_term::{Core, Terms};
+use nrca_term::{Core, Terms, cell_count};
 use std::mem;
 
 /// Whether the term is a subscript, by as many numbers as there are dimensions, of a literal array

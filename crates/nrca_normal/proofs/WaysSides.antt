@@ -9,7 +9,7 @@ use Rattle.nrca_term.specs.Nodes.{number, bottom_term, sub_term, literal_term}
 use Rattle.nrca_term.specs.Rules.{inside, outside, in_first, others, constant_literal}
 use Rattle.nrca_laws.specs.Fitting.{RuleFits}
 use Rattle.nrca_laws.specs.Laws.Unique.{ways-fixed}
-use Rattle.nrca_setrules.specs.Laws.Lists.{numbers-same}
+use Rattle.nrca_term.specs.Laws.Lists.{numbers-same}
 use Rattle.nrca_arrayrules.specs.Constants.{IsConstantSubscript, IsOffset}
 use Rattle.nrca_arrayrules.proofs.SubscriptSides.{a5_parts, offset-is, item_at}
 use Rattle.nrca_normal.specs.declared.ways.Ways.TheVariants.{Free, Others}

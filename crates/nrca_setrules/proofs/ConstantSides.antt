@@ -13,7 +13,7 @@ use Rattle.nrca_laws.specs.Fitting.{RuleFits, IsRight}
 use Rattle.nrca_laws.specs.Laws.Fitting.{right-side}
 use Rattle.nrca_setrules.proofs.Sides.{false-true}
 use Rattle.nrca_setrules.specs.Constants.{AreNumbers, AreAlike, IsMisshapen, constant_of, Computes, Compares}
-use Rattle.nrca_setrules.specs.Laws.Lists.{literal-parts}
+use Rattle.nrca_term.specs.Laws.Lists.{literal-parts}
 
 -- an operation that folds is one of two numbers, and folds to what it makes of them
 arith-folds : (op : ArithOp) (t x y r : Term) → t ≡ arith_term op x y → Folds t r →

@@ -1,5 +1,5 @@
 -- Constants beside one another, and dimensions that are written as numbers.
-use Rattle.std.specs.Prelude.{◌≡◌, ℕ, ◌-◌, ◌^◌, ◌⊎◌, min, Bool, List, length, map, Option, Some, None}
+use Rattle.std.specs.Prelude.{◌≡◌, ℕ, ◌⊎◌, Bool, List, length, map, Option, Some, None}
 use Rattle.aql_value.specs.declared.ops.ArithOp.{ArithOp}
 use Rattle.aql_value.specs.declared.ops.CompareOp.{CompareOp}
 use Rattle.aql_value.specs.Datum as datum
@@ -45,13 +45,6 @@ abbrev pub Compares : CompareOp → (x y r : Term) → Type 0
 Compares op x y r =
     (u v : Datum) → constant_of x ≡ Some u → constant_of y ≡ Some v →
     r ≡ truth_term (compare_by op (datum_cmp u v))
-
--- the product of the numbers that the dimensions are, or 2^128-1 where it is larger; none where one
--- of them is no number
-abbrev pub CountsCells : List Term → Option ℕ → Type 0
-CountsCells ds (Some p) =
-    (ns : List ℕ) × (ds ≡ map number ns) × (p ≡ min (product ns) (2 ^ 128 - 1))
-CountsCells ds None = (ns : List ℕ) → ds ≡ map number ns → ⊥
 
 -- the dimensions are numbers, and the cells not as many as their product
 abbrev pub IsMisshapen : List Term → List Term → Type 0

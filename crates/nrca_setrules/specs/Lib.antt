@@ -1,3 +1,2 @@
 pub mod Strictly
 pub mod Constants
-pub mod Laws

@@ -11,9 +11,8 @@ ghost use Rattle.nrca_laws.specs.Fitting.{RuleFits, IsRight};
 ghost use Rattle.nrca_setrules.specs.Constants.{AreNumbers, AreAlike, constant_of, Computes, Compares};
 ghost use Rattle.nrca_setrules.specs.Constants.{IsMisshapen};
 
-use crate::cells::cell_count;
 use aql_value::{ArithOp, CompareOp, Value};
-use nrca_term::{Core, Terms};
+use nrca_term::{Core, Terms, cell_count};
 
 /// Whether the term is an operation on two numbers, a comparison of two numbers, truth values or
 /// strings, the numbers below 0, the member of the empty set, or a literal array whose dimensions

@@ -4,12 +4,11 @@
 //! (`IsRight`): it is the right side of the rule's relation, has every type of the left side, and wherever the rule's
 //! condition holds, its meaning. Whether the condition holds is for the caller to see. The terms that are shifted or
 //! substituted are small (`IsSmallPart`). Only L1, L2 and L3, which substitute, may want memory.
-//! Read `boxes`, `cells`; then `sets`, `tests`, `lets`, `tuples`, `bottoms`, `constants`.
+//! Read `boxes`; then `sets`, `tests`, `lets`, `tuples`, `bottoms`, `constants`.
 #![tactic(auto)]
 
 mod bottoms;
 mod boxes;
-mod cells;
 mod constants;
 mod lets;
 mod sets;
@@ -17,7 +16,6 @@ mod tests;
 mod tuples;
 
 pub use bottoms::{b1, fits_b1};
-pub use cells::cell_count;
 pub use constants::{fits_k1, k1};
 pub use lets::{fits_l1, fits_l2, fits_l3, l1, l2, l3};
 pub use sets::{

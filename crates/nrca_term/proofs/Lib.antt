@@ -1,3 +1,4 @@
+pub mod CellCounts
 pub mod Children
 pub mod ConstantParts
 pub mod Filling

@@ -7,6 +7,7 @@ pub mod Equations
 pub mod Exchange
 pub mod Facts
 pub mod Lets
+pub mod Lists
 pub mod Measure
 pub mod Placing
 pub mod Shift

@@ -1,6 +1,7 @@
 pub mod Term
 pub mod View
 pub mod Nodes
+pub mod Cells
 pub mod Hollow
 pub mod Meaning
 pub mod Places

@@ -4,11 +4,12 @@
 //! equal term, and each constant a value of the language (`constants`); and the definitions in
 //! `specs/`: value, type, turns, places, rules, normal terms. Read `term`, `trace`, then
 //! `specs/Term.antt`, `View`, `Meaning`, `Turns`, `Typing`, `Places`, `Subst`, `Rules`, `Valid`;
-//! then `access`, `form`, `places`, `weights`, `copies`, `boxes`, `validity`.
+//! then `access`, `form`, `places`, `weights`, `copies`, `boxes`, `cells`, `validity`.
 #![tactic(auto)]
 
 mod access;
 mod boxes;
+mod cells;
 mod copies;
 mod form;
 mod places;
@@ -18,6 +19,7 @@ mod validity;
 mod weights;
 
 pub use boxes::{open, put};
+pub use cells::cell_count;
 pub use copies::discard;
 pub use form::{Form, Strict};
 pub use places::place;

@@ -12,7 +12,7 @@ use Rattle.nrca_term.specs.Nodes.{number, position, let_term, proj_term, sub_ter
 use Rattle.nrca_term.specs.Rules.{Way, Atom, in_first, others, constant_literal}
 use Rattle.aql_value.specs.Lists.{below, Every}
 use Rattle.aql_value.specs.Laws.Lists.{below-last, Every-append_parts}
-use Rattle.nrca_setrules.specs.Laws.Lists.{literal-parts}
+use Rattle.nrca_term.specs.Laws.Lists.{literal-parts}
 use Rattle.nrca_normal.specs.declared.ways.Ways.{Ways}
 use Rattle.nrca_normal.specs.declared.ways.Ways.TheVariants.{Free, First, Inner, Others}
 use Rattle.nrca_normal.specs.Ways.{other_ways, AreWays, AreAtomWays, IsPosition}

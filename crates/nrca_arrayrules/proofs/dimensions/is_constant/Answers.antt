@@ -2,7 +2,7 @@ use Rattle.std.proofs.Common.{arith, sym, subst, ◌∙◌}
 use Rattle.nrca_term.specs.View.{terms_of}
 use Rattle.nrca_term.specs.Laws.Equations.{length-terms_of}
 use Rattle.nrca_arrayrules.proofs.Counts.{constant-back, constant-yes}
-use Rattle.nrca_setrules.specs.Constants.{CountsCells}
+use Rattle.nrca_term.specs.Cells.{CountsCells}
 use Rattle.nrca_arrayrules.proofs.Sides.{false-true}
 use Rattle.nrca_arrayrules.proofs.dimensions.is_constant.Goals as goal
 

@@ -1,7 +1,7 @@
 use Rattle.std.proofs.Common.{rules, arith, true, false, ◌≡◌, ◌<◌, length, sym, ◌∙◌}
 use Rattle.nrca_term.specs.View.{term_of, terms_of}
 use Rattle.nrca_term.specs.Laws.Equations.{length-terms_of}
-use Rattle.nrca_setrules.specs.Laws.Lists.{item-is}
+use Rattle.nrca_term.specs.Laws.Lists.{item-is}
 use Rattle.nrca_arrayrules.proofs.Sides.{false-true}
 use Rattle.nrca_arrayrules.proofs.SizeSides.{every-plain, plain-at, plain-next}
 use Rattle.nrca_arrayrules.proofs.sizes.are_plain.Goals as goal

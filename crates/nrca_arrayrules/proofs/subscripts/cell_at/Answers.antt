@@ -2,7 +2,7 @@ use Rattle.std.proofs.Common.{rules, arith, ◌<◌, ◌^◌, length, ap, subst,
 use Rattle.nrca_term.specs.View.{term_of, terms_of}
 use Rattle.nrca_term.specs.Laws.Equations.{length-terms_of}
 use Rattle.nrca_arrayrules.proofs.SubscriptSides.{offset-within, cell-here, any-item}
-use Rattle.nrca_setrules.specs.Laws.Lists.{item-is}
+use Rattle.nrca_term.specs.Laws.Lists.{item-is}
 use Rattle.nrca_arrayrules.specs.Constants.{IsOffset}
 use Rattle.nrca_arrayrules.proofs.subscripts.cell_at.Goals as goal
 

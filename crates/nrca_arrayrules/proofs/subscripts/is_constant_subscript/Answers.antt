@@ -1,7 +1,7 @@
 use Rattle.std.proofs.Common.{sym, subst, ◌∙◌}
 use Rattle.nrca_term.specs.View.{terms_of}
 use Rattle.nrca_term.specs.Laws.Equations.{length-terms_of}
-use Rattle.nrca_setrules.specs.Constants.{CountsCells}
+use Rattle.nrca_term.specs.Cells.{CountsCells}
 use Rattle.nrca_arrayrules.proofs.SubscriptSides.{subscript-yes, subscript-back}
 use Rattle.nrca_arrayrules.proofs.Sides.{false-true}
 use Rattle.nrca_arrayrules.proofs.subscripts.is_constant_subscript.Goals as goal

@@ -1,7 +1,7 @@
 use Rattle.std.proofs.Common.{arith, ◌<◌, length, take, Some, ◌+◌, min, [], refl, sym, ap, subst, ◌∙◌}
 use Rattle.nrca_term.specs.View.{term_of, terms_of}
 use Rattle.nrca_term.specs.Laws.Equations.{length-terms_of}
-use Rattle.nrca_setrules.specs.Laws.Lists.{item-is}
+use Rattle.nrca_term.specs.Laws.Lists.{item-is}
 use Rattle.nrca_arrayrules.proofs.SubscriptSides.{offset-step, offset-out, offset-whole}
 use Rattle.nrca_arrayrules.specs.Constants.{IsOffset, AreBelow}
 use Rattle.nrca_arrayrules.proofs.subscripts.literal_offset.Goals as goal

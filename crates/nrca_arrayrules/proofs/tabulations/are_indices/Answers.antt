@@ -1,7 +1,7 @@
 use Rattle.std.proofs.Common.{rules, arith, true, false, ◌≡◌, ◌<◌, length, sym, ◌∙◌}
 use Rattle.nrca_term.specs.View.{term_of, terms_of}
 use Rattle.nrca_term.specs.Laws.Equations.{length-terms_of}
-use Rattle.nrca_setrules.specs.Laws.Lists.{item-is}
+use Rattle.nrca_term.specs.Laws.Lists.{item-is}
 use Rattle.nrca_arrayrules.proofs.Sides.{false-true}
 use Rattle.nrca_arrayrules.proofs.TabulationSides.{indices-more, indices-out, indices-whole, indices-long}
 use Rattle.nrca_arrayrules.proofs.tabulations.are_indices.Goals as goal

@@ -3,7 +3,7 @@ use Rattle.nrca_term.specs.View.{terms_of}
 use Rattle.nrca_term.specs.Laws.Equations.{length-terms_of}
 use Rattle.nrca_setrules.proofs.CellCounts.{misshapen-yes, misshapen-back}
 use Rattle.nrca_setrules.proofs.Sides.{false-true}
-use Rattle.nrca_setrules.specs.Constants.{CountsCells}
+use Rattle.nrca_term.specs.Cells.{CountsCells}
 use Rattle.nrca_setrules.proofs.constants.is_misshapen.Goals as goal
 
 pub returns-in-Some : goal.returns-in-Some

@@ -1,9 +1,9 @@
 //! The number of cells that dimensions say which are written as numbers.
 
 ghost use Rattle.nrca_term.specs.View.{terms_of};
-ghost use Rattle.nrca_setrules.specs.Constants.{CountsCells};
+ghost use Rattle.nrca_term.specs.Cells.{CountsCells};
 
-use nrca_term::Terms;
+use crate::term::Terms;
 
 /// The product of the dimensions, or 2^128-1 where it is larger. None where one of them is no number.
 pub fn cell_count(dims: &Terms) -> Option<u128>

@@ -3,10 +3,10 @@ use Rattle.std.specs.Prelude.{IfSome}
 use Rattle.nrca_term.specs.Nodes.{number}
 use Rattle.nrca_term.specs.View.{term_of, terms_of}
 use Rattle.nrca_term.specs.Laws.Equations.{length-terms_of}
-use Rattle.nrca_setrules.proofs.CellCounts.{count-none, count-step, count-whole}
-use Rattle.nrca_setrules.specs.Laws.Lists.{item-is, no-number}
-use Rattle.nrca_setrules.specs.Constants.{CountsCells}
-use Rattle.nrca_setrules.proofs.cells.cell_count.Goals as goal
+use Rattle.nrca_term.proofs.CellCounts.{count-none, count-step, count-whole}
+use Rattle.nrca_term.specs.Laws.Lists.{item-is, no-number}
+use Rattle.nrca_term.specs.Cells.{CountsCells}
+use Rattle.nrca_term.proofs.cells.cell_count.Goals as goal
 
 pub loop-i-preserved : goal.loop-i-preserved
 loop-i-preserved c = subst (λ a. CountsCells (take (c.loop-i.i + 1) (terms_of c.args.dims.now)) (Some a)) (sym c.saturating_mul-all.ensures)
