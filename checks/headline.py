@@ -1,13 +1,12 @@
 #!/usr/bin/env python3
-"""Prints docs/HEADLINE.md: what the contract of `run` says, and each definition that it rests on.
+"""What the contract of `run` rests on, as checks/book.py prints it.
 
 Reads the sources alone: the specs of each crate, and the Rust types that these name. A definition is taken where another one that is
-taken names it, beginning with those that the clause of `run` names. The modules stand in the order in which they are reached, beginning with the headline; the definitions of a module stand
-as in its source.
+taken names it, beginning with those that the clause of `run` names. Of a type's view it takes what the view is, and not how its values are
+stored for proofs.
 """
 import os
 import re
-import sys
 from collections import OrderedDict
 
 ROOT = os.path.join(os.path.dirname(os.path.abspath(__file__)), "..")
@@ -141,13 +140,23 @@ def rust_type(path, name):
     return None
 
 
+# the members of a view that say what a value is; the others say how proofs store and measure it
+SEEN = ("ghost Value", "ghost view")
+
+
 def view(path, name):
-    """The view of a Rust type: the text of its `impl Model`."""
+    """The view of a Rust type: what its `impl Model` says that a value is, with the lines that bring in the names of that."""
     source = lines_of(path)
     for number, text in enumerate(source):
         if re.match(r"^impl(<.*>)? Model for %s\b" % name, text):
             end = next(n for n in range(number, len(source)) if source[n] == "}")
-            return source[number : end + 1]
+            body, taken, inside = source[number : end + 1], [], False
+            for line in body:
+                if line.startswith("    ghost "):
+                    inside = line.startswith(tuple("    " + it for it in SEEN)) or line.startswith("    ghost use ")
+                if inside:
+                    taken.append(line)
+            return taken
     return []
 
 
@@ -261,65 +270,3 @@ def call():
         top -= 1
     end = next(n for n in range(first, len(source)) if source[n] == "{")
     return source[top:end]
-
-
-def page():
-    taken, types, library = reach()
-    counts = {where: sum(len(module(where).items[n].text) for n in names) for where, names in taken.items()}
-    shapes = [(where, rust_type(where[1], where[2])) for where in types if where]
-    shapes = [(where, shape) for where, shape in shapes if shape]
-    out = []
-    say = out.append
-    say("# What the headline rests on")
-    say("")
-    say("Made by `checks/headline.py` from the sources; `checks/run` refuses a page that differs from them.")
-    say("")
-    say("The program makes one call, `run`, and its contract is one clause:")
-    say("")
-    say("```rust")
-    out.extend(call())
-    say("```")
-    say("")
-    say("`S`, `O` and `F` are the traits `Source`, `Sink` and `Files` of aql_outside (`crates/aql_outside/src`): what a device tells of itself "
-        "(`left`, `holds`), the count of its calls that failed (`faults`), and whether its calls that end well leave that count (`quiet`).")
-    say("")
-    say("What the clause says is fixed by %d definitions in %d modules, %d lines, and by %d types of the code. Who has read them knows what is "
-        "promised; no other text of this repository has to be trusted for it. They stand here in the order in which they are reached from "
-        "`Headline`, the modules first, and in a module as in its source. The number behind a name is the count of its lines."
-        % (sum(len(names) for names in taken.values()), len(taken), sum(counts.values()), len(shapes)))
-    say("")
-    say("## What is trusted")
-    say("")
-    say("- The toolchain: its check of proofs, its logic, its compiler, and the statements of its libraries. Of these the definitions name: "
-        + "; ".join("`%s` (%s)" % (target.replace(".specs.", "::").replace("std::", "std::"), ", ".join("`%s`" % n.replace("◌", "") for n in sorted(names)))
-                    for target, names in sorted(library.items())) + ".")
-    say("- Of the system: that its streams and files do what the library says of them. The system's streams tell nothing, so that for the built "
-        "program the clause speaks of some bytes that were taken and written.")
-    say("- That the reader takes the definitions below for what the words of the language mean.")
-    say("")
-    say("## The definitions")
-    for where, names in taken.items():
-        here = module(where)
-        say("")
-        say("### %s, `%s`" % (where.split(".")[0], here.path.split("/", 2)[2]))
-        say("")
-        if here.about:
-            say(here.about)
-            say("")
-        for name, item in here.items.items():
-            if name in names:
-                say("- `%s` (%d)%s" % (name, len(item.text), ": " + item.head if item.head else ""))
-    say("")
-    say("## The types of the code")
-    say("")
-    say("A type that has a view is seen by the definitions as what the view makes of it; the view stands below the type in its source.")
-    say("")
-    for (crate, path, name), (doc, number, text) in shapes:
-        seen = re.search(r"ghost Value = \{ (.*) \};", "\n".join(view(path, name)))
-        say("- `%s` of %s (%d, `%s`)%s%s" % (name, crate, len(text), path.split("/", 2)[2], ": " + doc if doc else "",
-                                           " Seen as `%s`." % seen.group(1) if seen else ""))
-    return "\n".join(out) + "\n"
-
-
-if __name__ == "__main__":
-    sys.stdout.write(page())

@@ -347,9 +347,9 @@ IsSpent d earlier motion budget start trace plan moved =
     × (budget < query_turns d earlier) × (budget < turns_in earlier plan)
     × IsMovedBy motion (outcomes_of earlier) plan moved × (budget < turns_in earlier (moved_term plan moved))
 
--- when each fault comes: Query exactly where the turns of the start term, of its plan and of what is moved in it all pass the budget, Cells
--- exactly where then the cells, or the bytes of a file of records, pass it, File and Csv only where they do not, and exactly the first fault
--- that the files tell; Device only where the count of faults rose; want of memory is free
+-- when each fault comes: Query where the turns of the start term, of a plan of it and of what is moved in that all pass the budget, Cells where
+-- they do not, but the cells, or the bytes of a file of records, pass it, File and Csv only where these do not either, and then it is the first
+-- fault that the files tell; Device only where the count of faults rose; want of memory is free
 abbrev pub IsCause : Declaration → Earlier → (motion : Bool) → (budget : ℕ) → Option Content → (before now : ℕ) → StepFault → Type 0
 IsCause d earlier motion budget holds before now (faults.Query start plan trace moved) =
     IsSpent d earlier motion budget (term_of start) trace (term_of plan) moved
