@@ -15,7 +15,7 @@ pub fn copy_front(from: &[u8], into: &mut [u8], most: usize) -> usize
 }
 
 /// Copies the bytes from an offset on, as many as fit.
-pub fn copy_from(bytes: &[u8], at: u64, into: &mut [u8]) -> usize
+pub(crate) fn copy_from(bytes: &[u8], at: u64, into: &mut [u8]) -> usize
     ensures count { result ≡ min (length into.new) (length bytes.now - at) }
     ensures copied { take result into.new ≡ take result (drop at bytes.now) }
     ensures kept { drop result into.new ≡ drop result into.old }
@@ -28,7 +28,7 @@ pub fn copy_from(bytes: &[u8], at: u64, into: &mut [u8]) -> usize
 }
 
 /// Writes at most `most` bytes of a piece over a list from a place on, as many as fit.
-pub fn write_over(room: &mut [u8], at: usize, from: &[u8], most: usize) -> usize
+pub(crate) fn write_over(room: &mut [u8], at: usize, from: &[u8], most: usize) -> usize
     requires { at ≤ length room.old }
     ensures count { result ≡ min (min most (length room.old - at)) (length from.now) }
     ensures written { take (at + result) room.new ≡ take at room.old ++ take result from.now }

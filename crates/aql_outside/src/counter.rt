@@ -37,7 +37,7 @@ impl Counter {
     }
 
     /// Whether the next call is one of those that fail.
-    pub fn next_fails(&self) -> bool
+    pub(crate) fn next_fails(&self) -> bool
         ensures { IsTrue result ↔ NextFails (counted_calls self.now) }
     {
         match self.made.checked_add(1) {
@@ -47,7 +47,7 @@ impl Counter {
     }
 
     /// The most bytes that the next call gives or takes of so many.
-    pub fn next_piece(&self, length: usize) -> usize
+    pub(crate) fn next_piece(&self, length: usize) -> usize
         ensures most { result ≡ next_piece (counted_calls self.now) length }
         ensures within { result ≤ length }
         ensures some { 0 < length → 0 < result }

@@ -19,7 +19,7 @@ pub fn put(text: &[u8], out: &mut Vec<u8>) -> Result<(), Memory>
 }
 
 /// Appends what stands before text `i` of several: nothing before the first, and else the separator.
-pub fn put_before(i: usize, separator: &[u8], out: &mut Vec<u8>) -> Result<(), Memory>
+pub(crate) fn put_before(i: usize, separator: &[u8], out: &mut Vec<u8>) -> Result<(), Memory>
     ensures ok { OnOk result (out.new.items ≡ out.old.items ++ before i separator.now) }
     ensures prefix { AppendsPrefix out.old.items out.new.items (before i separator.now) }
 {
@@ -36,7 +36,7 @@ pub fn put_number(n: u128, out: &mut Vec<u8>) -> Result<(), Memory>
 }
 
 /// Appends a string, escaped and between quotes.
-pub fn put_quoted(bytes: &[u8], out: &mut Vec<u8>) -> Result<(), Memory>
+pub(crate) fn put_quoted(bytes: &[u8], out: &mut Vec<u8>) -> Result<(), Memory>
     ensures ok { OnOk result (out.new.items ≡ out.old.items
         ++ (codes "\"" ++ (flat_map byte_text bytes.now ++ codes "\""))) }
     ensures prefix { AppendsPrefix out.old.items out.new.items

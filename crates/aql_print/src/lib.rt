@@ -18,11 +18,11 @@ mod term;
 mod trace;
 mod value;
 
-pub use bytes::{put, put_before, put_number, put_quoted};
+pub use bytes::{put, put_number};
 pub use held::print_held;
 pub use moves::print_moves;
-pub use names::{put_bound, put_variable};
+pub use names::put_variable;
 pub use scheme::print_scheme;
 pub use term::print_core;
 pub use trace::print_trace;
-pub use value::{print_value, put_dims};
+pub use value::print_value;

@@ -8,7 +8,7 @@ use aql_value::Memory;
 
 /// Appends a bound variable, by the number of binders around its own.
 #[inline(never)]
-pub fn put_bound(binders: u64, out: &mut Vec<u8>) -> Result<(), Memory>
+pub(crate) fn put_bound(binders: u64, out: &mut Vec<u8>) -> Result<(), Memory>
     ensures { OnOk result (out.new.items ≡ out.old.items ++ bound_text binders) }
 {
     put(b"x", out)?;

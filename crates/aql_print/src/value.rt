@@ -66,7 +66,7 @@ fn put_items(alloc: Global, items: &Items, out: &mut Vec<u8>) -> Result<(), Memo
 }
 
 /// Appends dimensions, with `,` between each two.
-pub fn put_dims(dims: &Dims, out: &mut Vec<u8>) -> Result<(), Memory>
+pub(crate) fn put_dims(dims: &Dims, out: &mut Vec<u8>) -> Result<(), Memory>
     ensures ok { OnOk result (out.new.items ≡ out.old.items ++ dims_text dims.now) }
     ensures prefix { AppendsPrefix out.old.items out.new.items (dims_text dims.now) }
 {

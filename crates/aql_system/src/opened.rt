@@ -38,7 +38,7 @@ impl<F: Read + Seek> OpenedFile<F> {
 
     /// Reads from an offset on, until the piece is full or a read gives nothing. Where the piece before ended there the
     /// system stands there already.
-    pub fn read_from(&mut self, at: u64, into: &mut [u8]) -> io::Result<usize>
+    pub(crate) fn read_from(&mut self, at: u64, into: &mut [u8]) -> io::Result<usize>
         ensures { IfOk result (λ count. count ≤ length into.new) }
     {
         if at != self.at {

@@ -17,7 +17,7 @@ pub(crate) struct CellFormat {
 
 impl CellFormat {
     /// The same before another end.
-    pub fn with_end(self, end: u64) -> CellFormat
+    pub(crate) fn with_end(self, end: u64) -> CellFormat
         ensures kind { result.kind ≡ self.kind }
         ensures size { result.size ≡ self.size }
         ensures signed { result.signed ≡ self.signed }

@@ -48,7 +48,7 @@ impl Window {
     }
 
     /// The bytes of the piece from an offset on.
-    pub fn bytes_from(&self, place: u64) -> &[u8]
+    pub(crate) fn bytes_from(&self, place: u64) -> &[u8]
         requires behind { self.now.at ≤ place }
         requires within { place ≤ self.now.at + self.now.count }
         ensures { result.now ≡ drop (place - self.now.at) (window_bytes self.now) }

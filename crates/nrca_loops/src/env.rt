@@ -93,7 +93,7 @@ pub enum Env<'a> {
 }
 
 /// The value of a variable: none where there is no such variable.
-pub fn lookup(alloc: Global, env: &Env, at: u64) -> Result<Option<Held>, Memory>
+pub(crate) fn lookup(alloc: Global, env: &Env, at: u64) -> Result<Option<Held>, Memory>
     ensures { IfOk result (λ v. held_value v ≡ slice_get (values env.now) at) }
 {
     match env {

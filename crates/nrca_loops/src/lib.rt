@@ -20,12 +20,12 @@ mod walk;
 
 pub use boxes::{from_box, keep_part, parts_kept, to_box, truth_kept};
 pub use done::{Counted, Done, join_done};
-pub use env::{Env, Globals, index_variable, lend_value, lookup, position, variable};
+pub use env::{Env, Globals, index_variable, lend_value, position, variable};
 pub use joins::{join_sums, joined_cells, joined_sets, joined_sums, merge_sets};
 pub use members::{
     Members, Next, as_members, members_below, members_of_both, natural, row_of, set_of, truth,
 };
-pub use runs::{cells_and, into_value, parts_and, set_index, sum_and, with_cell, zeros};
+pub use runs::{cells_and, into_value, set_index, sum_and, with_cell, zeros};
 pub use walk::Sides;
 
 // Outcomes of positions and members may be sent to another thread, and lent to several.

@@ -51,7 +51,10 @@ pub fn with_cell(
 }
 
 /// The parts so far, and one more.
-pub fn parts_and(parts: Option<Vec<Held>>, value: Option<Held>) -> Result<Option<Vec<Held>>, Memory>
+pub(crate) fn parts_and(
+    parts: Option<Vec<Held>>,
+    value: Option<Held>,
+) -> Result<Option<Vec<Held>>, Memory>
     ensures { IfOk result (λ vs. AddsPart parts (held_value value) vs) }
 {
     match parts.zip(value) {

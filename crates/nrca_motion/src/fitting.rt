@@ -27,7 +27,7 @@ pub struct Fit {
 /// that the rule wants defined is sure to have a value at the place of the node. A call of its own, so that a level of the
 /// search keeps little on the stack.
 #[inline(never)]
-pub fn fit_at(alloc: Global, term: &Core, ctx: &Ctx) -> Result<Option<Fit>, Memory>
+pub(crate) fn fit_at(alloc: Global, term: &Core, ctx: &Ctx) -> Result<Option<Fit>, Memory>
     requires inside { IsSmallTerm ctx.now.depth (term_of term.now) }
     ensures { IfOk result (TellsNode ctx.now (term_of term.now)) }
 {

@@ -13,7 +13,7 @@ use std::mem;
 
 /// Puts the right side in the place of the term at the end of the path, from its number `at` on. Where memory is wanting,
 /// Bottom may stand there.
-pub fn move_at(
+pub(crate) fn move_at(
     alloc: Global,
     term: &mut Core,
     path: &[u64],

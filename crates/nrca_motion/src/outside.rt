@@ -11,7 +11,7 @@ use nrca_term::Core;
 use std::alloc::Global;
 
 /// The term without its `count` innermost variables, where it uses none of them.
-pub fn strengthen(alloc: Global, term: Core, count: u64) -> Result<Option<Core>, Memory>
+pub(crate) fn strengthen(alloc: Global, term: Core, count: u64) -> Result<Option<Core>, Memory>
     requires { HasRoom (term_of term) }
     ensures { IfOk result (IsOutside count (term_of term)) }
 {
@@ -26,7 +26,7 @@ pub fn strengthen(alloc: Global, term: Core, count: u64) -> Result<Option<Core>,
 }
 
 /// The body of a let as it stands where its let has gone out past `count` variables.
-pub fn rotate(alloc: Global, body: Core, count: u64) -> Result<Core, Memory>
+pub(crate) fn rotate(alloc: Global, body: Core, count: u64) -> Result<Core, Memory>
     requires room { HasRoom (term_of body) }
     requires few { count ≤ 4000000 }
     ensures { IfOk result (λ t. term_of t ≡ rotate_term count (term_of body)) }

@@ -14,7 +14,12 @@ use nrca_term::Core;
 use std::alloc::Global;
 
 /// Whether the terms at the ends of the ways are sure to have a value. A way that leaves the term ends nowhere.
-pub fn all_defined(alloc: Global, term: &Core, ways: Ways, ctx: &mut Ctx) -> Result<bool, Memory>
+pub(crate) fn all_defined(
+    alloc: Global,
+    term: &Core,
+    ways: Ways,
+    ctx: &mut Ctx,
+) -> Result<bool, Memory>
     requires inside { IsSmallTerm ctx.old.depth (term_of term.now) }
     requires room { HasRoom ways }
     ensures back { OnOk result (context_of ctx.new ≡ context_of ctx.old) }
@@ -39,7 +44,12 @@ pub fn all_defined(alloc: Global, term: &Core, ways: Ways, ctx: &mut Ctx) -> Res
 }
 
 /// Whether part i, counted from 0, is sure to have a value at its place, where it is there.
-pub fn part_defined(alloc: Global, term: &Core, i: u64, ctx: &mut Ctx) -> Result<bool, Memory>
+pub(crate) fn part_defined(
+    alloc: Global,
+    term: &Core,
+    i: u64,
+    ctx: &mut Ctx,
+) -> Result<bool, Memory>
     requires inside { IsSmallTerm ctx.old.depth (term_of term.now) }
     ensures back { OnOk result (context_of ctx.new ≡ context_of ctx.old) }
     ensures globals { ctx.new.globals ≡ ctx.old.globals }

@@ -51,7 +51,7 @@ impl Firing {
 /// The first rule, in the order of the table, that may be applied at the node, where there is one: it fits, what it knows
 /// of the place is so, and all that it wants defined is sure to have a value.
 #[inline(never)]
-pub fn rule_at(alloc: Global, term: &Core, ctx: &mut Ctx) -> Result<Option<Firing>, Memory>
+pub(crate) fn rule_at(alloc: Global, term: &Core, ctx: &mut Ctx) -> Result<Option<Firing>, Memory>
     requires inside { IsSmallTerm ctx.old.depth (term_of term.now) }
     ensures back { OnOk result (context_of ctx.new ≡ context_of ctx.old) }
     ensures globals { ctx.new.globals ≡ ctx.old.globals }

@@ -43,7 +43,7 @@ static OF_DIM: [Rule; 4] = [Rule::B1, Rule::A3, Rule::A6, Rule::A7];
 
 /// The rules whose left side may have the form of the term. No other fits it.
 #[tactic(auto, using(nrca_term::specs::Laws::Equations::list_forms))]
-pub fn rules_for(term: &Core) -> &'static [Rule]
+pub(crate) fn rules_for(term: &Core) -> &'static [Rule]
     ensures { result.now ≡ rules_of (form_of (term_of term.now)) }
 {
     match term {

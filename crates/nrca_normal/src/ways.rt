@@ -24,7 +24,7 @@ pub enum Ways {
 }
 
 /// The ways of a rule that fits. The checks of comparisons are not asked.
-pub fn ways_of(rule: Rule, term: &Core) -> Ways
+pub(crate) fn ways_of(rule: Rule, term: &Core) -> Ways
     requires fits { RuleFits rule true (term_of term.now) }
     requires plain { is_check rule ≡ false }
     ensures ways { AreWays rule (term_of term.now) result }

@@ -166,7 +166,7 @@ fn truths(
 /// The sets that a term is for the first members of a block, where it is one of at most one number or
 /// pair of numbers for each of them, found without turns.
 #[cycle(few_each)]
-pub fn few_each(
+pub(crate) fn few_each(
     alloc: Global,
     term: &Core,
     globals: &Globals,

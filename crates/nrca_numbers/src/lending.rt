@@ -71,7 +71,7 @@ fn plain(held: &Held) -> Option<&Value>
 
 /// The part of a tuple, the parts counted from 1.
 #[tactic(auto, using(aql_value::specs::Laws::Datum::data_lists))]
-pub fn part_lent(value: &Value, at: u64, of: u64) -> Option<&Value>
+pub(crate) fn part_lent(value: &Value, at: u64, of: u64) -> Option<&Value>
     ensures { IfSome result (λ v. part_of at of (datum value.now) ≡ Some (datum v.now)) }
 {
     match value {

@@ -22,10 +22,10 @@ mod single;
 pub mod small;
 
 pub use added::{add_cells, add_sets, sum_all};
-pub use blocks::{few_each, numbers};
+pub use blocks::numbers;
 pub use choices::chosen_branch;
 pub use columns::Columns;
-pub use lending::{Lent, lent_part, lent_value, part_lent};
+pub use lending::{Lent, lent_part, lent_value};
 pub use runs::{cells_run, few_run, in_blocks, numbers_run};
 pub use sets::{AtMostOne, Small, few, members_and_few};
-pub use single::{quick, quick_test, quick_truth};
+pub use single::{quick, quick_test};

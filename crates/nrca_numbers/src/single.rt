@@ -70,7 +70,7 @@ pub fn quick(term: &Core, globals: &Globals, env: &Env) -> Option<u128>
 
 /// The truth value that a term is, where it is found so; it takes no turns then.
 #[cycle(quick)]
-pub fn quick_truth(term: &Core, globals: &Globals, env: &Env) -> Option<bool>
+pub(crate) fn quick_truth(term: &Core, globals: &Globals, env: &Env) -> Option<bool>
     ensures value { IfSome result (λ b. IsTruth globals.now env.now term.now b) }
     ensures turns { IfSome result (λ b. TakesNone globals.now env.now term.now) }
 {

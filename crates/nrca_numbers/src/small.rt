@@ -28,7 +28,7 @@ pub fn small(n: u128) -> Option<u64>
 }
 
 /// The number that an operation makes of two, where it has 64 bits.
-pub fn small_arith(op: ArithOp, a: u64, b: u64) -> Option<u64>
+pub(crate) fn small_arith(op: ArithOp, a: u64, b: u64) -> Option<u64>
     ensures { IfSome result (λ k. arith_by op a b ≡ Some k) }
 {
     match op {
@@ -41,42 +41,42 @@ pub fn small_arith(op: ArithOp, a: u64, b: u64) -> Option<u64>
 }
 
 /// Whether a comparison holds of two numbers.
-pub fn small_compare(op: CompareOp, a: u64, b: u64) -> bool
+pub(crate) fn small_compare(op: CompareOp, a: u64, b: u64) -> bool
     ensures { result ≡ compare_by op (nat_cmp a b) }
 {
     number_compare(op, u128::from(a), u128::from(b))
 }
 
 /// The number that is held.
-pub fn small_held(value: &Held) -> Option<u64>
+pub(crate) fn small_held(value: &Held) -> Option<u64>
     ensures { IfSome result (λ n. held_datum value.now ≡ natural n) }
 {
     small(held_number(value)?)
 }
 
 /// The number that a part of a tuple is, the parts counted from 1.
-pub fn small_part(value: &Held, at: u64, of: u64) -> Option<u64>
+pub(crate) fn small_part(value: &Held, at: u64, of: u64) -> Option<u64>
     ensures { IfSome result (λ n. part_of at of (held_datum value.now) ≡ Some (natural n)) }
 {
     small(part_number(value, at, of)?)
 }
 
 /// The number that a cell of an array is.
-pub fn small_cell(array: &Held, at: &[u128]) -> Option<u64>
+pub(crate) fn small_cell(array: &Held, at: &[u128]) -> Option<u64>
     ensures { IfSome result (λ n. cell_of (held_datum array.now) at.now ≡ Some (natural n)) }
 {
     small(cell_number(array, at)?)
 }
 
 /// The number that the dimensions of an array of rank 1 are.
-pub fn small_dim(array: &Held, rank: u64) -> Option<u64>
+pub(crate) fn small_dim(array: &Held, rank: u64) -> Option<u64>
     ensures { IfSome result (λ n. dim_of rank (held_datum array.now) ≡ Some (natural n)) }
 {
     small(dim_number(array, rank)?)
 }
 
 /// The number that a variable is.
-pub fn small_variable(env: &Env, at: u64) -> Option<u64>
+pub(crate) fn small_variable(env: &Env, at: u64) -> Option<u64>
     ensures { IfSome result (λ n. slice_get (values env.now) at ≡ Some (natural n)) }
 {
     small(variable_number(env, at)?)

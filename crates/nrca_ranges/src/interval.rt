@@ -114,7 +114,7 @@ fn from_zero(a: Option<Interval>) -> Option<Interval>
 }
 
 /// The span of an arithmetic node, from those of its sides and the number that its second side is.
-pub fn arith_span(
+pub(crate) fn arith_span(
     op: ArithOp,
     a: Option<Interval>,
     b: Option<Interval>,
@@ -186,7 +186,7 @@ fn fact_span(depth: u64, i: u64, fact: &Fact) -> Option<Interval>
 }
 
 /// The span of a variable: what the first fact tells that bounds it.
-pub fn variable_span(ctx: &Ctx, i: u64) -> Option<Interval>
+pub(crate) fn variable_span(ctx: &Ctx, i: u64) -> Option<Interval>
     ensures exact { span_of result ≡ span_of_variable ctx.now i }
     ensures ordered { IsOrdered result }
 {

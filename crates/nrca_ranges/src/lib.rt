@@ -20,7 +20,7 @@ mod walk;
 
 pub use context::{Ctx, Fact, Known, Mark};
 pub use finding::{count_of, is_small, number_of, numbers_of, shape_of, tell};
-pub use interval::{Interval, Intervals, arith_span, span, variable_span};
+pub use interval::{Interval, Intervals, span};
 pub use positions::{GlobalShapes, shape_of_dims, shape_of_value};
-pub use shape::{Shape, Shapes, cell_shape, count_interval, join, member_shape, number_interval};
+pub use shape::{Shape, Shapes, join};
 pub use walk::Told;

@@ -83,7 +83,7 @@ fn copy_shapes(alloc: Global, shapes: &Shapes) -> Result<Shapes, Memory>
 }
 
 /// The interval of a number that has the shape.
-pub fn number_interval(shape: &Shape) -> Interval
+pub(crate) fn number_interval(shape: &Shape) -> Interval
     ensures { result ≡ interval_of (bounds_of shape.now) }
 {
     match shape {
@@ -99,7 +99,7 @@ pub fn number_interval(shape: &Shape) -> Interval
 }
 
 /// The interval of the number of members of a set that has the shape.
-pub fn count_interval(shape: &Shape) -> Interval
+pub(crate) fn count_interval(shape: &Shape) -> Interval
     ensures { result ≡ count_of (bounds_of shape.now) }
 {
     match shape {
@@ -112,7 +112,7 @@ pub fn count_interval(shape: &Shape) -> Interval
 }
 
 /// The shape of each member of a set that has the shape.
-pub fn member_shape(shape: Shape) -> Shape
+pub(crate) fn member_shape(shape: Shape) -> Shape
     ensures { bounds_of result ≡ member_of (bounds_of shape) }
 {
     match shape {
@@ -125,7 +125,7 @@ pub fn member_shape(shape: Shape) -> Shape
 }
 
 /// The shape of each cell of an array that has the shape.
-pub fn cell_shape(shape: Shape) -> Shape
+pub(crate) fn cell_shape(shape: Shape) -> Shape
     ensures { bounds_of result ≡ cell_of (bounds_of shape) }
 {
     match shape {

@@ -89,7 +89,7 @@ impl Set {
     }
 
     /// The same set as `Ascending`.
-    pub fn into_ascending(self, alloc: Global) -> Result<Ascending, Memory>
+    pub(crate) fn into_ascending(self, alloc: Global) -> Result<Ascending, Memory>
         ensures { IfOk result (λ members. members ≡ self) }
     {
         Ok(ascending(self.rows.into_items(alloc)?))

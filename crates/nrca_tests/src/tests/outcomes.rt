@@ -21,7 +21,7 @@ pub type Row = (&'static str, &'static str, u16);
 pub type Outcome = Result<Option<u128>, EvalFault>;
 
 /// What a row says of an evaluation within a budget: Spent where its turns pass it.
-pub fn wanted_outcome(row: &Row, budget: u64) -> Outcome {
+pub(crate) fn wanted_outcome(row: &Row, budget: u64) -> Outcome {
     if budget < u64::from(row.2) {
         Err(EvalFault::Spent)
     } else {
