@@ -26,7 +26,7 @@ use Rattle.nrca_term.specs.Valid.{HasConstants}
 use Rattle.nrca_term.specs.View.{term_of}
 use Rattle.nrca_term.specs.declared.trace.Step as code
 use Rattle.nrca_term.specs.Laws.Measure.{below-weight}
-use Rattle.nrca_laws.specs.Laws.Steps.{replay-keeps, replay-types, step-types, step-lowers}
+use Rattle.nrca_rule_laws.specs.Laws.Steps.{replay-keeps, replay-types, step-types, step-lowers}
 use Rattle.nrca_encoded.specs.Graphs.{IsTypedOver}
 use Rattle.nrca_ranges.specs.Bounds.{Bounds}
 use Rattle.nrca_normal.specs.Planned.{IsReplayed, IsNormalIn, IsPlan}

@@ -4,7 +4,7 @@ use Rattle.aql_value.specs.Strict.{Strict}
 use Rattle.nrca_term.specs.Term.{Term, Parts, node, none, part, Form, parts_of, child_of, binders_of, count}
 use Rattle.nrca_term.specs.Rules.{is_dim_of, dims_of_var, parts_dims_of_var}
 use Rattle.nrca_term.specs.Laws.Entering.{child-counted}
-use Rattle.nrca_laws.specs.Laws.Firms.{part-there}
+use Rattle.nrca_rule_laws.specs.Laws.Firms.{part-there}
 use Rattle.nrca_arrayrules.proofs.Sides.{false-true}
 use Rattle.nrca_arrayrules.specs.Replacing.{AsksUnder, AsksInPart, IsNoDim}
 

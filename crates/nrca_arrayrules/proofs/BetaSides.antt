@@ -7,8 +7,8 @@ use Rattle.nrca_term.specs.Nodes.{sub_term, tab_term, tuple_term}
 use Rattle.nrca_term.specs.Subst.{top_var, parts_top}
 use Rattle.nrca_term.specs.Laws.TypedForm.{top_var-closed}
 use Rattle.nrca_term.specs.Rules.{beta, guard, lets, in_first}
-use Rattle.nrca_laws.specs.Fitting.{RuleFits, IsSmallPart, IsRight}
-use Rattle.nrca_laws.specs.Laws.Fitting.{right-side}
+use Rattle.nrca_rule_laws.specs.Fitting.{RuleFits, IsSmallPart, IsRight}
+use Rattle.nrca_rule_laws.specs.Laws.Fitting.{right-side}
 use Rattle.nrca_arrayrules.proofs.TabulationSides.{tab-same, sub-same}
 use Rattle.nrca_arrayrules.proofs.SizeSides.{bounds-closed, bounds-light}
 use Rattle.nrca_arrayrules.specs.Beta.{MayShift}

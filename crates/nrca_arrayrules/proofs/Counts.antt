@@ -7,8 +7,8 @@ use Rattle.nrca_term.specs.declared.trace.Rule.TheVariants.{A6}
 use Rattle.nrca_term.specs.Term.{Term}
 use Rattle.nrca_term.specs.Nodes.{number, dim_term, literal_term}
 use Rattle.nrca_term.specs.Rules.{in_first, sizes_term, constant_literal}
-use Rattle.nrca_laws.specs.Fitting.{RuleFits, IsRight}
-use Rattle.nrca_laws.specs.Laws.Fitting.{right-side}
+use Rattle.nrca_rule_laws.specs.Fitting.{RuleFits, IsRight}
+use Rattle.nrca_rule_laws.specs.Laws.Fitting.{right-side}
 use Rattle.nrca_term.specs.Cells.{CountsCells}
 use Rattle.nrca_term.specs.Laws.Lists.{literal-parts, numbers-same}
 use Rattle.nrca_arrayrules.specs.Constants.{IsConstantArray}

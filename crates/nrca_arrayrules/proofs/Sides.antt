@@ -8,8 +8,8 @@ use Rattle.nrca_term.specs.Subst.{shift_term, shift_parts, top_var}
 use Rattle.nrca_term.specs.Laws.Shift.{top_var-shift_le, shift_parts-plain}
 use Rattle.nrca_term.specs.Laws.TypedForm.{top_var-closed}
 use Rattle.nrca_term.specs.Rules.{in_first, sizes_term}
-use Rattle.nrca_laws.specs.Fitting.{RuleFits, IsSmallPart, IsRight}
-use Rattle.nrca_laws.specs.Laws.Fitting.{right-side}
+use Rattle.nrca_rule_laws.specs.Fitting.{RuleFits, IsSmallPart, IsRight}
+use Rattle.nrca_rule_laws.specs.Laws.Fitting.{right-side}
 use Rattle.nrca_term.specs.Laws.Lists.{plain-same}
 
 -- a truth value is not its negation

@@ -9,8 +9,8 @@ use Rattle.nrca_term.specs.Subst.{shift_term, top_var}
 use Rattle.nrca_term.specs.Laws.Shift.{top_var-shift_le}
 use Rattle.nrca_term.specs.Laws.TypedForm.{top_var-closed}
 use Rattle.nrca_term.specs.Rules.{IsVariableOrNumber, dims_of_var, replace_dims, sizes_term}
-use Rattle.nrca_laws.specs.Fitting.{RuleFits, IsSmallPart, IsRight}
-use Rattle.nrca_laws.specs.Laws.Fitting.{right-side}
+use Rattle.nrca_rule_laws.specs.Fitting.{RuleFits, IsSmallPart, IsRight}
+use Rattle.nrca_rule_laws.specs.Laws.Fitting.{right-side}
 use Rattle.nrca_term.specs.Laws.Lists.{plain-same}
 use Rattle.nrca_arrayrules.proofs.Sides.{false-true}
 use Rattle.nrca_arrayrules.proofs.SubscriptSides.{any-item}

@@ -11,8 +11,8 @@ use Rattle.nrca_term.specs.declared.trace.Rule.TheVariants.{A5}
 use Rattle.nrca_term.specs.Term.{Term, none, plain}
 use Rattle.nrca_term.specs.Nodes.{number, bottom_term, sub_term, literal_term}
 use Rattle.nrca_term.specs.Rules.{Way, Subscript, inside, outside, in_first, others, constant_literal}
-use Rattle.nrca_laws.specs.Fitting.{RuleFits, IsRight}
-use Rattle.nrca_laws.specs.Laws.Fitting.{right-side}
+use Rattle.nrca_rule_laws.specs.Fitting.{RuleFits, IsRight}
+use Rattle.nrca_rule_laws.specs.Laws.Fitting.{right-side}
 use Rattle.nrca_term.specs.Cells.{CountsCells}
 use Rattle.nrca_term.specs.Laws.Lists.{plain-same, literal-parts, numbers-same, product-more, numbers-more, number-at, whole-list}
 use Rattle.nrca_arrayrules.proofs.Sides.{false-true}

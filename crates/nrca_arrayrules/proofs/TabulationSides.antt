@@ -11,9 +11,9 @@ use Rattle.nrca_term.specs.Term.{Term, none, part, plain}
 use Rattle.nrca_term.specs.Nodes.{variable, bottom_term, dim_term, proj_term, tab_term, sub_term}
 use Rattle.nrca_term.specs.Subst.{shift_term}
 use Rattle.nrca_term.specs.Rules.{dimension_term, dimension_terms, index_variables}
-use Rattle.nrca_laws.specs.Fitting.{RuleFits, IsRight}
-use Rattle.nrca_laws.specs.Laws.Fitting.{right-side}
-use Rattle.nrca_laws.specs.Laws.Keeping.{index_variables-length, dimension_terms-length}
+use Rattle.nrca_rule_laws.specs.Fitting.{RuleFits, IsRight}
+use Rattle.nrca_rule_laws.specs.Laws.Fitting.{right-side}
+use Rattle.nrca_rule_laws.specs.Laws.Keeping.{index_variables-length, dimension_terms-length}
 use Rattle.nrca_term.specs.Laws.Lists.{plain-same, plain-split, whole-list}
 use Rattle.nrca_arrayrules.proofs.Sides.{false-true}
 use Rattle.nrca_arrayrules.proofs.SubscriptSides.{any-item}

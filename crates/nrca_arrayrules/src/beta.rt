@@ -5,7 +5,7 @@ ghost use Rattle.nrca_term.specs.Rules.{lets};
 ghost use Rattle.nrca_term.specs.Subst.{top_var};
 ghost use Rattle.nrca_term.specs.View.{term_of, terms_of};
 ghost use Rattle.nrca_term.specs.declared.trace.Rule.TheVariants.{A1};
-ghost use Rattle.nrca_laws.specs.Fitting.{RuleFits, IsSmallPart, IsRight};
+ghost use Rattle.nrca_rule_laws.specs.Fitting.{RuleFits, IsSmallPart, IsRight};
 ghost use Rattle.nrca_arrayrules.specs.Beta.{IsGuarded, IsTest, IsNamed, MayShift};
 
 use aql_value::{CompareOp, Memory};

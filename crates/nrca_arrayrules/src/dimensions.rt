@@ -4,7 +4,7 @@ ghost use Rattle.std.specs.Prelude.{true, ◌≡◌, ◌↔◌, IsTrue};
 ghost use Rattle.nrca_term.specs.View.{term_of, terms_of};
 ghost use Rattle.nrca_term.specs.Rules.{sizes_term};
 ghost use Rattle.nrca_term.specs.declared.trace.Rule.TheVariants.{A3, A6};
-ghost use Rattle.nrca_laws.specs.Fitting.{RuleFits, IsRight};
+ghost use Rattle.nrca_rule_laws.specs.Fitting.{RuleFits, IsRight};
 ghost use Rattle.nrca_arrayrules.specs.Constants.{IsConstantArray};
 
 use nrca_term::{Core, Terms, cell_count};

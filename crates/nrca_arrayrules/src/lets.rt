@@ -5,7 +5,7 @@ ghost use Rattle.nrca_term.specs.View.{term_of, terms_of};
 ghost use Rattle.nrca_term.specs.Nodes.{tuple_term};
 ghost use Rattle.nrca_term.specs.Subst.{shift_term, top_var};
 ghost use Rattle.nrca_term.specs.declared.trace.Rule.TheVariants.{A7};
-ghost use Rattle.nrca_laws.specs.Fitting.{RuleFits, IsSmallPart, IsRight};
+ghost use Rattle.nrca_rule_laws.specs.Fitting.{RuleFits, IsSmallPart, IsRight};
 
 use nrca_subst::shift;
 use nrca_term::{Core, Terms, open, put};

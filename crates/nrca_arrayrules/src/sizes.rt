@@ -7,7 +7,7 @@ ghost use Rattle.nrca_term.specs.Rules.{IsVariableOrNumber};
 ghost use Rattle.nrca_term.specs.Term.{Term};
 ghost use Rattle.nrca_term.specs.View.{term_of, terms_of};
 ghost use Rattle.nrca_term.specs.declared.trace.Rule.TheVariants.{A4};
-ghost use Rattle.nrca_laws.specs.Fitting.{RuleFits, IsSmallPart, IsRight};
+ghost use Rattle.nrca_rule_laws.specs.Fitting.{RuleFits, IsSmallPart, IsRight};
 
 use crate::dimensions::sizes;
 use crate::replacing::{asks, replace};

@@ -3,7 +3,7 @@
 ghost use Rattle.std.specs.Prelude.{true, ◌≡◌, ◌↔◌, IsTrue, length};
 ghost use Rattle.nrca_term.specs.View.{term_of, terms_of};
 ghost use Rattle.nrca_term.specs.declared.trace.Rule.TheVariants.{A5};
-ghost use Rattle.nrca_laws.specs.Fitting.{RuleFits, IsRight};
+ghost use Rattle.nrca_rule_laws.specs.Fitting.{RuleFits, IsRight};
 ghost use Rattle.nrca_arrayrules.specs.Constants.{AreConstant, IsOffset, IsCell, AreBelow};
 
 use crate::dimensions::is_constant;

@@ -6,7 +6,7 @@ ghost use Rattle.nrca_term.specs.Nodes.{variable};
 ghost use Rattle.nrca_term.specs.Rules.{index_variables};
 ghost use Rattle.nrca_term.specs.View.{term_of, terms_of};
 ghost use Rattle.nrca_term.specs.declared.trace.Rule.TheVariants.{A2};
-ghost use Rattle.nrca_laws.specs.Fitting.{RuleFits, IsRight};
+ghost use Rattle.nrca_rule_laws.specs.Fitting.{RuleFits, IsRight};
 ghost use Rattle.nrca_arrayrules.specs.Whole.{IsWhole, IsSame, AreDimensions, IsDimension, IsDimOf};
 ghost use Rattle.nrca_arrayrules.specs.Whole.{IsComponentOf, IsDimensionOf};
 

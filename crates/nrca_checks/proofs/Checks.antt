@@ -3,7 +3,7 @@ use Rattle.std.proofs.Common.{true, false, Bool, [], refl}
 use Rattle.nrca_term.specs.Term.{Term}
 use Rattle.nrca_term.specs.Nodes.{truth_term}
 use Rattle.nrca_term.specs.declared.trace.Rule.TheVariants.{C1, C2, C3, C4}
-use Rattle.nrca_laws.specs.Fitting.{RuleFits}
+use Rattle.nrca_rule_laws.specs.Fitting.{RuleFits}
 use Rattle.nrca_checks.specs.Comparing.{Compares, the_sides}
 
 -- a comparison has true as its right side by C1, and no other term has one

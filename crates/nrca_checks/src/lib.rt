@@ -1,6 +1,6 @@
 //! The rules that put a truth value in place of a comparison: C1 to C3 by the facts of its place, C4 by the ranges of its sides.
 //! The layers above use that each function answers the right side of its rule, with the meaning and the types that `IsRight`
-//! (nrca_laws, `specs/Fitting.antt`) says, that its test is exact, and that `literally` and `decided` tell what is known of a
+//! (nrca_rule_laws, `specs/Fitting.antt`) says, that its test is exact, and that `literally` and `decided` tell what is known of a
 //! comparison at its place.
 //! Whether the comparison is a fact, is denied or is decided is no part of a test: it is the condition of the rule, which the
 //! clause on meaning supposes and the caller sees to.

@@ -5,7 +5,7 @@ ghost use Rattle.nrca_term.specs.View.{term_of};
 ghost use Rattle.nrca_term.specs.Nodes.{truth_term};
 ghost use Rattle.nrca_term.specs.Rules.{IsComparison, Redex};
 ghost use Rattle.nrca_term.specs.declared.trace.Rule.TheVariants.{C1, C2, C3, C4};
-ghost use Rattle.nrca_laws.specs.Fitting.{IsRight};
+ghost use Rattle.nrca_rule_laws.specs.Fitting.{IsRight};
 ghost use Rattle.nrca_checks.specs.Comparing.{the_sides};
 
 use nrca_term::Core;

@@ -2,7 +2,7 @@
 
 ghost use Rattle.nrca_term.specs.View.{term_of};
 ghost use Rattle.nrca_term.specs.declared.trace.Rule.TheVariants.{C1, C2, C3, C4};
-ghost use Rattle.nrca_laws.specs.Fitting.{RuleFits};
+ghost use Rattle.nrca_rule_laws.specs.Fitting.{RuleFits};
 ghost use Rattle.nrca_checks.specs.Comparing.{Compares};
 
 use nrca_term::Core;

@@ -3,7 +3,7 @@ use Rattle.std.proofs.Common.{◌≡◌, ℕ, ◌+◌, ◌<◌, ◌⊎◌, List,
 use Rattle.nrca_term.specs.Term.{Term}
 use Rattle.nrca_term.specs.Places.{place_of}
 use Rattle.nrca_term.specs.Facts.{Context, enter_facts, context_at}
-use Rattle.nrca_laws.specs.Search.{AllPlaces, AllBefore, FirstParts}
+use Rattle.nrca_rule_laws.specs.Search.{AllPlaces, AllBefore, FirstParts}
 use Rattle.nrca_ranges.specs.declared.context.Ctx.{Ctx}
 use Rattle.nrca_ranges.specs.Bounds.{Bounds}
 use Rattle.nrca_ranges.specs.Context.{context_of}

@@ -1,7 +1,7 @@
 -- What each move lowers.
 use Rattle.std.proofs.Common.{ℕ, suc, ◌+◌, ◌*◌, Bool, true, false, nat_le}
 use Rattle.nrca_term.specs.Term.{Term, Form}
-use Rattle.nrca_laws.specs.Lets.{is_bind}
+use Rattle.nrca_rule_laws.specs.Lets.{is_bind}
 use Rattle.nrca_motion.specs.Counting.{Count, pairs_of}
 
 -- every form but the let, above each of its parts

@@ -7,8 +7,8 @@ use Rattle.nrca_term.specs.declared.trace.Rule.TheVariants.{A5}
 use Rattle.nrca_term.specs.Term.{Term}
 use Rattle.nrca_term.specs.Nodes.{number, bottom_term, sub_term, literal_term}
 use Rattle.nrca_term.specs.Rules.{inside, outside, in_first, others, constant_literal}
-use Rattle.nrca_laws.specs.Fitting.{RuleFits}
-use Rattle.nrca_laws.specs.Laws.Unique.{ways-fixed}
+use Rattle.nrca_rule_laws.specs.Fitting.{RuleFits}
+use Rattle.nrca_rule_laws.specs.Laws.Unique.{ways-fixed}
 use Rattle.nrca_term.specs.Laws.Lists.{numbers-same}
 use Rattle.nrca_arrayrules.specs.Constants.{IsConstantSubscript, IsOffset}
 use Rattle.nrca_arrayrules.proofs.SubscriptSides.{a5_parts, offset-is, item_at}

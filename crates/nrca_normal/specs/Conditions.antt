@@ -16,7 +16,7 @@ use Rattle.nrca_term.specs.Facts.{Context, enter_facts, context_at, FactsHold, L
 use Rattle.nrca_term.specs.Firm.{span}
 use Rattle.nrca_term.specs.Rules.{Way, Redex, Side, KnownAt, IsComparison}
 use Rattle.nrca_term.specs.Normal.{FirmAt, IsNormalAt}
-use Rattle.nrca_laws.specs.Fitting.{RuleFits, IsRight}
+use Rattle.nrca_rule_laws.specs.Fitting.{RuleFits, IsRight}
 use Rattle.nrca_ranges.specs.declared.context.Ctx.{Ctx}
 use Rattle.nrca_ranges.specs.Bounds.{Bounds}
 use Rattle.nrca_ranges.specs.Context.{context_of}

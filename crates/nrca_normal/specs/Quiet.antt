@@ -2,7 +2,7 @@
 use Rattle.std.proofs.Common.{ℕ, List, Option}
 use Rattle.nrca_term.specs.Term.{Term}
 use Rattle.nrca_term.specs.Facts.{Context}
-use Rattle.nrca_laws.specs.Search.{AllPlaces, FirstParts}
+use Rattle.nrca_rule_laws.specs.Search.{AllPlaces, FirstParts}
 use Rattle.nrca_ranges.specs.Bounds.{Bounds}
 use Rattle.nrca_normal.specs.Conditions.{IsQuietAt}
 

@@ -5,7 +5,7 @@
 ghost use Rattle.std.specs.Prelude.{◌≡◌, ◌<◌, ◌∷◌, [], ◌++◌, true, IfOk, OnOk};
 ghost use Rattle.nrca_term.specs.Term.{parts_of, count};
 ghost use Rattle.nrca_term.specs.View.{term_of};
-ghost use Rattle.nrca_laws.specs.Fitting.{IsSmallPart};
+ghost use Rattle.nrca_rule_laws.specs.Fitting.{IsSmallPart};
 ghost use Rattle.nrca_ranges.specs.Context.{IsSmallTerm};
 ghost use Rattle.nrca_ranges.specs.Shapes.{known_shapes};
 ghost use Rattle.nrca_normal.specs.Conditions.{IsApplicable, IsMade};

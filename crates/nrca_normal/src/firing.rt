@@ -5,7 +5,7 @@ ghost use Rattle.nrca_term.specs.View.{term_of};
 ghost use Rattle.nrca_term.specs.Normal.{is_check};
 ghost use Rattle.nrca_term.specs.Rules.{IsComparison};
 ghost use Rattle.nrca_term.specs.declared.trace.Rule.TheVariants.{C4};
-ghost use Rattle.nrca_laws.specs.Fitting.{RuleFits, IsRight, IsSmallPart};
+ghost use Rattle.nrca_rule_laws.specs.Fitting.{RuleFits, IsRight, IsSmallPart};
 ghost use Rattle.nrca_ranges.specs.Context.{context_of, IsSmallTerm};
 ghost use Rattle.nrca_normal.specs.Conditions.{IsApplicable, IsMade, TellsRule, TellsChecks, TellsNode, IsUnknownAt, name_of};
 

@@ -4,7 +4,7 @@ ghost use Rattle.std.specs.Prelude.{◌≡◌, ◌+◌, ◌<◌, ◌^◌, true, 
 ghost use Rattle.nrca_term.specs.View.{term_of};
 ghost use Rattle.nrca_term.specs.Normal.{is_check};
 ghost use Rattle.nrca_term.specs.declared.trace.Rule.TheVariants.{L1, P1, A1, A3, A5, A6};
-ghost use Rattle.nrca_laws.specs.Fitting.{RuleFits};
+ghost use Rattle.nrca_rule_laws.specs.Fitting.{RuleFits};
 ghost use Rattle.nrca_normal.specs.Ways.{AreWays, AreAtomWays, IsPosition, HasRoom};
 
 use nrca_arrayrules::literal_offset;

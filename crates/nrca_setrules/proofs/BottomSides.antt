@@ -5,7 +5,7 @@ use Rattle.nrca_term.specs.Term.{Term, form_of, parts_of, child_of, count}
 use Rattle.nrca_term.specs.Nodes.{bottom_term}
 use Rattle.nrca_term.specs.Subst.{is_strict}
 use Rattle.nrca_term.specs.Laws.Entering.{child-counted}
-use Rattle.nrca_laws.specs.Fitting.{RuleFits, IsRight}
+use Rattle.nrca_rule_laws.specs.Fitting.{RuleFits, IsRight}
 use Rattle.nrca_setrules.proofs.Sides.{right_of}
 use Rattle.nrca_setrules.specs.Strictly.{IsStrictBottom}
 

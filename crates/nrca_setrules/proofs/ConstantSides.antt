@@ -9,8 +9,8 @@ use Rattle.nrca_term.specs.declared.trace.Rule.TheVariants.{K1}
 use Rattle.nrca_term.specs.Term.{Term}
 use Rattle.nrca_term.specs.Nodes.{number, truth_term, text_term, bottom_term, empty_term, arith_term, compare_term, gen_term, get_term, literal_term}
 use Rattle.nrca_term.specs.Rules.{Folds, arithmetic, numbers, truths, texts, generated, member, misshapen, number_or_bottom, constant_literal}
-use Rattle.nrca_laws.specs.Fitting.{RuleFits, IsRight}
-use Rattle.nrca_laws.specs.Laws.Fitting.{right-side}
+use Rattle.nrca_rule_laws.specs.Fitting.{RuleFits, IsRight}
+use Rattle.nrca_rule_laws.specs.Laws.Fitting.{right-side}
 use Rattle.nrca_setrules.proofs.Sides.{false-true}
 use Rattle.nrca_setrules.specs.Constants.{AreNumbers, AreAlike, IsMisshapen, constant_of, Computes, Compares}
 use Rattle.nrca_term.specs.Laws.Lists.{literal-parts}

@@ -4,8 +4,8 @@ use Rattle.nrca_term.specs.declared.trace.Rule.TheVariants.{L2}
 use Rattle.nrca_term.specs.Term.{Term}
 use Rattle.nrca_term.specs.Nodes.{let_term}
 use Rattle.nrca_term.specs.Subst.{strict_uses, uses_of, subst_term}
-use Rattle.nrca_laws.specs.Fitting.{RuleFits, IsRight}
-use Rattle.nrca_laws.specs.Laws.Fitting.{right-side}
+use Rattle.nrca_rule_laws.specs.Fitting.{RuleFits, IsRight}
+use Rattle.nrca_rule_laws.specs.Laws.Fitting.{right-side}
 
 -- equal lets have equal parts
 let-same : (e b f c : Term) → let_term e b ≡ let_term f c → (e ≡ f) × (b ≡ c)

@@ -7,10 +7,10 @@ use Rattle.nrca_term.specs.Subst.{shift_term, subst_term, top_var, uses_of}
 use Rattle.nrca_term.specs.Laws.TypedForm.{top_var-closed}
 use Rattle.nrca_term.specs.Laws.SubstTops.{top_var-subst_le}
 use Rattle.nrca_term.specs.Rules.{Way, Atom}
-use Rattle.nrca_laws.specs.Fitting.{RuleFits, IsSmallPart, IsRight}
-use Rattle.nrca_laws.specs.Laws.Fitting.{right-side}
+use Rattle.nrca_rule_laws.specs.Fitting.{RuleFits, IsSmallPart, IsRight}
+use Rattle.nrca_rule_laws.specs.Laws.Fitting.{right-side}
 use Rattle.std.proofs.lemmas.Bool.{eqb-true, eqb-false}
-use Rattle.nrca_laws.specs.Laws.Unused.{shift-unused, uses-shifted}
+use Rattle.nrca_rule_laws.specs.Laws.Unused.{shift-unused, uses-shifted}
 use Rattle.nrca_setrules.proofs.Sides.{right_of}
 
 -- there is room for what is put into the body of a let

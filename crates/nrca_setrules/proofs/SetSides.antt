@@ -7,8 +7,8 @@ use Rattle.nrca_term.specs.Subst.{shift_term, top_var}
 use Rattle.nrca_term.specs.Laws.TypedForm.{top_var-closed}
 use Rattle.nrca_term.specs.Laws.Shift.{top_var-shift_le}
 use Rattle.nrca_term.specs.Rules.{LoopOf}
-use Rattle.nrca_laws.specs.Fitting.{RuleFits, IsSmallPart, IsRight}
-use Rattle.nrca_laws.specs.Laws.Fitting.{right-side}
+use Rattle.nrca_rule_laws.specs.Fitting.{RuleFits, IsSmallPart, IsRight}
+use Rattle.nrca_rule_laws.specs.Laws.Fitting.{right-side}
 use Rattle.nrca_setrules.proofs.Sides.{right_of}
 
 -- there is room for one more variable around the body of a loop

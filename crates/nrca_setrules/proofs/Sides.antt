@@ -2,8 +2,8 @@
 use Rattle.std.proofs.Common.{◌≡◌, true, false, subst}
 use Rattle.nrca_term.specs.declared.trace.Rule.{Rule}
 use Rattle.nrca_term.specs.Term.{Term}
-use Rattle.nrca_laws.specs.Fitting.{RuleFits, IsRight}
-use Rattle.nrca_laws.specs.Laws.Fitting.{right-side}
+use Rattle.nrca_rule_laws.specs.Fitting.{RuleFits, IsRight}
+use Rattle.nrca_rule_laws.specs.Laws.Fitting.{right-side}
 
 -- a truth value is not its negation
 pub false-true : false ≡ true → ⊥

@@ -3,8 +3,8 @@ use Rattle.std.proofs.Common.{◌≡◌, Bool, true, [], ◌∷◌, refl, sym, a
 use Rattle.nrca_term.specs.declared.trace.Rule.TheVariants.{I1, I2, N1, N2}
 use Rattle.nrca_term.specs.Term.{Term, Form}
 use Rattle.nrca_term.specs.Nodes.{if_term, truth_term, bottom_term, default_term, empty_term, loop_term}
-use Rattle.nrca_laws.specs.Fitting.{RuleFits, IsRight}
-use Rattle.nrca_laws.specs.Laws.Fitting.{right-side}
+use Rattle.nrca_rule_laws.specs.Fitting.{RuleFits, IsRight}
+use Rattle.nrca_rule_laws.specs.Laws.Fitting.{right-side}
 use Rattle.nrca_term.specs.Rules.{LoopOf}
 
 -- I1 fits an `if` whose test is a truth value

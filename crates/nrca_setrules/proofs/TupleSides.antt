@@ -6,8 +6,8 @@ use Rattle.nrca_term.specs.declared.trace.Rule.TheVariants.{P1, P2}
 use Rattle.nrca_term.specs.Term.{Term, none, plain, parts_of, child_of, count}
 use Rattle.nrca_term.specs.Nodes.{bottom_term, let_term, proj_term, tuple_term}
 use Rattle.nrca_term.specs.Rules.{in_first, others}
-use Rattle.nrca_laws.specs.Fitting.{RuleFits, IsRight}
-use Rattle.nrca_laws.specs.Laws.Fitting.{right-side}
+use Rattle.nrca_rule_laws.specs.Fitting.{RuleFits, IsRight}
+use Rattle.nrca_rule_laws.specs.Laws.Fitting.{right-side}
 use Rattle.nrca_setrules.proofs.Sides.{right_of}
 
 -- the parts of a tuple

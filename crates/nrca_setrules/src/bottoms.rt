@@ -5,7 +5,7 @@ ghost use Rattle.nrca_term.specs.View.{term_of};
 ghost use Rattle.nrca_term.specs.Nodes.{bottom_term};
 ghost use Rattle.nrca_term.specs.declared.trace.Rule.TheVariants.{B1};
 ghost use Rattle.nrca_setrules.specs.Strictly.{IsStrictBottom};
-ghost use Rattle.nrca_laws.specs.Fitting.{RuleFits, IsRight};
+ghost use Rattle.nrca_rule_laws.specs.Fitting.{RuleFits, IsRight};
 
 use nrca_subst::strict;
 use nrca_term::Core;

@@ -7,7 +7,7 @@ ghost use Rattle.nrca_term.specs.View.{term_of, terms_of};
 ghost use Rattle.nrca_term.specs.Nodes.{number, empty_term};
 ghost use Rattle.nrca_term.specs.declared.trace.Rule.TheVariants.{K1};
 ghost use Rattle.nrca_term.specs.Rules.{number_or_bottom};
-ghost use Rattle.nrca_laws.specs.Fitting.{RuleFits, IsRight};
+ghost use Rattle.nrca_rule_laws.specs.Fitting.{RuleFits, IsRight};
 ghost use Rattle.nrca_setrules.specs.Constants.{AreNumbers, AreAlike, constant_of, Computes, Compares};
 ghost use Rattle.nrca_setrules.specs.Constants.{IsMisshapen};
 

@@ -3,7 +3,7 @@
 ghost use Rattle.std.specs.Prelude.{true};
 ghost use Rattle.nrca_term.specs.View.{term_of};
 ghost use Rattle.nrca_term.specs.declared.trace.Rule.TheVariants.{S1, S2, S3, S4, S5, S6, S7, S8, S9};
-ghost use Rattle.nrca_laws.specs.Fitting.{RuleFits, IsSmallPart, IsRight};
+ghost use Rattle.nrca_rule_laws.specs.Fitting.{RuleFits, IsSmallPart, IsRight};
 
 use crate::boxes::shift_body;
 use nrca_term::{Core, open, put};

@@ -4,7 +4,7 @@ ghost use Rattle.std.specs.Prelude.{true, ◌≡◌, ◌<◌, ◌≤◌, ◌↔�
 ghost use Rattle.nrca_term.specs.View.{term_of};
 ghost use Rattle.nrca_term.specs.Term.{parts_of, child_of, count};
 ghost use Rattle.nrca_term.specs.declared.trace.Rule.TheVariants.{P1, P2};
-ghost use Rattle.nrca_laws.specs.Fitting.{RuleFits, IsRight};
+ghost use Rattle.nrca_rule_laws.specs.Fitting.{RuleFits, IsRight};
 
 use nrca_term::{Core, discard, open, put};
 

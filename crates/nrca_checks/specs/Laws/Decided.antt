@@ -17,8 +17,8 @@ use Rattle.nrca_term.specs.Meaning.{Outcomes, cden}
 use Rattle.nrca_term.specs.Facts.{Context, FactsHold}
 use Rattle.nrca_term.specs.Firm.{span}
 use Rattle.nrca_term.specs.Laws.Variants.{cden-strict}
-use Rattle.nrca_laws.specs.Spans.{IsInSpan}
-use Rattle.nrca_laws.specs.Laws.Spans.{span-sound}
+use Rattle.nrca_rule_laws.specs.Spans.{IsInSpan}
+use Rattle.nrca_rule_laws.specs.Laws.Spans.{span-sound}
 use Rattle.nrca_checks.specs.Deciding.{decided_by, decided_of, DecidesTruth, DecidesApart}
 
 -- the value of a comparison of two values

@@ -24,10 +24,10 @@ use Rattle.nrca_term.specs.Laws.Entering.{length-part_values}
 use Rattle.nrca_term.specs.Laws.Facts.{natural-is}
 use Rattle.nrca_term.specs.Laws.Sound.{AllSound, sound-get, sounds, sound-length, loop-sound, parts-sound, has-here}
 use Rattle.nrca_term.specs.Laws.TypedForm.{well_formed-typed}
-use Rattle.nrca_laws.specs.Operations.{Valued}
-use Rattle.nrca_laws.specs.Laws.Firms.{PositionsAre, PartsDefined, form-defined, firm-defined, here-valued, ways-in}
-use Rattle.nrca_laws.specs.Laws.Operations.{set-is}
-use Rattle.nrca_laws.specs.Laws.Ways.{outcomes-are}
+use Rattle.nrca_rule_laws.specs.Operations.{Valued}
+use Rattle.nrca_rule_laws.specs.Laws.Firms.{PositionsAre, PartsDefined, form-defined, firm-defined, here-valued, ways-in}
+use Rattle.nrca_rule_laws.specs.Laws.Operations.{set-is}
+use Rattle.nrca_rule_laws.specs.Laws.Ways.{outcomes-are}
 use Rattle.nrca_ranges.specs.declared.context.Ctx.{Ctx}
 use Rattle.nrca_ranges.specs.Bounds.{Bounds, IsIn, HasShape}
 use Rattle.nrca_ranges.specs.Certain.{form_certain, certain, all_certain, some_certain}

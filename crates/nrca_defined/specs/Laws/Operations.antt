@@ -13,8 +13,8 @@ use Rattle.aql_ty.specs.Types.{Ty, natural}
 use Rattle.aql_ty.specs.ValueTypes.{HasType, HaveTypes}
 use Rattle.aql_ty.specs.OperationTypes.{strict_rule}
 use Rattle.nrca_term.specs.Firm.{strict_sure}
-use Rattle.nrca_laws.specs.Operations.{Valued}
-use Rattle.nrca_laws.specs.Laws.Operations.{set-is, strict-defined}
+use Rattle.nrca_rule_laws.specs.Operations.{Valued}
+use Rattle.nrca_rule_laws.specs.Laws.Operations.{set-is, strict-defined}
 use Rattle.nrca_ranges.specs.declared.interval.Interval.{Interval}
 use Rattle.nrca_ranges.specs.Bounds.{Bounds, row_of, HasShape, HaveShapes}
 use Rattle.nrca_ranges.specs.Certain.{strict_certain, is_cell}

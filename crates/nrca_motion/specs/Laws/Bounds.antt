@@ -15,7 +15,7 @@ use Rattle.nrca_term.specs.Laws.TypedForm.{well_formed-typed}
 use Rattle.nrca_term.specs.Laws.TypedPlaces.{typed-place}
 use Rattle.nrca_term.specs.Typing.{ctyped}
 use Rattle.nrca_term.specs.Laws.WellFormed.{well_formed-child}
-use Rattle.nrca_laws.specs.Laws.Steps.{cube}
+use Rattle.nrca_rule_laws.specs.Laws.Steps.{cube}
 use Rattle.nrca_motion.specs.declared.moves.MoveRule.{MoveRule}
 use Rattle.nrca_motion.specs.declared.moves.MoveRule.TheVariants.{M1, M2, M3, M4}
 use Rattle.nrca_motion.specs.declared.moves.Move as code

@@ -11,7 +11,7 @@ use Rattle.nrca_term.specs.Firm.{firm}
 use Rattle.nrca_term.specs.Rules.{LoopOf}
 use Rattle.nrca_term.specs.Laws.Entering.{child-counted}
 use Rattle.nrca_term.specs.Laws.TypedForm.{top_var-closed}
-use Rattle.nrca_laws.specs.Laws.Weights.{weight-shift}
+use Rattle.nrca_rule_laws.specs.Laws.Weights.{weight-shift}
 use Rattle.nrca_ranges.specs.Bounds.{Bounds}
 use Rattle.nrca_ranges.specs.declared.context.Ctx.{Ctx}
 use Rattle.nrca_ranges.specs.Context.{context_of, IsSmallTerm}

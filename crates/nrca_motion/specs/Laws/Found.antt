@@ -6,8 +6,8 @@ use Rattle.nrca_term.specs.Term.{Term, child_of, parts_of, count}
 use Rattle.nrca_term.specs.Places.{place_of}
 use Rattle.nrca_term.specs.Laws.Entering.{child-counted}
 use Rattle.nrca_term.specs.Facts.{Context, enter_facts, context_at, context_below}
-use Rattle.nrca_laws.specs.Search.{AllBefore, FirstParts}
-use Rattle.nrca_laws.specs.Laws.Search.{all-node, all-more, before-parts, before-child, before-node, before-root, before-kept}
+use Rattle.nrca_rule_laws.specs.Search.{AllBefore, FirstParts}
+use Rattle.nrca_rule_laws.specs.Laws.Search.{all-node, all-more, before-parts, before-child, before-node, before-root, before-kept}
 use Rattle.nrca_term.specs.Places.{put_at}
 use Rattle.nrca_ranges.specs.Bounds.{Bounds}
 use Rattle.nrca_motion.specs.declared.fitting.Fit.{Fit}

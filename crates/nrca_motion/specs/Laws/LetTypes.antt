@@ -10,7 +10,7 @@ use Rattle.nrca_term.specs.Subst.{shift_form, shift_term, shift_parts}
 use Rattle.nrca_term.specs.Laws.Shifting.{slice_get-shift}
 use Rattle.nrca_term.specs.Laws.TypingShift.{ctyped-shift_term}
 use Rattle.nrca_term.specs.Laws.TypingSubst.{ctyped-subst_term, ctyped-type}
-use Rattle.nrca_laws.specs.Laws.Types.{ctyped-unshift}
+use Rattle.nrca_rule_laws.specs.Laws.Types.{ctyped-unshift}
 use Rattle.nrca_motion.specs.Moves.{rotate_term, let_out, LetBelow}
 
 -- the typing of a form under one more variable

@@ -8,7 +8,7 @@ use Rattle.nrca_term.specs.Subst.{shift_form, shift_term}
 use Rattle.nrca_term.specs.Rules.{LoopOf}
 use Rattle.nrca_motion.specs.Moves.{let_out, rotate_term}
 use Rattle.nrca_term.specs.Laws.WellFormed.{well_formed-shift}
-use Rattle.nrca_laws.specs.Lets.{is_bind}
+use Rattle.nrca_rule_laws.specs.Lets.{is_bind}
 use Rattle.nrca_motion.specs.Counting.{Count, one, where_above, number_of, pairs_of, parts_number, IsNameless}
 use Rattle.nrca_motion.specs.Laws.Counting.{number-shift, pairs-shift, number-put, pairs-put, numbers-set_child, pairs-set_child}
 use Rattle.nrca_motion.specs.Lowering.{is_other, is_body, in_loops, lets_below, measure_of}

@@ -6,8 +6,8 @@ use Rattle.nrca_term.specs.Subst.{shift_term, subst_term, top_var, uses_of}
 use Rattle.nrca_term.specs.Laws.Shift.{shift_term-twice, shift_term-none, top_var-shift_term, top_var-shift_le}
 use Rattle.nrca_term.specs.Laws.SubstTops.{top_var-subst_le}
 use Rattle.nrca_term.specs.Laws.WellFormed.{well_formed-shift}
-use Rattle.nrca_laws.specs.Laws.Unused.{shift-unused, subst-shifted, uses-shifted}
-use Rattle.nrca_laws.specs.Laws.Weights.{weight-shift}
+use Rattle.nrca_rule_laws.specs.Laws.Unused.{shift-unused, subst-shifted, uses-shifted}
+use Rattle.nrca_rule_laws.specs.Laws.Weights.{weight-shift}
 use Rattle.nrca_motion.specs.Laws.Rotating.{well_formed-unshift}
 use Rattle.nrca_motion.specs.Outside.{HasRoom}
 

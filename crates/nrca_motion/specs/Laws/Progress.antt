@@ -27,7 +27,7 @@ use Rattle.nrca_ranges.specs.Context.{context_of, IsSmallTerm}
 use Rattle.nrca_ranges.specs.Entered.{is_shaped}
 use Rattle.nrca_ranges.specs.Shapes.{Tells, known_shapes}
 use Rattle.nrca_defined.specs.Defined.{IsDefinedAt}
-use Rattle.nrca_laws.specs.Laws.Steps.{cube}
+use Rattle.nrca_rule_laws.specs.Laws.Steps.{cube}
 use Rattle.nrca_motion.specs.declared.moves.Move.{Move}
 use Rattle.nrca_motion.specs.declared.moves.Move as code
 use Rattle.nrca_motion.specs.declared.moves.MoveRule.{MoveRule}

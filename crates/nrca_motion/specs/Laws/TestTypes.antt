@@ -7,7 +7,7 @@ use Rattle.nrca_term.specs.Nodes.{if_term, loop_term, empty_term, number}
 use Rattle.nrca_term.specs.Typing.{arg, ctyped, parts_typed}
 use Rattle.nrca_term.specs.Subst.{shift_term}
 use Rattle.nrca_term.specs.Rules.{LoopOf}
-use Rattle.nrca_laws.specs.Laws.Types.{ctyped-unshift}
+use Rattle.nrca_rule_laws.specs.Laws.Types.{ctyped-unshift}
 
 -- the parts of an if
 abbrev pub IfTyped : (ℕ → Ty → Type 0) → List Ty → Term → Term → Term → Ty → Type 0

@@ -23,7 +23,7 @@ use Rattle.nrca_term.specs.Facts.{Context, Fact, SomeFact, IsFact, LiterallyKnow
 use Rattle.nrca_term.specs.Firm.{firm}
 use Rattle.nrca_term.specs.Rules.{Way, DefinedAt, Decides, KnownAt, IsDefined, IsComparison}
 use Rattle.nrca_term.specs.Normal.{is_check, FirmAt}
-use Rattle.nrca_laws.specs.Fitting.{RuleFits}
+use Rattle.nrca_rule_laws.specs.Fitting.{RuleFits}
 use Rattle.nrca_checks.specs.Knowing.{IsKnown}
 use Rattle.nrca_checks.specs.Deciding.{DecidesTruth, DecidesApart}
 use Rattle.nrca_ranges.specs.Bounds.{Bounds}

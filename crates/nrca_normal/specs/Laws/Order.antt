@@ -6,7 +6,7 @@ use Rattle.nrca_term.specs.declared.trace.Rule.TheVariants.{B1, K1, I1, I2, L1, 
 use Rattle.aql_value.specs.Strict.{Strict}
 use Rattle.nrca_term.specs.Term.{Term, Form, form_of}
 use Rattle.nrca_term.specs.Normal.{is_check}
-use Rattle.nrca_laws.specs.Laws.Lefts.{left_form, redex-left}
+use Rattle.nrca_rule_laws.specs.Laws.Lefts.{left_form, redex-left}
 use Rattle.nrca_ranges.specs.Bounds.{Bounds}
 use Rattle.nrca_term.specs.Facts.{Context}
 use Rattle.nrca_normal.specs.Conditions.{IsRefused}

@@ -17,8 +17,8 @@ use Rattle.nrca_term.specs.Laws.TypedPlaces.{typed-place}
 use Rattle.nrca_term.specs.Laws.Contexts.{stands}
 use Rattle.nrca_term.specs.Laws.Measure.{left-bound}
 use Rattle.nrca_term.specs.TypedPlaces.{KeepsTypes}
-use Rattle.nrca_laws.specs.Laws.Steps.{cube}
-use Rattle.nrca_laws.specs.Laws.Ways.{normal-in}
+use Rattle.nrca_rule_laws.specs.Laws.Steps.{cube}
+use Rattle.nrca_rule_laws.specs.Laws.Ways.{normal-in}
 use Rattle.nrca_ranges.specs.Bounds.{Bounds}
 use Rattle.nrca_ranges.specs.Entered.{is_shaped}
 use Rattle.nrca_ranges.specs.Shapes.{Tells}

@@ -4,8 +4,8 @@ use Rattle.nrca_term.specs.Term.{Term, child_of, parts_of, count}
 use Rattle.nrca_term.specs.Places.{put_at}
 use Rattle.nrca_term.specs.Facts.{Context, enter_facts}
 use Rattle.nrca_term.specs.Laws.Entering.{child-counted}
-use Rattle.nrca_laws.specs.Search.{AllPlaces, FirstParts}
-use Rattle.nrca_laws.specs.Laws.Search.{all-node, all-more, before-parts, before-node, before-root, before-kept}
+use Rattle.nrca_rule_laws.specs.Search.{AllPlaces, FirstParts}
+use Rattle.nrca_rule_laws.specs.Laws.Search.{all-node, all-more, before-parts, before-node, before-root, before-kept}
 use Rattle.nrca_ranges.specs.Bounds.{Bounds}
 use Rattle.nrca_normal.specs.Conditions.{IsQuietAt}
 use Rattle.nrca_normal.specs.Quiet.{QuietEverywhere, QuietParts}

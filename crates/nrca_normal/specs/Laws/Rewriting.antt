@@ -5,7 +5,7 @@ use Rattle.nrca_term.specs.declared.trace.Step.{Step}
 use Rattle.nrca_term.specs.Term.{Term, Parts, node, none, part, parts_of, child_of, set_child, with_part}
 use Rattle.nrca_term.specs.Places.{place_of, put_at, on_child}
 use Rattle.nrca_term.specs.Facts.{Context, enter_facts, context_at, context_below}
-use Rattle.nrca_laws.specs.Laws.Search.{enter-on}
+use Rattle.nrca_rule_laws.specs.Laws.Search.{enter-on}
 use Rattle.nrca_ranges.specs.Bounds.{Bounds}
 use Rattle.nrca_normal.specs.Conditions.{MayFire}
 use Rattle.nrca_normal.specs.Rewriting.{IsRewriting, Leads, behind}

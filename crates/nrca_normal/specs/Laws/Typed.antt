@@ -12,8 +12,8 @@ use Rattle.nrca_term.specs.Measure.{Below, left_of}
 use Rattle.nrca_term.specs.Laws.TypedForm.{well_formed-typed, closed-typed}
 use Rattle.nrca_term.specs.Laws.TypedPlaces.{typed-place, keeps-put_at}
 use Rattle.nrca_term.specs.Laws.Measure.{below-put_at, below-weight, left-falls, pairs-weight, weight_of-child, form-positive, parts_weight-count}
-use Rattle.nrca_laws.specs.Fitting.{IsSmallPart}
-use Rattle.nrca_laws.specs.Laws.Lowering.{lowers}
+use Rattle.nrca_rule_laws.specs.Fitting.{IsSmallPart}
+use Rattle.nrca_rule_laws.specs.Laws.Lowering.{lowers}
 use Rattle.nrca_ranges.specs.Bounds.{Bounds}
 use Rattle.nrca_ranges.specs.Context.{IsSmallTerm}
 use Rattle.nrca_ranges.specs.Laws.Entered.{room-part}

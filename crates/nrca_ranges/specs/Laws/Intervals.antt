@@ -12,7 +12,7 @@ use Rattle.aql_value.specs.Lists.{Every}
 use Rattle.aql_value.specs.Laws.Lists.{Every-impl}
 use Rattle.aql_value.specs.Partial.{concat}
 use Rattle.aql_value.specs.Limits.{saturate}
-use Rattle.nrca_laws.specs.Laws.Spans.{fits-is}
+use Rattle.nrca_rule_laws.specs.Laws.Spans.{fits-is}
 use Rattle.nrca_ranges.specs.declared.interval.Interval.{Interval}
 use Rattle.nrca_ranges.specs.Bounds.{IsIn}
 use Rattle.nrca_ranges.specs.Intervals.{is_end, before, least_rest, arith_interval, always_fits, is_below}

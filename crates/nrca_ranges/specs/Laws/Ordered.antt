@@ -10,7 +10,7 @@ use Rattle.aql_value.specs.Strict.{Strict}
 use Rattle.nrca_term.specs.Term.{Term, node, none, part, Form}
 use Rattle.nrca_term.specs.Facts.{Known, domain, test, denied, Fact, Context}
 use Rattle.nrca_term.specs.Firm.{Span, number_of, as_variable, as_less, within_range, arith_span, is_domain, bounded_variable, fact_span, or_span, variable_span, span}
-use Rattle.nrca_laws.specs.Laws.Spans.{range-is}
+use Rattle.nrca_rule_laws.specs.Laws.Spans.{range-is}
 use Rattle.nrca_ranges.specs.declared.interval.Interval.{Interval}
 use Rattle.nrca_ranges.specs.Spans.{span_of, IsOrdered, InOrder}
 

@@ -14,8 +14,8 @@ use Rattle.nrca_term.specs.Laws.Contexts.{stands-enter}
 use Rattle.nrca_term.specs.Laws.Entering.{length-part_values}
 use Rattle.nrca_term.specs.Laws.Sound.{at_length-value}
 use Rattle.nrca_term.specs.Laws.WellFormed.{well_formed-Core}
-use Rattle.nrca_laws.specs.Laws.Spans.{span-sound}
-use Rattle.nrca_laws.specs.Laws.Firms.{part-there}
+use Rattle.nrca_rule_laws.specs.Laws.Spans.{span-sound}
+use Rattle.nrca_rule_laws.specs.Laws.Firms.{part-there}
 use Rattle.nrca_ranges.specs.declared.interval.Interval.{Interval}
 use Rattle.nrca_ranges.specs.declared.context.Ctx.{Ctx}
 use Rattle.nrca_ranges.specs.Bounds.{Bounds, unknown, IsCount, IsIn, HasShape}

@@ -23,7 +23,7 @@ use Rattle.aql_value.specs.Partial.{◌>>=◌, each}
 use Rattle.aql_value.specs.Strict.{Strict, strict_value, unary, binary}
 use Rattle.aql_value.specs.Operations as operations
 use Rattle.nrca_term.specs.Laws.Facts.{natural-is}
-use Rattle.nrca_laws.specs.Laws.Spans.{two-numbers}
+use Rattle.nrca_rule_laws.specs.Laws.Spans.{two-numbers}
 use Rattle.nrca_ranges.specs.declared.interval.Interval.{Interval}
 use Rattle.nrca_ranges.specs.Bounds.{Bounds, Row, unknown, number, row, members, grid, end, entry, row_of, IsIn, AreIn, IsCount, HasShape, HaveShapes}
 use Rattle.nrca_ranges.specs.Intervals.{before, union_count}

@@ -2,7 +2,7 @@
 
 ghost use Rattle.std.specs.Prelude.{true, IsTrue};
 ghost use Rattle.nrca_term.specs.View.{term_of};
-ghost use Rattle.nrca_laws.specs.Fitting.{RuleFits, IsSmallPart};
+ghost use Rattle.nrca_rule_laws.specs.Fitting.{RuleFits, IsSmallPart};
 
 use crate::tests::tables::entry_at;
 use crate::tests::{assert_right, words};

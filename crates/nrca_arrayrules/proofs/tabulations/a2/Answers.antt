@@ -3,7 +3,7 @@ use Rattle.nrca_term.specs.View.{term_of, terms_of}
 use Rattle.nrca_term.specs.Laws.AsVariant.{as-Tab}
 use Rattle.nrca_term.specs.Laws.Equations.{length-terms_of}
 use Rattle.nrca_term.specs.declared.trace.Rule.TheVariants.{A2}
-use Rattle.nrca_laws.specs.Fitting.{RuleFits}
+use Rattle.nrca_rule_laws.specs.Fitting.{RuleFits}
 use Rattle.nrca_term.specs.Laws.Lists.{item-is}
 use Rattle.nrca_arrayrules.proofs.TabulationSides.{a2_first, a2_right}
 use Rattle.nrca_arrayrules.specs.Whole.{IsDimensionOf}

@@ -2,7 +2,7 @@ use Rattle.std.proofs.Common.{true, [], refl}
 use Rattle.nrca_term.specs.View.{term_of}
 use Rattle.nrca_term.specs.Laws.Equations.{term_of-Bool}
 use Rattle.nrca_term.specs.declared.trace.Rule.TheVariants.{C2}
-use Rattle.nrca_laws.specs.Laws.Fitting.{right-side}
+use Rattle.nrca_rule_laws.specs.Laws.Fitting.{right-side}
 use Rattle.nrca_checks.proofs.sides.c2.Goals as goal
 
 pub returns-clause-right : goal.returns-clause-right

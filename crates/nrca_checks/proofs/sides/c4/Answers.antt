@@ -2,7 +2,7 @@ use Rattle.std.proofs.Common.{refl}
 use Rattle.nrca_term.specs.View.{term_of}
 use Rattle.nrca_term.specs.Laws.Equations.{term_of-Bool}
 use Rattle.nrca_term.specs.declared.trace.Rule.TheVariants.{C4}
-use Rattle.nrca_laws.specs.Laws.Fitting.{right-side}
+use Rattle.nrca_rule_laws.specs.Laws.Fitting.{right-side}
 use Rattle.nrca_checks.specs.Comparing.{the_sides}
 use Rattle.nrca_checks.proofs.sides.c4.Goals as goal
 

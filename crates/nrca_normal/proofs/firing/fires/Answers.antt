@@ -1,7 +1,7 @@
 use Rattle.std.proofs.Common.{subst}
 use Rattle.nrca_term.specs.View.{term_of}
 use Rattle.nrca_ranges.specs.Context.{context_of}
-use Rattle.nrca_laws.specs.Fitting.{RuleFits}
+use Rattle.nrca_rule_laws.specs.Fitting.{RuleFits}
 use Rattle.nrca_normal.specs.Laws.Conditions.{refused-unfit, tells-rule}
 use Rattle.nrca_ranges.specs.Shapes.{known_shapes}
 use Rattle.nrca_normal.proofs.firing.fires.Goals as goal

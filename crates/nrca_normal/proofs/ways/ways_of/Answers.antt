@@ -1,7 +1,7 @@
 use Rattle.std.proofs.Common.{refl, sym, subst, true}
 use Rattle.nrca_term.specs.View.{term_of}
 use Rattle.nrca_term.specs.declared.trace.Rule.TheVariants.{B1, K1, I1, I2, L2, P2, S1, S2, S3, S4, S5, S6, S7, S8, S9, A2, A4, A7, N1}
-use Rattle.nrca_laws.specs.Fitting.{RuleFits}
+use Rattle.nrca_rule_laws.specs.Fitting.{RuleFits}
 use Rattle.nrca_normal.specs.Ways.{AreWays}
 use Rattle.nrca_normal.specs.declared.ways.Ways.TheVariants.{Free, First}
 use Rattle.nrca_normal.specs.Laws.Ways.{free-ways, l3-ways, n2-ways}

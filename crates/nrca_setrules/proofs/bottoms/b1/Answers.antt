@@ -2,7 +2,7 @@ use Rattle.std.proofs.Common.{sym, subst}
 use Rattle.nrca_term.specs.View.{term_of}
 use Rattle.nrca_term.specs.Laws.Equations.{term_of-Bottom}
 use Rattle.nrca_term.specs.declared.trace.Rule.TheVariants.{B1}
-use Rattle.nrca_laws.specs.Fitting.{IsRight}
+use Rattle.nrca_rule_laws.specs.Fitting.{IsRight}
 use Rattle.nrca_setrules.proofs.BottomSides.{b1_right}
 use Rattle.nrca_setrules.proofs.bottoms.b1.Goals as goal
 

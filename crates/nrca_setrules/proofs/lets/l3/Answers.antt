@@ -5,7 +5,7 @@ use Rattle.nrca_term.specs.View.{term_of}
 use Rattle.nrca_term.specs.Laws.Equations.{term_of-Let, term_of-Bottom}
 use Rattle.nrca_term.specs.Laws.WellFormed.{well_formed-Core}
 use Rattle.nrca_term.specs.declared.trace.Rule.TheVariants.{L3}
-use Rattle.nrca_laws.specs.Fitting.{IsRight}
+use Rattle.nrca_rule_laws.specs.Fitting.{IsRight}
 use Rattle.nrca_setrules.proofs.LetSides.{body_room, unused-right, let_unused}
 use Rattle.nrca_setrules.proofs.lets.l3.Goals as goal
 

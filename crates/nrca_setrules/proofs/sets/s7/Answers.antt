@@ -1,7 +1,7 @@
 use Rattle.std.proofs.Common.{rules, subst}
 use Rattle.nrca_term.specs.View.{term_of}
 use Rattle.nrca_term.specs.declared.trace.Rule.TheVariants.{S7}
-use Rattle.nrca_laws.specs.Fitting.{IsRight}
+use Rattle.nrca_rule_laws.specs.Fitting.{IsRight}
 use Rattle.nrca_term.specs.Laws.AsVariant.{as-Empty, as-Union}
 use Rattle.nrca_setrules.proofs.SetSides.{s7_left, s7_right}
 use Rattle.nrca_setrules.proofs.sets.s7.Goals as goal

@@ -1,7 +1,7 @@
 use Rattle.std.proofs.Common.{rules, subst}
 use Rattle.nrca_term.specs.View.{term_of}
 use Rattle.nrca_term.specs.declared.trace.Rule.TheVariants.{N2}
-use Rattle.nrca_laws.specs.Fitting.{IsRight}
+use Rattle.nrca_rule_laws.specs.Fitting.{IsRight}
 use Rattle.nrca_term.specs.Laws.AsVariant.{as-Default}
 use Rattle.nrca_setrules.proofs.TestSides.{n2_right}
 use Rattle.nrca_setrules.proofs.tests.n2.Goals as goal

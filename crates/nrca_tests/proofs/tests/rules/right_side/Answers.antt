@@ -1,6 +1,6 @@
 use Rattle.std.proofs.Common.{true, subst}
 use Rattle.nrca_term.specs.View.{term_of}
-use Rattle.nrca_laws.specs.Fitting.{RuleFits}
+use Rattle.nrca_rule_laws.specs.Fitting.{RuleFits}
 use Rattle.nrca_tests.proofs.tests.rules.right_side.Goals as goal
 
 pub k1-requires : goal.k1-requires
