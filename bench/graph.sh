@@ -1,22 +1,22 @@
 #!/usr/bin/env bash
-# Measures solve of aql_type_graph on graphs of five shapes: members of one set type, each a set of a variable of its own and equal to the
+# Measures the solver of aql_types on graphs of five shapes: members of one set type, each a set of a variable of its own and equal to the
 # one before it (two nodes and one equation each), or to the first one; pairs of equal types, both 12 pairs deep; pairs of variables
 # that are made equal at random; a chain of pairs that doubles its type at each step. For each shape two lines: `make` only makes the graph
 # and its equations, `solve` also solves them. Prints seconds (the least of three runs), peak memory in KiB, and what solve answers.
 # Makes a small repository of its own in a temporary folder; run it from anywhere: bench/graph.sh
 set -eu
 . "$(dirname "$0")/crates.sh"
-begin aql_type_graph aql_ty aql_value anyhow
+begin aql_types aql_ty aql_value anyhow
 cat > "$work/crates/measure/src/main.rt" <<'PROGRAM'
 #![tactic(auto)]
 
 use anyhow::{Result, anyhow, bail};
-use aql_type_graph::graph::Graph;
-use aql_type_graph::grow::{empty_graph, push_natural, push_set, push_tuple, push_variable};
-use aql_type_graph::inside::are_nodes;
-use aql_type_graph::node::Equation;
-use aql_type_graph::solve::solve;
-use aql_ty::fault::UnifyFault;
+use aql_types::graph::Graph;
+use aql_types::grow::{empty_graph, push_natural, push_set, push_tuple, push_variable};
+use aql_types::inside::are_nodes;
+use aql_types::node::Equation;
+use aql_types::solved_graph::solve;
+use aql_types::fault::UnifyFault;
 use std::alloc::Global;
 
 // A graph and equations between its nodes.

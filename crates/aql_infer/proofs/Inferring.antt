@@ -2,7 +2,7 @@
 use Rattle.std.proofs.Common.{◌≡◌, Some, Result, Ok, Err, IfOk, ap, ◌∙◌, length}
 use Rattle.aql_value.specs.declared.memory.Memory.{Memory}
 use Rattle.aql_ty.specs.Types.{Subst, Sort, apply_sort}
-use Rattle.aql_ty.specs.Unifiers.{IsBest}
+use Rattle.aql_types.specs.Unifiers.{IsBest}
 use Rattle.aql_ty.specs.View.{sort_of}
 use Rattle.aql_ty.specs.declared.ty.Scheme as code_scheme
 use Rattle.aql_syntax.specs.Tree.{Declaration}

@@ -7,14 +7,14 @@ use Rattle.aql_value.specs.declared.memory.Memory.{Memory}
 use Rattle.aql_value.specs.Lists.{Every}
 use Rattle.aql_value.specs.Laws.Lists.{Every-impl}
 use Rattle.aql_ty.specs.Types.{Ty, no_type, type, append, natural, apply}
-use Rattle.aql_type_graph.specs.declared.node.Equation as node
-use Rattle.aql_type_graph.specs.declared.graph.Graph.{Graph}
-use Rattle.aql_type_graph.specs.Shapes as shape
-use Rattle.aql_type_graph.specs.Shapes.{Shape}
-use Rattle.aql_type_graph.specs.Forms as form
-use Rattle.aql_type_graph.specs.Graphs.{Adds}
-use Rattle.aql_type_solve.specs.Pushed.{shift, Extends, Pushes, PushesAll, PushesEquations}
-use Rattle.aql_type_solve.specs.Laws.Pushing.{longer, kept, kept_numbered, itself, added, leaf_ok, shift_none, one_more, equations_more}
+use Rattle.aql_types.specs.declared.node.Equation as node
+use Rattle.aql_types.specs.declared.graph.Graph.{Graph}
+use Rattle.aql_types.specs.Shapes as shape
+use Rattle.aql_types.specs.Shapes.{Shape}
+use Rattle.aql_types.specs.Forms as form
+use Rattle.aql_types.specs.Graphs.{Adds}
+use Rattle.aql_types.specs.Pushed.{shift, Extends, Pushes, PushesAll, PushesEquations}
+use Rattle.aql_types.specs.Laws.Pushing.{longer, kept, kept_numbered, itself, added, leaf_ok, shift_none, one_more, equations_more}
 use Rattle.aql_infer_steps.specs.Constraints.{raise_variables}
 use Rattle.aql_infer_steps.specs.View.{sketch_type, sketch_types, sides_of, instance_type, part_of, sort_at}
 use Rattle.aql_infer_steps.specs.Nodes.{IsNode, AreNodes, IsUnderWay, IsKnown, IsNoted}

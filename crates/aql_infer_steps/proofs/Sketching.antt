@@ -6,12 +6,12 @@ use Rattle.std.proofs.lemmas.List.{at_drop_all}
 use Rattle.std.proofs.Math.Seq.{drop-cons}
 use Rattle.aql_ty.specs.Types as types
 use Rattle.aql_ty.specs.Types.{Ty, Tys, no_type, type, product, append, Subst, apply, apply_all}
-use Rattle.aql_ty.specs.Unifiers.{Equations}
+use Rattle.aql_types.specs.Unifiers.{Equations}
 use Rattle.aql_ty.specs.View.{sort_of}
 use Rattle.aql_ty.specs.Laws.Types.{row_is}
 use Rattle.aql_ty.specs.Laws.View.{append_assoc_types, append_none}
 use Rattle.aql_value.specs.Lists.{onto}
-use Rattle.aql_type_solve.specs.Pushed.{shift}
+use Rattle.aql_types.specs.Pushed.{shift}
 use Rattle.aql_infer_steps.specs.Constraints.{raise_variables}
 use Rattle.aql_infer_steps.specs.View.{sketch_type, sketch_row, sketch_types, sides_of, sort_at, part_of}
 use Rattle.aql_infer_steps.specs.declared.sketch.Instance.{Instance}

@@ -5,7 +5,7 @@ use Rattle.std.specs.Prelude.{ℕ, zero, suc, ◌+◌, ◌&&◌, List, [], ◌�
 use Rattle.aql_value.specs.Strict.{Strict}
 use Rattle.aql_ty.specs.Types as types
 use Rattle.aql_ty.specs.Types.{Ty, natural, var, Tys, no_type, type, Subst, apply, append, tys_of, index_type, Sort, value, macro}
-use Rattle.aql_ty.specs.Unifiers.{Equations}
+use Rattle.aql_types.specs.Unifiers.{Equations}
 use Rattle.aql_syntax.specs.Tree.{Name, Pat, bind, any, equals, refers, tuple, Pats, no_pat, pat, Tree, name, op, members, comp, tab, bindings, choice, conjunction, disjunction, negation, default, function, summap, Trees, no_tree, tree, Axes, no_axis, axis, Quals, no_qual, from, cells, same, test, Defs, no_def, def, Reader, plain, signed, strided, records, Declaration, val, mac, read, bare, count_pats, count_axes, axes}
 use Rattle.aql_syntax.specs.Tree as trees
 use Rattle.aql_syntax.specs.Names.{find}

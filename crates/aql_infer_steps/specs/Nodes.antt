@@ -1,10 +1,10 @@
 -- A graph under way: the variables stand first, and the instances that were pushed have their nodes.
 use Rattle.std.specs.Prelude.{ℕ, ◌≡◌, ◌<◌, List, length}
 use Rattle.aql_value.specs.Lists.{Every}
-use Rattle.aql_type_graph.specs.declared.graph.Graph.{Graph}
-use Rattle.aql_type_graph.specs.Trees.{type_at}
-use Rattle.aql_type_graph.specs.Graphs.{forms_of}
-use Rattle.aql_type_solve.specs.Pushed.{AreNumbered}
+use Rattle.aql_types.specs.declared.graph.Graph.{Graph}
+use Rattle.aql_types.specs.Trees.{type_at}
+use Rattle.aql_types.specs.Graphs.{forms_of}
+use Rattle.aql_types.specs.Pushed.{AreNumbered}
 use Rattle.aql_infer_steps.specs.View.{instance_type}
 use Rattle.aql_infer_steps.specs.declared.positions.Position.{Position}
 use Rattle.aql_infer_steps.specs.declared.sketch.Instance.{Instance}

@@ -1,7 +1,7 @@
 -- A most general solution of what a declaration asks gives its principal sort, whatever the names of its variables.
 use Rattle.std.proofs.Common.{◌≡◌, Option, Some, None, length}
 use Rattle.aql_ty.specs.Types.{Subst, Sort, apply_sort}
-use Rattle.aql_ty.specs.Unifiers.{IsSolution, IsBest}
+use Rattle.aql_types.specs.Unifiers.{IsSolution, IsBest}
 use Rattle.aql_syntax.specs.Tree.{Declaration}
 use Rattle.aql_infer_steps.specs.Constraints.{NumberedScheme, NumberedSchemes, initial, Made, make_decl}
 use Rattle.aql_ty.specs.Variables.{sort_variables}

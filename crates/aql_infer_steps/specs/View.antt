@@ -1,7 +1,7 @@
 -- What the code keeps is a state of the walk, local names and schemes, and what it answers an answer of the walk.
 use Rattle.std.specs.Prelude.{ℕ, zero, suc, ◌≡◌, List, [], ◌∷◌, map, take, length, Option, Some, None, Result, Ok, Err, IfOk}
 use Rattle.aql_ty.specs.Types.{Ty, natural, product, set_of, array_of, Tys, no_type, type, apply, Sort, value, macro}
-use Rattle.aql_ty.specs.Unifiers.{Equations}
+use Rattle.aql_types.specs.Unifiers.{Equations}
 use Rattle.aql_ty.specs.View.{type_of, sort_of}
 use Rattle.aql_value.specs.Lists.{onto}
 use Rattle.aql_names.specs.Named.{Name}

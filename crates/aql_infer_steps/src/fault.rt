@@ -1,6 +1,6 @@
 //! Why a declaration gets no type.
 
-use aql_ty::fault::UnifyFault;
+use aql_types::fault::UnifyFault;
 use aql_value::Memory;
 use std::alloc::{AllocError, AllocFailed};
 

@@ -1,21 +1,21 @@
 //! Types under way pushed in a graph. An instance of what a position has is pushed once, whatever the number of its uses.
 
 ghost use Rattle.std.specs.Prelude.{◌≡◌, ◌<◌, ◌∷◌, [], IfOk, OnOk, IfSome, IsOkAnd, length};
-ghost use Rattle.aql_type_graph.specs.Shapes as shape;
-ghost use Rattle.aql_type_graph.specs.Forms as form;
-ghost use Rattle.aql_type_graph.specs.Graphs.{forms_of, Adds};
-ghost use Rattle.aql_type_solve.specs.Pushed.{AreNumbered, Pushes, PushesAll, PushesUses, PushesEquations, Makes};
+ghost use Rattle.aql_types.specs.Shapes as shape;
+ghost use Rattle.aql_types.specs.Forms as form;
+ghost use Rattle.aql_types.specs.Graphs.{forms_of, Adds};
+ghost use Rattle.aql_types.specs.Pushed.{AreNumbered, Pushes, PushesAll, PushesUses, PushesEquations, Makes};
 ghost use Rattle.aql_infer_steps.specs.View.{instance_type, sketch_type, sketch_types, sides_of};
 ghost use Rattle.aql_infer_steps.specs.Nodes.{IsUnderWay, IsKnown, IsNoted};
 
 use crate::positions::Positions;
 use crate::sketch::{Instance, Sketch};
 use crate::store::{Sides, Store};
-use aql_type_graph::graph::Graph;
-use aql_type_graph::grow::{push_array, push_natural, push_set, push_tuple};
-use aql_type_graph::node;
-use aql_type_solve::count::to_number;
-use aql_type_solve::push::{push_type, push_variables};
+use aql_types::count::to_number;
+use aql_types::graph::Graph;
+use aql_types::grow::{push_array, push_natural, push_set, push_tuple};
+use aql_types::node;
+use aql_types::push::{push_type, push_variables};
 use aql_value::Memory;
 use indexmap::IndexMap;
 use std::alloc::Global;

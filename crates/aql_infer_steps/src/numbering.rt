@@ -3,7 +3,7 @@
 ghost use Rattle.std.specs.Prelude.{◌≡◌, IfOk};
 ghost use Rattle.aql_ty.specs.Types.{apply, apply_all, apply_sort};
 ghost use Rattle.aql_ty.specs.View.{type_of, types_of, sort_of};
-ghost use Rattle.aql_type_solve.specs.Solution.{subst_in};
+ghost use Rattle.aql_types.specs.Answers.{subst_of};
 ghost use Rattle.aql_infer_steps.specs.Numbering.{renumbering};
 ghost use Rattle.aql_infer_steps.specs.View.{draft_sort, sketch_type, sketch_types, instance_type};
 
@@ -11,7 +11,7 @@ use crate::positions::Positions;
 use crate::sketch::{Draft, Instance, Sketch};
 use aql_ty::ty::{Scheme, Ty, row};
 use aql_ty::variables::find_index;
-use aql_type_solve::solve::Solution;
+use aql_types::subst::Subst;
 use aql_value::Memory;
 use aql_value::made::{both, make_box};
 use std::alloc::Global;
@@ -19,12 +19,12 @@ use std::alloc::Global;
 /// What a declaration has, written out under a solution.
 pub fn instance_of(
     alloc: Global,
-    solution: &Solution,
+    solution: &Subst,
     positions: &Positions,
     d: &Draft,
 ) -> Result<Scheme, Memory>
     ensures { IfOk result (λ made. sort_of made
-        ≡ apply_sort (subst_in solution.now) (draft_sort positions.now d.now)) }
+        ≡ apply_sort (subst_of solution.now) (draft_sort positions.now d.now)) }
 {
     match d {
         Draft::Value(t) => {
@@ -50,12 +50,12 @@ pub fn instance_of(
 #[tactic(auto, using(crate::proofs::Sketching::sketch_row_is))]
 fn write_type(
     alloc: Global,
-    solution: &Solution,
+    solution: &Subst,
     positions: &Positions,
     t: &Sketch,
 ) -> Result<Ty, Memory>
     ensures { IfOk result (λ made. type_of made
-        ≡ apply (subst_in solution.now) (sketch_type positions.now t.now)) }
+        ≡ apply (subst_of solution.now) (sketch_type positions.now t.now)) }
 {
     match t {
         Sketch::Plain(t) => solution.apply(alloc, t),
@@ -79,12 +79,12 @@ fn write_type(
 #[tactic(auto, using(crate::proofs::Sketching::sketch_steps))]
 fn write_types(
     alloc: Global,
-    solution: &Solution,
+    solution: &Subst,
     positions: &Positions,
     ts: &[Sketch],
 ) -> Result<Vec<Ty>, Memory>
     ensures { IfOk result (λ made. types_of made.items
-        ≡ apply_all (subst_in solution.now) (sketch_types positions.now ts.now)) }
+        ≡ apply_all (subst_of solution.now) (sketch_types positions.now ts.now)) }
 {
     let mut made = Vec::new(alloc);
     for t in ts {
@@ -97,12 +97,12 @@ fn write_types(
 // An instance of a part of what a position has, written out under a solution.
 fn write_instance(
     alloc: Global,
-    solution: &Solution,
+    solution: &Subst,
     positions: &Positions,
     i: Instance,
 ) -> Result<Ty, Memory>
     ensures { IfOk result (λ made. type_of made
-        ≡ apply (subst_in solution.now) (instance_type positions.now i)) }
+        ≡ apply (subst_of solution.now) (instance_type positions.now i)) }
 {
     match positions.part(i) {
         Some(t) => solution.apply_raised(alloc, t, i.first),

@@ -1,8 +1,5 @@
-pub mod Answers
 pub mod OperationTypes
-pub mod Solving
 pub mod Types
-pub mod Unifiers
 pub mod ValueTypes
 pub mod Variables
 pub mod View

@@ -118,10 +118,6 @@ abbrev mutual
   apply_all u no_type = no_type
   apply_all u (type t ts) = type (apply u t) (apply_all u ts)
 
--- the substitution of one variable
-abbrev pub single : ℕ → Ty → Subst
-single x t y = if y == x then t else var y
-
 abbrev mutual
   -- whether a variable stands in a type
   pub occurs : ℕ → Ty → Bool

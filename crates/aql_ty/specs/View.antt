@@ -1,15 +1,10 @@
 -- What the types of the code mean, without pointers and capacities.
 use Rattle.std.specs.Prelude.{List, [], ◌∷◌}
-use Rattle.aql_ty.specs.Types.{Ty, natural, truth, text, var, product, set_of, array_of, Tys, no_type, type, Sort, value, macro, Subst}
+use Rattle.aql_ty.specs.Types.{Ty, natural, truth, text, var, product, set_of, array_of, Tys, no_type, type, Sort, value, macro}
 use Rattle.aql_ty.specs.declared.ty.Ty as code
 use Rattle.aql_ty.specs.declared.ty.Ty.{Row_of-Ty, end_of-Ty, more_of-Ty}
 use Rattle.aql_ty.specs.declared.ty.Scheme.{Scheme}
 use Rattle.aql_ty.specs.declared.ty.Scheme.TheVariants as scheme
-use Rattle.aql_ty.specs.declared.subst.Binding.{Binding}
-use Rattle.aql_ty.specs.declared.subst.Subst as code_subst
-use Rattle.aql_ty.specs.declared.equation.Equation.{Equation}
-use Rattle.aql_ty.specs.Unifiers.{Bindings, Equations, as_subst}
-use Rattle.aql_value.specs.Lists.{onto}
 
 abbrev mutual
   -- the type that a `Ty` is
@@ -36,21 +31,3 @@ types_of (t ∷ ts) = type (type_of t) (types_of ts)
 abbrev pub sort_of : Scheme → Sort
 sort_of (scheme.Value t) = value (type_of t)
 sort_of (scheme.Macro s t) = macro (type_of s) (type_of t)
-
--- the replacements of a list
-abbrev pub bindings_of : List Binding → Bindings
-bindings_of [] = []
-bindings_of (b ∷ bs) = (b.variable, type_of b.ty) ∷ bindings_of bs
-
--- the substitution that a `Subst` is
-abbrev pub subst_of : code_subst.Subst → Subst
-subst_of s = as_subst (bindings_of s.bindings.items)
-
--- the equations of a list
-abbrev pub equation_list : List Equation → Equations
-equation_list [] = []
-equation_list (p ∷ ps) = (type_of p.left, type_of p.right) ∷ equation_list ps
-
--- the equations of a list, the last first: the code adds and takes at the end
-abbrev pub equations_of : List Equation → Equations
-equations_of ps = onto (equation_list ps) []

@@ -2,7 +2,7 @@
 use Rattle.std.proofs.Common.{ℕ, zero, suc, ◌-◌, ◌≡◌, ◌<◌, Bool, true, false, List, [], ◌∷◌, ◌++◌, take, reverse, slice_get, append-nil, append_assoc, Option, Some, None, refl, sym, ap, ◌∙◌, subst, if◌then◌else◌}
 use mathlib.Core.List.{reverse-cons}
 use Rattle.aql_ty.specs.Types.{Ty, var, Tys, no_type, type, Subst, apply, IsWithin, Sort, value, macro, apply_sort}
-use Rattle.aql_ty.specs.Unifiers.{Equations, AllUnify, AllWithin, IsBest}
+use Rattle.aql_types.specs.Unifiers.{Equations, AllUnify, AllWithin, IsBest}
 use Rattle.aql_ty.specs.Laws.Types.{apply-apply, apply_same, apply_sort-apply}
 use Rattle.aql_syntax.specs.Tree.{Name, Declaration, declared_name}
 use Rattle.aql_syntax.specs.Names.{names_equal, find}

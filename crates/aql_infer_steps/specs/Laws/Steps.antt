@@ -3,7 +3,7 @@ use Rattle.std.proofs.Common.{ℕ, ◌≡◌, ◌+◌, ◌-◌, ◌<◌, ◌≤�
 use Rattle.std.proofs.Math.Dec.{ltb}
 use Rattle.std.proofs.lemmas.Bool.{lt-ltb, le-ltb}
 use Rattle.aql_ty.specs.Types.{Ty, Tys, no_type, type, Subst, apply, append, IsWithin}
-use Rattle.aql_ty.specs.Unifiers.{AllUnify, AllWithin, SidesWithin}
+use Rattle.aql_types.specs.Unifiers.{AllUnify, AllWithin, SidesWithin}
 use Rattle.aql_infer_steps.specs.Constraints.{State, Made, Making, pure, after, raise_variables, fresh_variables, fresh, equate, within, guard}
 
 -- u solves the equations of a state, and the types used are within the limits

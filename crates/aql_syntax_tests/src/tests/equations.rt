@@ -1,10 +1,11 @@
 //! Equations between types: what solves and what does not, and instances that are written out.
 
 use crate::tests::same::assert_same;
-use aql_ty::equation::Equation;
-use aql_ty::fault::UnifyFault;
 use aql_ty::ty::{Ty, row};
-use aql_type_solve::solve::{Solution, solve};
+use aql_types::equation::Equation;
+use aql_types::fault::UnifyFault;
+use aql_types::solve::solve;
+use aql_types::subst::Subst;
 use aql_value::Memory;
 use aql_value::made::{both, make_box, make_list, make_pair_list};
 use std::alloc::Global;
@@ -35,7 +36,7 @@ fn nest_sets(alloc: Global, depth: u64) -> Made {
 }
 
 // What solving answers, want of memory apart.
-fn solution_found(r: Result<Solution, UnifyFault>) -> Result<Option<Solution>, Memory> {
+fn solution_found(r: Result<Subst, UnifyFault>) -> Result<Option<Subst>, Memory> {
     match r {
         Ok(s) => Ok(Some(s)),
         Err(UnifyFault::Clash) => Ok(None),
@@ -44,7 +45,7 @@ fn solution_found(r: Result<Solution, UnifyFault>) -> Result<Option<Solution>, M
 }
 
 // A solution that makes these types one.
-fn equal(alloc: Global, a: Made, b: Made) -> Result<Option<Solution>, Memory> {
+fn equal(alloc: Global, a: Made, b: Made) -> Result<Option<Subst>, Memory> {
     let (left, right) = both(a, b)?;
     let mut work = Vec::new(alloc);
     work.push(Equation { left, right })?;
@@ -125,7 +126,7 @@ fn is_variable(t: &Ty, n: u64) -> bool {
 }
 
 // A solution that makes (0, {numbers}) and (truth values, 2) one type.
-fn two_sides(alloc: Global) -> Result<Option<Solution>, Memory> {
+fn two_sides(alloc: Global) -> Result<Option<Subst>, Memory> {
     let left = pair(alloc, Ok(Ty::Var(0)), set_of(alloc, Ok(Ty::Nat)));
     let right = pair(alloc, Ok(Ty::Bool), Ok(Ty::Var(2)));
     equal(alloc, left, right)

@@ -3,16 +3,16 @@
 ghost use Rattle.std.specs.Prelude.{◌<◌, ◌↔◌, IsTrue, length};
 
 use crate::tests::same::assert_same;
-use aql_ty::fault::UnifyFault;
 use aql_ty::ty::Ty;
-use aql_type_graph::graph::Graph;
-use aql_type_graph::grow::{
+use aql_types::fault::UnifyFault;
+use aql_types::graph::Graph;
+use aql_types::grow::{
     empty_graph, push_array, push_natural, push_set, push_truth, push_tuple, push_variable,
 };
-use aql_type_graph::inside::are_nodes;
-use aql_type_graph::node::Equation;
-use aql_type_graph::read::node_type;
-use aql_type_graph::solve::{SolvedGraph, solve};
+use aql_types::inside::are_nodes;
+use aql_types::node::Equation;
+use aql_types::read::node_type;
+use aql_types::solved_graph::{SolvedGraph, solve};
 use aql_value::Memory;
 use std::alloc::{AllocFailed, Global};
 

@@ -1,10 +1,10 @@
--- Laws on types: instances of instances, types without a variable, and parts of types within the limits.
+-- Laws on types: instances of instances, and parts of types within the limits.
 use Rattle.std.proofs.Common.{ℕ, ◌≡◌, ◌+◌, ◌≤◌, Bool, true, false, ◌==◌, ◌&&◌, refl, sym, ap, ◌∙◌, arith, if◌then◌else◌, max, zero, suc}
 use Rattle.std.specs.Cmp.{first_so, second_so}
 use Rattle.std.specs.Cmp.Derive.{both_true}
 use Rattle.std.proofs.Math.Dec.{leb}
 use Rattle.std.proofs.lemmas.Bool.{eqb-true, leb-true, le-leb, or_parts}
-use Rattle.aql_ty.specs.Types.{Ty, natural, truth, text, var, product, set_of, array_of, Tys, no_type, type, Subst, apply, apply_all, occurs, occurs_all, nodes, nodes_all, levels, levels_all, IsType, AreTypes, is_type, are_types, IsWithin, fits, count, single, append, Sort, value, macro, apply_sort, index_type, natural_types}
+use Rattle.aql_ty.specs.Types.{Ty, natural, truth, text, var, product, set_of, array_of, Tys, no_type, type, Subst, apply, apply_all, nodes, nodes_all, levels, levels_all, IsType, AreTypes, is_type, are_types, IsWithin, fits, count, append, Sort, value, macro, apply_sort, index_type, natural_types}
 
 -- tuples' parts are the same where the first and the others are
 pub row_is : {a c : Ty} {b d : Tys} → a ≡ c → b ≡ d → type a b ≡ type c d
@@ -52,24 +52,6 @@ mutual
   apply_all_var no_type = refl
   apply_all_var (type t ts) = row_is (apply_var t) (apply_all_var ts)
 
-mutual
-  pub respects_single : (u : Subst) (x : ℕ) (s : Ty) → u x ≡ apply u s → (t : Ty) → apply u (apply (single x s) t) ≡ apply u t
-  respects_single u x s e natural = refl
-  respects_single u x s e truth = refl
-  respects_single u x s e text = refl
-  respects_single u x s e (var y) = go (y == x) refl
-    where
-      go : (b : Bool) → (y == x) ≡ b → apply u (if b then s else var y) ≡ u y
-      go true h = sym e ∙ ap u (sym (eqb-true y x h))
-      go false h = refl
-  respects_single u x s e (product ts) = ap product (respects_all u x s e ts)
-  respects_single u x s e (set_of a) = ap set_of (respects_single u x s e a)
-  respects_single u x s e (array_of k a) = ap (array_of k) (respects_single u x s e a)
-
-  pub respects_all : (u : Subst) (x : ℕ) (s : Ty) → u x ≡ apply u s → (ts : Tys) → apply_all u (apply_all (single x s) ts) ≡ apply_all u ts
-  respects_all u x s e no_type = refl
-  respects_all u x s e (type t ts) = row_is (respects_single u x s e t) (respects_all u x s e ts)
-
 pub apply_sort-apply : (u s : Subst) (o : Sort) → apply_sort u (apply_sort s o) ≡ apply_sort (λ x. apply u (s x)) o
 apply_sort-apply u s (value t) = ap value (apply-apply u s t)
 apply_sort-apply u s (macro a b) = let e = apply-apply u s a in let f = apply-apply u s b in cc
@@ -77,21 +59,6 @@ apply_sort-apply u s (macro a b) = let e = apply-apply u s a in let f = apply-ap
 pub apply_all-append : (u : Subst) (a b : Tys) → apply_all u (append a b) ≡ append (apply_all u a) (apply_all u b)
 apply_all-append u no_type b = refl
 apply_all-append u (type t a) b = ap (type (apply u t)) (apply_all-append u a b)
-
-mutual
-  pub absent_single : (x : ℕ) (s t : Ty) → occurs x t ≡ false → apply (single x s) t ≡ t
-  absent_single x s natural e = refl
-  absent_single x s truth e = refl
-  absent_single x s text e = refl
-  absent_single x s (var y) e = rw e refl
-  absent_single x s (product ts) e = ap product (absent_all x s ts e)
-  absent_single x s (set_of a) e = ap set_of (absent_single x s a e)
-  absent_single x s (array_of k a) e = ap (array_of k) (absent_single x s a e)
-
-  pub absent_all : (x : ℕ) (s : Ty) (ts : Tys) → occurs_all x ts ≡ false → apply_all (single x s) ts ≡ ts
-  absent_all x s no_type e = refl
-  absent_all x s (type t ts) e =
-      let h = or_parts (occurs x t) (occurs_all x ts) e in row_is (absent_single x s t h.0) (absent_all x s ts h.1)
 
 -- The limits.
 

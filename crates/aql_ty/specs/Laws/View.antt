@@ -9,10 +9,7 @@ use Rattle.aql_ty.specs.declared.ty.Ty.TheBlock.{hidden-the_row-Ty-0}
 use Rattle.aql_ty.specs.declared.ty.Ty as code
 use Rattle.aql_ty.specs.declared.ty.Tys as code_tys
 use Rattle.aql_ty.specs.Types.{Tys, no_type, type, product, append, count}
-use Rattle.aql_ty.specs.declared.equation.Equation.{Equation}
-use Rattle.aql_ty.specs.Unifiers.{Equations}
-use Rattle.aql_ty.specs.View.{type_of, types_of, row_of, equation_list, equations_of}
-use Rattle.aql_value.specs.Lists.{onto}
+use Rattle.aql_ty.specs.View.{type_of, types_of, row_of}
 
 pub row_of-items : {n : _} (k : Row_of-Ty n) → row_of k ≡ types_of (items-the_row-Ty n k)
 row_of-items end_of-Ty = refl
@@ -52,17 +49,6 @@ types_past ts i h = at_drop_all types_of ts i h
 pub count_types : (ts : List Ty) → count (types_of ts) ≡ length ts
 count_types [] = refl
 count_types (t ∷ ts) = omega (arith, count_types ts)
-
--- Equations, of which the last comes first.
-
-onto_last : (ps : List Equation) (p : Equation) (acc : Equations) →
-    onto (equation_list (ps ++ (p ∷ []))) acc ≡ (type_of p.left, type_of p.right) ∷ onto (equation_list ps) acc
-onto_last [] p acc = refl
-onto_last (q ∷ ps) p acc = onto_last ps p ((type_of q.left, type_of q.right) ∷ acc)
-
-pub equations_last : (ps : List Equation) (p : Equation) →
-    equations_of (ps ++ (p ∷ [])) ≡ (type_of p.left, type_of p.right) ∷ equations_of ps
-equations_last ps p = onto_last ps p []
 
 -- for a loop over a list of types
 pub ruleset list_steps = (types_of_append, append_assoc_types, append_none, types_from, types_past)

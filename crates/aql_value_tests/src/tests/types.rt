@@ -1,9 +1,9 @@
 //! Worked types: what unifies and what does not, and the limits at their edge.
 
 use crate::tests::same::assert_same;
-use aql_ty::fault::UnifyFault;
-use aql_ty::solve::unify;
 use aql_ty::ty::{Ty, row};
+use aql_types::fault::UnifyFault;
+use aql_types::solve::unify;
 use aql_value::Memory;
 use aql_value::made::{both, make_box, make_pair_list};
 use std::alloc::Global;

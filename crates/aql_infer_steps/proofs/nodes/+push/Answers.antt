@@ -2,8 +2,8 @@ use Rattle.std.proofs.Common.{arith, refl, ap, sym, ◌∙◌}
 use denote.Param.Weighed.{at_most}
 use Rattle.aql_ty.specs.Types as types
 use Rattle.aql_ty.specs.View.{type_of}
-use Rattle.aql_type_graph.specs.Shapes as shape
-use Rattle.aql_type_solve.specs.Laws.Pushing.{set_ok, array_ok, tuple_ok}
+use Rattle.aql_types.specs.Shapes as shape
+use Rattle.aql_types.specs.Laws.Pushing.{set_ok, array_ok, tuple_ok}
 use Rattle.aql_infer_steps.specs.View.{sketch_type, sketch_types}
 use Rattle.aql_infer_steps.proofs.sketch.Sketch.TheLaws.{the_size}
 use Rattle.aql_infer_steps.proofs.Sketching.{sketch_row_is}

@@ -1,5 +1,5 @@
 use Rattle.std.proofs.Common.{take}
-use Rattle.aql_type_solve.specs.Pushed.{PushesAll}
+use Rattle.aql_types.specs.Pushed.{PushesAll}
 use Rattle.aql_infer_steps.specs.View.{sketch_types}
 use Rattle.aql_infer_steps.specs.Nodes.{IsUnderWay}
 use Rattle.aql_infer_steps.proofs.nodes.+push.Given as goal

@@ -1,4 +1,4 @@
-use Rattle.aql_type_solve.specs.Laws.Pushing.{all_made}
+use Rattle.aql_types.specs.Laws.Pushing.{all_made}
 use Rattle.aql_infer_steps.specs.View.{sides_of, sketch_types}
 use Rattle.aql_infer_steps.proofs.nodes.make_graph.Goals as goal
 

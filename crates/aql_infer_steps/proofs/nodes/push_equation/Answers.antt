@@ -1,5 +1,5 @@
 use Rattle.aql_infer_steps.specs.View.{sketch_type}
-use Rattle.aql_type_solve.specs.Laws.Pushing.{sides_pushed}
+use Rattle.aql_types.specs.Laws.Pushing.{sides_pushed}
 use Rattle.aql_infer_steps.proofs.nodes.push_equation.Goals as goal
 
 pub returns : goal.returns

@@ -1,4 +1,4 @@
-use Rattle.aql_type_solve.specs.Pushed.{PushesEquations}
+use Rattle.aql_types.specs.Pushed.{PushesEquations}
 use Rattle.aql_infer_steps.specs.View.{sides_of}
 use Rattle.aql_infer_steps.specs.Nodes.{IsUnderWay}
 use Rattle.aql_infer_steps.proofs.nodes.push_equations.Given as goal

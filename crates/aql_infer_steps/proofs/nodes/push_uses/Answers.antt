@@ -1,6 +1,6 @@
 use Rattle.std.proofs.Common.{subst, ap}
-use Rattle.aql_type_solve.specs.Pushed.{PushesUses}
-use Rattle.aql_type_solve.specs.Laws.Pushing.{pushed_uses}
+use Rattle.aql_types.specs.Pushed.{PushesUses}
+use Rattle.aql_types.specs.Laws.Pushing.{pushed_uses}
 use Rattle.aql_infer_steps.specs.View.{sketch_types}
 use Rattle.aql_infer_steps.proofs.nodes.push_uses.Goals as goal
 

@@ -1,5 +1,0 @@
-use Rattle.aql_type_solve.specs.Laws.Pushing.{found}
-use Rattle.aql_type_solve.proofs.push.find_variable.Goals as goal
-
-pub returns-then-x-g : goal.returns-then-x-g
-returns-then-x-g c = found c.args.x c.args.g c.requires c.if-x-g.true

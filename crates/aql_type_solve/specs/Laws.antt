@@ -1,2 +1,0 @@
--- The laws of this crate: what follows from its definitions.
-pub mod Pushing

@@ -1,0 +1,13 @@
+pub mod Bare
+pub mod Exact
+pub mod Extents
+pub mod Growing
+pub mod Joined
+pub mod Joining
+pub mod Keeping
+pub mod Memo
+pub mod ReadOut
+pub mod Reading
+pub mod Solving
+pub mod Stepping
+pub mod Unifying
