@@ -1,4 +1,4 @@
-pub mod Made
+pub mod Constants
 pub mod Prelude
 pub mod Typing
 pub mod Laws
