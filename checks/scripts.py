@@ -70,7 +70,7 @@ def is_printed(found, lines):
 def differs(program, folder, words, script, status, printed):
     """What a run does otherwise than its block says, and nothing where it does the same."""
     try:
-        ran = subprocess.run([program, *words], input=script.encode(), capture_output=True, cwd=folder, timeout=60)
+        ran = subprocess.run([program, *words], input=script.encode(), capture_output=True, cwd=folder, timeout=120)
     except subprocess.TimeoutExpired:
         return "it does not end"
     if ran.returncode != status:
