@@ -1,10 +1,6 @@
 mod devices;
-mod examples;
-mod graph;
-mod limits;
-mod motion;
+mod gates;
 mod netcdf;
-mod plans;
 mod running;
 mod scripts;
 mod tables;

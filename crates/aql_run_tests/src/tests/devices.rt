@@ -1,11 +1,10 @@
-// Devices that give and take few bytes, or fail; and pieces that run beside each other.
+// Devices that give and take few bytes, or fail.
 use crate::tests::netcdf::folder;
 use crate::tests::running::{Devices, Ran, SURE, assert_ran, assert_same, run_over, run_script};
-use aql_outside::{FreeGate, Gate};
+use aql_outside::FreeGate;
 use aql_value::Memory;
 use std::alloc::Global;
 use std::process::Abort;
-use std::sync::atomic::{AtomicBool, Ordering};
 use std::thread::Threads;
 
 const SCRIPT: &[u8] = b"1; readval \\V using NETCDF2 at (\"s.nc\",\"v\",(0,0),(2,3));";
@@ -60,10 +59,9 @@ const SCRIPTS: &[&str] = &[
     "{(i,j) | [(\\i,\\j):6] <- [[2,3; 4, 6, 5, 6, 0, 6]]};",
 ];
 
-#[test]
-fn few_bytes_at_a_time(rt: HostRuntime) {
+fn assert_few_bytes<R: Threads + Sync + Abort>(rt: &R, alloc: Global) {
     for script in SCRIPTS {
-        assert_pieces(&rt, rt.alloc(), script);
+        assert_pieces(rt, alloc, script);
     }
 }
 
@@ -89,11 +87,10 @@ fn file_fails<R: Threads + Sync + Abort>(rt: &R, alloc: Global, k: u64) -> bool 
 }
 
 // Each call on the files fails in turn, until a run meets no failure.
-#[test]
-fn failing_files(rt: HostRuntime) {
+fn assert_failing_files<R: Threads + Sync + Abort>(rt: &R, alloc: Global) {
     let mut failed: u64 = 0;
     for k in 1..30 {
-        if file_fails(&rt, rt.alloc(), k) {
+        if file_fails(rt, alloc, k) {
             failed = failed.saturating_add(1);
         }
     }
@@ -143,12 +140,10 @@ fn sink_serves<R: Threads + Sync + Abort>(rt: &R, alloc: Global, k: u64) -> bool
 
 // Each read of the source fails in turn, and each write to the sink. In pieces of 20 the script and its end take four reads, the
 // lines of the two declarations two and three writes.
-#[test]
-fn failing_streams(rt: HostRuntime) {
-    let alloc = rt.alloc();
+fn assert_failing_streams<R: Threads + Sync + Abort>(rt: &R, alloc: Global) {
     for k in 1..12 {
-        assert_same(&rt, source_serves(&rt, alloc, k), 4 < k);
-        assert_same(&rt, sink_serves(&rt, alloc, k), 5 < k);
+        assert_same(rt, source_serves(rt, alloc, k), 4 < k);
+        assert_same(rt, sink_serves(rt, alloc, k), 5 < k);
     }
 }
 
@@ -247,90 +242,17 @@ fn assert_each_never<R: Threads + Sync + Abort>(rt: &R, alloc: Global, ending: &
 
 // No call on a device follows its first failure, whatever line the run ends in. This refuses a write that is tried again after it failed,
 // a read that is, and a run that goes on reading or writing behind a failure.
-#[test]
-fn a_device_that_failed_is_not_asked_again(rt: HostRuntime) {
+fn assert_not_asked_again<R: Threads + Sync + Abort>(rt: &R, alloc: Global) {
     for ending in ENDINGS {
-        assert_each_never(&rt, rt.alloc(), ending);
+        assert_each_never(rt, alloc, ending);
     }
 }
 
-/// Holds the pieces 0 and 1 until each has seen that the other came, or has looked often enough.
-#[derive(Drop)]
-struct Meeting {
-    first: AtomicBool,
-    second: AtomicBool,
-    first_saw: AtomicBool,
-    second_saw: AtomicBool,
-}
-
-const LOADS: u64 = 100_000_000;
-
-fn meet(mine: &AtomicBool, other: &AtomicBool, saw: &AtomicBool) {
-    mine.store(true, Ordering::SeqCst);
-    for _ in 0..LOADS {
-        if other.load(Ordering::SeqCst) {
-            saw.store(true, Ordering::SeqCst);
-            return;
-        }
-    }
-}
-
-impl Gate for Meeting {
-    fn pass(&self, piece: u64) {
-        if piece == 0 {
-            meet(&self.first, &self.second, &self.first_saw);
-        } else if piece == 1 {
-            meet(&self.second, &self.first, &self.second_saw);
-        }
-    }
-}
-
-fn no_meeting() -> Meeting {
-    Meeting {
-        first: AtomicBool::new(false),
-        second: AtomicBool::new(false),
-        first_saw: AtomicBool::new(false),
-        second_saw: AtomicBool::new(false),
-    }
-}
-
-fn has_met(gate: &Meeting) -> bool {
-    gate.first_saw.load(Ordering::SeqCst) && gate.second_saw.load(Ordering::SeqCst)
-}
-
-fn assert_meets<R: Threads + Sync + Abort>(rt: &R, alloc: Global, script: &str, output: &str) {
-    let gate = no_meeting();
-    let ran = run_over(
-        rt,
-        alloc,
-        &["--workers", "2"],
-        script.as_bytes(),
-        folder(alloc),
-        &SURE,
-        &gate,
-    );
-    assert!(rt; has_met(&gate), "{script}");
-    drop(gate);
-    assert_ran(rt, ran, 0, output.as_bytes());
-}
-
-const LOOPS: &[(&str, &str)] = &[
-    (
-        "[[i | \\i<2]];",
-        "typ it : [[nat]]_1\nval it = [[2; 0, 1]]\n",
-    ),
-    ("summap(fn \\x => x)!(gen!2);", "typ it : nat\nval it = 1\n"),
-    ("{x+1 | \\x <- gen!2};", "typ it : {nat}\nval it = {1, 2}\n"),
-    (
-        "index_1!({(0,5),(1,7)});",
-        "typ it : [[{nat}]]_1\nval it = [[2; {5}, {7}]]\n",
-    ),
-];
-
-// With two workers the two pieces of each kind of loop run beside each other.
 #[test]
-fn two_pieces_meet(rt: HostRuntime) {
-    for (script, output) in LOOPS {
-        assert_meets(&rt, rt.alloc(), script, output);
-    }
+fn devices_that_fail_or_give_few_bytes(rt: HostRuntime) {
+    let alloc = rt.alloc();
+    assert_few_bytes(&rt, alloc);
+    assert_failing_files(&rt, alloc);
+    assert_failing_streams(&rt, alloc);
+    assert_not_asked_again(&rt, alloc);
 }

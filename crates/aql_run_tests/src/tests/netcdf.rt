@@ -194,7 +194,6 @@ const FAULTS: &[Refused<'static>] = &[
         "(\"s.nc\",\"v\",(0,0),(340282366920938463463374607431768211455,0))",
         "outside dimension 1",
     ),
-    Refused("NETCDF1", "(\"\\xff\",\"v\",0,1)", "absent"),
 ];
 
 const READ: &[u8] = b"readval \\V using NETCDF2 at (\"s.nc\",\"v\",(0,0),(2,3));";
@@ -206,11 +205,10 @@ fn run_read<R: Threads + Sync>(rt: &R, alloc: Global, script: &[u8]) -> Result<R
     run_over(rt, alloc, &[], script, folder(alloc), &SURE, &FreeGate)
 }
 
-#[test]
-fn hyperslabs_are_read(rt: HostRuntime) {
+fn assert_values<R: Threads + Sync + Abort>(rt: &R, alloc: Global) {
     for row in VALUES {
-        let ran = run_read(&rt, rt.alloc(), row.0.as_bytes());
-        assert_ran(&rt, ran, 0, row.1.as_bytes());
+        let ran = run_read(rt, alloc, row.0.as_bytes());
+        assert_ran(rt, ran, 0, row.1.as_bytes());
     }
 }
 
@@ -248,11 +246,9 @@ fn assert_refused<R: Abort>(rt: &R, ran: Result<Ran, Memory>, line: Result<Strin
     drop(line);
 }
 
-#[test]
-fn files_are_refused(rt: HostRuntime) {
-    let alloc = rt.alloc();
+fn assert_faults<R: Threads + Sync + Abort>(rt: &R, alloc: Global) {
     for row in FAULTS {
-        assert_refused(&rt, read(&rt, alloc, row.0, row.1), line(alloc, row.2));
+        assert_refused(rt, read(rt, alloc, row.0, row.1), line(alloc, row.2));
     }
 }
 
@@ -294,10 +290,9 @@ const CELLS: &[(&str, u128)] = &[
 ];
 
 // The cells are counted before any call is made on the files.
-#[test]
-fn cells_are_counted_first(rt: HostRuntime) {
+fn assert_cells<R: Threads + Sync + Abort>(rt: &R, alloc: Global) {
     for (script, cells) in CELLS {
-        assert_counted(&rt, read_within_five(&rt, rt.alloc(), script), *cells);
+        assert_counted(rt, read_within_five(rt, alloc, script), *cells);
     }
 }
 
@@ -342,18 +337,12 @@ fn read_cut_offset<R: Threads + Sync>(rt: &R, alloc: Global) -> Result<Ran, Memo
     read_in(rt, alloc, script, bytes)
 }
 
-#[test]
-fn cut_files_are_refused(rt: HostRuntime) {
-    let alloc = rt.alloc();
+fn assert_cuts<R: Threads + Sync + Abort>(rt: &R, alloc: Global) {
     for length in 0..108 {
-        assert_refused(
-            &rt,
-            read_cut(&rt, alloc, length),
-            line_of_cut(alloc, length),
-        );
+        assert_refused(rt, read_cut(rt, alloc, length), line_of_cut(alloc, length));
     }
     let line = line(alloc, "malformed at 120");
-    assert_refused(&rt, read_cut_offset(&rt, alloc), line);
+    assert_refused(rt, read_cut_offset(rt, alloc), line);
 }
 
 // Words of a header that are changed, each at its offset; then what is said of the file, and nothing where the values are read as
@@ -392,9 +381,18 @@ fn assert_changed<R: Threads + Sync + Abort>(rt: &R, alloc: Global, row: &Change
     }
 }
 
-#[test]
-fn changed_headers_are_refused(rt: HostRuntime) {
+fn assert_changes<R: Threads + Sync + Abort>(rt: &R, alloc: Global) {
     for row in CHANGED {
-        assert_changed(&rt, rt.alloc(), row);
+        assert_changed(rt, alloc, row);
     }
+}
+
+#[test]
+fn netcdf_files(rt: HostRuntime) {
+    let alloc = rt.alloc();
+    assert_values(&rt, alloc);
+    assert_faults(&rt, alloc);
+    assert_cells(&rt, alloc);
+    assert_cuts(&rt, alloc);
+    assert_changes(&rt, alloc);
 }

@@ -1,4 +1,4 @@
-// Files of records: values, plans, turns, faults, the budget, devices that fail or give few bytes.
+// Files of records: values, faults, the budget, devices that fail or give few bytes.
 use crate::tests::netcdf::{folder as grids, with_file};
 use crate::tests::running::{
     Folder, Ran, Row, SURE, assert_past, assert_ran, assert_same, bytes, run_files, run_over,
@@ -13,17 +13,9 @@ use std::thread::Threads;
 const PAIRS: &[u8] = b"1,ab\n2,\"c,d\"\n1,ab\n";
 
 // The files that the tables read, beside those with arrays.
-pub(crate) fn folder(alloc: Global) -> Result<Folder, Memory> {
+fn folder(alloc: Global) -> Result<Folder, Memory> {
     let all = with_file(alloc, grids(alloc), "a.csv", bytes(alloc, PAIRS));
-    let all = with_file(alloc, all, "empty.csv", bytes(alloc, b""));
-    let all = with_file(alloc, all, "plus.csv", bytes(alloc, b"1\n+1\n2,3\n"));
-    let all = with_file(alloc, all, "one.csv", bytes(alloc, b"b\na\n\nb\n\xff"));
-    with_file(
-        alloc,
-        all,
-        "open.csv",
-        bytes(alloc, b"n\r\n7,\"a\r\n\"\"b\"\"\""),
-    )
+    with_file(alloc, all, "empty.csv", bytes(alloc, b""))
 }
 
 const ROWS: &[Row<'static>] = &[
@@ -52,22 +44,10 @@ const ROWS: &[Row<'static>] = &[
         "fault file in declaration 1: number in field 2 of record 1\n",
     ),
     Row(
-        &[],
-        "readval \\T using CSVHNN at \"a.csv\";",
-        9,
-        "fault file in declaration 1: number in field 2 of record 2\n",
-    ),
-    Row(
         &["--budget", "17"],
         "readval \\T using CSVNS at \"a.csv\";",
         12,
         "fault budget in declaration 1\n",
-    ),
-    Row(
-        &["--budget", "18"],
-        "readval \\T using CSVNS at \"a.csv\";",
-        0,
-        "typ T : {nat * string}\nval T = {(1, \"ab\"), (2, \"c,d\")}\n",
     ),
     Row(
         &["--plan", "--budget", "1"],
@@ -75,90 +55,10 @@ const ROWS: &[Row<'static>] = &[
         0,
         "typ T : {nat * string}\nval T = {}\nplan T = \"empty.csv\"\nrules T = none\nturns T = 0\n",
     ),
-    Row(
-        &[],
-        "readval \\T using CSVN at \"none.csv\";",
-        9,
-        "fault file in declaration 1: absent\n",
-    ),
-    Row(
-        &["--budget", "1"],
-        "readval \\T using CSVN at \"\\xff\";",
-        9,
-        "fault file in declaration 1: absent\n",
-    ),
-    // The first record with a fault counts, and no sign is part of a number.
-    Row(
-        &[],
-        "readval \\T using CSVN at \"plus.csv\";",
-        9,
-        "fault file in declaration 1: number in field 1 of record 2\n",
-    ),
-    Row(
-        &[],
-        "readval \\T using CSVS at \"plus.csv\";",
-        9,
-        "fault file in declaration 1: fields 2 in record 3\n",
-    ),
-    // A single kind gives the fields themselves.
-    Row(
-        &[],
-        "readval \\T using CSVS at \"one.csv\";",
-        0,
-        "typ T : {string}\nval T = {\"a\", \"b\", \"\\xff\"}\n",
-    ),
-    // Quotes keep an end of line, and two of them inside are one. The file's last record need not end.
-    Row(
-        &["--plan"],
-        "readval \\T using CSVHNS at \"open.csv\";",
-        0,
-        "typ T : {nat * string}\nval T = {(7, \"a\\x0d\\x0a\\\"b\\\"\")}\nplan T = \"open.csv\"\nrules T = none\nturns T = 15\n",
-    ),
-    // An argument without a value, and no call on the files.
-    Row(
-        &[],
-        "readval \\T using CSVS at (if 1/0 = 1 then \"a.csv\" else \"b\");",
-        0,
-        "typ T : {string}\nval T = undefined\n",
-    ),
-    // The argument passes the budget before the file is looked for.
-    Row(
-        &["--budget", "1000"],
-        "readval \\T using CSVS at (if summap(fn \\x => x)!(gen!5000) = 0 then \"a.csv\" else \"none.csv\");",
-        12,
-        "fault budget in declaration 1\n",
-    ),
-    // A fault ends the run behind what was answered.
-    Row(
-        &[],
-        "1; readval \\T using CSVN at \"a.csv\"; T;",
-        9,
-        "typ it : nat\nval it = 1\nfault file in declaration 2: fields 2 in record 1\n",
-    ),
-    Row(
-        &[],
-        "readval \\T using CSVNS at \"a.csv\"; val \\T = 5; T;",
-        0,
-        "typ T : {nat * string}\nval T = {(1, \"ab\"), (2, \"c,d\")}\ntyp T : nat\nval T = 5\ntyp it : nat\nval it = 5\n",
-    ),
-    // Records beside an array: a subscript by a field.
-    Row(
-        &[],
-        "readval \\T using CSVNS at \"a.csv\"; readval \\V using NETCDF2 at (\"s.nc\",\"v\",(0,0),(2,3)); {(s,V[0,n]) | (\\n,\\s) <- T};",
-        0,
-        "typ T : {nat * string}\nval T = {(1, \"ab\"), (2, \"c,d\")}\ntyp V : [[nat]]_2\nval V = [[2,3; 1, 2, 3, 4, 5, 6]]\ntyp it : {string * nat}\nval it = {(\"ab\", 2), (\"c,d\", 3)}\n",
-    ),
-    // The file's name may come of records.
-    Row(
-        &[],
-        "readval \\T using CSVN at get!({s | (2,\\s) <- {(1,\"a.csv\"),(2,\"empty.csv\")}});",
-        0,
-        "typ T : {nat}\nval T = {}\n",
-    ),
 ];
 
-/// Fails where the run of a script over the files is not as its row says.
-pub(crate) fn assert_read<R: Threads + Sync + Abort>(rt: &R, alloc: Global, row: &Row<'_>) {
+// Fails where the run of a script over the files is not as its row says.
+fn assert_read<R: Threads + Sync + Abort>(rt: &R, alloc: Global, row: &Row<'_>) {
     let ran = run_over(
         rt,
         alloc,
@@ -171,35 +71,18 @@ pub(crate) fn assert_read<R: Threads + Sync + Abort>(rt: &R, alloc: Global, row:
     assert_ran(rt, ran, row.2, row.3.as_bytes());
 }
 
-#[test]
-fn records_are_read(rt: HostRuntime) {
+fn assert_reads<R: Threads + Sync + Abort>(rt: &R, alloc: Global) {
     for row in ROWS {
-        assert_read(&rt, rt.alloc(), row);
+        assert_read(rt, alloc, row);
     }
 }
 
-// A run of the script with these words.
-fn run_turns<R: Threads + Sync>(rt: &R, alloc: Global, words: &[&str]) -> Result<Ran, Memory> {
+// A run whose file is past the budget, and told by its size.
+fn run_past<R: Threads + Sync>(rt: &R, alloc: Global) -> Result<Ran, Memory> {
     let script =
         b"readval \\T using CSVNS at (if summap(fn \\x => x)!(gen!3) = 3 then \"a.csv\" else \"b\");";
+    let words = &["--budget", "17"];
     run_over(rt, alloc, words, script, folder(alloc), &SURE, &FreeGate)
-}
-
-// Fails where a run did not end well, or its last line is not this.
-fn assert_ends<R: Abort>(rt: &R, ran: Result<Ran, Memory>, line: &[u8]) {
-    let ran = ran.expect(rt, "memory for a run");
-    assert_same(rt, ran.status, 0);
-    assert!(rt; ran.output.ends_with(line));
-    drop(ran);
-}
-
-// The turns of an argument and the bytes of the file are added; a file past the budget is told by its size.
-#[test]
-fn bytes_are_turns(rt: HostRuntime) {
-    let alloc = rt.alloc();
-    assert_ends(&rt, run_turns(&rt, alloc, &["--plan"]), b"turns T = 24\n");
-    let ran = run_turns(&rt, alloc, &["--budget", "17"]);
-    assert_past(&rt, ran.expect(&rt, "memory for a run"), 18);
 }
 
 const SCRIPT: &[u8] = b"1; readval \\T using CSVNS at \"a.csv\";";
@@ -223,13 +106,12 @@ fn assert_failed<R: Abort>(rt: &R, ran: Result<Ran, Memory>) {
 }
 
 // Two calls are made on the files, for the size and for the bytes. Each fails in turn.
-#[test]
-fn calls_fail(rt: HostRuntime) {
+fn assert_calls<R: Threads + Sync + Abort>(rt: &R, alloc: Global) {
     for k in 1..3 {
-        assert_failed(&rt, run_failing(&rt, rt.alloc(), k));
+        assert_failed(rt, run_failing(rt, alloc, k));
     }
     for k in 3..5 {
-        assert_ran(&rt, run_failing(&rt, rt.alloc(), k), 0, OUTPUT);
+        assert_ran(rt, run_failing(rt, alloc, k), 0, OUTPUT);
     }
 }
 
@@ -287,10 +169,19 @@ const CUTS: &[(usize, u8, &[u8])] = &[
 ];
 
 // A file that ends before its size is cut, whatever its records.
-#[test]
-fn cut_files(rt: HostRuntime) {
+fn assert_cuts<R: Threads + Sync + Abort>(rt: &R, alloc: Global) {
     for (most, status, output) in CUTS {
-        let ran = run_files(&rt, rt.alloc(), SCRIPT, few_of(rt.alloc(), *most));
-        assert_ran(&rt, ran, *status, output);
+        let ran = run_files(rt, alloc, SCRIPT, few_of(alloc, *most));
+        assert_ran(rt, ran, *status, output);
     }
+}
+
+#[test]
+fn files_of_records(rt: HostRuntime) {
+    let alloc = rt.alloc();
+    assert_reads(&rt, alloc);
+    let past = run_past(&rt, alloc);
+    assert_past(&rt, past.expect(&rt, "memory for a run"), 18);
+    assert_calls(&rt, alloc);
+    assert_cuts(&rt, alloc);
 }
