@@ -24,7 +24,6 @@ use std::alloc::Global;
 pub const COUNT: u64 = 24;
 
 /// The declarations of the prelude, in order.
-
 pub fn prelude(alloc: Global) -> Result<Decls, Memory>
     ensures declarations { IfOk result (λ d. decls_of d.items.items ≡ prelude_decls) }
     ensures count { IfOk result (λ d. length d.items.items ≡ prelude_count) }
