@@ -1,5 +1,5 @@
 -- The type language: types, their two counts and the limits on them, substitutions, and the sorts of a declaration.
-use Rattle.std.specs.Prelude.{ℕ, zero, suc, true, List, [], ◌∷◌, replicate, ◌+◌, ◌≤◌, ◌==◌, ◌&&◌, ◌||◌, Bool, false, max, if◌then◌else◌, nat_le}
+use Rattle.std.specs.Prelude.{ℕ, zero, suc, true, List, [], ◌∷◌, replicate, ◌+◌, ◌≤◌, ◌==◌, ◌&&◌, ◌||◌, Bool, false, max, nat_le}
 
 mutual
   -- natural numbers, truth values, strings, a variable, tuples, sets, and arrays by their rank and cells

@@ -1,6 +1,5 @@
 -- Two of the code's nodes made one.
-use Rattle.std.proofs.Common.{ℕ, ◌≡◌, ◌<◌, List, [], ◌++◌, length, set, get_or, true, false, refl, sym, ap, ◌∙◌, subst, arith, append-nil, inl, inr, get_or-set_same, get_or-set_other, ◌≤◌}
-use Rattle.std.proofs.lemmas.Bool.{cases_eq}
+use Rattle.std.proofs.Common.{ℕ, ◌≡◌, ◌<◌, List, [], ◌++◌, length, set, get_or, true, false, refl, sym, ap, ◌∙◌, subst, arith, append-nil}
 use Rattle.aql_types.specs.declared.node.Node.{Node}
 use Rattle.aql_types.specs.declared.node.Node.TheVariants as node
 use Rattle.aql_types.specs.declared.node.Equation.{Equation}

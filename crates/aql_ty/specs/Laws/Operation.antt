@@ -1,32 +1,29 @@
 -- The value of an operation has its type, where the parts have theirs; and the parts of values of each kind of type.
-use Rattle.std.proofs.Common.{◌≡◌, ℕ, zero, suc, ◌+◌, ◌-◌, ◌<◌, ◌≤◌, Bool, true, false, nat_lt, nat_eq, List, [], ◌∷◌, ◌++◌, length, map, drop, take, replicate, Option, Some, None, refl, sym, ap, subst, ◌∙◌, arith, if◌then◌else◌, inl, inr, ◌⊎◌, ◌^◌, cond, zip, sum}
+use Rattle.std.proofs.Common.{◌≡◌, ℕ, zero, suc, ◌≤◌, Bool, true, false, nat_eq, List, [], ◌∷◌, ◌++◌, length, map, drop, take, replicate, Option, Some, None, refl, sym, ap, subst, ◌∙◌, arith, if◌then◌else◌, cond, zip}
 use Rattle.std.specs.List.{slice_get, filter}
 use Rattle.std.specs.Cmp.Lexicographic.{pointwise}
 use Rattle.std.proofs.lemmas.List.{length-map}
 use Rattle.std.proofs.lemmas.Bool.{eqb-true}
-use Rattle.std.specs.List.Sorted.{IsStrictlySortedBy}
 use Rattle.std.proofs.lemmas.Option.{same_Some}
-use Rattle.aql_value.specs.declared.ops.ArithOp.{ArithOp}
 use Rattle.aql_value.specs.Datum as datum
 use Rattle.aql_value.specs.Datum.{Datum, Table, data_of, list_of}
 use Rattle.aql_value.specs.Laws.Datum.{list_of-data_of}
 use Rattle.aql_value.specs.Canon.{canon, IsAscending}
 use Rattle.aql_value.specs.Laws.Canon.{ascending_canon}
 use Rattle.aql_value.specs.Laws.Set.{Every-canon, ascending_below}
-use Rattle.aql_value.specs.Indices.{indices, product, cell, paired_value, pairs}
+use Rattle.aql_value.specs.Indices.{indices, product, cell, paired_value}
 use Rattle.aql_value.specs.Laws.Indices.{length_indices}
-use Rattle.aql_value.specs.Laws.RowMajor.{indices_lengths}
 use Rattle.aql_value.specs.Lists.{Every, below}
-use Rattle.aql_value.specs.Laws.Lists.{Every-all, Every-impl, Every-map, Every-onto, Every-append, Every-lists, Every-get, length-below}
+use Rattle.aql_value.specs.Laws.Lists.{Every-all, Every-onto, Every-append, length-below}
 use Rattle.aql_value.specs.Ops.{arith_by}
-use Rattle.aql_value.specs.Operations.{as_natural, as_truth, as_tuple, as_set, as_array, in_range, tuple_of, nth, part_of, set_of, union_of, union_all, only, get_of, gen_of, arith_of, compare_of, sum_of, array_of, literal_of, index_value, push_index, dims_of, dim_of, cell_of, index_numbers, as_indexed, greater_each, dims_above, values_at, index_array, index_of}
+use Rattle.aql_value.specs.Operations.{as_natural, as_tuple, as_set, as_array, tuple_of, nth, part_of, set_of, union_of, only, get_of, gen_of, arith_of, compare_of, array_of, index_value, dims_of, dim_of, cell_of, index_numbers, as_indexed, greater_each, dims_above, values_at, index_array, index_of}
 use Rattle.aql_value.specs.Laws.Operations.{array_of-is, indexed-is}
-use Rattle.aql_value.specs.Partial.{◌>>=◌, each, concat}
-use Rattle.aql_value.specs.Laws.Partial.{then-is, each-values, each-length}
+use Rattle.aql_value.specs.Partial.{◌>>=◌, each}
+use Rattle.aql_value.specs.Laws.Partial.{then-is, each-values}
 use Rattle.aql_value.specs.Strict.{Strict, strict_value, nullary, unary, binary, sub_value}
 use Rattle.aql_ty.specs.Types as types
 use Rattle.aql_ty.specs.Types.{Ty, Tys, no_type, type, natural, truth, text, apply, apply_all, Subst, tys_of, index_type, IsRank}
-use Rattle.aql_ty.specs.ValueTypes.{HasType, AllHaveTypes, HaveTypes}
+use Rattle.aql_ty.specs.ValueTypes.{HasType, HaveTypes}
 use Rattle.aql_ty.specs.OperationTypes.{strict_rule}
 
 -- lists of values of these types

@@ -1,9 +1,9 @@
 -- Laws on types: instances of instances, and parts of types within the limits.
-use Rattle.std.proofs.Common.{ℕ, ◌≡◌, ◌+◌, ◌≤◌, Bool, true, false, ◌==◌, ◌&&◌, refl, sym, ap, ◌∙◌, arith, if◌then◌else◌, max, zero, suc}
+use Rattle.std.proofs.Common.{ℕ, ◌≡◌, ◌+◌, ◌≤◌, true, ◌&&◌, refl, ap, arith, max, zero, suc}
 use Rattle.std.specs.Cmp.{first_so, second_so}
 use Rattle.std.specs.Cmp.Derive.{both_true}
 use Rattle.std.proofs.Math.Dec.{leb}
-use Rattle.std.proofs.lemmas.Bool.{eqb-true, leb-true, le-leb, or_parts}
+use Rattle.std.proofs.lemmas.Bool.{leb-true, le-leb}
 use Rattle.aql_ty.specs.Types.{Ty, natural, truth, text, var, product, set_of, array_of, Tys, no_type, type, Subst, apply, apply_all, nodes, nodes_all, levels, levels_all, IsType, AreTypes, is_type, are_types, IsWithin, fits, count, append, Sort, value, macro, apply_sort, index_type, natural_types}
 
 -- tuples' parts are the same where the first and the others are
