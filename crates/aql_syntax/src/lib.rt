@@ -18,3 +18,4 @@ pub mod positions;
 pub mod sign;
 pub mod sizes;
 pub mod token;
+pub mod walk;
