@@ -190,7 +190,8 @@ fn two<M: Macros>(a: &Expr, b: &Expr, macros: &M) -> Counts
 #[cycle(measure)]
 #[tactic(auto, using(crate::specs::Laws::View::trees_steps))]
 fn measure_all<M: Macros>(es: &[Expr], macros: &M) -> Counts
-    ensures size { result.size ≡ min (sizes.sizes (trees_of es.now) (M.extents macros.now)) (2 ^ 64 - 1) }
+    ensures size { result.size ≡ min
+        (sizes.sizes (trees_of es.now) (M.extents macros.now)) (2 ^ 64 - 1) }
     ensures levels { result.levels ≡ min
         (sizes.greatest (trees_of es.now) (M.extents macros.now)) (2 ^ 64 - 1) }
 {
@@ -219,8 +220,10 @@ fn measure_quals<M: Macros>(quals: &[Qual], macros: &M) -> Counts
 // The parts of a qualifier, before others.
 #[cycle(measure)]
 fn measure_qual<M: Macros>(q: &Qual, macros: &M) -> Counts
-    ensures size { result.size ≡ min (sizes.size (qual_part q.now) (M.extents macros.now)) (2 ^ 64 - 1) }
-    ensures levels { result.levels ≡ min (sizes.levels (qual_part q.now) (M.extents macros.now)) (2 ^ 64 - 1) }
+    ensures size { result.size ≡ min
+        (sizes.size (qual_part q.now) (M.extents macros.now)) (2 ^ 64 - 1) }
+    ensures levels { result.levels ≡ min
+        (sizes.levels (qual_part q.now) (M.extents macros.now)) (2 ^ 64 - 1) }
 {
     match q {
         Qual::From { pattern: _, over } => measure(over, macros),
