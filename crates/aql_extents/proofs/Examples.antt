@@ -6,7 +6,7 @@ use Rattle.aql_syntax.specs.Tree as tree
 use Rattle.aql_syntax.specs.Tree.{Name, Tree, no_tree, mac, val}
 use Rattle.aql_syntax.specs.View.{of_two}
 use Rattle.aql_syntax.specs.Size.{Extent, size}
-use Rattle.aql_extents.specs.Kept.{keep, kept_of}
+use Rattle.aql_syntax.specs.Kept.{keep, kept_of}
 
 abbrev a : Name
 a = 97 ∷ []

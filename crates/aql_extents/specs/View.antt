@@ -1,12 +1,9 @@
 -- The extents that the code's list of them is, beside the names of the positions.
 use Rattle.std.specs.Prelude.{List, [], ◌∷◌, Some}
 use Rattle.aql_syntax.specs.Tree.{Name}
-use Rattle.aql_syntax.specs.Size.{Extent, Extents}
-use Rattle.aql_extents.specs.declared.extents.Added.{Added}
-
--- the extent that three numbers of the code are
-abbrev pub extent_in : Added → Extent
-extent_in k = record { pattern = k.pattern; size = k.size; levels = k.levels }
+use Rattle.aql_syntax.specs.Size.{Extents}
+use Rattle.aql_syntax.specs.Kept.{extent_in}
+use Rattle.aql_syntax.specs.declared.walk.Added.{Added}
 
 -- names with what is kept of them, put before others one after another
 abbrev pub entries_onto : List Name → List Added → Extents → Extents

@@ -1,31 +1,21 @@
 //! The declarations so far, as the sizes of what comes after them want them.
 
 ghost use Rattle.std.specs.Prelude.{◌≡◌, ◌-◌, ◌^◌, ◌++◌, ◌∷◌, [], min, OnOk, OnErr, List, Some};
-ghost use Rattle.aql_syntax.specs.Names.{find};
 ghost use Rattle.aql_syntax.specs.View.{tree_of, decl_of};
 ghost use Rattle.aql_syntax.specs.Size as sizes;
-ghost use Rattle.aql_syntax.specs.Size.{extents_of, extent_of, extent, decl_size, decl_levels};
+ghost use Rattle.aql_syntax.specs.Size.{extents_of, decl_size, decl_levels};
 ghost use Rattle.aql_syntax.specs.Measured.{latest, names_of};
 ghost use Rattle.aql_syntax.specs.declared.ast.Decl.{Decl};
-ghost use Rattle.aql_extents.specs.Kept.{saturate_extent, extents_after};
-ghost use Rattle.aql_extents.specs.View.{extent_in};
+ghost use Rattle.aql_syntax.specs.Kept.{extent_in, extents_after};
 
-use crate::walk;
 use aql_names::names::Names;
 use aql_syntax::ast::{Decl, Expr};
 use aql_syntax::counts::{Counts, add_node};
+use aql_syntax::walk;
+use aql_syntax::walk::{Added, Macros};
 use aql_value::{Memory, Str};
 use std::alloc::Global;
 use std::marker::Model;
-
-/// What an application of a declaration adds: the nodes of its pattern, and the size and the levels of its body. Each is the
-/// greatest number of 64 bits where it passes it, and 0 where the declaration is no macro.
-#[derive(Clone, Copy)]
-pub(crate) struct Added {
-    pub(crate) pattern: u64,
-    pub(crate) size: u64,
-    pub(crate) levels: u64,
-}
 
 /// The declarations so far: their names in order, and what an application of each adds.
 #[derive(Drop)]
@@ -64,7 +54,7 @@ impl Extents {
             self.new ≡ extents_after (ds ++ d.now ∷ [])) }
         ensures as_before { OnErr result (self.new ≡ self.old) }
     {
-        let added = self.added_by(d);
+        let added = Added::by(d, self);
         let name = d.name_copy(alloc)?;
         self.add(alloc, &name, added)
     }
@@ -114,18 +104,6 @@ impl Extents {
         &self.names
     }
 
-    // What an application of the name adds: nothing where it is no macro.
-    pub(crate) fn macro_addition(&self, name: &Str) -> Added
-        ensures pattern { result.pattern ≡ (extent_of (find name.now self.now)).pattern }
-        ensures size { result.size ≡ (extent_of (find name.now self.now)).size }
-        ensures levels { result.levels ≡ (extent_of (find name.now self.now)).levels }
-    {
-        match self.names.latest(name) {
-            Some(i) => self.added[i],
-            None => nothing(),
-        }
-    }
-
     // One position more, of that name.
     fn add(&mut self, alloc: Global, name: &Str, added: Added) -> Result<(), Memory>
         ensures pushed { OnOk result (self.new ≡ (name.now, Some (extent_in added)) ∷ self.old) }
@@ -140,44 +118,15 @@ impl Extents {
             }
         }
     }
-
-    // What an application of a declaration after the declarations adds.
-    fn added_by(&self, d: &Decl) -> Added
-        ensures { extent_in result
-            ≡ saturate_extent (extent_of (Some (extent (decl_of d.now) self.now))) }
-    {
-        match d {
-            Decl::Val { name: _, expr: _ } => nothing(),
-            Decl::Macro {
-                name: _,
-                pattern,
-                body,
-            } => {
-                let counts = walk::measure(body, self);
-                Added {
-                    pattern: pattern.nodes(),
-                    size: counts.size,
-                    levels: counts.levels,
-                }
-            }
-            Decl::Read {
-                name: _,
-                reader: _,
-                expr: _,
-            } => nothing(),
-            Decl::Bare { expr: _ } => nothing(),
-        }
-    }
 }
 
-fn nothing() -> Added
-    ensures pattern { result.pattern ≡ 0 }
-    ensures size { result.size ≡ 0 }
-    ensures levels { result.levels ≡ 0 }
-{
-    Added {
-        pattern: 0,
-        size: 0,
-        levels: 0,
+impl Macros for Extents {
+    ghost extents = { λ ms. ms };
+
+    fn addition(&self, name: &Str) -> Added {
+        match self.names.latest(name) {
+            Some(i) => self.added[i],
+            None => Added::none(),
+        }
     }
 }

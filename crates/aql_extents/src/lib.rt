@@ -1,11 +1,8 @@
 //! The sizes of declarations, each measured once.
 //!
-//! `Extents` keeps of the declarations so far an index of their names and what an application of each adds. So `measure` of an
-//! expression after them is one walk over that expression, and answers what `measure` of aql_syntax does, which goes into the
-//! body of each macro anew.
-//!
-//! Read `specs/Kept`, then `extents`, then `walk`.
+//! `Extents` keeps of the declarations so far an index of their names and what an application of each adds, for the walk of
+//! aql_syntax over one expression. So each declaration is measured once, where `measure` of aql_syntax, which takes no memory,
+//! measures those before it anew at each call.
 #![tactic(auto)]
 
 pub mod extents;
-mod walk;

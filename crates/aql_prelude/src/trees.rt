@@ -1,6 +1,6 @@
 //! The trees that constants stand for.
 
-ghost use Rattle.std.specs.Prelude.{List, ℕ, ◌≡◌, IfOk};
+ghost use Rattle.std.specs.Prelude.{◌≡◌, IfOk};
 ghost use Rattle.aql_syntax.specs.Tree.{Quals};
 ghost use Rattle.aql_syntax.specs.View.{pat_of, tree_of, qual_of, decl_of, decls_of};
 ghost use Rattle.aql_prelude.specs.Constants.{pat_of_constant, tree_of_constant, qual_of_constant, decl_of_constant, decls_of_constants};

@@ -6,7 +6,7 @@ ghost use Rattle.aql_syntax.specs.Measured.{latest};
 ghost use Rattle.aql_syntax.specs.Size.{AreWithin, PassLimits, decl_size, decl_levels, extents_of};
 ghost use Rattle.aql_syntax.specs.View.{decl_of};
 ghost use Rattle.aql_syntax.specs.declared.ast.Decl.{Decl};
-ghost use Rattle.aql_extents.specs.Kept.{extents_after};
+ghost use Rattle.aql_syntax.specs.Kept.{extents_after};
 ghost use Rattle.aql_script.specs.Limits.{SearchesLarge};
 
 use aql_extents::extents::Extents;

@@ -2,6 +2,7 @@
 pub mod Index
 pub mod Lexis
 pub mod Measuring
+pub mod Kept
 pub mod Names
 pub mod Rows
 pub mod Sound

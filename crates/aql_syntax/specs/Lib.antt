@@ -4,6 +4,7 @@ pub mod Laws
 pub mod Lexis
 pub mod Matching
 pub mod Measured
+pub mod Kept
 pub mod Names
 pub mod Nodes
 pub mod Rows

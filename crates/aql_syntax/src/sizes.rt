@@ -1,15 +1,16 @@
 //! The size and the levels of a declaration with every macro put in place.
 
-ghost use Rattle.std.specs.Prelude.{◌≡◌, ◌-◌, ◌+◌, ◌^◌, ◌≤◌, min, max, length, take, reverse, ◌<◌, Some, true, false};
+ghost use Rattle.std.specs.Prelude.{◌≡◌, ◌-◌, ◌+◌, ◌^◌, ◌≤◌, min, length, take, reverse, ◌<◌};
 ghost use Rattle.std.specs.List.{slice_get};
-ghost use Rattle.aql_syntax.specs.Names.{find};
-ghost use Rattle.aql_syntax.specs.View.{tree_of, trees_of, quals_of, axes_in, defs_in, pat_of, pats_of, decl_of, decls_of};
+ghost use Rattle.aql_syntax.specs.View.{tree_of, pat_of, pats_of, decl_of, decls_of};
 ghost use Rattle.aql_syntax.specs.Size as sizes;
-ghost use Rattle.aql_syntax.specs.Size.{pat_nodes, pats_nodes, expanded_size, expanded_levels, extents_of, extent_of, decl_size, decl_levels, size_at, levels_at};
-ghost use Rattle.aql_syntax.specs.Measured.{latest, qual_part};
+ghost use Rattle.aql_syntax.specs.Size.{pat_nodes, pats_nodes, expanded_size, expanded_levels, extents_of, decl_size, decl_levels, size_at, levels_at};
+ghost use Rattle.aql_syntax.specs.Measured.{latest};
+ghost use Rattle.aql_syntax.specs.Kept.{kept_onto, chain_extents};
 
-use crate::ast::{Bind, Decl, Decls, Expr, LetBind, Pattern, Qual};
-use crate::counts::{Counts, add_node, add_parts, digits, leaf, lets_nodes, nothing, quals_nodes};
+use crate::ast::{Decl, Decls, Expr, Pattern};
+use crate::counts::{Counts, add_node};
+use crate::walk::{self, Added, Macros};
 use aql_value::Str;
 
 /// The most nodes of a declaration, with every macro put in place.
@@ -74,240 +75,68 @@ fn measure_own(d: &Decl, before: &[Decl]) -> Counts
 }
 
 /// The size and the levels of an expression after these declarations.
-#[cycle(measure)]
-#[tactic(auto, using(crate::specs::Laws::Measuring::measure_views))]
+///
+/// Nothing is kept of the declarations but on the stack: the room of one call for each.
 pub fn measure(e: &Expr, earlier: &[Decl]) -> Counts
     ensures size { result.size ≡ min (sizes.size (tree_of e.now) (extents_of (latest earlier.now)))
         (2 ^ 64 - 1) }
     ensures levels { result.levels ≡ min
         (sizes.levels (tree_of e.now) (extents_of (latest earlier.now))) (2 ^ 64 - 1) }
 {
-    match e {
-        Expr::Nat(_) => leaf(),
-        Expr::Bool(_) => leaf(),
-        Expr::Text(_) => leaf(),
-        Expr::Name(_) => leaf(),
-        Expr::Row(es) => add_node(1, 1, measure_all(&es.items, earlier)),
-        Expr::Empty => leaf(),
-        Expr::Members(es) => add_node(
-            1,
-            digits(es.items.len()).saturating_add(1),
-            measure_all(&es.items, earlier),
-        ),
-        Expr::Comp { head, quals } => {
-            let parts = add_parts(measure_quals(&quals.items, earlier), measure(head, earlier));
-            let patterns = quals_nodes(&quals.items);
-            let count = quals.items.len() as u64;
-            add_node(
-                count.saturating_add(patterns).saturating_add(1),
-                count
-                    .saturating_mul(4)
-                    .saturating_add(patterns)
-                    .saturating_add(1),
-                parts,
-            )
-        }
-        Expr::Tab { body, binds } => {
-            let parts = add_parts(measure_binds(&binds.items, earlier), measure(body, earlier));
-            let count = binds.items.len() as u64;
-            add_node(count.saturating_add(1), 1, parts)
-        }
-        Expr::Literal { dims, cells } => {
-            add_node(
-                1,
-                1,
-                add_parts(
-                    measure_all(&dims.items, earlier),
-                    measure_all(&cells.items, earlier),
-                ),
-            )
-        }
-        Expr::Let { binds, body } => {
-            let parts = add_parts(measure_lets(&binds.items, earlier), measure(body, earlier));
-            let patterns = lets_nodes(&binds.items);
-            let count = binds.items.len() as u64;
-            let own = count.saturating_add(patterns).saturating_add(1);
-            add_node(own, own, parts)
-        }
-        Expr::Sub { array, at } => add_node(
-            1,
-            1,
-            add_parts(measure(array, earlier), measure_all(&at.items, earlier)),
-        ),
-        Expr::If(c, a, b) => add_node(1, 1, add_parts(measure(c, earlier), two(a, b, earlier))),
-        Expr::And(a, b) => add_node(1, 1, two(a, b, earlier)),
-        Expr::Or(a, b) => add_node(1, 1, two(a, b, earlier)),
-        Expr::Not(a) => add_node(1, 1, measure(a, earlier)),
-        Expr::Compare(_, a, b) => add_node(1, 1, two(a, b, earlier)),
-        Expr::Arith(_, a, b) => add_node(1, 1, two(a, b, earlier)),
-        Expr::Union(a, b) => add_node(1, 1, two(a, b, earlier)),
-        Expr::Gen(a) => add_node(1, 1, measure(a, earlier)),
-        Expr::Get(a) => add_node(1, 1, measure(a, earlier)),
-        Expr::Len(a) => add_node(1, 1, measure(a, earlier)),
-        Expr::Dim { rank: _, array } => add_node(1, 1, measure(array, earlier)),
-        Expr::Index { rank: _, pairs } => add_node(1, 1, measure(pairs, earlier)),
-        Expr::Apply { name, argument } => {
-            let (nodes, body) = measure_macro(name, earlier);
-            let own = nodes.saturating_add(1);
-            add_node(own, own, add_parts(body, measure(argument, earlier)))
-        }
-        Expr::Fun {
-            pattern,
-            body,
-            argument,
-        } => {
-            let own = pattern.nodes().saturating_add(1);
-            add_node(own, own, two(body, argument, earlier))
-        }
-        Expr::SumMap {
-            pattern,
-            body,
-            over,
-        } => {
-            let own = pattern.nodes().saturating_add(1);
-            add_node(own, own, two(body, over, earlier))
-        }
-        Expr::Default(a, b) => add_node(1, 1, two(a, b, earlier)),
-    }
+    measure_onto(e, earlier, &Chain::Start)
 }
 
-#[cycle(measure)]
-fn two(a: &Expr, b: &Expr, earlier: &[Decl]) -> Counts
-    ensures size { result.size ≡ min (sizes.size (tree_of a.now) (extents_of (latest earlier.now))
-        + sizes.size (tree_of b.now) (extents_of (latest earlier.now))) (2 ^ 64 - 1) }
+// An expression after the declarations of which that is kept, and then these.
+fn measure_onto<'a>(e: &Expr, later: &'a [Decl], kept: &Chain<'a>) -> Counts
+    ensures size { result.size ≡ min
+        (sizes.size (tree_of e.now) (kept_onto later.now (chain_extents kept.now))) (2 ^ 64 - 1) }
     ensures levels { result.levels ≡ min
-        (max (sizes.levels (tree_of a.now) (extents_of (latest earlier.now)))
-        (sizes.levels (tree_of b.now) (extents_of (latest earlier.now)))) (2 ^ 64 - 1) }
+        (sizes.levels (tree_of e.now) (kept_onto later.now (chain_extents kept.now)))
+        (2 ^ 64 - 1) }
 {
-    add_parts(measure(a, earlier), measure(b, earlier))
-}
-
-#[cycle(measure)]
-#[tactic(auto, using(crate::specs::Laws::View::trees_steps))]
-fn measure_all(es: &[Expr], earlier: &[Decl]) -> Counts
-    ensures size { result.size ≡ min
-        (sizes.sizes (trees_of es.now) (extents_of (latest earlier.now))) (2 ^ 64 - 1) }
-    ensures levels { result.levels ≡ min (sizes.greatest (trees_of es.now)
-        (extents_of (latest earlier.now))) (2 ^ 64 - 1) }
-{
-    let mut total = nothing();
-    for e in es {
-        total = add_parts(total, measure(e, earlier));
-    }
-    total
-}
-
-#[cycle(measure)]
-#[tactic(auto, using(crate::specs::Laws::Measuring::qual_sums))]
-fn measure_quals(quals: &[Qual], earlier: &[Decl]) -> Counts
-    ensures size { result.size ≡ min (sizes.quals_sizes (quals_of quals.now)
-        (extents_of (latest earlier.now))) (2 ^ 64 - 1) }
-    ensures levels { result.levels ≡ min (sizes.quals_greatest (quals_of quals.now)
-        (extents_of (latest earlier.now))) (2 ^ 64 - 1) }
-{
-    let mut total = nothing();
-    for q in quals {
-        total = add_parts(total, measure_qual(q, earlier));
-    }
-    total
-}
-
-// The parts of a qualifier, before others.
-#[cycle(measure)]
-fn measure_qual(q: &Qual, earlier: &[Decl]) -> Counts
-    ensures size { result.size ≡ min
-        (sizes.size (qual_part q.now) (extents_of (latest earlier.now))) (2 ^ 64 - 1) }
-    ensures levels { result.levels ≡ min (sizes.levels (qual_part q.now)
-        (extents_of (latest earlier.now))) (2 ^ 64 - 1) }
-{
-    match q {
-        Qual::From { pattern: _, over } => measure(over, earlier),
-        Qual::Cells {
-            index: _,
-            cell: _,
-            over,
-        } => measure(over, earlier),
-        Qual::Match { pattern: _, of } => measure(of, earlier),
-        Qual::Test(e) => measure(e, earlier),
-    }
-}
-
-#[cycle(measure)]
-#[tactic(auto, using(crate::specs::Laws::View::axes_steps))]
-fn measure_binds(binds: &[Bind], earlier: &[Decl]) -> Counts
-    ensures size { result.size ≡ min (sizes.axes_sizes (axes_in binds.now)
-        (extents_of (latest earlier.now))) (2 ^ 64 - 1) }
-    ensures levels { result.levels ≡ min (sizes.axes_greatest (axes_in binds.now)
-        (extents_of (latest earlier.now))) (2 ^ 64 - 1) }
-{
-    let mut total = nothing();
-    for b in binds {
-        total = add_parts(total, measure(&b.bound, earlier));
-    }
-    total
-}
-
-#[cycle(measure)]
-#[tactic(auto, using(crate::specs::Laws::View::defs_steps))]
-fn measure_lets(binds: &[LetBind], earlier: &[Decl]) -> Counts
-    ensures size { result.size ≡ min (sizes.defs_sizes (defs_in binds.now)
-        (extents_of (latest earlier.now))) (2 ^ 64 - 1) }
-    ensures levels { result.levels ≡ min (sizes.defs_greatest (defs_in binds.now)
-        (extents_of (latest earlier.now))) (2 ^ 64 - 1) }
-{
-    let mut total = nothing();
-    for b in binds {
-        total = add_parts(total, measure(&b.expr, earlier));
-    }
-    total
-}
-
-// The nodes of the pattern of the macro of that name, and its body; nothing where it is no macro.
-#[cycle(measure)]
-#[tactic(auto, using(crate::specs::Laws::Measuring::macro_steps))]
-fn measure_macro(name: &Str, earlier: &[Decl]) -> (u64, Counts)
-    ensures pattern { result.0 ≡ min
-        ((extent_of (find name.now (extents_of (latest earlier.now)))).pattern) (2 ^ 64 - 1) }
-    ensures size { result.1.size ≡ min
-        ((extent_of (find name.now (extents_of (latest earlier.now)))).size) (2 ^ 64 - 1) }
-    ensures levels { result.1.levels ≡ min
-        ((extent_of (find name.now (extents_of (latest earlier.now)))).levels) (2 ^ 64 - 1) }
-{
-    let mut rest = earlier;
-    while let Some((last, before)) = rest.split_last() {
-        if last.declares(name) {
-            return measure_declared(last, before);
+    match later.split_first() {
+        None => walk::measure(e, kept),
+        Some((decl, rest)) => {
+            let added = Added::by(decl, kept);
+            let next = Chain::Then {
+                decl,
+                added,
+                before: &*kept,
+            };
+            measure_onto(e, rest, &next)
         }
-        rest = before;
     }
-    (0, nothing())
 }
 
-#[cycle(measure)]
-fn measure_declared(d: &Decl, before: &[Decl]) -> (u64, Counts)
-    ensures pattern { result.0 ≡ min
-        ((extent_of (Some (sizes.extent (decl_of d.now) (extents_of (latest before.now))))).pattern)
-        (2 ^ 64 - 1) }
-    ensures size { result.1.size ≡ min
-        ((extent_of (Some (sizes.extent (decl_of d.now) (extents_of (latest before.now))))).size)
-        (2 ^ 64 - 1) }
-    ensures levels { result.1.levels ≡ min
-        ((extent_of (Some (sizes.extent (decl_of d.now) (extents_of (latest before.now))))).levels)
-        (2 ^ 64 - 1) }
-{
-    match d {
-        Decl::Val { name: _, expr: _ } => (0, nothing()),
-        Decl::Macro {
-            name: _,
-            pattern,
-            body,
-        } => (pattern.nodes(), measure(body, before)),
-        Decl::Read {
-            name: _,
-            reader: _,
-            expr: _,
-        } => (0, nothing()),
-        Decl::Bare { expr: _ } => (0, nothing()),
+/// What is kept of declarations, one in front of those before it, without memory.
+#[derive(Clone, Copy)]
+enum Chain<'a> {
+    Start,
+    Then {
+        decl: &'a Decl,
+        added: Added,
+        before: &'a Chain<'a>,
+    },
+}
+
+impl<'b> Macros for Chain<'b> {
+    ghost extents = { chain_extents };
+
+    fn addition(&self, name: &Str) -> Added {
+        match self {
+            Chain::Start => Added::none(),
+            Chain::Then {
+                decl,
+                added,
+                before,
+            } => {
+                if decl.declares(name) {
+                    *added
+                } else {
+                    before.addition(name)
+                }
+            }
+        }
     }
 }
 

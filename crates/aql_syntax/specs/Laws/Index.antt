@@ -13,7 +13,6 @@ use Rattle.aql_value.specs.Partial.{◌>>=◌, each, concat, total}
 use Rattle.aql_value.specs.Laws.Partial.{each-then, each-append, each-map, total-concat, total-map}
 use Rattle.aql_value.specs.Operations.{part_of}
 use Rattle.aql_value.specs.Laws.Operations.{part_of-tuple}
-use Rattle.aql_syntax.specs.Tree.{tuple}
 use Rattle.aql_syntax.specs.Denotation.{over_indices}
 use Rattle.aql_syntax.specs.Work.{turns_over}
 

@@ -1,13 +1,12 @@
 -- Sizes along the code's lists.
-use Rattle.std.proofs.Common.{ℕ, zero, suc, ◌≡◌, ◌+◌, ◌<◌, ◌≤◌, ◌*◌, ◌/◌, ◌==◌, ◌≢◌, max, Bool, true, false, List, [], ◌∷◌, ◌++◌, Some, None, refl, sym, ap, ◌∙◌, arith, length, take, get_or, reverse, append-nil, append_assoc, if◌then◌else◌}
+use Rattle.std.proofs.Common.{ℕ, zero, suc, ◌≡◌, ◌+◌, ◌<◌, ◌≤◌, ◌*◌, ◌/◌, ◌==◌, ◌≢◌, max, Bool, true, false, List, [], ◌∷◌, ◌++◌, Some, refl, sym, ap, ◌∙◌, arith, length, take, get_or, reverse, append-nil, append_assoc, if◌then◌else◌}
 use Rattle.std.proofs.lemmas.Bool.{eqb-true, eq-eqb}
 use Rattle.std.specs.List.{slice_get}
 use Rattle.std.proofs.lemmas.List.{reverse-append}
-use Rattle.aql_syntax.specs.Names.{names_equal, find}
 use Rattle.aql_syntax.specs.Tree as tree
-use Rattle.aql_syntax.specs.Tree.{Name, Declaration, declared_name, Quals}
+use Rattle.aql_syntax.specs.Tree.{Declaration, Quals}
 use Rattle.aql_syntax.specs.View.{decl_of, decls_of, qual_of}
-use Rattle.aql_syntax.specs.Size.{Extents, extent, extents_of, binary_digits, digits_among, quals_sizes, quals_greatest, quals_patterns, count_quals, size, levels}
+use Rattle.aql_syntax.specs.Size.{Extents, binary_digits, digits_among, quals_sizes, quals_greatest, quals_patterns, count_quals, size, levels}
 use Rattle.aql_syntax.specs.Laws.View.{quals_from, quals_past, count_trees-list, count_axes-list}
 use Rattle.aql_syntax.specs.Measured.{onto, latest, qual_part, qual_pattern}
 use Rattle.std.specs.Prelude.{Box}
@@ -34,20 +33,6 @@ onto_last (e ∷ ds) d acc = onto_last ds d (decl_of e ∷ acc)
 -- the last declaration comes first
 pub latest_last : (ds : List Decl) (d : Decl) → latest (ds ++ d ∷ []) ≡ decl_of d ∷ latest ds
 latest_last ds d = onto_last ds d []
-
--- the last declaration has the name
-pub find_here : (x : Name) (ds all : List Decl) (d : Decl) → all ≡ ds ++ d ∷ [] → names_equal x (declared_name (decl_of d)) ≡ true →
-    find x (extents_of (latest all)) ≡ Some (extent (decl_of d) (extents_of (latest ds)))
-find_here x ds all d e h = rw (e, latest_last ds d, h) refl
-
--- the last declaration has another name
-pub find_past : (x : Name) (ds all : List Decl) (d : Decl) → all ≡ ds ++ d ∷ [] → names_equal x (declared_name (decl_of d)) ≡ false →
-    find x (extents_of (latest all)) ≡ find x (extents_of (latest ds))
-find_past x ds all d e h = rw (e, latest_last ds d, h) refl
-
-pub find_none : (x : Name) (all : List Decl) → length all ≡ 0 → find x (extents_of (latest all)) ≡ None
-find_none x [] e = refl
-find_none x (d ∷ ds) e = let bad : ⊥ = omega (arith, e) in absurd bad
 
 -- Qualifiers.
 
@@ -128,8 +113,6 @@ digits_none = refl
 pub ruleset digit_steps = (digits_step, digits_at_most, digits_none)
 
 pub ruleset qual_sums = (quals_sizes-qual_of, quals_greatest-qual_of, quals_patterns-qual_of, count_quals-qual_of, quals_from, quals_past)
-
-pub ruleset macro_steps = (find_here, find_past, find_none)
 
 -- The sizes and levels of the variants with a list in them, by the list.
 

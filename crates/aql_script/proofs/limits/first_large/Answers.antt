@@ -2,7 +2,7 @@ use Rattle.std.proofs.Common.{◌+◌, ◌<◌, ap, sym, ◌∙◌, subst, take,
 use Rattle.aql_syntax.specs.View.{decls_of}
 use Rattle.aql_syntax.specs.Size.{IsLarge}
 use Rattle.aql_prelude.specs.Prelude.{prelude_count}
-use Rattle.aql_extents.specs.Kept.{extents_after}
+use Rattle.aql_syntax.specs.Kept.{extents_after}
 use Rattle.aql_script.proofs.Past.{within_there, large_there, between_more, take_more, behind_again}
 use Rattle.aql_script.proofs.limits.first_large.Goals as goal
 

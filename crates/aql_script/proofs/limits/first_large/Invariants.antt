@@ -1,7 +1,7 @@
 use Rattle.std.specs.Prelude.{◌≡◌, take}
 use Rattle.aql_syntax.specs.View.{decls_of}
 use Rattle.aql_prelude.specs.Prelude.{prelude_count}
-use Rattle.aql_extents.specs.Kept.{extents_after}
+use Rattle.aql_syntax.specs.Kept.{extents_after}
 use Rattle.aql_script.specs.Limits.{WithinBetween}
 use Rattle.aql_script.proofs.limits.first_large.Given as goal
 

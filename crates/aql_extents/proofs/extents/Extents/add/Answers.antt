@@ -1,5 +1,6 @@
 use Rattle.std.proofs.Common.{◌∷◌, Some, ap, ◌∙◌}
-use Rattle.aql_extents.specs.View.{extent_in, entries}
+use Rattle.aql_syntax.specs.Kept.{extent_in}
+use Rattle.aql_extents.specs.View.{entries}
 use Rattle.aql_extents.proofs.Entries.{entries-last}
 use Rattle.aql_extents.proofs.extents.Extents.add.Goals as goal
 

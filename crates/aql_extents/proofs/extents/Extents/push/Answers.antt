@@ -5,4 +5,4 @@ use Rattle.aql_extents.proofs.extents.Extents.push.Goals as goal
 pub returns-clause-pushed : goal.returns-clause-pushed
 returns-clause-pushed c =
     on_ok_weaker c.add.result
-    (one-more c.in_ok-name.name c.added_by-added.result c.args.self.now c.add.new.self c.args.d.now c.in_ok-name.ensures c.added_by-added.ensures) c.add.ensures.pushed
+    (one-more c.in_ok-name.name c.by-added.result c.args.self.now c.add.new.self c.args.d.now c.in_ok-name.ensures c.by-added.ensures) c.add.ensures.pushed

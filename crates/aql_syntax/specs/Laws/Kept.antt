@@ -1,11 +1,12 @@
--- Sizes and levels by what is kept are those of the definition, as far as a limit.
-use Rattle.std.proofs.Common.{ℕ, ◌≡◌, ◌+◌, ◌-◌, ◌*◌, ◌^◌, min, max, Bool, true, false, List, [], ◌∷◌, Some, refl, arith, if◌then◌else◌}
+-- What follows from the definitions of `Kept`: sizes and levels by what is kept are those of the definition, as far as a limit.
+use Rattle.std.proofs.Common.{ℕ, ◌≡◌, ◌+◌, ◌-◌, ◌*◌, ◌^◌, min, max, Bool, true, false, List, [], ◌∷◌, Some, refl, ap, ◌∙◌, arith, if◌then◌else◌}
 use Rattle.aql_syntax.specs.Names.{names_equal, find}
 use Rattle.aql_syntax.specs.Tree.{Name, Tree, name, op, members, comp, tab, bindings, choice, conjunction, disjunction, negation, default, apply, function, summap, Trees, no_tree, tree, Axes, no_axis, axis, Quals, no_qual, from, cells, same, test, Defs, no_def, def, Declaration, val, mac, read, bare, declared_name, count_trees, count_axes}
 use Rattle.aql_syntax.specs.Size.{Extent, Extents, extent_of, extent, extents_of, pat_nodes, count_quals, count_defs, quals_patterns, defs_patterns, binary_digits, size, sizes, axes_sizes, quals_sizes, defs_sizes, levels, greatest, axes_greatest, quals_greatest, defs_greatest}
-use Rattle.aql_syntax.specs.Measured.{latest}
+use Rattle.aql_syntax.specs.View.{decl_of}
+use Rattle.aql_syntax.specs.Measured.{onto, latest}
 use Rattle.aql_syntax.specs.declared.ast.Decl.{Decl}
-use Rattle.aql_extents.specs.Kept.{saturate_extent, kept_of, extents_after}
+use Rattle.aql_syntax.specs.Kept.{saturate_extent, kept_of, extents_after, kept_onto}
 
 -- two numbers that are one as far as m
 record Alike (m a b : ℕ) : Type 0 where
@@ -139,3 +140,15 @@ size-kept t ds = (size-alike (2 ^ 64 - 1) (extents_after ds) (extents_of (latest
 
 pub levels-kept : (t : Tree) (ds : List Decl) → min (levels t (extents_after ds)) (2 ^ 64 - 1) ≡ min (levels t (extents_of (latest ds))) (2 ^ 64 - 1)
 levels-kept t ds = (levels-alike (2 ^ 64 - 1) (extents_after ds) (extents_of (latest ds)) (kept-alike (latest ds)) t).alike
+
+-- what is kept of declarations one after another
+
+kept_onto-kept : (ds : List Decl) (rest : List Declaration) → kept_onto ds (kept_of rest) ≡ kept_of (onto ds rest)
+kept_onto-kept [] rest = refl
+kept_onto-kept (d ∷ ds) rest = kept_onto-kept ds (decl_of d ∷ rest)
+
+pub size-onto : (t : Tree) (ds : List Decl) → min (size t (kept_onto ds [])) (2 ^ 64 - 1) ≡ min (size t (extents_of (latest ds))) (2 ^ 64 - 1)
+size-onto t ds = ap (λ ms. min (size t ms) (2 ^ 64 - 1)) (kept_onto-kept ds []) ∙ size-kept t ds
+
+pub levels-onto : (t : Tree) (ds : List Decl) → min (levels t (kept_onto ds [])) (2 ^ 64 - 1) ≡ min (levels t (extents_of (latest ds))) (2 ^ 64 - 1)
+levels-onto t ds = ap (λ ms. min (levels t ms) (2 ^ 64 - 1)) (kept_onto-kept ds []) ∙ levels-kept t ds
