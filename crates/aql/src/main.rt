@@ -1,52 +1,12 @@
 //! The program: runs the script of standard input over the files of the system, writes its answers to standard output,
 //! and ends with the status of the run.
 //!
-//! What it does is the contract of `aql_run::run`. The devices are those of `aql_system`.
+//! What it does is `aql_main::start`.
 #![tactic(auto)]
 
-use aql_outside::FreeGate;
-use aql_run::run;
-use aql_system::{FileSystem, InputStream, OutputStream};
-use std::env;
-use std::io::{self, ErrorKind};
+use aql_main::start;
 use std::process::ExitCode;
-use std::rt::Env;
 
 fn main(rt: HostRuntime) -> ExitCode {
-    let status = match words(&rt) {
-        Ok(words) => {
-            let mut input = InputStream::new(rt.stdin());
-            let mut output = OutputStream::new(rt.stdout());
-            let mut files = FileSystem::new(&rt);
-            run(
-                &rt,
-                rt.alloc(),
-                words.as_slice(),
-                &mut input,
-                &mut output,
-                &mut files,
-                &FreeGate,
-            )
-            .status
-        }
-        Err(error) if error.kind() == ErrorKind::OutOfMemory => 1,
-        Err(_) => 2,
-    };
-    tell(&rt, status);
-    ExitCode::from(status)
-}
-
-// The words of the command line, the program's name first.
-fn words(rt: &(impl Env + AllocGlobal)) -> io::Result<Vec<String>> {
-    Ok(env::args(rt)?.collect(rt.alloc())?)
-}
-
-// Writes the line of a status that has one to standard error. A failure there changes nothing.
-fn tell(rt: &impl Eprint, status: u8) {
-    let line = match status {
-        1 => "aql: out of memory",
-        2 => "usage: aql [--workers N] [--budget N] [--plan] [--sample N]",
-        _ => return,
-    };
-    let _ = eprintln!(rt; "{line}");
+    start(&rt, rt.stdin(), rt.stdout())
 }

@@ -65,19 +65,6 @@ f!(g!x); ~ 1
 a - b - c default d default if e then f else g; ~ 1
 {((1)) | (((\x))) <- s, ((x)), ((x)) == y}; ~ 1"#;
 
-#[test]
-fn productions_are_read(rt: HostRuntime) -> Result<(), AllocError> {
-    let mut rows: u64 = 0;
-    for line in PRODUCTIONS.split('\n') {
-        if let Some((source, expected)) = line.split_once(" ~ ") {
-            assert_seen(&rt, rt.alloc(), source.as_bytes(), expected)?;
-            rows = rows.saturating_add(1);
-        }
-    }
-    assert_eq!(rt; rows, 24);
-    Ok(())
-}
-
 // A script a line, and behind ` ~ ` its fault.
 const FAULTS: &str = r#"1; 2 ~ syntax 2
 ; ~ syntax 1
@@ -121,17 +108,28 @@ f!; ~ syntax 1
 1; 2;; 3; ~ syntax 3
 340282366920938463463374607431768211456; ~ text 0"#;
 
-#[test]
-fn faults_are_named(rt: HostRuntime) -> Result<(), AllocError> {
+// Fails where a script is not seen as its line says, or the lines are not so many.
+fn assert_each_seen(
+    rt: &impl Abort,
+    alloc: Global,
+    lines: &str,
+    count: u64,
+) -> Result<(), AllocError> {
     let mut rows: u64 = 0;
-    for line in FAULTS.split('\n') {
+    for line in lines.split('\n') {
         if let Some((source, expected)) = line.split_once(" ~ ") {
-            assert_seen(&rt, rt.alloc(), source.as_bytes(), expected)?;
+            assert_seen(rt, alloc, source.as_bytes(), expected)?;
             rows = rows.saturating_add(1);
         }
     }
-    assert_eq!(rt; rows, 41);
+    assert_eq!(rt; rows, count);
     Ok(())
+}
+
+#[test]
+fn productions_are_read_and_faults_named(rt: HostRuntime) -> Result<(), AllocError> {
+    assert_each_seen(&rt, rt.alloc(), PRODUCTIONS, 24)?;
+    assert_each_seen(&rt, rt.alloc(), FAULTS, 41)
 }
 
 // The same of a script that was made.

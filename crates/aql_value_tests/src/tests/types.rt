@@ -102,14 +102,10 @@ fn wide_clashes(alloc: Global, n: u64) -> Result<bool, Memory> {
 }
 
 #[test]
-fn clash_past_a_depth(rt: HostRuntime) {
+fn clash_past_a_depth_and_a_width(rt: HostRuntime) {
     for row in &[(399, false), (400, true)] {
         assert_same(&rt, deep_clashes(rt.alloc(), row.0), Ok(row.1));
     }
-}
-
-#[test]
-fn clash_past_a_width(rt: HostRuntime) {
     for row in &[(11, false), (12, true), (300, true)] {
         assert_same(&rt, wide_clashes(rt.alloc(), row.0), Ok(row.1));
     }
@@ -142,12 +138,6 @@ fn counts_of(t: Result<Ty, UnifyFault>) -> Option<(bool, u64, u64)> {
     }
 }
 
-#[test]
-fn instances(rt: HostRuntime) {
-    let found = counts_of(set_of_arrays(rt.alloc()));
-    assert_same(&rt, found, Some((true, 3, 3)));
-}
-
 // The levels and the nodes of so many sets, and whether it fits.
 fn counts_of_sets(alloc: Global, depth: u64) -> Result<(u64, u64, bool), Memory> {
     let deep = nest_sets(alloc, depth)?;
@@ -157,28 +147,9 @@ fn counts_of_sets(alloc: Global, depth: u64) -> Result<(u64, u64, bool), Memory>
 }
 
 #[test]
-fn counts(rt: HostRuntime) {
+fn instances_and_counts(rt: HostRuntime) {
+    let found = counts_of(set_of_arrays(rt.alloc()));
+    assert_same(&rt, found, Some((true, 3, 3)));
     let found = counts_of_sets(rt.alloc(), 512);
     assert_same(&rt, found, Ok((513, 513, false)));
-}
-
-fn copy_made(alloc: Global, t: Made) -> Made {
-    let t = t?;
-    let made = t.copy(alloc);
-    drop(t);
-    made
-}
-
-// The levels and the nodes of a copy.
-fn counts_in_copy(alloc: Global, t: Made) -> Result<(u64, u64), Memory> {
-    let copy = copy_made(alloc, t)?;
-    let counts = (copy.levels(), copy.nodes());
-    drop(copy);
-    Ok(counts)
-}
-
-#[test]
-fn counts_of_a_copy(rt: HostRuntime) {
-    let found = counts_in_copy(rt.alloc(), double_pairs(rt.alloc(), 10));
-    assert_same(&rt, found, Ok((3, 31)));
 }

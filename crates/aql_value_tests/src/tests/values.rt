@@ -281,27 +281,6 @@ fn values_ascend_by_kind_and_content(rt: HostRuntime) -> Result<(), Memory> {
     Ok(())
 }
 
-// The order of a value and its copy.
-fn order_of_copy(alloc: Global, x: &Value) -> Result<Ordering, Memory> {
-    let copied = x.copy(alloc)?;
-    let order = compare(x, &copied);
-    drop(copied);
-    Ok(order)
-}
-
-fn assert_copies(rt: &impl Abort, alloc: Global, all: &[Value]) {
-    for x in all {
-        assert_same(rt, order_of_copy(alloc, x), Ok(Ordering::Equal));
-    }
-}
-
-#[test]
-fn values_equal_their_copies(rt: HostRuntime) -> Result<(), Memory> {
-    let all = ascending_values(rt.alloc())?;
-    assert_copies(&rt, rt.alloc(), all.as_slice());
-    Ok(())
-}
-
 fn is_array(alloc: Global, lengths: &[u128], cells: &[u128]) -> Result<bool, Memory>
     requires some { 1 ≤ length lengths.now }
     requires few { length lengths.now ≤ 8 }
@@ -359,56 +338,4 @@ fn cells_by_index(rt: HostRuntime) -> Result<(), Memory> {
     let table = two_by_three(rt.alloc())?;
     assert_cells(&rt, rt.alloc(), &table);
     Ok(())
-}
-
-// Whether these are the lengths and the cells.
-fn are_parts(lengths: &Dims, cells: &Items, expected: &Items) -> [bool; 2] {
-    let are_lengths = lengths.dims.as_slice() == [2, 3].as_slice();
-    [are_lengths, are_equal(cells, expected)]
-}
-
-// Whether an array gives its lengths and its cells.
-fn gives_parts(table: Cells, expected: &Items) -> [bool; 2] {
-    let (lengths, cells) = table.into_parts();
-    are_parts(&lengths, &cells, expected)
-}
-
-// Whether it lends them, and whether it gives them.
-fn has_parts(alloc: Global) -> Result<([bool; 2], [bool; 2]), Memory> {
-    let expected = numbers(alloc, &[10, 11, 12, 13, 14, 15]);
-    let (table, expected) = both(two_by_three(alloc), expected)?;
-    let lends = are_parts(table.dims(), table.items(), &expected);
-    Ok((lends, gives_parts(table, &expected)))
-}
-
-#[test]
-fn parts_of_an_array(rt: HostRuntime) {
-    let found = has_parts(rt.alloc());
-    assert_same(&rt, found, Ok(([true; 2], [true; 2])));
-}
-
-fn pair(alloc: Global) -> Result<Parts, Memory> {
-    tuple(alloc, &[1, 2])?.ok_or(Memory)
-}
-
-fn is_tuple(alloc: Global, all: &[u128]) -> Result<bool, Memory> {
-    let made = tuple(alloc, all)?;
-    let found = made.is_some();
-    drop(made);
-    Ok(found)
-}
-
-// Whether a pair lends its parts, and whether it gives them.
-fn holds_parts(alloc: Global) -> Result<[bool; 2], Memory> {
-    let (pair, expected) = both(pair(alloc), numbers(alloc, &[1, 2]))?;
-    let lends_parts = are_equal(pair.items(), &expected);
-    Ok([lends_parts, are_equal(&pair.into_items(), &expected)])
-}
-
-#[test]
-fn tuples_have_two_parts_or_more(rt: HostRuntime) {
-    let alloc = rt.alloc();
-    assert_same(&rt, is_tuple(alloc, &[]), Ok(false));
-    assert_same(&rt, is_tuple(alloc, &[1]), Ok(false));
-    assert_same(&rt, holds_parts(alloc), Ok([true; 2]));
 }
