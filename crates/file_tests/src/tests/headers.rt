@@ -130,14 +130,6 @@ const CUT: &[Case] = &[
     ),
 ];
 
-#[test]
-fn cut_files(rt: HostRuntime) {
-    for size in 0..108 {
-        meet(&rt, rt.alloc(), &[cut(size)]);
-    }
-    meet(&rt, rt.alloc(), CUT);
-}
-
 const CHANGED_WORDS: &[Case] = &[
     (
         S,
@@ -192,11 +184,6 @@ const CHANGED_WORDS: &[Case] = &[
     (S, &[(21, 7)], WHOLE, Some(CdfFault::Malformed { at: 84 })),
 ];
 
-#[test]
-fn changed_words(rt: HostRuntime) {
-    meet(&rt, rt.alloc(), CHANGED_WORDS);
-}
-
 // Attributes of a variable, and the wide fields of version 5.
 const CHANGED_FIELDS: &[Case] = &[
     (T, &[(50, 0)], WHOLE, Some(CdfFault::Malformed { at: 204 })),
@@ -222,8 +209,14 @@ const CHANGED_FIELDS: &[Case] = &[
 ];
 
 #[test]
-fn changed_fields(rt: HostRuntime) {
-    meet(&rt, rt.alloc(), CHANGED_FIELDS);
+fn cut_and_changed_files(rt: HostRuntime) {
+    let alloc = rt.alloc();
+    for size in 0..108 {
+        meet(&rt, alloc, &[cut(size)]);
+    }
+    meet(&rt, alloc, CUT);
+    meet(&rt, alloc, CHANGED_WORDS);
+    meet(&rt, alloc, CHANGED_FIELDS);
 }
 
 fn stream_changed(

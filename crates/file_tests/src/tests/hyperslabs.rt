@@ -160,11 +160,6 @@ const ANSWERED: &[Case] = &[
     ),
 ];
 
-#[test]
-fn hyperslabs(rt: HostRuntime) {
-    assert_same(&rt, first_other(rt.alloc(), ANSWERED), None);
-}
-
 const REFUSED: &[Case] = &[
     (
         HUGE_CUBE,
@@ -263,11 +258,6 @@ const REFUSED: &[Case] = &[
         Err(CdfFault::Stride { dimension: 1 }),
     ),
 ];
-
-#[test]
-fn refused_hyperslabs(rt: HostRuntime) {
-    assert_same(&rt, first_other(rt.alloc(), REFUSED), None);
-}
 
 // Changed words, cut files, and faults that stand together.
 const FAULTS: &[Case] = &[
@@ -395,7 +385,9 @@ fn first_other_cut(alloc: Global) -> Option<usize> {
 }
 
 #[test]
-fn faults_in_order(rt: HostRuntime) {
+fn hyperslabs(rt: HostRuntime) {
+    assert_same(&rt, first_other(rt.alloc(), ANSWERED), None);
+    assert_same(&rt, first_other(rt.alloc(), REFUSED), None);
     assert_same(&rt, first_other(rt.alloc(), FAULTS), None);
     assert_same(&rt, first_other_cut(rt.alloc()), None);
 }
