@@ -1,4 +1,5 @@
 pub mod Cycle
+pub mod Constructs
 pub mod Words
 pub mod Forms
 pub mod Parts

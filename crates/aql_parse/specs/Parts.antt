@@ -4,7 +4,7 @@ use Rattle.aql_value.specs.Strict.{Strict}
 use Rattle.aql_syntax.specs.declared.sign.Sign.TheVariants as signs
 use Rattle.aql_syntax.specs.Lexis.{Lexeme, named, numeral, quoted, mark}
 use Rattle.aql_syntax.specs.Tree.{Tree, name, op, Trees, no_tree, count_trees}
-use Rattle.aql_parse_spec.specs.Parsing.{Out, Parser, short, only}
+use Rattle.aql_parse_spec.specs.Parsing.{Parser, short, only}
 
 -- no more than 8 expressions
 unfoldable pub few_of : Trees → Option Trees
@@ -13,10 +13,6 @@ few_of es = short (count_trees es) es
 -- the one expression of a list
 unfoldable pub one_of : Trees → Option Tree
 one_of es = only es
-
--- a list that ends before it begins
-abbrev pub none_at : List Lexeme → Out Trees
-none_at s = Some (no_tree, s)
 
 -- an expression of one word
 unfoldable pub leaf_at : Parser

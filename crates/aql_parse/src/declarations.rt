@@ -5,7 +5,7 @@ ghost use Rattle.aql_parse_spec.specs.Scripts.{bare_at};
 ghost use Rattle.aql_parse_spec.specs.Parsing.{decl_at, val_at, macro_at, readval_at, ended_at, reader_at};
 ghost use Rattle.aql_parse.specs.Words.{Parses};
 
-use crate::expressions::parse_then;
+use crate::expressions::parse;
 use crate::parts::binder;
 use crate::patterns::pattern_then;
 use crate::readers::reader_named;
@@ -103,7 +103,7 @@ fn bare_declaration<'a>(
 }
 
 // An expression and a semicolon.
-#[tactic(auto, unfolding(aql_parse_spec::specs::Parsing::ended_at, crate::specs::Cycle::expr_then))]
+#[tactic(auto, unfolding(aql_parse_spec::specs::Parsing::ended_at))]
 fn expression_to_semicolon<'a>(
     alloc: Global,
     source: &[u8],
@@ -112,8 +112,9 @@ fn expression_to_semicolon<'a>(
 ) -> Result<(Expr, &'a [Word]), Refusal>
     ensures { Parses tree_of source.now words.now result (ended_at depth) }
 {
-    let (expr, rest) = parse_then(alloc, source, words, Sign::Semicolon, depth)?;
-    Ok((Box::into_inner(expr), rest))
+    let (expr, rest) = parse(alloc, source, 8, words, depth)?;
+    let rest = expect(source, rest, Sign::Semicolon)?;
+    Ok((expr, rest))
 }
 
 // The reader that a name stands for.

@@ -1,4 +1,4 @@
-//! Expressions by levels, and applications, by recursive descent.
+//! Expressions by levels, by recursive descent.
 //!
 //! Each function is one of the functions on lists of `aql_parse_spec`, or the part of one that its contract names. `depth`
 //! bounds how deep a reading may still go, and how many turns a loop may take.
@@ -6,20 +6,19 @@
 ghost use Rattle.std.specs.Prelude.{◌<◌, ◌≤◌, ◌-◌};
 ghost use Rattle.aql_syntax.specs.View.{tree_of};
 ghost use Rattle.aql_parse_spec.specs.Parsing as grammar;
-ghost use Rattle.aql_parse_spec.specs.Parsing.{parse_at, whole_at, choice_at, level_at, chain_rest, application_at, function_at};
+ghost use Rattle.aql_parse_spec.specs.Parsing.{parse_at, whole_at, level_at, chain_rest};
 ghost use Rattle.aql_parse.specs.Words.{Parses};
 ghost use Rattle.aql_parse.specs.Forms.{joiner_of};
-ghost use Rattle.aql_syntax.specs.Nodes.{functional_of};
-ghost use Rattle.aql_parse.specs.Cycle.{expr_then, default_at, argument_at, joined_at};
+ghost use Rattle.aql_parse.specs.Cycle.{joined_at};
+ghost use Rattle.aql_parse.specs.Constructs.{progress_at};
 
-use crate::forms::{Head, binary, negated_level, opening, operator_at, second_level, turns};
-use crate::parts::apply_macro;
-use crate::patterns::pattern_then;
-use crate::primaries::postfix;
+use crate::constructs::{Construct, Progress, level_of, read_on};
+use crate::forms::{binary, operator_at, second_level, turns};
+use crate::primaries::{application, default_rest};
 use crate::refusal::Refusal;
-use crate::words::{Word, expect, skip_sign};
+use crate::words::{Word, skip_sign};
 use aql_syntax::ast::Expr;
-use aql_syntax::nodes::{Functional, Operator, apply_operation, function_in_place};
+use aql_syntax::nodes::Operator;
 use aql_syntax::sign::Sign;
 use std::alloc::Global;
 
@@ -46,44 +45,9 @@ pub fn parse<'a>(
     }
 }
 
-// An expression of that level, in a box.
-#[cycle(expr)]
-#[tactic(auto)]
-fn parse_boxed<'a>(
-    alloc: Global,
-    source: &[u8],
-    level: u64,
-    words: &'a [Word],
-    depth: u64,
-) -> Result<(Box<Expr>, &'a [Word]), Refusal>
-    requires { level ≤ 8 }
-    ensures { Parses (λ x. tree_of x.value) source.now words.now result (parse_at depth level) }
-{
-    let (expr, rest) = parse(alloc, source, level, words, depth)?;
-    Ok((Box::new(alloc, expr)?, rest))
-}
-
-/// An expression, in a box, and then that sign.
-#[cycle(expr)]
-#[tactic(auto, unfolding(crate::specs::Cycle::expr_then))]
-pub fn parse_then<'a>(
-    alloc: Global,
-    source: &[u8],
-    words: &'a [Word],
-    sign: Sign,
-    depth: u64,
-) -> Result<(Box<Expr>, &'a [Word]), Refusal>
-    ensures { Parses (λ x. tree_of x.value) source.now words.now result
-        (expr_then sign (parse_at depth)) }
-{
-    let (expr, rest) = parse_boxed(alloc, source, 8, words, depth)?;
-    let rest = expect(source, rest, sign)?;
-    Ok((expr, rest))
-}
-
 // An expression of level 8.
 #[cycle(expr)]
-#[tactic(auto, using(crate::proofs::Branches::whole_parts))]
+#[tactic(auto, using(crate::proofs::PrimarySteps::whole_parts))]
 fn whole<'a>(
     alloc: Global,
     source: &[u8],
@@ -93,57 +57,18 @@ fn whole<'a>(
     ensures { Parses tree_of source.now words.now result (whole_at (parse_at depth) depth) }
 {
     match skip_sign(source, words, Sign::If) {
-        Some(rest) => choice(alloc, source, rest, depth),
+        Some(rest) => complete(alloc, source, Progress::More(Construct::Test), rest, depth),
         None => {
             let (left, rest) = chain(alloc, source, 7, words, depth)?;
-            default_rest(alloc, source, left, rest, depth)
+            let (progress, rest) = default_rest(alloc, source, left, rest, depth)?;
+            complete(alloc, source, progress, rest, depth)
         }
-    }
-}
-
-// Behind the word `if`.
-#[cycle(expr)]
-#[tactic(auto, using(crate::proofs::Branches::choice_parts))]
-fn choice<'a>(
-    alloc: Global,
-    source: &[u8],
-    words: &'a [Word],
-    depth: u64,
-) -> Result<(Expr, &'a [Word]), Refusal>
-    ensures { Parses tree_of source.now words.now result (choice_at (parse_at depth)) }
-{
-    let (test, rest) = parse_then(alloc, source, words, Sign::Then, depth)?;
-    let (first, rest) = parse_then(alloc, source, rest, Sign::Else, depth)?;
-    let (second, rest) = parse_boxed(alloc, source, 8, rest, depth)?;
-    Ok((Expr::If(test, first, second), rest))
-}
-
-// What may follow the first part of an expression: `default` and the second.
-#[cycle(expr)]
-#[tactic(auto, unfolding(crate::specs::Cycle::default_at))]
-fn default_rest<'a>(
-    alloc: Global,
-    source: &[u8],
-    left: Expr,
-    words: &'a [Word],
-    depth: u64,
-) -> Result<(Expr, &'a [Word]), Refusal>
-    ensures { Parses tree_of source.now words.now result
-        (default_at (parse_at depth) (tree_of left)) }
-{
-    match skip_sign(source, words, Sign::Default) {
-        Some(rest) => {
-            let left = Box::new(alloc, left)?;
-            let (right, rest) = parse_boxed(alloc, source, 8, rest, depth)?;
-            Ok((Expr::Default(left, right), rest))
-        }
-        None => Ok((left, words)),
     }
 }
 
 // Levels 0 to 7.
 #[cycle(expr)]
-#[tactic(auto, using(crate::proofs::CycleLoops::level_steps), unfolding(crate::specs::Cycle::not_at))]
+#[tactic(auto, using(crate::proofs::CycleLoops::level_steps), unfolding(crate::specs::Cycle::not_at, crate::specs::Constructs::construct_at))]
 fn chain<'a>(
     alloc: Global,
     source: &[u8],
@@ -155,14 +80,12 @@ fn chain<'a>(
     ensures { Parses tree_of source.now words.now result (level_at (parse_at depth) depth level) }
 {
     if level == 0 {
-        return application(alloc, source, words, depth);
+        let (progress, rest) = application(alloc, source, words, depth)?;
+        return complete(alloc, source, progress, rest, depth);
     }
     if level == 5 {
         return match skip_sign(source, words, Sign::Not) {
-            Some(rest) => {
-                let (part, rest) = parse_boxed(alloc, source, negated_level(), rest, depth)?;
-                Ok((Expr::Not(part), rest))
-            }
+            Some(rest) => complete(alloc, source, Progress::More(Construct::Not), rest, depth),
             None => chain(alloc, source, 4, words, depth),
         };
     }
@@ -228,64 +151,32 @@ fn operator_rest<'a>(
     Ok((binary(operator, left, right), rest))
 }
 
-// An application, or what is tighter.
+// What is left of a construct. One of more parts than 64 bits count fits into no memory.
 #[cycle(expr)]
-#[tactic(auto, unfolding(aql_parse_spec::specs::Parsing::application_at))]
-fn application<'a>(
+#[tactic(auto, unfolding(crate::specs::Constructs::construct_at))]
+fn complete<'a>(
     alloc: Global,
     source: &[u8],
+    progress: Progress,
     words: &'a [Word],
     depth: u64,
 ) -> Result<(Expr, &'a [Word]), Refusal>
-    ensures { Parses tree_of source.now words.now result (application_at (parse_at depth) depth) }
+    ensures { Parses tree_of source.now words.now result
+        (progress_at (parse_at depth) depth progress) }
 {
-    match opening(source, words) {
-        Some((Head::Macro(token), rest)) => {
-            let (argument, rest) = parse_boxed(alloc, source, 0, rest, depth)?;
-            Ok((apply_macro(alloc, source, token, argument)?, rest))
+    let mut progress = progress;
+    let mut rest = words;
+    for _turn in 0..u64::MAX {
+        match progress {
+            Progress::Done(expr) => return Ok((expr, rest)),
+            Progress::More(construct) => {
+                let level = level_of(&construct);
+                let (expr, behind) = parse(alloc, source, level, rest, depth)?;
+                let (next, behind) = read_on(alloc, source, construct, expr, behind, depth)?;
+                progress = next;
+                rest = behind;
+            }
         }
-        Some((Head::Operation(operation), rest)) => {
-            let (part, rest) = parse_boxed(alloc, source, 0, rest, depth)?;
-            Ok((apply_operation(operation, part), rest))
-        }
-        Some((Head::Function(functional), rest)) => in_place(
-            alloc, source, functional, rest, depth,
-        ),
-        None => postfix(alloc, source, words, depth),
     }
-}
-
-// Behind the word `fn`.
-#[cycle(expr)]
-#[tactic(auto, using(crate::proofs::Branches::function_parts))]
-fn in_place<'a>(
-    alloc: Global,
-    source: &[u8],
-    functional: Functional,
-    words: &'a [Word],
-    depth: u64,
-) -> Result<(Expr, &'a [Word]), Refusal>
-    ensures { Parses tree_of source.now words.now result (function_at (functional_of functional)
-        (parse_at depth) depth) }
-{
-    let (pattern, rest) = pattern_then(alloc, source, words, Sign::FatArrow, depth)?;
-    let (body, rest) = parse_then(alloc, source, rest, Sign::Close, depth)?;
-    let (argument, rest) = argument(alloc, source, rest, depth)?;
-    Ok((function_in_place(functional, pattern, body, argument), rest))
-}
-
-// An exclamation mark and an application, in a box.
-#[cycle(expr)]
-#[tactic(auto, unfolding(crate::specs::Cycle::argument_at))]
-fn argument<'a>(
-    alloc: Global,
-    source: &[u8],
-    words: &'a [Word],
-    depth: u64,
-) -> Result<(Box<Expr>, &'a [Word]), Refusal>
-    ensures { Parses (λ x. tree_of x.value) source.now words.now result
-        (argument_at (parse_at depth)) }
-{
-    let rest = expect(source, words, Sign::Bang)?;
-    parse_boxed(alloc, source, 0, rest, depth)
+    Err(Refusal::Memory)
 }

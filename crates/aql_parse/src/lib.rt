@@ -5,10 +5,11 @@
 //! one, whose laws tie them to the grammar: over the words of a script it gives what that gives over their lexemes.
 //!
 //! Read `scripts` first, then `declarations`; then `words`, `patterns`, `readers`, `forms` and `parts`, which read no
-//! expression, with `specs/Words`, `Forms` and `Parts`; and last the one recursion of `expressions`, `primaries` and
-//! `lists`, with `specs/Cycle`.
+//! expression, with `specs/Words`, `Forms` and `Parts`; then `constructs`, `primaries` and `lists`, which read up to the
+//! next expression and go on behind it, with `specs/Constructs`; and last the one recursion, in `expressions`.
 #![tactic(auto)]
 
+mod constructs;
 mod declarations;
 mod expressions;
 mod fault;

@@ -1,147 +1,231 @@
 //! Lists with expressions in them: of expressions, of indices with their bounds, of qualifiers and of definitions.
 //!
-//! Each is read in a loop of at most `depth` turns, but for `list_or_none`; each contract is the function on lists of
-//! `aql_parse_spec`, or a part of one.
+//! Of each there are two functions: one reads up to the expression of the next of them, and one goes on behind it.
 
-ghost use Rattle.aql_syntax.specs.View.{trees_of, axes_in, quals_of, defs_in};
-ghost use Rattle.aql_parse_spec.specs.Parsing.{parse_at, list_at, axes_at, quals_at, defs_at};
-ghost use Rattle.aql_parse.specs.Words.{Parses};
-ghost use Rattle.aql_parse.specs.Cycle.{list_or_none_at};
+ghost use Rattle.aql_syntax.specs.View.{tree_of, pat_of};
+ghost use Rattle.aql_parse_spec.specs.Parsing.{parse_at};
+ghost use Rattle.aql_parse.specs.Forms.{front_seen};
+ghost use Rattle.aql_parse.specs.Constructs.{Continues, before_element, behind_element, before_index, behind_bound, before_qualifier, behind_qualifier, before_definition, behind_definition};
 
-use crate::expressions::parse;
-use crate::forms::qualifier;
-use crate::parts::{binder, definition, front, none_listed};
+use crate::constructs::{Construct, Definitions, Elements, Indices, Progress, Qualifiers};
+use crate::forms::{Front, qualifier};
+use crate::parts::{binder, definition, front};
+use crate::primaries::{comprehended, defined, enclosed, tabulated};
 use crate::refusal::Refusal;
 use crate::words::{Word, skip_sign};
-use aql_syntax::ast::{Bind, Expr, LetBind, Qual};
+use aql_syntax::ast::{Bind, Expr, LetBind, Pattern};
 use aql_syntax::sign::Sign;
+use aql_value::Str;
 use std::alloc::Global;
 
-/// Expressions up to a closing bracket, or none.
-#[cycle(expr)]
-#[tactic(auto, unfolding(crate::specs::Cycle::list_or_none_at))]
-pub fn list_or_none<'a>(
-    alloc: Global,
+/// Before the next expression of a list.
+#[tactic(auto, using(crate::proofs::ListSteps::members_steps), unfolding(crate::specs::Constructs::construct_at))]
+pub fn next_element<'a>(
     source: &[u8],
+    elements: Elements,
     words: &'a [Word],
     depth: u64,
-) -> Result<(Vec<Expr>, &'a [Word]), Refusal>
-    ensures { Parses (λ x. trees_of x.items) source.now words.now result
-        (list_or_none_at (parse_at depth) depth) }
+) -> Result<(Progress, &'a [Word]), Refusal>
+    ensures { Continues (parse_at depth) depth source.now words.now result
+        (before_element (parse_at depth) depth elements) }
 {
-    match skip_sign(source, words, Sign::CloseBracket) {
-        Some(_) => none_listed(alloc, source, words),
-        None => list(alloc, source, words, depth),
+    if elements.turns == 0 {
+        return Err(Refusal::Syntax);
+    }
+    let Elements {
+        enclosure,
+        items,
+        turns,
+    } = elements;
+    let elements = Elements {
+        enclosure,
+        items,
+        turns: turns - 1,
+    };
+    Ok((Progress::More(Construct::Element(elements)), words))
+}
+
+/// Behind an expression of a list.
+#[tactic(auto, using(crate::proofs::ListSteps::member_steps))]
+pub fn element_read<'a>(
+    alloc: Global,
+    source: &[u8],
+    elements: Elements,
+    expr: Expr,
+    words: &'a [Word],
+    depth: u64,
+) -> Result<(Progress, &'a [Word]), Refusal>
+    ensures { Continues (parse_at depth) depth source.now words.now result
+        (behind_element (parse_at depth) depth elements (tree_of expr)) }
+{
+    let Elements {
+        enclosure,
+        items,
+        turns,
+    } = elements;
+    let mut items = items;
+    items.push(expr)?;
+    match skip_sign(source, words, Sign::Comma) {
+        Some(rest) => {
+            let elements = Elements {
+                enclosure,
+                items,
+                turns,
+            };
+            next_element(source, elements, rest, depth)
+        }
+        None => enclosed(alloc, source, enclosure, items, words, depth),
     }
 }
 
-/// One expression or more, with commas between them.
-#[cycle(expr)]
-#[tactic(auto, using(crate::proofs::CycleLoops::loop_list), unfolding(crate::specs::Cycle::more_trees))]
-pub fn list<'a>(
+/// Before the bound of the next index of a tabulation.
+#[tactic(auto, using(crate::proofs::ListSteps::indices_steps), unfolding(crate::specs::Constructs::construct_at))]
+pub fn next_index<'a>(
     alloc: Global,
     source: &[u8],
+    indices: Indices,
     words: &'a [Word],
     depth: u64,
-) -> Result<(Vec<Expr>, &'a [Word]), Refusal>
-    ensures { Parses (λ x. trees_of x.items) source.now words.now result
-        (list_at (parse_at depth) depth) }
+) -> Result<(Progress, &'a [Word]), Refusal>
+    ensures { Continues (parse_at depth) depth source.now words.now result
+        (before_index (parse_at depth) depth indices) }
 {
-    let mut items = Vec::new(alloc);
-    let mut rest = words;
-    for _turn in 0..depth {
-        let (item, after) = parse(alloc, source, 8, rest, depth)?;
-        items.push(item)?;
-        match skip_sign(source, after, Sign::Comma) {
-            Some(more) => {
-                rest = more;
-            }
-            None => return Ok((items, after)),
-        }
+    if indices.turns == 0 {
+        return Err(Refusal::Syntax);
     }
-    Err(Refusal::Syntax)
+    let (name, rest) = binder(alloc, source, words, Sign::Less)?;
+    let Indices { body, items, turns } = indices;
+    let indices = Indices {
+        body,
+        items,
+        turns: turns - 1,
+    };
+    Ok((Progress::More(Construct::Bound(indices, name)), rest))
 }
 
-/// The indices of a tabulation.
-#[cycle(expr)]
-#[tactic(auto, using(crate::proofs::CycleLoops::loop_indices), unfolding(crate::specs::Cycle::more_axes))]
-pub fn indices<'a>(
+/// Behind the bound of an index.
+#[tactic(auto, using(crate::proofs::ListSteps::index_steps))]
+pub fn bound_read<'a>(
     alloc: Global,
     source: &[u8],
+    indices: Indices,
+    name: Str,
+    bound: Expr,
     words: &'a [Word],
     depth: u64,
-) -> Result<(Vec<Bind>, &'a [Word]), Refusal>
-    ensures { Parses (λ x. axes_in x.items) source.now words.now result
-        (axes_at (parse_at depth) depth) }
+) -> Result<(Progress, &'a [Word]), Refusal>
+    ensures { Continues (parse_at depth) depth source.now words.now result
+        (behind_bound (parse_at depth) depth indices name (tree_of bound)) }
 {
-    let mut items = Vec::new(alloc);
-    let mut rest = words;
-    for _turn in 0..depth {
-        let (name, after) = binder(alloc, source, rest, Sign::Less)?;
-        let (bound, after) = parse(alloc, source, 8, after, depth)?;
-        items.push(Bind { name, bound })?;
-        match skip_sign(source, after, Sign::Comma) {
-            Some(more) => {
-                rest = more;
-            }
-            None => return Ok((items, after)),
+    let Indices { body, items, turns } = indices;
+    let mut items = items;
+    items.push(Bind { name, bound })?;
+    match skip_sign(source, words, Sign::Comma) {
+        Some(rest) => {
+            let indices = Indices { body, items, turns };
+            next_index(alloc, source, indices, rest, depth)
         }
+        None => tabulated(alloc, source, body, items, words, depth),
     }
-    Err(Refusal::Syntax)
 }
 
-/// The qualifiers of a comprehension.
-#[cycle(expr)]
-#[tactic(auto, using(crate::proofs::CycleLoops::loop_qualifiers), unfolding(crate::specs::Cycle::more_quals))]
-pub fn qualifiers<'a>(
+/// Before the expression of the next qualifier of a comprehension.
+#[tactic(auto, using(crate::proofs::ListSteps::qualifiers_steps), unfolding(crate::specs::Constructs::construct_at))]
+pub fn next_qualifier<'a>(
     alloc: Global,
     source: &[u8],
+    quals: Qualifiers,
     words: &'a [Word],
     depth: u64,
-) -> Result<(Vec<Qual>, &'a [Word]), Refusal>
-    ensures { Parses (λ x. quals_of x.items) source.now words.now result
-        (quals_at (parse_at depth) depth depth) }
+) -> Result<(Progress, &'a [Word]), Refusal>
+    ensures { Continues (parse_at depth) depth source.now words.now result
+        (before_qualifier (parse_at depth) depth quals) }
 {
-    let mut items = Vec::new(alloc);
-    let mut rest = words;
-    for _turn in 0..depth {
-        let (front, after) = front(alloc, source, rest, depth)?;
-        let (expr, after) = parse(alloc, source, 8, after, depth)?;
-        items.push(qualifier(front, expr))?;
-        match skip_sign(source, after, Sign::Comma) {
-            Some(more) => {
-                rest = more;
-            }
-            None => return Ok((items, after)),
-        }
+    if quals.turns == 0 {
+        return Err(Refusal::Syntax);
     }
-    Err(Refusal::Syntax)
+    let (front, rest) = front(alloc, source, words, depth)?;
+    let Qualifiers { head, items, turns } = quals;
+    let quals = Qualifiers {
+        head,
+        items,
+        turns: turns - 1,
+    };
+    Ok((Progress::More(Construct::Qualifier(quals, front)), rest))
 }
 
-/// The bindings of a let.
-#[cycle(expr)]
-#[tactic(auto, using(crate::proofs::CycleLoops::loop_definitions), unfolding(crate::specs::Cycle::more_defs))]
-pub fn definitions<'a>(
+/// Behind the expression of a qualifier.
+#[tactic(auto, using(crate::proofs::ListSteps::qualifier_steps))]
+pub fn qualifier_read<'a>(
     alloc: Global,
     source: &[u8],
+    quals: Qualifiers,
+    front: Front,
+    expr: Expr,
     words: &'a [Word],
     depth: u64,
-) -> Result<(Vec<LetBind>, &'a [Word]), Refusal>
-    ensures { Parses (λ x. defs_in x.items) source.now words.now result
-        (defs_at (parse_at depth) depth depth) }
+) -> Result<(Progress, &'a [Word]), Refusal>
+    ensures { Continues (parse_at depth) depth source.now words.now result
+        (behind_qualifier (parse_at depth) depth quals (front_seen front) (tree_of expr)) }
 {
-    let mut items = Vec::new(alloc);
-    let mut rest = words;
-    for _turn in 0..depth {
-        let (pattern, after) = definition(alloc, source, rest, depth)?;
-        let (expr, after) = parse(alloc, source, 8, after, depth)?;
-        items.push(LetBind { pattern, expr })?;
-        match skip_sign(source, after, Sign::Val) {
-            Some(_) => {
-                rest = after;
-            }
-            None => return Ok((items, after)),
+    let Qualifiers { head, items, turns } = quals;
+    let mut items = items;
+    items.push(qualifier(front, expr))?;
+    match skip_sign(source, words, Sign::Comma) {
+        Some(rest) => {
+            let quals = Qualifiers { head, items, turns };
+            next_qualifier(alloc, source, quals, rest, depth)
         }
+        None => comprehended(alloc, source, head, items, words, depth),
     }
-    Err(Refusal::Syntax)
+}
+
+/// Before the expression of the next binding of a let.
+#[tactic(auto, using(crate::proofs::ListSteps::definitions_steps), unfolding(crate::specs::Constructs::construct_at))]
+pub fn next_definition<'a>(
+    alloc: Global,
+    source: &[u8],
+    defs: Definitions,
+    words: &'a [Word],
+    depth: u64,
+) -> Result<(Progress, &'a [Word]), Refusal>
+    ensures { Continues (parse_at depth) depth source.now words.now result
+        (before_definition (parse_at depth) depth defs) }
+{
+    if defs.turns == 0 {
+        return Err(Refusal::Syntax);
+    }
+    let (pattern, rest) = definition(alloc, source, words, depth)?;
+    let Definitions { items, turns } = defs;
+    let defs = Definitions {
+        items,
+        turns: turns - 1,
+    };
+    Ok((Progress::More(Construct::Definition(defs, pattern)), rest))
+}
+
+/// Behind the expression of a binding.
+#[tactic(auto, using(crate::proofs::ListSteps::definition_steps))]
+pub fn definition_read<'a>(
+    alloc: Global,
+    source: &[u8],
+    defs: Definitions,
+    pattern: Pattern,
+    expr: Expr,
+    words: &'a [Word],
+    depth: u64,
+) -> Result<(Progress, &'a [Word]), Refusal>
+    ensures { Continues (parse_at depth) depth source.now words.now result
+        (behind_definition (parse_at depth) depth defs (pat_of pattern) (tree_of expr)) }
+{
+    let Definitions { items, turns } = defs;
+    let mut items = items;
+    items.push(LetBind { pattern, expr })?;
+    match skip_sign(source, words, Sign::Val) {
+        Some(_) => {
+            let defs = Definitions { items, turns };
+            next_definition(alloc, source, defs, words, depth)
+        }
+        None => defined(source, items, words, depth),
+    }
 }

@@ -1,14 +1,12 @@
-//! Parts of expressions that hold none, and the application of a macro.
+//! Parts of expressions that hold none.
 
-ghost use Rattle.std.specs.Prelude.{◌≡◌, IfOk, Some, is_some};
-ghost use Rattle.aql_syntax.specs.Tree as tree;
-ghost use Rattle.aql_syntax.specs.View.{tree_of, trees_of, pat_of};
-ghost use Rattle.aql_lex.specs.Texts.{text_of};
+ghost use Rattle.std.specs.Prelude.{◌≡◌, Some, is_some};
+ghost use Rattle.aql_syntax.specs.View.{tree_of, pat_of};
 ghost use Rattle.aql_parse_spec.specs.Parsing as grammar;
 ghost use Rattle.aql_parse_spec.specs.Parsing.{binder_at, def_at, pat_at, front_of, front_at};
 ghost use Rattle.aql_parse.specs.Words.{lexemes, GivesReading, Parses};
 ghost use Rattle.aql_parse.specs.Forms.{front_seen};
-ghost use Rattle.aql_parse.specs.Parts.{leaf_at, none_at};
+ghost use Rattle.aql_parse.specs.Parts.{leaf_at};
 
 use crate::forms::Front;
 use crate::patterns::{name, past_pattern, pattern, pattern_then};
@@ -16,8 +14,7 @@ use crate::refusal::Refusal;
 use crate::words::{Word, expect, name_in, next, string_in};
 use aql_syntax::ast::{Expr, Pattern};
 use aql_syntax::sign::Sign;
-use aql_syntax::token::Token;
-use aql_value::{Memory, Str};
+use aql_value::Str;
 use std::alloc::Global;
 
 /// A backslash, a name and that sign.
@@ -137,17 +134,6 @@ fn cells_front<'a>(
     Ok((Front::Cells(index, cell), rest))
 }
 
-/// No expression, where a list ends before it begins.
-pub fn none_listed<'a>(
-    alloc: Global,
-    source: &[u8],
-    words: &'a [Word],
-) -> Result<(Vec<Expr>, &'a [Word]), Refusal>
-    ensures { Parses (λ x. trees_of x.items) source.now words.now result none_at }
-{
-    Ok((Vec::new(alloc), words))
-}
-
 /// An expression of one word.
 #[tactic(auto, unfolding(crate::specs::Parts::leaf_at))]
 pub fn leaf<'a>(
@@ -165,18 +151,4 @@ pub fn leaf<'a>(
         Some((Word::Mark(Sign::False), rest)) => Ok((Expr::Bool(false), rest)),
         _ => Err(Refusal::Syntax),
     }
-}
-
-/// A macro applied.
-pub fn apply_macro(
-    alloc: Global,
-    source: &[u8],
-    token: Token,
-    argument: Box<Expr>,
-) -> Result<Expr, Memory>
-    ensures { IfOk result (λ e. tree_of e ≡ tree.apply (text_of source.now token)
-        (tree_of argument.value)) }
-{
-    let name = name_in(alloc, source, token)?;
-    Ok(Expr::Apply { name, argument })
 }

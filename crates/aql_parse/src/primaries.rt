@@ -1,267 +1,382 @@
-//! Expressions with their subscripts: what stands in parentheses, braces, brackets and `let`, and what is one word.
+//! Applications and primary expressions: how they begin, and what closes them.
 //!
-//! As in `expressions`, each function is one of the functions on lists of `aql_parse_spec` or a part of one.
+//! What closes a primary expression is followed by its subscripts.
 
-ghost use Rattle.aql_syntax.specs.View.{tree_of, trees_of};
-ghost use Rattle.aql_parse_spec.specs.Parsing.{parse_at, postfix_at, primary_at, paren_at, let_at, braces_at, brace_rest, bracket_rest};
-ghost use Rattle.aql_parse.specs.Words.{Parses};
-ghost use Rattle.aql_parse.specs.Cycle.{subs_at, double_at, cells_at, table_at, comp_at};
+ghost use Rattle.aql_syntax.specs.Nodes.{functional_of};
+ghost use Rattle.aql_syntax.specs.Tree.{no_tree};
+ghost use Rattle.aql_syntax.specs.View.{tree_of, trees_of, axes_in, quals_of, defs_in};
+ghost use Rattle.aql_parse_spec.specs.Parsing.{parse_at, application_at, postfix_at, function_at, sub_rest};
+ghost use Rattle.aql_parse.specs.Cycle.{default_at};
+ghost use Rattle.aql_parse.specs.Constructs.{Continues, enclosed_at, members_at, table_closed, comp_closed, let_closed};
+ghost use Rattle.aql_parse.specs.Constructs.{body_closed, brace_closed, bracket_closed, braces_from, cells_from, cells_closed};
 
-use crate::expressions::parse_then;
-use crate::forms::{enclose, few, only};
-use crate::lists::{definitions, indices, list, list_or_none, qualifiers};
+use crate::constructs::{
+    Construct, Definitions, Elements, Enclosure, Indices, Progress, Qualifiers,
+};
+use crate::forms::{Head, enclose, few, only, opening};
+use crate::lists::{next_definition, next_element, next_index, next_qualifier};
 use crate::parts::{closed_twice, leaf};
+use crate::patterns::pattern_then;
 use crate::refusal::Refusal;
-use crate::words::{Word, expect, skip_sign};
-use aql_syntax::ast::Expr;
+use crate::words::{Word, expect, name_in, skip_sign};
+use aql_syntax::ast::{Bind, Expr, LetBind, Qual};
 use aql_syntax::build::{comprehension, let_in, literal, members, subscript, tabulation};
+use aql_syntax::nodes::Functional;
 use aql_syntax::sign::Sign;
 use std::alloc::Global;
 
-/// An expression and its subscripts.
-#[cycle(expr)]
-#[tactic(auto, using(crate::proofs::CycleLoops::loop_subscripts), unfolding(aql_parse_spec::specs::Parsing::postfix_at, crate::specs::Cycle::sub_at))]
-pub fn postfix<'a>(
+/// The beginning of an application, or of what is tighter.
+#[tactic(auto, unfolding(aql_parse_spec::specs::Parsing::application_at, crate::specs::Constructs::construct_at))]
+pub fn application<'a>(
     alloc: Global,
     source: &[u8],
     words: &'a [Word],
     depth: u64,
-) -> Result<(Expr, &'a [Word]), Refusal>
-    ensures { Parses tree_of source.now words.now result (postfix_at (parse_at depth) depth) }
+) -> Result<(Progress, &'a [Word]), Refusal>
+    ensures { Continues (parse_at depth) depth source.now words.now result
+        (application_at (parse_at depth) depth) }
 {
-    let (first, rest) = primary(alloc, source, words, depth)?;
-    let mut left = first;
-    let mut rest = rest;
-    for _turn in 0..depth {
-        match skip_sign(source, rest, Sign::OpenBracket) {
-            Some(inner) => {
-                let array = Box::new(alloc, left)?;
-                let (at, behind) = subscripts(alloc, source, inner, depth)?;
-                left = subscript(array, at);
-                rest = behind;
-            }
-            None => return Ok((left, rest)),
+    match opening(source, words) {
+        Some((Head::Macro(token), rest)) => {
+            let name = name_in(alloc, source, token)?;
+            Ok((Progress::More(Construct::Macro(name)), rest))
         }
+        Some((Head::Operation(operation), rest)) => {
+            Ok((Progress::More(Construct::Operation(operation)), rest))
+        }
+        Some((Head::Function(Functional::Plain), rest)) => {
+            function_begun(alloc, source, Functional::Plain, rest, depth)
+        }
+        Some((Head::Function(Functional::Sum), rest)) => {
+            function_begun(alloc, source, Functional::Sum, rest, depth)
+        }
+        None => postfix(alloc, source, words, depth),
     }
-    Ok((left, rest))
 }
 
-// Behind an opening bracket: subscripts and the closing one.
-#[cycle(expr)]
-#[tactic(auto, unfolding(crate::specs::Cycle::subs_at))]
-fn subscripts<'a>(
+// Behind the word `fn`.
+#[tactic(auto, unfolding(aql_parse_spec::specs::Parsing::function_at, crate::specs::Constructs::argument_from, crate::specs::Constructs::construct_at))]
+fn function_begun<'a>(
     alloc: Global,
     source: &[u8],
+    functional: Functional,
     words: &'a [Word],
     depth: u64,
-) -> Result<(Vec<Expr>, &'a [Word]), Refusal>
-    ensures { Parses (λ x. trees_of x.items) source.now words.now result
-        (subs_at (parse_at depth) depth) }
+) -> Result<(Progress, &'a [Word]), Refusal>
+    ensures { Continues (parse_at depth) depth source.now words.now result
+        (function_at (functional_of functional) (parse_at depth) depth) }
 {
-    let (at, rest) = list(alloc, source, words, depth)?;
-    let at = few(at)?;
-    let rest = expect(source, rest, Sign::CloseBracket)?;
-    Ok((at, rest))
+    let (pattern, rest) = pattern_then(alloc, source, words, Sign::FatArrow, depth)?;
+    Ok((
+        Progress::More(Construct::Function(functional, pattern)),
+        rest,
+    ))
 }
 
-// What stands before subscripts.
-#[cycle(expr)]
-#[tactic(auto, using(crate::proofs::Branches::primary_parts))]
-fn primary<'a>(
+// The beginning of a primary expression with its subscripts.
+#[tactic(auto, using(crate::proofs::PrimarySteps::postfix_parts))]
+fn postfix<'a>(
     alloc: Global,
     source: &[u8],
     words: &'a [Word],
     depth: u64,
-) -> Result<(Expr, &'a [Word]), Refusal>
-    ensures { Parses tree_of source.now words.now result (primary_at (parse_at depth) depth) }
+) -> Result<(Progress, &'a [Word]), Refusal>
+    ensures { Continues (parse_at depth) depth source.now words.now result
+        (postfix_at (parse_at depth) depth) }
 {
     if let Some(rest) = skip_sign(source, words, Sign::Open) {
-        return parentheses(alloc, source, rest, depth);
+        return listed(alloc, source, Enclosure::Parentheses, rest, depth);
     }
     if let Some(rest) = skip_sign(source, words, Sign::OpenBrace) {
         return braces(alloc, source, rest, depth);
     }
     if let Some(rest) = skip_sign(source, words, Sign::OpenBracket) {
-        return brackets(alloc, source, rest, depth);
+        let rest = expect(source, rest, Sign::OpenBracket)?;
+        return listed(alloc, source, Enclosure::Brackets, rest, depth);
     }
     if let Some(rest) = skip_sign(source, words, Sign::Let) {
-        return let_rest(alloc, source, rest, depth);
+        let defs = Definitions {
+            items: Vec::new(alloc),
+            turns: depth,
+        };
+        return next_definition(alloc, source, defs, rest, depth);
     }
-    leaf(alloc, source, words)
+    let (expr, rest) = leaf(alloc, source, words)?;
+    subscripted(alloc, source, expr, rest, depth, depth)
 }
 
-// Behind an opening parenthesis.
-#[cycle(expr)]
-#[tactic(auto, unfolding(aql_parse_spec::specs::Parsing::paren_at))]
-fn parentheses<'a>(
+// The first expression of a list.
+fn listed<'a>(
     alloc: Global,
     source: &[u8],
+    enclosure: Enclosure,
     words: &'a [Word],
     depth: u64,
-) -> Result<(Expr, &'a [Word]), Refusal>
-    ensures { Parses tree_of source.now words.now result (paren_at (parse_at depth) depth) }
+) -> Result<(Progress, &'a [Word]), Refusal>
+    ensures { Continues (parse_at depth) depth source.now words.now result
+        (members_at (parse_at depth) (enclosed_at (parse_at depth) depth enclosure)
+        no_tree depth) }
 {
-    let (items, rest) = list(alloc, source, words, depth)?;
-    let rest = expect(source, rest, Sign::Close)?;
-    Ok((enclose(items), rest))
-}
-
-// Behind the word `let`.
-#[cycle(expr)]
-#[tactic(auto, using(crate::proofs::Branches::let_parts))]
-fn let_rest<'a>(
-    alloc: Global,
-    source: &[u8],
-    words: &'a [Word],
-    depth: u64,
-) -> Result<(Expr, &'a [Word]), Refusal>
-    ensures { Parses tree_of source.now words.now result (let_at (parse_at depth) depth) }
-{
-    let (items, rest) = definitions(alloc, source, words, depth)?;
-    let rest = expect(source, rest, Sign::In)?;
-    let (body, rest) = parse_then(alloc, source, rest, Sign::End, depth)?;
-    Ok((let_in(items, body), rest))
+    let elements = Elements {
+        enclosure,
+        items: Vec::new(alloc),
+        turns: depth,
+    };
+    next_element(source, elements, words, depth)
 }
 
 // Behind an opening brace.
-#[cycle(expr)]
-#[tactic(auto, using(crate::proofs::Branches::braces_parts))]
+#[tactic(auto, unfolding(crate::specs::Constructs::braces_from))]
 fn braces<'a>(
     alloc: Global,
     source: &[u8],
     words: &'a [Word],
     depth: u64,
-) -> Result<(Expr, &'a [Word]), Refusal>
-    ensures { Parses tree_of source.now words.now result (braces_at (parse_at depth) depth) }
+) -> Result<(Progress, &'a [Word]), Refusal>
+    ensures { Continues (parse_at depth) depth source.now words.now result
+        (braces_from (parse_at depth) depth) }
 {
     match skip_sign(source, words, Sign::CloseBrace) {
-        Some(rest) => Ok((Expr::Empty, rest)),
-        None => {
-            let (items, rest) = list(alloc, source, words, depth)?;
-            in_braces(alloc, source, items, rest, depth)
+        Some(rest) => subscripted(alloc, source, Expr::Empty, rest, depth, depth),
+        None => listed(alloc, source, Enclosure::Braces, words, depth),
+    }
+}
+
+// Subscripts behind an expression, so many lists of them at most.
+#[tactic(auto, using(crate::proofs::PrimarySteps::sub_steps))]
+fn subscripted<'a>(
+    alloc: Global,
+    source: &[u8],
+    expr: Expr,
+    words: &'a [Word],
+    turns: u64,
+    depth: u64,
+) -> Result<(Progress, &'a [Word]), Refusal>
+    ensures { Continues (parse_at depth) depth source.now words.now result
+        (sub_rest (parse_at depth) depth turns (tree_of expr)) }
+{
+    if turns == 0 {
+        return Ok((Progress::Done(expr), words));
+    }
+    match skip_sign(source, words, Sign::OpenBracket) {
+        Some(rest) => {
+            let enclosure = Enclosure::Subscripts {
+                array: Box::new(alloc, expr)?,
+                turns: turns - 1,
+            };
+            listed(alloc, source, enclosure, rest, depth)
+        }
+        None => Ok((Progress::Done(expr), words)),
+    }
+}
+
+/// Behind the expressions of a list.
+#[tactic(auto, unfolding(crate::specs::Constructs::paren_closed, crate::specs::Constructs::cells_closed, crate::specs::Constructs::subs_closed))]
+pub fn enclosed<'a>(
+    alloc: Global,
+    source: &[u8],
+    enclosure: Enclosure,
+    items: Vec<Expr>,
+    words: &'a [Word],
+    depth: u64,
+) -> Result<(Progress, &'a [Word]), Refusal>
+    ensures { Continues (parse_at depth) depth source.now words.now result
+        (enclosed_at (parse_at depth) depth enclosure (trees_of items.items)) }
+{
+    match enclosure {
+        Enclosure::Parentheses => {
+            let rest = expect(source, words, Sign::Close)?;
+            subscripted(alloc, source, enclose(items), rest, depth, depth)
+        }
+        Enclosure::Braces => in_braces(alloc, source, items, words, depth),
+        Enclosure::Brackets => in_brackets(alloc, source, items, words, depth),
+        Enclosure::Cells(dims) => {
+            let rest = closed_twice(source, words)?;
+            subscripted(alloc, source, literal(dims, items), rest, depth, depth)
+        }
+        Enclosure::Subscripts { array, turns } => {
+            let at = few(items)?;
+            let rest = expect(source, words, Sign::CloseBracket)?;
+            subscripted(alloc, source, subscript(array, at), rest, turns, depth)
         }
     }
 }
 
 // Behind the first expressions in braces.
-#[cycle(expr)]
-#[tactic(auto, using(crate::proofs::Branches::brace_parts))]
+#[tactic(auto, unfolding(crate::specs::Constructs::brace_closed))]
 fn in_braces<'a>(
     alloc: Global,
     source: &[u8],
     items: Vec<Expr>,
     words: &'a [Word],
     depth: u64,
-) -> Result<(Expr, &'a [Word]), Refusal>
-    ensures { Parses tree_of source.now words.now result (brace_rest (parse_at depth) depth
-        (trees_of items.items)) }
+) -> Result<(Progress, &'a [Word]), Refusal>
+    ensures { Continues (parse_at depth) depth source.now words.now result
+        (brace_closed (parse_at depth) depth (trees_of items.items)) }
 {
     if let Some(rest) = skip_sign(source, words, Sign::CloseBrace) {
-        return Ok((members(items), rest));
+        return subscripted(alloc, source, members(items), rest, depth, depth);
     }
-    match skip_sign(source, words, Sign::Bar) {
-        Some(rest) => match only(items) {
-            Some(head) => comprehension_rest(alloc, source, Box::new(alloc, head)?, rest, depth),
-            None => Err(Refusal::Syntax),
-        },
+    let rest = expect(source, words, Sign::Bar)?;
+    match only(items) {
+        Some(head) => {
+            let quals = Qualifiers {
+                head: Box::new(alloc, head)?,
+                items: Vec::new(alloc),
+                turns: depth,
+            };
+            next_qualifier(alloc, source, quals, rest, depth)
+        }
         None => Err(Refusal::Syntax),
     }
 }
 
-// Behind the head of a comprehension and its bar.
-#[cycle(expr)]
-#[tactic(auto, unfolding(crate::specs::Cycle::comp_at))]
-fn comprehension_rest<'a>(
+/// Behind the qualifiers of a comprehension.
+#[tactic(auto, unfolding(crate::specs::Constructs::comp_closed))]
+pub fn comprehended<'a>(
     alloc: Global,
     source: &[u8],
     head: Box<Expr>,
+    quals: Vec<Qual>,
     words: &'a [Word],
     depth: u64,
-) -> Result<(Expr, &'a [Word]), Refusal>
-    ensures { Parses tree_of source.now words.now result (comp_at (parse_at depth) depth
-        (tree_of head.value)) }
+) -> Result<(Progress, &'a [Word]), Refusal>
+    ensures { Continues (parse_at depth) depth source.now words.now result
+        (comp_closed (parse_at depth) depth (tree_of head.value) (quals_of quals.items)) }
 {
-    let (quals, rest) = qualifiers(alloc, source, words, depth)?;
-    let rest = expect(source, rest, Sign::CloseBrace)?;
-    Ok((comprehension(head, quals), rest))
-}
-
-// Behind an opening bracket: another, and what stands in double brackets.
-#[cycle(expr)]
-#[tactic(auto, unfolding(crate::specs::Cycle::double_at, aql_parse_spec::specs::Parsing::brackets_at))]
-fn brackets<'a>(
-    alloc: Global,
-    source: &[u8],
-    words: &'a [Word],
-    depth: u64,
-) -> Result<(Expr, &'a [Word]), Refusal>
-    ensures { Parses tree_of source.now words.now result (double_at (parse_at depth) depth) }
-{
-    let rest = expect(source, words, Sign::OpenBracket)?;
-    let (items, rest) = list(alloc, source, rest, depth)?;
-    in_brackets(alloc, source, items, rest, depth)
+    let rest = expect(source, words, Sign::CloseBrace)?;
+    subscripted(
+        alloc,
+        source,
+        comprehension(head, quals),
+        rest,
+        depth,
+        depth,
+    )
 }
 
 // Behind the first expressions in double brackets.
-#[cycle(expr)]
-#[tactic(auto, using(crate::proofs::Branches::bracket_parts))]
+#[tactic(auto, unfolding(crate::specs::Constructs::bracket_closed))]
 fn in_brackets<'a>(
     alloc: Global,
     source: &[u8],
     items: Vec<Expr>,
     words: &'a [Word],
     depth: u64,
-) -> Result<(Expr, &'a [Word]), Refusal>
-    ensures { Parses tree_of source.now words.now result (bracket_rest (parse_at depth) depth
-        (trees_of items.items)) }
+) -> Result<(Progress, &'a [Word]), Refusal>
+    ensures { Continues (parse_at depth) depth source.now words.now result
+        (bracket_closed (parse_at depth) depth (trees_of items.items)) }
 {
     if let Some(rest) = skip_sign(source, words, Sign::Semicolon) {
-        return cells(alloc, source, few(items)?, rest, depth);
+        let dims = few(items)?;
+        return cells(alloc, source, dims, rest, depth);
     }
-    match skip_sign(source, words, Sign::Bar) {
-        Some(rest) => match only(items) {
-            Some(body) => tabulation_rest(alloc, source, Box::new(alloc, body)?, rest, depth),
-            None => Err(Refusal::Syntax),
-        },
+    let rest = expect(source, words, Sign::Bar)?;
+    match only(items) {
+        Some(body) => {
+            let indices = Indices {
+                body: Box::new(alloc, body)?,
+                items: Vec::new(alloc),
+                turns: depth,
+            };
+            next_index(alloc, source, indices, rest, depth)
+        }
         None => Err(Refusal::Syntax),
     }
 }
 
 // Behind the dimensions of a literal and their semicolon.
-#[cycle(expr)]
-#[tactic(auto, unfolding(crate::specs::Cycle::cells_at))]
+#[tactic(auto, unfolding(crate::specs::Constructs::cells_from, crate::specs::Constructs::cells_closed))]
 fn cells<'a>(
     alloc: Global,
     source: &[u8],
     dims: Vec<Expr>,
     words: &'a [Word],
     depth: u64,
-) -> Result<(Expr, &'a [Word]), Refusal>
-    ensures { Parses tree_of source.now words.now result (cells_at (parse_at depth) depth
-        (trees_of dims.items)) }
+) -> Result<(Progress, &'a [Word]), Refusal>
+    ensures { Continues (parse_at depth) depth source.now words.now result
+        (cells_from (parse_at depth) depth (trees_of dims.items)) }
 {
-    let (cells, rest) = list_or_none(alloc, source, words, depth)?;
-    let rest = closed_twice(source, rest)?;
-    Ok((literal(dims, cells), rest))
+    match skip_sign(source, words, Sign::CloseBracket) {
+        Some(_) => {
+            let rest = closed_twice(source, words)?;
+            let none = Vec::new(alloc);
+            subscripted(alloc, source, literal(dims, none), rest, depth, depth)
+        }
+        None => listed(alloc, source, Enclosure::Cells(dims), words, depth),
+    }
 }
 
-// Behind the body of a tabulation and its bar.
-#[cycle(expr)]
-#[tactic(auto, using(crate::proofs::CycleLoops::table_steps), unfolding(crate::specs::Cycle::table_at))]
-fn tabulation_rest<'a>(
+/// Behind the indices of a tabulation.
+#[tactic(auto, using(crate::proofs::PrimarySteps::table_steps), unfolding(crate::specs::Constructs::table_closed))]
+pub fn tabulated<'a>(
     alloc: Global,
     source: &[u8],
     body: Box<Expr>,
+    binds: Vec<Bind>,
     words: &'a [Word],
     depth: u64,
-) -> Result<(Expr, &'a [Word]), Refusal>
-    ensures { Parses tree_of source.now words.now result (table_at (parse_at depth) depth
-        (tree_of body.value)) }
+) -> Result<(Progress, &'a [Word]), Refusal>
+    ensures { Continues (parse_at depth) depth source.now words.now result
+        (table_closed (parse_at depth) depth (tree_of body.value) (axes_in binds.items)) }
 {
-    let (binds, rest) = indices(alloc, source, words, depth)?;
     if binds.len() > 8 {
         return Err(Refusal::Syntax);
     }
-    let rest = closed_twice(source, rest)?;
-    Ok((tabulation(body, binds), rest))
+    let rest = closed_twice(source, words)?;
+    subscripted(alloc, source, tabulation(body, binds), rest, depth, depth)
+}
+
+/// Behind the bindings of a let.
+#[tactic(auto, unfolding(crate::specs::Constructs::let_closed, crate::specs::Constructs::construct_at))]
+pub fn defined<'a>(
+    source: &[u8],
+    binds: Vec<LetBind>,
+    words: &'a [Word],
+    depth: u64,
+) -> Result<(Progress, &'a [Word]), Refusal>
+    ensures { Continues (parse_at depth) depth source.now words.now result
+        (let_closed (parse_at depth) depth (defs_in binds.items)) }
+{
+    let rest = expect(source, words, Sign::In)?;
+    Ok((Progress::More(Construct::Body(binds)), rest))
+}
+
+/// Behind the body of a let.
+#[tactic(auto, unfolding(crate::specs::Constructs::body_closed))]
+pub fn body_read<'a>(
+    alloc: Global,
+    source: &[u8],
+    binds: Vec<LetBind>,
+    body: Expr,
+    words: &'a [Word],
+    depth: u64,
+) -> Result<(Progress, &'a [Word]), Refusal>
+    ensures { Continues (parse_at depth) depth source.now words.now result
+        (body_closed (parse_at depth) depth (defs_in binds.items) (tree_of body)) }
+{
+    let body = Box::new(alloc, body)?;
+    let rest = expect(source, words, Sign::End)?;
+    subscripted(alloc, source, let_in(binds, body), rest, depth, depth)
+}
+
+/// What may follow the first part of an expression: `default`, before the second.
+#[tactic(auto, unfolding(crate::specs::Cycle::default_at, crate::specs::Constructs::construct_at))]
+pub fn default_rest<'a>(
+    alloc: Global,
+    source: &[u8],
+    left: Expr,
+    words: &'a [Word],
+    depth: u64,
+) -> Result<(Progress, &'a [Word]), Refusal>
+    ensures { Continues (parse_at depth) depth source.now words.now result
+        (default_at (parse_at depth) (tree_of left)) }
+{
+    match skip_sign(source, words, Sign::Default) {
+        Some(rest) => {
+            let left = Box::new(alloc, left)?;
+            Ok((Progress::More(Construct::Default(left)), rest))
+        }
+        None => Ok((Progress::Done(left), words)),
+    }
 }
