@@ -62,7 +62,7 @@ fn cell(alloc: Global, rank: u64, added: u64) -> Result<Core, Memory>
 }
 
 /// Puts on `n` variables without a name.
-pub fn hide(names: &mut Vec<Option<&Str>>, n: usize) -> Result<(), Memory>
+pub(crate) fn hide(names: &mut Vec<Option<&Str>>, n: usize) -> Result<(), Memory>
     ensures inside { OnOk result (Enters (under n) names.old.items names.new.items) }
     ensures around { OnOk result (take (length names.old.items) names.new.items ≡ names.old.items) }
 {
@@ -74,7 +74,10 @@ pub fn hide(names: &mut Vec<Option<&Str>>, n: usize) -> Result<(), Memory>
 }
 
 /// Puts on the variables inside the matches of the parts of an index.
-pub fn enter_axes<'a>(ps: &'a [Pattern], names: &mut Vec<Option<&'a Str>>) -> Result<(), Memory>
+pub(crate) fn enter_axes<'a>(
+    ps: &'a [Pattern],
+    names: &mut Vec<Option<&'a Str>>,
+) -> Result<(), Memory>
     ensures inside { OnOk result (Enters (bound_axes (pats_of ps.now)) names.old.items
         names.new.items) }
     ensures around { OnOk result (take (length names.old.items) names.new.items ≡ names.old.items) }

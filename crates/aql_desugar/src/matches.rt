@@ -35,7 +35,7 @@ pub(crate) fn fallback_term(other: Missing) -> Core
 }
 
 /// A number past 64 bits is met by no tree that fits in memory.
-pub fn add_numbers(a: u64, b: u64) -> Result<u64, Memory>
+pub(crate) fn add_numbers(a: u64, b: u64) -> Result<u64, Memory>
     ensures { IfOk result (λ r. r ≡ a + b) }
 {
     match a.checked_add(b) {
@@ -45,7 +45,7 @@ pub fn add_numbers(a: u64, b: u64) -> Result<u64, Memory>
 }
 
 /// A name: the variable, else the position.
-pub fn name_term(name: &Str, earlier: &Earlier, names: &[Option<&Str>]) -> Core
+pub(crate) fn name_term(name: &Str, earlier: &Earlier, names: &[Option<&Str>]) -> Core
     ensures { (base : ℕ) → term_of result ≡ start_term.name_term
         (start_term.index_of name.now (binders_in names.now base))
         (surface_names.find name.now (knowns_in earlier.now)) }

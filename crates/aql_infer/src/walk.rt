@@ -32,7 +32,7 @@ use std::alloc::Global;
 /// is deeper than the greatest number.
 #[cycle(walk)]
 #[tactic(auto, unfolding(aql_infer_steps::specs::Constraints::after))]
-pub fn infer(
+pub(crate) fn infer(
     alloc: Global,
     e: &Expr,
     fuel: u64,

@@ -298,7 +298,7 @@ pub fn tuple(
 
 /// Each of these is to become that type.
 #[tactic(auto, unfolding(crate::specs::Constraints::after), using(crate::proofs::Lists::types_in_steps))]
-pub fn equal_each(
+pub(crate) fn equal_each(
     alloc: Global,
     ts: &[Sketch],
     t: &Sketch,

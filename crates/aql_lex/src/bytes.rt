@@ -25,7 +25,7 @@ pub fn hex_digit(b: u8) -> bool
 }
 
 /// What may follow in a name.
-pub fn name_byte(b: u8) -> bool
+pub(crate) fn name_byte(b: u8) -> bool
     ensures { result ≡ is_name_byte b }
 {
     letter(b) || digit(b) || b == b'_' || b == b'\''
@@ -39,7 +39,7 @@ pub fn plain(b: u8) -> bool
 }
 
 /// Space, tab, carriage return, line feed.
-pub fn space(b: u8) -> bool
+pub(crate) fn space(b: u8) -> bool
     ensures { result ≡ is_space b }
 {
     b == b' ' || b == b'\t' || b == b'\r' || b == b'\n'

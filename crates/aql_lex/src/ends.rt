@@ -8,7 +8,7 @@ ghost use Rattle.aql_lex.specs.Texts.{digits_value};
 use crate::bytes::{digit, hex_digit, name_byte, plain};
 
 /// What follows the letters, digits and marks of a name.
-pub fn after_name(bytes: &[u8]) -> &[u8]
+pub(crate) fn after_name(bytes: &[u8]) -> &[u8]
     ensures rest { result.now ≡ munch_rest is_name_byte bytes.now }
     ensures shorter { length result.now ≤ length bytes.now }
 {
@@ -24,7 +24,7 @@ pub fn after_name(bytes: &[u8]) -> &[u8]
 
 /// What follows a number's digits, if 128 bits hold it.
 #[tactic(auto, using(crate::specs::Laws::Text::digits_grow))]
-pub fn after_digits(start: u128, bytes: &[u8]) -> Option<&[u8]>
+pub(crate) fn after_digits(start: u128, bytes: &[u8]) -> Option<&[u8]>
     ensures value { MatchOption result (2 ^ 128 ≤ digits_value start bytes.now)
         (λ _. digits_value start bytes.now < 2 ^ 128) }
     ensures rest { IfSome result (λ r. r.now ≡ munch_rest is_digit bytes.now) }
@@ -42,7 +42,7 @@ pub fn after_digits(start: u128, bytes: &[u8]) -> Option<&[u8]>
 }
 
 /// What follows a string's closing quote.
-pub fn after_string(bytes: &[u8]) -> Option<&[u8]>
+pub(crate) fn after_string(bytes: &[u8]) -> Option<&[u8]>
     ensures { MatchOption result (string_rest inside bytes.now ≡ None)
         (λ r. string_rest inside bytes.now ≡ Some r.now) }
 {
@@ -85,7 +85,7 @@ fn after_escape(bytes: &[u8]) -> Option<&[u8]>
 }
 
 /// What follows a comment's first star and parenthesis.
-pub fn after_comment(bytes: &[u8]) -> Option<&[u8]>
+pub(crate) fn after_comment(bytes: &[u8]) -> Option<&[u8]>
     ensures { MatchOption result (comment_rest false bytes.now ≡ None)
         (λ r. comment_rest false bytes.now ≡ Some r.now) }
 {

@@ -31,7 +31,7 @@ pub fn text_at(script: &[u8], token: Token) -> &[u8]
 }
 
 /// Where the first token begins after which the scan passes 400.
-pub fn first_deep(
+pub(crate) fn first_deep(
     alloc: Global,
     tokens: &[Token],
     script: &[u8],

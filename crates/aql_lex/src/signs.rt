@@ -25,7 +25,7 @@ pub fn word_of(text: &[u8]) -> Option<Sign>
 }
 
 /// The longest sign at the front, other than an open parenthesis, and what follows it.
-pub fn sign_at(bytes: &[u8]) -> Option<(Sign, &[u8])>
+pub(crate) fn sign_at(bytes: &[u8]) -> Option<(Sign, &[u8])>
     ensures { MatchOption result (sign_from SIGNS bytes.now ≡ None) (λ x. sign_from SIGNS bytes.now
         ≡ Some (x.0, x.1.now)) }
 {

@@ -89,7 +89,7 @@ pub enum Progress {
 }
 
 /// The level of the next expression of a construct.
-pub fn level_of(construct: &Construct) -> u64
+pub(crate) fn level_of(construct: &Construct) -> u64
     ensures level { result ≡ meaning.level_of construct.now }
     ensures bounded { result ≤ 8 }
 {
@@ -103,7 +103,7 @@ pub fn level_of(construct: &Construct) -> u64
 }
 
 /// What a construct has become behind its next expression.
-pub fn read_on<'a>(
+pub(crate) fn read_on<'a>(
     alloc: Global,
     source: &[u8],
     construct: Construct,

@@ -47,7 +47,7 @@ fn operator_of(sign: Sign) -> Option<(u64, Operator)>
 
 /// An operator of that level, and what follows it.
 #[tactic(auto, unfolding(aql_parse_spec::specs::Parsing::operator_at))]
-pub fn operator_at<'a>(
+pub(crate) fn operator_at<'a>(
     source: &[u8],
     level: u64,
     words: &'a [Word],
@@ -79,7 +79,7 @@ pub fn turns(level: u64, depth: u64) -> u64
 }
 
 /// The level of an operator's second part: below its own, so that the operators of one level join to the left.
-pub fn second_level(level: u64) -> u64
+pub(crate) fn second_level(level: u64) -> u64
     requires { 0 < level }
     ensures { result ≡ level - 1 }
 {
@@ -87,7 +87,7 @@ pub fn second_level(level: u64) -> u64
 }
 
 /// The level of what stands behind `not`: that of `not`, so that a comparison binds tighter.
-pub fn negated_level() -> u64
+pub(crate) fn negated_level() -> u64
     ensures { result ≡ 5 }
 {
     5
@@ -140,7 +140,7 @@ pub enum Head {
 
 /// The beginning of an application, and what follows it.
 #[tactic(auto, unfolding(aql_parse_spec::specs::Parsing::opening, aql_parse_spec::specs::Parsing::after))]
-pub fn opening<'a>(source: &[u8], words: &'a [Word]) -> Option<(Head, &'a [Word])>
+pub(crate) fn opening<'a>(source: &[u8], words: &'a [Word]) -> Option<(Head, &'a [Word])>
     ensures { MatchOption result (grammar.opening (lexemes source.now words.now) ≡ operand)
         (λ x. grammar.opening (lexemes source.now words.now) ≡ opening_of source.now x.0
         (lexemes source.now x.1.now)) }
@@ -170,7 +170,7 @@ pub fn opening<'a>(source: &[u8], words: &'a [Word]) -> Option<(Head, &'a [Word]
 
 /// What stands in parentheses: one expression, or a tuple of several.
 #[tactic(auto, using(crate::proofs::Steps::enclosed_many))]
-pub fn enclose(items: Vec<Expr>) -> Expr
+pub(crate) fn enclose(items: Vec<Expr>) -> Expr
     ensures { tree_of result ≡ grammar.grouping (trees_of items.items) }
 {
     if items.len() != 1 {

@@ -20,7 +20,7 @@ use std::alloc::Global;
 
 /// Before the next expression of a list.
 #[tactic(auto, using(crate::proofs::ListSteps::members_steps), unfolding(crate::specs::Constructs::construct_at))]
-pub fn next_element<'a>(
+pub(crate) fn next_element<'a>(
     source: &[u8],
     elements: Elements,
     words: &'a [Word],
@@ -47,7 +47,7 @@ pub fn next_element<'a>(
 
 /// Behind an expression of a list.
 #[tactic(auto, using(crate::proofs::ListSteps::member_steps))]
-pub fn element_read<'a>(
+pub(crate) fn element_read<'a>(
     alloc: Global,
     source: &[u8],
     elements: Elements,
@@ -80,7 +80,7 @@ pub fn element_read<'a>(
 
 /// Before the bound of the next index of a tabulation.
 #[tactic(auto, using(crate::proofs::ListSteps::indices_steps), unfolding(crate::specs::Constructs::construct_at))]
-pub fn next_index<'a>(
+pub(crate) fn next_index<'a>(
     alloc: Global,
     source: &[u8],
     indices: Indices,
@@ -105,7 +105,7 @@ pub fn next_index<'a>(
 
 /// Behind the bound of an index.
 #[tactic(auto, using(crate::proofs::ListSteps::index_steps))]
-pub fn bound_read<'a>(
+pub(crate) fn bound_read<'a>(
     alloc: Global,
     source: &[u8],
     indices: Indices,
@@ -131,7 +131,7 @@ pub fn bound_read<'a>(
 
 /// Before the expression of the next qualifier of a comprehension.
 #[tactic(auto, using(crate::proofs::ListSteps::qualifiers_steps), unfolding(crate::specs::Constructs::construct_at))]
-pub fn next_qualifier<'a>(
+pub(crate) fn next_qualifier<'a>(
     alloc: Global,
     source: &[u8],
     quals: Qualifiers,
@@ -156,7 +156,7 @@ pub fn next_qualifier<'a>(
 
 /// Behind the expression of a qualifier.
 #[tactic(auto, using(crate::proofs::ListSteps::qualifier_steps))]
-pub fn qualifier_read<'a>(
+pub(crate) fn qualifier_read<'a>(
     alloc: Global,
     source: &[u8],
     quals: Qualifiers,
@@ -182,7 +182,7 @@ pub fn qualifier_read<'a>(
 
 /// Before the expression of the next binding of a let.
 #[tactic(auto, using(crate::proofs::ListSteps::definitions_steps), unfolding(crate::specs::Constructs::construct_at))]
-pub fn next_definition<'a>(
+pub(crate) fn next_definition<'a>(
     alloc: Global,
     source: &[u8],
     defs: Definitions,
@@ -206,7 +206,7 @@ pub fn next_definition<'a>(
 
 /// Behind the expression of a binding.
 #[tactic(auto, using(crate::proofs::ListSteps::definition_steps))]
-pub fn definition_read<'a>(
+pub(crate) fn definition_read<'a>(
     alloc: Global,
     source: &[u8],
     defs: Definitions,

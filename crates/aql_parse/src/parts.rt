@@ -49,7 +49,7 @@ pub fn definition<'a>(
 
 /// Two closing brackets.
 #[tactic(auto, unfolding(aql_parse_spec::specs::Parsing::closed_twice))]
-pub fn closed_twice<'a>(source: &[u8], words: &'a [Word]) -> Result<&'a [Word], Refusal>
+pub(crate) fn closed_twice<'a>(source: &[u8], words: &'a [Word]) -> Result<&'a [Word], Refusal>
     ensures { GivesReading (λ x. lexemes source.now x.now) result
         (grammar.closed_twice (lexemes source.now words.now)) }
 {

@@ -83,7 +83,7 @@ fn patterns<'a>(
 /// The words behind a pattern of at most that depth, of which no tree is made: none where none stands first.
 #[cycle(past)]
 #[tactic(auto, using(crate::proofs::Loops::past_steps))]
-pub fn past_pattern<'a>(source: &[u8], words: &'a [Word], depth: u64) -> Option<&'a [Word]>
+pub(crate) fn past_pattern<'a>(source: &[u8], words: &'a [Word], depth: u64) -> Option<&'a [Word]>
     ensures { Passes source.now words.now result (pat_at depth) }
 {
     if depth == 0 {
@@ -167,7 +167,7 @@ pub fn name<'a>(
 
 /// A pattern and then that sign.
 #[tactic(auto, unfolding(aql_parse_spec::specs::Parsing::pat_then))]
-pub fn pattern_then<'a>(
+pub(crate) fn pattern_then<'a>(
     alloc: Global,
     source: &[u8],
     words: &'a [Word],

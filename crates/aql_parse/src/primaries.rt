@@ -172,7 +172,7 @@ fn subscripted<'a>(
 
 /// Behind the expressions of a list.
 #[tactic(auto, unfolding(crate::specs::Constructs::paren_closed, crate::specs::Constructs::cells_closed, crate::specs::Constructs::subs_closed))]
-pub fn enclosed<'a>(
+pub(crate) fn enclosed<'a>(
     alloc: Global,
     source: &[u8],
     enclosure: Enclosure,
@@ -233,7 +233,7 @@ fn in_braces<'a>(
 
 /// Behind the qualifiers of a comprehension.
 #[tactic(auto, unfolding(crate::specs::Constructs::comp_closed))]
-pub fn comprehended<'a>(
+pub(crate) fn comprehended<'a>(
     alloc: Global,
     source: &[u8],
     head: Box<Expr>,
@@ -309,7 +309,7 @@ fn cells<'a>(
 
 /// Behind the indices of a tabulation.
 #[tactic(auto, using(crate::proofs::PrimarySteps::table_steps), unfolding(crate::specs::Constructs::table_closed))]
-pub fn tabulated<'a>(
+pub(crate) fn tabulated<'a>(
     alloc: Global,
     source: &[u8],
     body: Box<Expr>,
@@ -344,7 +344,7 @@ pub fn defined<'a>(
 
 /// Behind the body of a let.
 #[tactic(auto, unfolding(crate::specs::Constructs::body_closed))]
-pub fn body_read<'a>(
+pub(crate) fn body_read<'a>(
     alloc: Global,
     source: &[u8],
     binds: Vec<LetBind>,
@@ -362,7 +362,7 @@ pub fn body_read<'a>(
 
 /// What may follow the first part of an expression: `default`, before the second.
 #[tactic(auto, unfolding(crate::specs::Cycle::default_at, crate::specs::Constructs::construct_at))]
-pub fn default_rest<'a>(
+pub(crate) fn default_rest<'a>(
     alloc: Global,
     source: &[u8],
     left: Expr,

@@ -13,7 +13,7 @@ use std::alloc::Global;
 
 /// The reader that has that name.
 #[tactic(auto, unfolding(aql_parse_spec::specs::Parsing::reader_named))]
-pub fn reader_named(alloc: Global, name: &[u8]) -> Result<Reader, Refusal>
+pub(crate) fn reader_named(alloc: Global, name: &[u8]) -> Result<Reader, Refusal>
     ensures { GivesReading reader_of result (grammar.reader_named name.now) }
 {
     match strip_front(b"NETCDF", name) {

@@ -34,7 +34,7 @@ pub fn next(words: &[Word]) -> Option<(Word, &[Word])>
 }
 
 /// Whether two signs are one.
-pub fn is_sign(a: Sign, b: Sign) -> bool
+pub(crate) fn is_sign(a: Sign, b: Sign) -> bool
     ensures { result ≡ same_sign a b }
 {
     a == b
@@ -42,7 +42,7 @@ pub fn is_sign(a: Sign, b: Sign) -> bool
 
 /// The words behind that sign, where it stands first.
 #[tactic(auto, unfolding(aql_parse_spec::specs::Parsing::after))]
-pub fn skip_sign<'a>(source: &[u8], words: &'a [Word], sign: Sign) -> Option<&'a [Word]>
+pub(crate) fn skip_sign<'a>(source: &[u8], words: &'a [Word], sign: Sign) -> Option<&'a [Word]>
     ensures { MatchOption result (after sign (lexemes source.now words.now) ≡ None)
         (λ x. after sign (lexemes source.now words.now) ≡ Some (lexemes source.now x.now)) }
 {
@@ -70,7 +70,7 @@ pub fn expect<'a>(source: &[u8], words: &'a [Word], sign: Sign) -> Result<&'a [W
 }
 
 /// A name.
-pub fn name_in(alloc: Global, source: &[u8], token: Token) -> Result<Str, Memory>
+pub(crate) fn name_in(alloc: Global, source: &[u8], token: Token) -> Result<Str, Memory>
     ensures { IfOk result (λ s. s ≡ text_of source.now token) }
 {
     let mut bytes = Vec::new(alloc);
@@ -79,7 +79,7 @@ pub fn name_in(alloc: Global, source: &[u8], token: Token) -> Result<Str, Memory
 }
 
 /// The bytes that a string stands for.
-pub fn string_in(alloc: Global, source: &[u8], token: Token) -> Result<Str, Memory>
+pub(crate) fn string_in(alloc: Global, source: &[u8], token: Token) -> Result<Str, Memory>
     ensures { IfOk result (λ s. s ≡ string_of (text_of source.now token)) }
 {
     match text_at(source, token).split_first() {
@@ -156,7 +156,7 @@ fn digit_value(byte: u8) -> u8
 
 /// The number that digits make, where 128 bits hold it.
 #[tactic(auto, using(aql_lex::specs::Laws::Text::digits_grow))]
-pub fn number_in(text: &[u8]) -> u128
+pub(crate) fn number_in(text: &[u8]) -> u128
     ensures { digits_value 0 text.now < 2 ^ 128 → result ≡ digits_value 0 text.now }
 {
     let mut value = 0;

@@ -17,7 +17,7 @@ use std::alloc::Global;
 /// The lines of a declaration: its type, its value or that it is a macro, and with `plan` its plan,
 /// the rules that made it, its turns, and what is moved in the plan, where there is something; at the
 /// end what the array-free form of the plan came to, where there is one.
-pub fn entry_text(
+pub(crate) fn entry_text(
     alloc: Global,
     plan: bool,
     answer: &Answer,

@@ -10,7 +10,7 @@ use itoa::Buffer;
 use std::alloc::Global;
 
 /// `fault WORD at byte K`.
-pub fn byte_line(alloc: Global, word: &[u8], k: u64) -> Result<Vec<u8>, Memory>
+pub(crate) fn byte_line(alloc: Global, word: &[u8], k: u64) -> Result<Vec<u8>, Memory>
     ensures { IfOk result (λ line. line.items ≡ at_byte word.now k) }
 {
     let mut line = Vec::from_slice(alloc, b"fault ")?;
@@ -22,7 +22,7 @@ pub fn byte_line(alloc: Global, word: &[u8], k: u64) -> Result<Vec<u8>, Memory>
 }
 
 /// `fault WORD in declaration N`.
-pub fn declaration_line(alloc: Global, word: &[u8], n: u64) -> Result<Vec<u8>, Memory>
+pub(crate) fn declaration_line(alloc: Global, word: &[u8], n: u64) -> Result<Vec<u8>, Memory>
     ensures { IfOk result (λ line. line.items ≡ in_declaration word.now n) }
 {
     let mut line = Vec::from_slice(alloc, b"fault ")?;
@@ -34,7 +34,7 @@ pub fn declaration_line(alloc: Global, word: &[u8], n: u64) -> Result<Vec<u8>, M
 }
 
 /// `fault file in declaration N: KIND`.
-pub fn file_line(alloc: Global, n: u64, fault: &CdfFault) -> Result<Vec<u8>, Memory>
+pub(crate) fn file_line(alloc: Global, n: u64, fault: &CdfFault) -> Result<Vec<u8>, Memory>
     ensures { IfOk result (λ line. line.items ≡ of_file n fault.now) }
 {
     let mut line = Vec::from_slice(alloc, b"fault file in declaration ")?;
@@ -46,7 +46,7 @@ pub fn file_line(alloc: Global, n: u64, fault: &CdfFault) -> Result<Vec<u8>, Mem
 }
 
 /// The same of a file of records.
-pub fn table_line(alloc: Global, n: u64, fault: &CsvFault) -> Result<Vec<u8>, Memory>
+pub(crate) fn table_line(alloc: Global, n: u64, fault: &CsvFault) -> Result<Vec<u8>, Memory>
     ensures { IfOk result (λ line. line.items ≡ of_table n fault.now) }
 {
     let mut line = Vec::from_slice(alloc, b"fault file in declaration ")?;

@@ -32,7 +32,7 @@ impl From<AllocError> for ReadFault {
 }
 
 /// Reads the source to its end, which comes within the limit on a script.
-pub fn read_script<S: Source>(alloc: Global, input: &mut S) -> Result<Vec<u8>, ReadFault>
+pub(crate) fn read_script<S: Source>(alloc: Global, input: &mut S) -> Result<Vec<u8>, ReadFault>
     ensures whole { IfOk result (λ script.
         ReadsWhole (S.left input.old) (S.left input.new) script.items) }
     ensures fails { IfErr result (ReadFails (S.left input.old) (S.left input.new)) }

@@ -43,7 +43,7 @@ struct Script<'a, R, G> {
 
 /// Answers every declaration of a script, and writes the lines of each before the next one is run.
 /// The prelude's declarations come first and print nothing.
-pub fn answer_all<R: Threads + Sync, O: Sink, F: Files, G: Gate>(
+pub(crate) fn answer_all<R: Threads + Sync, O: Sink, F: Files, G: Gate>(
     rt: &R,
     alloc: Global,
     prepared: &Prepared,

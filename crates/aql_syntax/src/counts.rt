@@ -68,7 +68,7 @@ pub fn digits(n: usize) -> u64
 
 /// The nodes of the patterns of qualifiers.
 #[tactic(auto, using(crate::specs::Laws::Measuring::qual_sums))]
-pub fn quals_nodes(quals: &[Qual]) -> u64
+pub(crate) fn quals_nodes(quals: &[Qual]) -> u64
     ensures { result ≡ min (quals_patterns (quals_of quals.now)) (2 ^ 64 - 1) }
 {
     let mut total: u64 = 0;
@@ -95,7 +95,7 @@ fn qual_nodes(q: &Qual) -> u64
 
 /// The nodes of the patterns of bindings.
 #[tactic(auto, using(crate::specs::Laws::View::defs_steps))]
-pub fn lets_nodes(binds: &[LetBind]) -> u64
+pub(crate) fn lets_nodes(binds: &[LetBind]) -> u64
     ensures { result ≡ min (defs_patterns (defs_in binds.now)) (2 ^ 64 - 1) }
 {
     let mut total: u64 = 0;

@@ -128,7 +128,7 @@ pub fn length(a: Result<Box<Expr>, Memory>) -> Result<Expr, Memory>
 }
 
 /// A value and the one in its stead.
-pub fn make_default(
+pub(crate) fn make_default(
     a: Result<Box<Expr>, Memory>,
     b: Result<Box<Expr>, Memory>,
 ) -> Result<Expr, Memory>
@@ -221,7 +221,7 @@ pub fn make_tabulation(
 }
 
 /// A literal array, of dimensions and cells.
-pub fn make_literal(
+pub(crate) fn make_literal(
     dims: Result<Vec<Expr>, Memory>,
     cells: Result<Vec<Expr>, Memory>,
 ) -> Result<Expr, Memory>
@@ -235,7 +235,7 @@ pub fn make_literal(
 }
 
 /// A let.
-pub fn make_let(
+pub(crate) fn make_let(
     binds: Result<Vec<LetBind>, Memory>,
     body: Result<Box<Expr>, Memory>,
 ) -> Result<Expr, Memory>

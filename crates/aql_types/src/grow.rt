@@ -63,7 +63,7 @@ pub fn push_truth(g: Graph) -> Result<(u32, Graph), Memory>
 }
 
 /// The type of strings.
-pub fn push_text(g: Graph) -> Result<(u32, Graph), Memory>
+pub(crate) fn push_text(g: Graph) -> Result<(u32, Graph), Memory>
     ensures { IfOk result (λ r. Adds r.0 r.1 g (form.made shape.text)) }
 {
     push_form(g, Node::Text)

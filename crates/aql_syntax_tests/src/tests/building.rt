@@ -16,7 +16,7 @@ pub fn name(alloc: Global, letter: u8, number: u8) -> Result<Str, Memory> {
     Ok(Str { bytes })
 }
 
-pub fn letter_name(alloc: Global, letter: u8, number: u8) -> Made {
+pub(crate) fn letter_name(alloc: Global, letter: u8, number: u8) -> Made {
     Ok(Expr::Name(name(alloc, letter, number)?))
 }
 
@@ -31,7 +31,7 @@ pub fn binding(alloc: Global) -> Result<Pattern, Memory> {
 }
 
 /// The call of the macro of that number.
-pub fn call_macro(alloc: Global, number: u8, argument: Made) -> Made {
+pub(crate) fn call_macro(alloc: Global, number: u8, argument: Made) -> Made {
     let (name, argument) = both(name(alloc, b'm', number), make_box(alloc, argument))?;
     Ok(Expr::Apply { name, argument })
 }
@@ -58,7 +58,7 @@ fn put(items: &mut Vec<Decl>, decl: Result<Decl, Memory>) -> Result<(), Memory> 
 }
 
 /// macro \m0 = fn \x => x+x; and then macro \mK = fn \x => mJ!x+mJ!x; with J one less than K, up to the last.
-pub fn doublings(alloc: Global, last: u8) -> Result<Vec<Decl>, Memory> {
+pub(crate) fn doublings(alloc: Global, last: u8) -> Result<Vec<Decl>, Memory> {
     let first = sum(alloc, local(alloc), local(alloc));
     let mut items = make_list(alloc, definition(alloc, 0, first))?;
     for k in 0..last {
@@ -70,7 +70,7 @@ pub fn doublings(alloc: Global, last: u8) -> Result<Vec<Decl>, Memory> {
     Ok(items)
 }
 
-pub fn collect_set(alloc: Global, head: Made, quals: Result<Vec<Qual>, Memory>) -> Made {
+pub(crate) fn collect_set(alloc: Global, head: Made, quals: Result<Vec<Qual>, Memory>) -> Made {
     let (head, quals) = both(make_box(alloc, head), quals)?;
     Ok(comprehension(head, quals))
 }
@@ -85,7 +85,7 @@ fn tests(alloc: Global, count: u64) -> Result<Vec<Qual>, Memory> {
 }
 
 /// {1 | true, .. , true} with that many tests.
-pub fn tests_alone(alloc: Global, count: u64) -> Made {
+pub(crate) fn tests_alone(alloc: Global, count: u64) -> Made {
     collect_set(alloc, Ok(Expr::Nat(1)), tests(alloc, count))
 }
 
@@ -99,7 +99,7 @@ fn draw_first(alloc: Global) -> Result<Qual, Memory> {
 }
 
 /// {1 | (\x,_) <- {}, 1 == 2}
-pub fn match_first(alloc: Global) -> Made {
+pub(crate) fn match_first(alloc: Global) -> Made {
     let test = Qual::Match {
         pattern: Pattern::Nat(1),
         of: Expr::Nat(2),
@@ -109,7 +109,7 @@ pub fn match_first(alloc: Global) -> Made {
 }
 
 /// {1, 2, 3}
-pub fn three_members(alloc: Global) -> Made {
+pub(crate) fn three_members(alloc: Global) -> Made {
     let mut items = Vec::new(alloc);
     for n in [1, 2, 3] {
         items.push(Expr::Nat(n))?;

@@ -22,7 +22,7 @@ pub enum Asked<'a> {
 }
 
 /// The hyperslab of a variable of the file with this header, read over the files.
-pub fn read_over<F: Files>(
+pub(crate) fn read_over<F: Files>(
     alloc: Global,
     files: &mut F,
     header: Result<Header, CdfFault>,
@@ -36,7 +36,7 @@ pub fn read_over<F: Files>(
 }
 
 /// The same, where the files are sure.
-pub fn read_sure(
+pub(crate) fn read_sure(
     alloc: Global,
     files: Result<SureFiles, Memory>,
     header: Result<Header, CdfFault>,
@@ -127,7 +127,7 @@ fn read<F: Files>(
 pub type Answer<'a> = Result<(u64, &'a [u8]), CdfFault>;
 
 /// What was read is what is expected.
-pub fn agrees(found: &Result<Flat, CdfFault>, expected: Answer) -> bool {
+pub(crate) fn agrees(found: &Result<Flat, CdfFault>, expected: Answer) -> bool {
     match (found, expected) {
         (Ok(flat), Ok((w, cells))) => match flat.packed() {
             Some((width, bytes)) => width == w && bytes == cells,

@@ -44,7 +44,7 @@ pub fn failing(
 }
 
 /// The same, where a read gives at most so many bytes.
-pub fn few_bytes(
+pub(crate) fn few_bytes(
     alloc: Global,
     bytes: Result<Vec<u8>, Memory>,
     most: usize,
@@ -70,7 +70,7 @@ pub struct FewBytes {
 }
 
 impl FewBytes {
-    pub fn furthest(&self) -> u64 {
+    pub(crate) fn furthest(&self) -> u64 {
         self.furthest
     }
 

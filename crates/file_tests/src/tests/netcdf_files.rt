@@ -61,7 +61,7 @@ fn changed_words(
 }
 
 /// The first bytes, as many as the size says, of the words, of which some are changed.
-pub fn change_words(
+pub(crate) fn change_words(
     alloc: Global,
     words: &[u32],
     changes: &[(usize, u32)],
@@ -80,7 +80,7 @@ pub fn index_of(alloc: Global, at: &[u128]) -> Result<Index, Memory>
 }
 
 /// The header of a file, read over these files.
-pub fn header_over<F: Files>(
+pub(crate) fn header_over<F: Files>(
     alloc: Global,
     files: &mut F,
     name: &[u8],

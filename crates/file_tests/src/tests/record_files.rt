@@ -57,7 +57,7 @@ fn read_kinds<F: Files>(
 }
 
 /// What is read of the file of a name.
-pub fn read_file<F: Files>(
+pub(crate) fn read_file<F: Files>(
     alloc: Global,
     files: &mut F,
     name: &[u8],
@@ -72,7 +72,7 @@ pub fn read_file<F: Files>(
 }
 
 /// What is read of a file of these bytes.
-pub fn read_bytes(
+pub(crate) fn read_bytes(
     alloc: Global,
     bytes: Result<Vec<u8>, Memory>,
     letters: &str,
@@ -85,7 +85,7 @@ pub fn read_bytes(
 }
 
 /// The fault of a file, where it has one.
-pub fn fault_of(found: Result<Csv, CsvFault>) -> Option<CsvFault> {
+pub(crate) fn fault_of(found: Result<Csv, CsvFault>) -> Option<CsvFault> {
     match found {
         Ok(csv) => {
             drop(csv);

@@ -5,7 +5,7 @@ use aql_value::{ArithOp, CompareOp, Memory, Str};
 use std::alloc::Global;
 
 /// The text of declarations, one after the other.
-pub fn tree_text(alloc: Global, ds: &[Decl]) -> Result<Vec<u8>, Memory> {
+pub(crate) fn tree_text(alloc: Global, ds: &[Decl]) -> Result<Vec<u8>, Memory> {
     let mut out = Vec::new(alloc);
     for d in ds {
         put_declaration(d, &mut out)?;
