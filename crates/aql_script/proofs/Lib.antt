@@ -1,3 +1,5 @@
+pub mod Entries
+mod KeptExamples
 mod Positions
 pub mod Examples
 pub mod Past

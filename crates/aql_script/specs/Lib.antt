@@ -1,3 +1,4 @@
+pub mod Entries
 pub mod Script
 pub mod Limits
 pub mod Laws

@@ -3,9 +3,13 @@
 //! `prepare` is the one call of the layers above: the positions with their principal types, or the first fault of the
 //! script, in the order text, depth, syntax, types, sizes.
 //!
-//! Read `specs/Script`, then `preparing`, `limits`.
+//! Each declaration is measured once: `Extents` keeps of those so far an index of their names and what an application of each adds,
+//! for the walk of aql_syntax over one expression.
+//!
+//! Read `specs/Script`, then `preparing`, `limits`, `extents`.
 #![tactic(auto)]
 
+mod extents;
 mod fault;
 mod limits;
 mod preparing;

@@ -9,7 +9,7 @@ ghost use Rattle.aql_syntax.specs.declared.ast.Decl.{Decl};
 ghost use Rattle.aql_syntax.specs.Kept.{extents_after};
 ghost use Rattle.aql_script.specs.Limits.{SearchesLarge};
 
-use aql_extents::extents::Extents;
+use crate::extents::Extents;
 use aql_prelude::COUNT;
 use aql_syntax::ast::{Decl, Decls};
 use aql_syntax::sizes::{MOST_LEVELS, MOST_NODES};

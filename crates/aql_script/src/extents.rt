@@ -30,7 +30,7 @@ impl Model for Extents {
 
     ghost Value = { List (List ℕ × Option Extent) };
 
-    ghost use Rattle.aql_extents.specs.View.{entries};
+    ghost use Rattle.aql_script.specs.Entries.{entries};
 
     ghost view = { λ s. entries s.names s.added.items };
 

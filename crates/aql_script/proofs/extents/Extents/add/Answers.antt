@@ -1,8 +1,8 @@
 use Rattle.std.proofs.Common.{◌∷◌, Some, ap, ◌∙◌}
 use Rattle.aql_syntax.specs.Kept.{extent_in}
-use Rattle.aql_extents.specs.View.{entries}
-use Rattle.aql_extents.proofs.Entries.{entries-last}
-use Rattle.aql_extents.proofs.extents.Extents.add.Goals as goal
+use Rattle.aql_script.specs.Entries.{entries}
+use Rattle.aql_script.proofs.Entries.{entries-last}
+use Rattle.aql_script.proofs.extents.Extents.add.Goals as goal
 
 pub returns-in-Ok-clause-pushed : goal.returns-in-Ok-clause-pushed
 returns-in-Ok-clause-pushed c =

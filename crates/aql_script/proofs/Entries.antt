@@ -14,7 +14,7 @@ use Rattle.aql_syntax.specs.Measured.{onto, names_of}
 use Rattle.aql_syntax.specs.declared.ast.Decl.{Decl}
 use Rattle.aql_syntax.specs.Laws.Measuring.{latest_last}
 use Rattle.aql_syntax.specs.Kept.{extent_in, saturate_extent, keep, kept_of, extents_after}
-use Rattle.aql_extents.specs.View.{entries_onto, entries}
+use Rattle.aql_script.specs.Entries.{entries_onto, entries}
 use Rattle.aql_syntax.specs.declared.walk.Added.{Added}
 
 -- One position more.

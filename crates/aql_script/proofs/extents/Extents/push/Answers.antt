@@ -1,6 +1,6 @@
 use Rattle.std.proofs.lemmas.Result.{on_ok_weaker}
-use Rattle.aql_extents.proofs.Entries.{one-more}
-use Rattle.aql_extents.proofs.extents.Extents.push.Goals as goal
+use Rattle.aql_script.proofs.Entries.{one-more}
+use Rattle.aql_script.proofs.extents.Extents.push.Goals as goal
 
 pub returns-clause-pushed : goal.returns-clause-pushed
 returns-clause-pushed c =

@@ -1,8 +1,8 @@
 use Rattle.std.proofs.Common.{sym, ap, ◌∙◌, arith}
 use Rattle.aql_syntax.specs.Names.{find}
 use Rattle.aql_syntax.specs.Size.{Extent, extent_of}
-use Rattle.aql_extents.proofs.Entries.{latest-inside, latest-none, latest-some}
-use Rattle.aql_extents.proofs.extents.ExtentsMacros.addition.Goals as goal
+use Rattle.aql_script.proofs.Entries.{latest-inside, latest-none, latest-some}
+use Rattle.aql_script.proofs.extents.ExtentsMacros.addition.Goals as goal
 
 pub index-requires : goal.index-requires
 index-requires c = omega (arith, latest-inside c.args.name.now c.self.inside.names c.self.inside.added.items c.in-Some.i c.self.invariant c.in-Some.ensures, c.self.inside.added.ok.0)

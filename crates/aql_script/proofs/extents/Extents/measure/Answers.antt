@@ -2,7 +2,7 @@ use Rattle.std.proofs.Common.{◌-◌, ◌^◌, min, ap, ◌∙◌}
 use Rattle.aql_syntax.specs.View.{tree_of}
 use Rattle.aql_syntax.specs.Size.{size, levels}
 use Rattle.aql_syntax.specs.Laws.Kept.{size-kept, levels-kept}
-use Rattle.aql_extents.proofs.extents.Extents.measure.Goals as goal
+use Rattle.aql_script.proofs.extents.Extents.measure.Goals as goal
 
 pub returns-clause-size : goal.returns-clause-size
 returns-clause-size c =
