@@ -8,6 +8,7 @@
 //! cause and the output of each status; then `serving`, `closed`, `reading`, `report`, `status`, `laws`. The declarations
 //! are answered one after another by `steps` (`specs/Answered`, `Steps`; what follows for a script's values stands in
 //! `Laws/Answered`), and the text of every line is that of `entries`, `lines` and `sample`, which `writing` writes.
+//! `program` has what each program does: it calls `run` over the devices of the system.
 #![tactic(auto)]
 
 ghost use Rattle.std.specs.Prelude.{◌≡◌, ◌≤◌, ◌<◌, ◌⊎◌, ℕ, map};
@@ -20,6 +21,7 @@ mod closed;
 mod entries;
 mod laws;
 mod lines;
+mod program;
 mod reading;
 mod report;
 mod sample;
@@ -34,6 +36,7 @@ use aql_outside::{Files, Gate, Sink, Source};
 pub use aql_session::Options;
 use closed::Machine;
 use laws::tokens_exist;
+pub use program::start;
 pub use report::{Answers, Report, Stop};
 use serving::end_of;
 use std::alloc::Global;

@@ -1,11 +1,7 @@
-//! What a program does from its start to its end: it runs the script of an input over the files of the system, writes the answers
-//! to an output, and ends with the status of the run.
-//!
-//! What comes of a run is the contract of `aql_run::run`. The devices are those of `aql_system`.
-#![tactic(auto)]
+//! What a program does from its start to its end, over the devices of the system.
 
+use crate::run;
 use aql_outside::FreeGate;
-use aql_run::run;
 use aql_system::{FileSystem, InputStream, OutputStream};
 use std::env;
 use std::io::{self, ErrorKind, Read, Write};
@@ -13,7 +9,9 @@ use std::process::ExitCode;
 use std::rt::{Env, Files};
 use std::thread::Threads;
 
-/// Runs the script of the input with the words of the command line, and gives the status of the run.
+/// Runs the script of the input over the files of the system with the words of the command line, writes the answers to the output,
+/// and gives the status of the run. What comes of it is the contract of `run`; that the devices of the system are what is handed
+/// to it, and its status what is given, stands in no clause.
 pub fn start<R, I, O>(rt: &R, input: I, output: O) -> ExitCode
 where
     R: AllocGlobal + Env + Eprint + Files + Threads + Sync,
