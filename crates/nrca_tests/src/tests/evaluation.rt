@@ -135,6 +135,11 @@ const CONSTANTS_AND_OPERATIONS: &[Row] = &[
     ("bot 3 gen tup2", "undefined", 3),
 ];
 
+#[test]
+fn constants_and_operations(rt: HostRuntime) {
+    meets(&rt, rt.alloc(), CONSTANTS_AND_OPERATIONS);
+}
+
 const VARIABLES_POSITIONS_AND_CHOICES: &[Row] = &[
     ("3 v0 v0 + let", "6", 0),
     ("bot 2 gen let", "undefined", 0),
@@ -150,6 +155,11 @@ const VARIABLES_POSITIONS_AND_CHOICES: &[Row] = &[
     ("6 9 gen v0 S or", "6", 0),
     ("3 gen bot S 2 gen v0 S or", "1", 10),
 ];
+
+#[test]
+fn variables_positions_and_choices(rt: HostRuntime) {
+    meets(&rt, rt.alloc(), VARIABLES_POSITIONS_AND_CHOICES);
+}
 
 const SUMS_AND_SETS: &[Row] = &[
     ("1000 gen v0 S", "499500", 2000),
@@ -214,6 +224,11 @@ const SUMS_AND_SETS: &[Row] = &[
     ),
 ];
 
+#[test]
+fn sums_and_sets(rt: HostRuntime) {
+    meets(&rt, rt.alloc(), SUMS_AND_SETS);
+}
+
 const ARRAYS: &[Row] = &[
     ("2 3 v1 10 * v0 + tab2", "2 3 0 1 2 10 11 12 arr2.6", 6),
     ("1000000000000 0 v0 tab2", "1000000000000 0 arr2.0", 0),
@@ -234,6 +249,11 @@ const ARRAYS: &[Row] = &[
     ("g1 g1 dim1 sub1 7 or", "7", 0),
     ("2 gen g2 dim1 S", "undefined", 4),
 ];
+
+#[test]
+fn arrays(rt: HostRuntime) {
+    meets(&rt, rt.alloc(), ARRAYS);
+}
 
 const INDICES: &[Row] = &[
     (
@@ -272,6 +292,11 @@ const INDICES: &[Row] = &[
     ),
     ("1 5 tup2 one idx1 7 tup2", "2 set0 5 set1 arr1.2 7 tup2", 3),
 ];
+
+#[test]
+fn indices(rt: HostRuntime) {
+    meets(&rt, rt.alloc(), INDICES);
+}
 
 fn is_spent<R: Threads + Sync>(rt: &R, alloc: Global, words: &'static str, budget: u64) -> bool
     requires { budget ≤ most_budget }
@@ -349,6 +374,11 @@ const PARTS_AND_TESTS: &[Row] = &[
     ("3 gen v0 1 = bot one 'a one if U", "undefined", 6),
     ("2 gen 2 gen one U", "0 1 set2 set1", 8),
 ];
+
+#[test]
+fn parts_and_tests(rt: HostRuntime) {
+    meets(&rt, rt.alloc(), PARTS_AND_TESTS);
+}
 
 const BLOCKS: &[Row] = &[
     // sums that end in a block, with one and behind one
@@ -441,19 +471,7 @@ const BLOCKS: &[Row] = &[
     ("3 600 v0 599 = 1 0 / v0 if tab2", "undefined", 1800),
 ];
 
-const TABLES: &[&[Row]] = &[
-    CONSTANTS_AND_OPERATIONS,
-    VARIABLES_POSITIONS_AND_CHOICES,
-    SUMS_AND_SETS,
-    ARRAYS,
-    INDICES,
-    PARTS_AND_TESTS,
-    BLOCKS,
-];
-
 #[test]
-fn terms_have_their_values_and_turns(rt: HostRuntime) {
-    for rows in TABLES {
-        meets(&rt, rt.alloc(), rows);
-    }
+fn loops_over_blocks(rt: HostRuntime) {
+    meets(&rt, rt.alloc(), BLOCKS);
 }
