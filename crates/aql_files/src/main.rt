@@ -1,4 +1,4 @@
-//! The program once more, run by the gate on a netCDF file and a file of records.
+//! The program once more, run by the gate on a netCDF file and a file of records, with a budget that the last query passes.
 #![tactic(auto)]
 
 use aql_run::start;
