@@ -6,7 +6,7 @@
 
 use aql_outside::FreeGate;
 use aql_run::run;
-use aql_system::{FileSystem, InputStream, OutputStream};
+use aql_system::{FileSystem, InputStream, OutputStream, SystemDisk};
 use std::env;
 use std::io::{self, ErrorKind, Read, Write};
 use std::process::ExitCode;
@@ -24,7 +24,7 @@ where
         Ok(words) => {
             let mut input = InputStream::new(input);
             let mut output = OutputStream::new(output);
-            let mut files = FileSystem::new(rt);
+            let mut files = FileSystem::new(SystemDisk::new(rt));
             run(
                 rt,
                 rt.alloc(),
