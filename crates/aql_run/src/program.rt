@@ -2,7 +2,7 @@
 
 use crate::run;
 use aql_outside::FreeGate;
-use aql_system::{FileSystem, InputStream, OutputStream};
+use aql_system::{FileSystem, InputStream, OutputStream, SystemDisk};
 use std::env;
 use std::io::{self, ErrorKind, Read, Write};
 use std::process::ExitCode;
@@ -22,7 +22,7 @@ where
         Ok(words) => {
             let mut input = InputStream::new(input);
             let mut output = OutputStream::new(output);
-            let mut files = FileSystem::new(rt);
+            let mut files = FileSystem::new(SystemDisk::new(rt));
             run(
                 rt,
                 rt.alloc(),

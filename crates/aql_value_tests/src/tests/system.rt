@@ -1,7 +1,9 @@
 // Each adapter once, over what a test can hold.
+ghost use Rattle.std.specs.Prelude.{None};
+
 use crate::tests::same::assert_same;
 use aql_outside::{Failed, Files, Sink, Source};
-use aql_system::{FileSystem, InputStream, OutputStream, read_full};
+use aql_system::{Disk, DiskFile, FileSystem, InputStream, OutputStream, SystemDisk, read_full};
 use std::alloc::Global;
 use std::collections::VecDeque;
 use std::io::{self, Read};
@@ -74,7 +76,15 @@ struct OneByteReader<'a> {
     left: &'a [u8],
 }
 
-impl Read for OneByteReader<'_> {
+impl DiskFile for OneByteReader<'_> {
+    ghost bytes = { λ _. None };
+
+    ghost left = { λ _. None };
+
+    fn start_at(&mut self, _at: u64) -> io::Result<()> {
+        Err(io::Error::from(io::ErrorKind::Unsupported))
+    }
+
     fn read(&mut self, into: &mut [u8]) -> io::Result<usize> {
         match (self.left.split_first(), into.first_mut()) {
             (Some((next, rest)), Some(place)) => {
@@ -120,7 +130,7 @@ type Refused = ((Size, u64), (Count, u64), Size, (Size, u64));
 
 // Of a file of ten bytes: its size, what a read of four from its byte 7 on answers, the three that
 // it has there, and what a read behind them answers.
-fn tell<R: rt::Files>(files: &mut FileSystem<R>, name: &str) -> Told {
+fn tell<D: Disk + Drop>(files: &mut FileSystem<D>, name: &str) -> Told {
     let mut piece = [0u8; 4];
     let size = files.size(name);
     let last = files.read_at(name, 7, &mut piece);
@@ -129,20 +139,24 @@ fn tell<R: rt::Files>(files: &mut FileSystem<R>, name: &str) -> Told {
 }
 
 // The size of what has the name, and the count of faults behind it.
-fn size_and_faults<R: rt::Files>(files: &mut FileSystem<R>, name: &str) -> (Size, u64) {
+fn size_and_faults<D: Disk + Drop>(files: &mut FileSystem<D>, name: &str) -> (Size, u64) {
     let size = files.size(name);
     (size, files.faults())
 }
 
 // What a read of it answers, and the count of faults behind it.
-fn read_and_faults<R: rt::Files>(files: &mut FileSystem<R>, name: &str) -> (Count, u64) {
+fn read_and_faults<D: Disk + Drop>(files: &mut FileSystem<D>, name: &str) -> (Count, u64) {
     let read = files.read_at(name, 0, &mut [0u8; 4]);
     (read, files.faults())
 }
 
 // What is answered of a file of ten bytes, and of its name once it is removed; whether it was
 // written and removed.
-fn of_a_file<R: rt::Files>(files: &mut FileSystem<R>, rt: &R, name: &str) -> OfAFile {
+fn of_a_file<R: rt::Files, D: Disk + Drop>(
+    files: &mut FileSystem<D>,
+    rt: &R,
+    name: &str,
+) -> OfAFile {
     let is_written = fs::write(rt, name, "0123456789").is_ok();
     let there = tell(files, name);
     let is_removed = fs::remove_file(rt, name).is_ok();
@@ -150,7 +164,7 @@ fn of_a_file<R: rt::Files>(files: &mut FileSystem<R>, rt: &R, name: &str) -> OfA
 }
 
 // What is answered of a folder, of a name with a zero byte and of a device, each of which fails.
-fn refuse<R: rt::Files>(files: &mut FileSystem<R>, folder: &str) -> Refused {
+fn refuse<D: Disk + Drop>(files: &mut FileSystem<D>, folder: &str) -> Refused {
     let size = size_and_faults(files, folder);
     let read = read_and_faults(files, folder);
     let zero = files.size("a\0b");
@@ -158,7 +172,7 @@ fn refuse<R: rt::Files>(files: &mut FileSystem<R>, folder: &str) -> Refused {
 }
 
 fn answers<R: rt::Files>(rt: &R, folder: &str, name: &str) -> (OfAFile, Refused) {
-    let mut files = FileSystem::new(rt);
+    let mut files = FileSystem::new(SystemDisk::new(rt));
     let of_a_file = of_a_file(&mut files, rt, name);
     let refused = refuse(&mut files, folder);
     drop(files);
