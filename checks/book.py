@@ -171,7 +171,7 @@ def index(taken, library, shapes):
         words.append("| `%s` | %d: %s |" % (target.replace(".specs.", "::"), len(names), " ".join("`%s`" % it.replace("◌", "").replace("|", "\\|") for it in sorted(names))))
     words.append("| Together | %d |" % sum(len(it) for it in library.values()))
     edge = ["| File | Lines of code |", "|---|---|"]
-    for path in ("crates/aql/src/main.rt", "crates/aql_run/src/program.rt", *sorted("crates/aql_system/src/" + it for it in os.listdir(os.path.join(ROOT, "crates/aql_system/src")))):
+    for path in ("crates/aql/src/main.rt", "crates/aql_run/src/program.rt", "crates/aql_system/src/system.rt"):
         if os.path.exists(os.path.join(ROOT, path)):
             edge.append("| [`%s`](../%s) | %d |" % (path, path, trusted_lines(path)))
     for mark, lines in (("CONTRACT", [contract]), ("PAGES", pages), ("LIBRARY", words), ("EDGE", edge)):
