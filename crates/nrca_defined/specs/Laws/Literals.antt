@@ -1,11 +1,11 @@
 -- A literal array has a value where its dimensions are single numbers and its cells as many as their product (`literal-there`).
-use Rattle.std.proofs.Common.{◌≡◌, ℕ, zero, suc, ◌-◌, ◌^◌, ◌<◌, ◌≤◌, true, nat_lt, nat_eq, List, [], ◌∷◌, ◌++◌, length, replicate, take, drop, Some, refl, sym, ap, subst, ◌∙◌, arith}
+use Rattle.std.proofs.Common.{◌≡◌, ℕ, zero, suc, ◌-◌, ◌^◌, ◌<◌, ◌≤◌, true, nat_eq, List, [], ◌∷◌, ◌++◌, length, replicate, take, drop, refl, sym, ap, ◌∙◌, arith}
 use Rattle.std.proofs.lemmas.Bool.{and_parts, eqb-true, eq-eqb, lt-ltb}
 use Rattle.std.proofs.lemmas.List.{length-drop}
 use Rattle.aql_value.specs.Datum.{Datum, array, data_of}
 use Rattle.aql_value.specs.Indices.{product}
 use Rattle.aql_value.specs.Operations.{as_natural, array_of, literal_of}
-use Rattle.aql_value.specs.Partial.{◌>>=◌, each}
+use Rattle.aql_value.specs.Partial.{each}
 use Rattle.aql_value.specs.Laws.Partial.{each-length}
 use Rattle.aql_ty.specs.Types.{Ty, natural, IsRank}
 use Rattle.aql_ty.specs.ValueTypes.{HaveTypes}
@@ -68,4 +68,4 @@ literal-there A n rank bs vs r t h e =
     let z : ns.0 ≡ lows (first_intervals rank bs) = singles (first_intervals rank bs) ns.0 (numbers-in (take rank bs) (take rank vs) ns.0 (first-shaped rank bs vs h) ns.2) p.0 in
     let k : product ns.0 ≡ length (drop rank vs) =
     ap product z ∙ eqb-true (product (lows (first_intervals rank bs))) (length bs - rank) p.1 ∙ ap (λ m. m - rank) (same-many bs vs h) ∙ sym (length-drop rank vs) in
-    rw (ns.2, eq-eqb (length ns.0) rank l) (array-there rank ns.0 (drop rank vs) r l k)
+    rw ns.2 (rw (eq-eqb (length ns.0) rank l) (array-there rank ns.0 (drop rank vs) r l k))

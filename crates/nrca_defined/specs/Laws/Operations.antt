@@ -1,8 +1,7 @@
 -- An operation has a value where the shapes of its operands tell it (`strict-fits`).
-use Rattle.std.proofs.Common.{◌≡◌, ℕ, zero, suc, ◌≤◌, true, List, [], ◌∷◌, length, replicate, Some, refl, sym, ap, subst, ◌∙◌, arith}
+use Rattle.std.proofs.Common.{◌≡◌, ℕ, ◌≤◌, true, List, [], ◌∷◌, length, replicate, refl, sym, subst, ◌∙◌, arith}
 use Rattle.std.proofs.lemmas.Bool.{and_parts, eqb-true}
 use Rattle.aql_value.specs.declared.ops.ArithOp.{ArithOp}
-use Rattle.aql_value.specs.Datum as datum
 use Rattle.aql_value.specs.Datum.{Datum, data_of, list_of}
 use Rattle.aql_value.specs.Laws.Set.{length_canon}
 use Rattle.aql_value.specs.Operations.{as_natural, only, get_of, arith_of, cell_of}
@@ -23,7 +22,7 @@ use Rattle.nrca_ranges.specs.Transfer.{interval_of, count_of, entry_at}
 use Rattle.nrca_ranges.specs.Laws.Bounds.{interval-is}
 use Rattle.nrca_ranges.specs.Laws.Intervals.{fits-there}
 use Rattle.nrca_ranges.specs.Laws.Strict.{set-shaped}
-use Rattle.nrca_defined.specs.Laws.Cells.{numbers, naturals, cell-there}
+use Rattle.nrca_defined.specs.Laws.Cells.{naturals, cell-there}
 use Rattle.nrca_defined.specs.Laws.Literals.{literal-there}
 
 -- one operand, and two
