@@ -1,7 +1,8 @@
 -- One outcome more, and what is known of it.
-use Rattle.std.proofs.Common.{◌≡◌, ℕ, zero, suc, List, [], ◌∷◌, ◌++◌, length, Option, Some, None, refl, sym, ap, ◌∙◌, subst, arith, length-append}
+use Rattle.std.proofs.Common.{◌≡◌, ℕ, zero, suc, List, [], ◌∷◌, ◌++◌, length, map, Option, Some, None, refl, sym, ap, ◌∙◌, subst, arith, length-append}
 use Rattle.std.specs.Prelude.{slice_get, is_some}
 use Rattle.std.specs.Option.{ForSome}
+use Rattle.std.proofs.lemmas.List.{map_push}
 use Rattle.aql_value.specs.Datum.{Datum}
 use Rattle.aql_value.specs.Partial.{◌>>=◌}
 use Rattle.aql_value.specs.Valid.{IsValue}
@@ -11,7 +12,7 @@ use Rattle.nrca_term.specs.Valid.{AreValidOutcomes}
 use Rattle.nrca_ranges.specs.Bounds.{Bounds, HasShape}
 use Rattle.nrca_ranges.specs.Entered.{is_shaped, has_value}
 use Rattle.nrca_ranges.specs.Shapes.{Tells}
-use Rattle.aql_session.specs.Known.{HasShapeThere, Knows}
+use Rattle.aql_session.specs.Known.{HasShapeThere, kept_of, kept_of_each, Knows}
 
 -- what holds of each place of both lists
 abbrev Each : List (Option Bounds) → Outcomes → Type 0
@@ -90,11 +91,12 @@ each-valid V h (suc i) v e = h i v (found (slice_get V i) v e)
 
 -- one position more is bound
 pub known-push : (gs hs : List (Option Bounds)) (V W : Outcomes) (b : Option Bounds) (o : Option Datum) → Knows gs V → hs ≡ gs ++ b ∷ [] → W ≡ V ++ o ∷ [] →
-    HasShapeThere b o → ForSome o IsValue → Knows hs W
-known-push gs hs V W b o h e f s k =
+    HasShapeThere b o → b ≡ kept_of o → ForSome o IsValue → Knows hs W
+known-push gs hs V W b o h e f s x k =
     let l : length (gs ++ b ∷ []) ≡ length (V ++ o ∷ []) = omega (arith, h.many, length-append gs (b ∷ []), length-append V (o ∷ [])) in
     subst (λ x. Knows x W) (sym e) (subst (Knows (gs ++ b ∷ [])) (sym f) (record {
       many = l;
       tells = each-tells (gs ++ b ∷ []) (V ++ o ∷ []) l (push-each gs V b o h.many (tells-each gs V h.tells) s);
+      exact = ap (λ l. l ++ b ∷ []) h.exact ∙ ap (λ c. kept_of_each V ++ c ∷ []) x ∙ sym (map_push kept_of V o);
       valid = each-valid (V ++ o ∷ []) (push-valid V o (valid-each V h.valid) k);
     }))

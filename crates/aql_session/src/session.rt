@@ -8,7 +8,7 @@ ghost use Rattle.aql_session.specs.Bound.{outcomes, latest_of};
 ghost use Rattle.std.specs.Option.{ForSome};
 ghost use Rattle.aql_value.specs.Valid.{IsValue};
 ghost use Rattle.nrca_ranges.specs.Shapes.{bounds_there, shapes_in, PushesShape};
-ghost use Rattle.aql_session.specs.Known.{HasShapeThere};
+ghost use Rattle.aql_session.specs.Known.{HasShapeThere, kept_of};
 
 use crate::shapes::shape_of_outcome;
 use aql_names::names::Names;
@@ -129,6 +129,7 @@ pub(crate) struct Entry {
 fn entry_of(alloc: Global, value: Option<Held>) -> Result<Entry, Memory>
     ensures value { IfOk result (λ e. held_value e.value ≡ held_value value) }
     ensures shape { IfOk result (λ e. HasShapeThere (bounds_there e.shape) (held_value value)) }
+    ensures exact { IfOk result (λ e. bounds_there e.shape ≡ kept_of (held_value value)) }
 {
     match shape_of_outcome(alloc, &value) {
         Ok(shape) => Ok(Entry { value, shape }),

@@ -1,10 +1,11 @@
 //! What is known of an outcome.
-ghost use Rattle.std.specs.Prelude.{IfOk};
+ghost use Rattle.std.specs.Prelude.{◌≡◌, IfOk};
 ghost use Rattle.aql_value.specs.Datum.{data_of, set};
 ghost use Rattle.nrca_loops.specs.Values.{held_value};
 ghost use Rattle.nrca_ranges.specs.Bounds.{HasShape};
+ghost use Rattle.nrca_ranges.specs.Exact.{exact_bounds};
 ghost use Rattle.nrca_ranges.specs.Shapes.{bounds_of, bounds_there};
-ghost use Rattle.aql_session.specs.Known.{HasShapeThere};
+ghost use Rattle.aql_session.specs.Known.{HasShapeThere, kept_of};
 
 use aql_value::Memory;
 use nrca_array::Held;
@@ -18,7 +19,8 @@ pub(crate) fn shape_of_outcome(
     alloc: Global,
     outcome: &Option<Held>,
 ) -> Result<Option<Shape>, Memory>
-    ensures { IfOk result (λ s. HasShapeThere (bounds_there s) (held_value outcome.now)) }
+    ensures holds { IfOk result (λ s. HasShapeThere (bounds_there s) (held_value outcome.now)) }
+    ensures exact { IfOk result (λ s. bounds_there s ≡ kept_of (held_value outcome.now)) }
 {
     match outcome {
         Some(Held::Value(value)) => {
@@ -39,7 +41,8 @@ pub(crate) fn shape_of_outcome(
 
 // The shape of a set: how many members it has. Of the members it says nothing.
 fn shape_of_set(alloc: Global, members: &Set) -> Result<Shape, Memory>
-    ensures { IfOk result (λ s. HasShape (bounds_of s) (set (data_of members.now))) }
+    ensures holds { IfOk result (λ s. HasShape (bounds_of s) (set (data_of members.now))) }
+    ensures exact { IfOk result (λ s. bounds_of s ≡ exact_bounds (set (data_of members.now))) }
 {
     let count = members.count() as u128;
     let member = Box::new(alloc, Shape::Unknown)?;

@@ -8,7 +8,7 @@ use Rattle.aql_ty.specs.Types.{natural}
 use Rattle.nrca_term.specs.Term.{Term}
 use Rattle.nrca_term.specs.Meaning.{outcome, cden}
 use Rattle.nrca_term.specs.Typing.{arg, ctyped, instances, OutcomesHave}
-use Rattle.nrca_term.specs.Nodes.{variable, number, arith_term, tab_term, sub_term}
+use Rattle.nrca_term.specs.Nodes.{variable, number, arith_term, tab_term, sub_term, literal_term}
 use Rattle.nrca_term.specs.Facts.{Context, facts_at}
 use Rattle.nrca_term.specs.Firm.{span, firm, is_defined}
 use Rattle.nrca_ranges.specs.Bounds.{Bounds, HasShape, number as of_number}
@@ -44,6 +44,10 @@ cell = sub_term (tab_term (number 3 ∷ []) (variable 0)) (variable 0 ∷ [])
 
 abbrev by_seven : Term
 by_seven = arith_term Quotient (variable 0) (number 7)
+
+-- an array of one dimension, of two cells that are the index
+abbrev two_cells : Term → Term
+two_cells d = literal_term (d ∷ []) (variable 0 ∷ variable 0 ∷ [])
 
 -- `i+i` below 1000 is from 0 to 1998
 sum_below_1000 : span (below 1000 sum) sum ≡ Some (0, 1998)
@@ -84,6 +88,19 @@ square_past = refl
 -- nor is it certain to have a value
 square_uncertain : certain [] (below (2 ^ 64 + 1) square) square ≡ false
 square_uncertain = refl
+
+-- `[[2; i, i]]` is certain to have a value, and not firm; of the dimension 3 it is not, nor of a dimension that is more than one number
+literal_certain : certain [] (below 3 (two_cells (number 2))) (two_cells (number 2)) ≡ true
+literal_certain = refl
+
+literal_not_firm : firm none_defined (below 3 (two_cells (number 2))) (two_cells (number 2)) ≡ false
+literal_not_firm = refl
+
+literal_of_too_few : certain [] (below 3 (two_cells (number 3))) (two_cells (number 3)) ≡ false
+literal_of_too_few = refl
+
+literal_of_an_index : certain [] (below 3 (two_cells (variable 0))) (two_cells (variable 0)) ≡ false
+literal_of_an_index = refl
 
 -- `[[j | \j<3]][i]` below 3 is certain to have a value, and below 4 it is not; it is from 0 to 2
 cell_certain : certain [] (below 3 cell) cell ≡ true

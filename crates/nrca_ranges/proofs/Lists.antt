@@ -1,12 +1,19 @@
 -- Lists of intervals and of shapes: one entry more, one entry in the place of another, and entries by their place.
-use Rattle.std.proofs.Common.{◌≡◌, ℕ, zero, suc, ◌+◌, ◌-◌, ◌<◌, ◌≤◌, min, Bool, true, false, ◌&&◌, List, [], ◌∷◌, ◌++◌, length, map, take, drop, get_or, refl, sym, ap, ◌∙◌, arith, add-one}
+use Rattle.std.proofs.Common.{◌≡◌, ℕ, zero, suc, ◌+◌, ◌*◌, ◌-◌, ◌^◌, ◌<◌, ◌≤◌, min, Bool, true, false, ◌&&◌, nat_eq, List, [], ◌∷◌, ◌++◌, length, map, take, drop, get_or, refl, sym, ap, ◌∙◌, arith, add-one, ◌⊎◌, inl, inr}
 use Rattle.std.proofs.Math.ListN.{set}
+use Rattle.std.proofs.lemmas.Bool.{eq-eqb}
+use Rattle.std.proofs.lemmas.Bool.Decides.{eqb_tells}
+use Rattle.std.proofs.lemmas.List.{length-map, take_more}
+use Rattle.aql_value.specs.Indices.{product}
+use Rattle.aql_value.specs.Limits.{saturate}
+use Rattle.aql_value.specs.Laws.Saturation.{saturating_product}
+use Rattle.nrca_term.specs.Laws.Lists.{product-more}
 use Rattle.nrca_ranges.specs.declared.interval.Interval.{Interval}
 use Rattle.nrca_ranges.specs.declared.shape.Shape.{Shape}
 use Rattle.nrca_ranges.specs.Bounds.{Bounds, unknown, row_of, AreIn}
-use Rattle.nrca_ranges.specs.Certain.{all_below}
+use Rattle.nrca_ranges.specs.Certain.{all_below, is_full}
 use Rattle.nrca_ranges.specs.Exact.{only, AreExactNumbers}
-use Rattle.nrca_ranges.specs.Intervals.{hull, hulls, is_below}
+use Rattle.nrca_ranges.specs.Intervals.{hull, hulls, all_single, lows, is_below}
 use Rattle.nrca_term.specs.Term.{Term}
 use Rattle.nrca_ranges.specs.declared.context.Ctx.{Ctx}
 use Rattle.nrca_ranges.specs.Shapes.{bounds_of, bounds_each, IsNumberIn, AreNumbersIn, IsExactNumber}
@@ -94,3 +101,42 @@ exact-more c [] [] t i h k = (k, tt)
 exact-more c [] (j ∷ is) t i h k = absurd h
 exact-more c (u ∷ ts) [] t i h k = absurd h
 exact-more c (u ∷ ts) (j ∷ is) t i h k = (h.0, exact-more c ts is t i h.1 k)
+
+-- the lower ends of the numbers' intervals
+abbrev pub lows_each : List Shape → List ℕ
+lows_each xs = lows (map interval_of (bounds_each xs))
+
+-- one shape more has one lower end more
+pub lows-more : (xs : List Shape) (x : Shape) → lows_each (xs ++ x ∷ []) ≡ lows_each xs ++ (interval_of (bounds_of x)).low ∷ []
+lows-more [] x = refl
+lows-more (y ∷ xs) x = ap (λ l. (interval_of (bounds_of y)).low ∷ l) (lows-more xs x)
+
+-- one lower end more in the product, which stops at 2^128-1
+pub product-next : (xs : List Shape) (i : ℕ) (x : Shape) (all new : ℕ) → i < length xs → x ≡ get_or xs i x → all ≡ saturate (product (lows_each (take i xs))) →
+    new ≡ saturate (all * (interval_of (bounds_of x)).low) → new ≡ saturate (product (lows_each (take (i + 1) xs)))
+product-next xs i x all new l e h k =
+    let d = (interval_of (bounds_of x)).low in
+    let ns = lows_each (take i xs) in
+    let m = 2 ^ 128 - 1 in
+    k ∙ ap (λ a. min (a * d) m) h ∙ saturating_product (product ns) d m ∙ ap (λ p. min p m) (sym (product-more ns d))
+    ∙ ap (λ l. min (product l) m) (sym (lows-more (take i xs) x))
+    ∙ ap (λ l. min (product (lows_each l)) m) (ap (λ y. take i xs ++ y ∷ []) e ∙ sym (take_more xs i x l))
+
+-- a number that stops at 2^128-1 is a smaller one exactly where the number itself is
+stopped-same : (p n : ℕ) → n < 2 ^ 128 - 1 → nat_eq (saturate p) n ≡ nat_eq p n
+stopped-same p n l = elim (eqb_tells p n) as (λ _. nat_eq (saturate p) n ≡ nat_eq p n) [ inl a ↦ eq-eqb (saturate p) n (omega (arith, l, a.1)) ∙ sym a.0 | inr b ↦ other (eqb_tells (saturate p) n) b.1 ∙ sym b.0 ]
+  where
+    other : ((nat_eq (saturate p) n ≡ true) × (saturate p ≡ n)) ⊎ ((nat_eq (saturate p) n ≡ false) × (saturate p ≡ n → ⊥)) → (p ≡ n → ⊥) → nat_eq (saturate p) n ≡ false
+    other (inl a) h = absurd (h (omega (arith, l, a.1)))
+    other (inr b) h = b.0
+
+-- dimensions that are single numbers, and as many cells as their product
+pub full-is : (xs : List Shape) (rank end : ℕ) (single : Bool) (p count : ℕ) → end ≡ min rank (length xs) → count < 2 ^ 128 - 1 → count ≡ length xs - end →
+    single ≡ all_single (map interval_of (bounds_each (take end xs))) → p ≡ saturate (product (lows_each (take end xs))) → (single && nat_eq p count) ≡ is_full rank (bounds_each xs)
+full-is xs rank end single p count e l k s h =
+    let is = first_intervals rank (bounds_each xs) in
+    let z : map interval_of (bounds_each (take end xs)) ≡ is = ap (λ m. map interval_of (bounds_each (take m xs))) e ∙ first-min xs rank in
+    let c : count ≡ length (bounds_each xs) - rank = omega (arith, e, k, length-map xs bounds_of) in
+    ap (λ b. b && nat_eq p count) (s ∙ ap all_single z)
+    ∙ ap (λ b. all_single is && b)
+    (ap (λ q. nat_eq q count) (h ∙ ap (λ js. saturate (product (lows js))) z) ∙ stopped-same (product (lows is)) count l ∙ ap (λ m. nat_eq (product (lows is)) m) c)

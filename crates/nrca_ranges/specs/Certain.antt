@@ -1,5 +1,6 @@
 -- Terms that are certain to have a value: the firm ones, and those of which the shapes of the parts tell it.
-use Rattle.std.proofs.Common.{ℕ, suc, Bool, true, false, ◌&&◌, ◌||◌, List, [], ◌∷◌, Option, if◌then◌else◌}
+use Rattle.std.proofs.Common.{ℕ, suc, ◌-◌, Bool, true, false, ◌&&◌, ◌||◌, nat_eq, List, [], ◌∷◌, length, Option, if◌then◌else◌}
+use Rattle.aql_value.specs.Indices.{product}
 use Rattle.aql_value.specs.Strict.{Strict}
 use Rattle.nrca_term.specs.Term.{Term, Parts, node, none, part, Form}
 use Rattle.nrca_term.specs.Facts.{Context, enter_facts}
@@ -7,8 +8,8 @@ use Rattle.nrca_term.specs.Firm.{wants_all, firm}
 use Rattle.nrca_ranges.specs.declared.interval.Interval.{Interval}
 use Rattle.nrca_ranges.specs.Bounds.{Bounds, unknown, number, row, members, grid}
 use Rattle.nrca_ranges.specs.Entered.{is_shaped}
-use Rattle.nrca_ranges.specs.Intervals.{is_end, always_fits, is_below, is_one, loop_sum}
-use Rattle.nrca_ranges.specs.Transfer.{interval_of, count_of, entry_at, all_bounds}
+use Rattle.nrca_ranges.specs.Intervals.{is_end, always_fits, is_below, is_one, all_single, lows, loop_sum}
+use Rattle.nrca_ranges.specs.Transfer.{interval_of, count_of, entry_at, first_intervals, all_bounds}
 
 -- whether there are as many numbers as dimensions, each below its own
 abbrev pub all_below : List Interval → List Bounds → Bool
@@ -30,6 +31,10 @@ abbrev pub is_cell : List Bounds → Bool
 is_cell [] = false
 is_cell (b ∷ bs) = is_index b bs
 
+-- whether the first numbers, the dimensions, are each one number alone, and as many cells follow as their product
+abbrev pub is_full : ℕ → List Bounds → Bool
+is_full rank bs = all_single (first_intervals rank bs) && nat_eq (product (lows (first_intervals rank bs))) (length bs - rank)
+
 -- whether an operation has a value wherever its parts have, by their shapes
 abbrev pub strict_certain : Strict → List Bounds → Bool
 strict_certain (Strict.nat n) bs = true
@@ -48,7 +53,7 @@ strict_certain Strict.get bs = is_one (count_of (entry_at bs 0))
 strict_certain Strict.sub bs = is_cell bs
 strict_certain (Strict.dim rank) bs = true
 strict_certain (Strict.index rank) bs = false
-strict_certain (Strict.literal rank) bs = false
+strict_certain (Strict.literal rank) bs = is_full rank bs
 
 -- whether a node of the form has a value wherever its parts have, D telling which positions are defined; of a default, one part
 abbrev pub form_certain : (ℕ → Bool) → Form → List Bounds → Bool

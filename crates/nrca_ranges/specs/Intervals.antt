@@ -67,6 +67,20 @@ always_fits Remainder a b = nat_lt 0 b.low
 abbrev pub is_below : Interval → Interval → Bool
 is_below x d = is_end x.high && nat_lt x.high d.low
 
+-- whether the interval is of one number alone
+abbrev pub is_single : Interval → Bool
+is_single i = nat_eq i.low i.high && is_end i.high
+
+-- whether each interval of a list is
+abbrev pub all_single : List Interval → Bool
+all_single [] = true
+all_single (i ∷ is) = is_single i && all_single is
+
+-- the lower ends
+abbrev pub lows : List Interval → List ℕ
+lows [] = []
+lows (i ∷ is) = i.low ∷ lows is
+
 -- whether sets with so many members have exactly one
 abbrev pub is_one : Interval → Bool
 is_one i = nat_eq i.low 1 && nat_eq i.high 1

@@ -5,10 +5,11 @@
 //! `span` is the span of the definitions (nrca_term, `specs/Firm.antt`), and that each value of the term, at the values
 //! of variables and positions that the context allows, has the shape that `shape_of` answers. `tell` answers by one walk
 //! what is known of a term: whether it is firm, whether it is certain to have a value, its span and its shape.
-//! Read `context`, `interval`, `shape`, `positions`, `finding`, then `operations`, `transfer`, `walk`; of the definitions
+//! Read `context`, `interval`, `shape`, `positions`, `finding`, then `operations`, `transfer`, `certain`, `walk`; of the definitions
 //! `specs/Context`, `Spans`, `Bounds`, `Shapes`, `Intervals`, `Transfer`, `Certain`; `specs/Walk` is the walk.
 #![tactic(auto)]
 
+mod certain;
 mod context;
 mod finding;
 mod interval;

@@ -162,6 +162,13 @@ pub(crate) fn is_below(x: Interval, d: Interval) -> bool
     is_end(x.high) && x.high < d.low
 }
 
+/// Whether the interval is of one number alone.
+pub(crate) fn is_single(i: Interval) -> bool
+    ensures { result ≡ pure.is_single i }
+{
+    i.low == i.high && is_end(i.high)
+}
+
 /// Whether sets with so many members have exactly one.
 pub(crate) fn is_one(count: Interval) -> bool
     ensures { result ≡ pure.is_one count }

@@ -4,11 +4,10 @@ ghost use Rattle.std.specs.Prelude.{◌≡◌, ◌&&◌, ◌||◌, true, map, is
 ghost use Rattle.nrca_term.specs.Term.{form_of};
 ghost use Rattle.nrca_term.specs.View.{term_of, pure_form, pure_strict};
 ghost use Rattle.nrca_term.specs.Firm as pure;
-ghost use Rattle.nrca_ranges.specs.Certain as certainty;
 ghost use Rattle.aql_value.specs.Strict as operations;
 ghost use Rattle.nrca_ranges.specs.Context.{IsSmallTerm};
 ghost use Rattle.nrca_ranges.specs.Entered.{is_shaped};
-ghost use Rattle.nrca_ranges.specs.Shapes.{bounds_of, bounds_each, shapes_in, certain_by_form};
+ghost use Rattle.nrca_ranges.specs.Shapes.{bounds_of, bounds_each, shapes_in};
 ghost use Rattle.nrca_ranges.specs.Spans.{span_of, IsOrdered};
 ghost use Rattle.nrca_ranges.specs.Transfer.{by_span};
 ghost use Rattle.nrca_ranges.specs.Walk.{span_with, span_below, IsOther, gather_flags};
@@ -16,12 +15,13 @@ ghost use Rattle.nrca_ranges.specs.Walk.{IsArithTold, IsToldWith, AreToldWith, I
 ghost use Rattle.nrca_ranges.specs.Walk.{told_each, summaries_below, IsSummary};
 ghost use Rattle.nrca_ranges.specs.Walk.{KeepsFacts, TellsOf, TellsOfPart, HoldsParts, ClosesNode};
 
+use crate::certain::form_certain;
 use crate::context::{Ctx, Fact, add_facts};
 use crate::interval::{Interval, arith_span, span_among};
-use crate::operations::{always_fits, arith_interval, is_below, is_one, sum_fits};
+use crate::operations::{always_fits, arith_interval};
 use crate::positions::GlobalShapes;
 use crate::shape::{Shape, number_interval};
-use crate::transfer::{count_at, node_shape, number_at};
+use crate::transfer::node_shape;
 use aql_value::{ArithOp, Memory};
 use nrca_term::{Core, Form, Strict};
 use std::alloc::Global;
@@ -119,90 +119,6 @@ fn form_sure<'a>(form: Form<'a>, globals: &GlobalShapes) -> bool
         Form::Sum => false,
         Form::Tab(_) => true,
         Form::Strict(strict) => strict_sure(strict),
-    }
-}
-
-// Whether there are as many numbers as dimensions, each below its own.
-fn all_below(dims: &[Interval], at: &[Shape]) -> bool
-    ensures { result ≡ certainty.all_below dims.now (bounds_each at.now) }
-{
-    if dims.len() != at.len() {
-        return false;
-    }
-    for i in 0..dims.len() {
-        if !is_below(number_interval(&at[i]), dims[i]) {
-            return false;
-        }
-    }
-    true
-}
-
-// Whether the numbers are an index of each array that has the shape.
-fn is_index(array: &Shape, at: &[Shape]) -> bool
-    ensures { result ≡ certainty.is_index (bounds_of array.now) (bounds_each at.now) }
-{
-    match array {
-        Shape::Grid { dims, cell: _ } => all_below(dims.items.as_slice(), at),
-        Shape::Unknown => false,
-        Shape::Number(_) => false,
-        Shape::Row(_) => false,
-        Shape::Members {
-            count: _,
-            member: _,
-        } => false,
-    }
-}
-
-// An array, and then the numbers of an index.
-fn is_cell(shapes: &[Shape]) -> bool
-    ensures { result ≡ certainty.is_cell (bounds_each shapes.now) }
-{
-    if shapes.len() > 0 {
-        is_index(&shapes[0], &shapes[1..])
-    } else {
-        false
-    }
-}
-
-// Whether an operation has a value wherever its parts have, by their shapes.
-fn strict_certain<'a>(form: Strict<'a>, shapes: &[Shape]) -> bool
-    ensures { result ≡ certainty.strict_certain (pure_strict form.entry) (bounds_each shapes.now) }
-{
-    match form {
-        Strict::Nat(_) => true,
-        Strict::Bool(_) => true,
-        Strict::Text(_) => true,
-        Strict::Bottom => false,
-        Strict::Tuple => true,
-        Strict::Proj { at: _, of: _ } => true,
-        Strict::Arith(op) => always_fits(op, number_at(shapes, 0), number_at(shapes, 1)),
-        Strict::Compare(_) => true,
-        Strict::Empty => true,
-        Strict::Single => true,
-        Strict::Union => true,
-        Strict::Gen => true,
-        Strict::Get => is_one(count_at(shapes, 0)),
-        Strict::Sub => is_cell(shapes),
-        Strict::Dim(_) => true,
-        Strict::Index(_) => false,
-        Strict::Literal(_) => false,
-    }
-}
-
-// Whether a node of the form has a value wherever its parts have, by their shapes.
-fn form_certain<'a>(form: Form<'a>, shapes: &[Shape], globals: &GlobalShapes) -> bool
-    ensures { result ≡ certain_by_form globals.now form.entry shapes.now }
-{
-    match form {
-        Form::Var(_) => true,
-        Form::Global(n) => globals.has(n),
-        Form::Bind => true,
-        Form::Choose => true,
-        Form::Default => true,
-        Form::BigUnion => true,
-        Form::Sum => sum_fits(count_at(shapes, 0), number_at(shapes, 1)),
-        Form::Tab(_) => true,
-        Form::Strict(strict) => strict_certain(strict, shapes),
     }
 }
 

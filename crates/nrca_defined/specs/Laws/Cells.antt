@@ -1,5 +1,5 @@
 -- The cell at an index below the dimensions of an array.
-use Rattle.std.proofs.Common.{◌≡◌, ℕ, ◌+◌, ◌*◌, ◌<◌, true, List, [], ◌∷◌, length, map, get_or, Some, refl, sym, ap, subst, ◌∙◌, arith}
+use Rattle.std.proofs.Common.{◌≡◌, ℕ, zero, suc, ◌+◌, ◌*◌, ◌<◌, true, List, [], ◌∷◌, length, replicate, map, get_or, Some, refl, sym, ap, subst, ◌∙◌, arith}
 use Rattle.std.proofs.lemmas.Bool.{lt-ltb, and_parts}
 use Rattle.std.proofs.lemmas.Option.{slice_get-get_or}
 use Rattle.std.specs.List.{slice_get}
@@ -8,7 +8,10 @@ use Rattle.aql_value.specs.Datum.{Datum, Data, array, Table, data_of, list_of}
 use Rattle.aql_value.specs.Laws.Datum.{list_of-data_of}
 use Rattle.aql_value.specs.Indices.{product, cell, offset_of}
 use Rattle.aql_value.specs.Laws.RowMajor.{cell-offset_of, offset_of_within}
-use Rattle.aql_value.specs.Partial.{◌>>=◌}
+use Rattle.aql_value.specs.Operations.{as_natural}
+use Rattle.aql_value.specs.Partial.{◌>>=◌, each}
+use Rattle.aql_ty.specs.Types.{natural}
+use Rattle.aql_ty.specs.ValueTypes.{HaveTypes}
 use Rattle.nrca_ranges.specs.declared.interval.Interval.{Interval}
 use Rattle.nrca_ranges.specs.Bounds.{Bounds, unknown, number, row, members, grid, row_of, AreIn, HasShape, HaveShapes}
 use Rattle.nrca_ranges.specs.Certain.{all_below, is_index}
@@ -20,6 +23,15 @@ use Rattle.nrca_ranges.specs.Laws.Intervals.{below-is}
 -- numbers as values
 abbrev pub numbers : List ℕ → List Datum
 numbers ns = map datum.natural ns
+
+-- values that are numbers
+pub naturals : (n : ℕ) (vs : List Datum) → HaveTypes (replicate n natural) vs → (ns : List ℕ) × (vs ≡ numbers ns) × (each as_natural vs ≡ Some ns)
+naturals zero [] h = ([], refl, refl)
+naturals zero (v ∷ vs) h = absurd h
+naturals (suc n) [] h = absurd h
+naturals (suc n) (v ∷ vs) h =
+    let r = naturals n vs h.1 in
+    (h.0.0 ∷ r.0, ap (λ x. x ∷ vs) h.0.1 ∙ ap (λ l. datum.natural h.0.0 ∷ l) r.1, rw (ap as_natural h.0.1, r.2) refl)
 
 -- numbers of intervals that are below those of the dimensions are an index
 pub index-there : (is : List Interval) (bs : List Bounds) (ds ns : List ℕ) → all_below is bs ≡ true → AreIn is ds → HaveShapes (row_of bs) (numbers ns) → (k : ℕ) × (offset_of ds ns ≡ Some k)

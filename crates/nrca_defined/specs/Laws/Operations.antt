@@ -1,8 +1,7 @@
 -- An operation has a value where the shapes of its operands tell it (`strict-fits`).
-use Rattle.std.proofs.Common.{◌≡◌, ℕ, zero, suc, ◌≤◌, true, List, [], ◌∷◌, length, replicate, Some, refl, sym, ap, subst, ◌∙◌, arith}
+use Rattle.std.proofs.Common.{◌≡◌, ℕ, ◌≤◌, true, List, [], ◌∷◌, length, replicate, refl, sym, subst, ◌∙◌, arith}
 use Rattle.std.proofs.lemmas.Bool.{and_parts, eqb-true}
 use Rattle.aql_value.specs.declared.ops.ArithOp.{ArithOp}
-use Rattle.aql_value.specs.Datum as datum
 use Rattle.aql_value.specs.Datum.{Datum, data_of, list_of}
 use Rattle.aql_value.specs.Laws.Set.{length_canon}
 use Rattle.aql_value.specs.Operations.{as_natural, only, get_of, arith_of, cell_of}
@@ -23,7 +22,8 @@ use Rattle.nrca_ranges.specs.Transfer.{interval_of, count_of, entry_at}
 use Rattle.nrca_ranges.specs.Laws.Bounds.{interval-is}
 use Rattle.nrca_ranges.specs.Laws.Intervals.{fits-there}
 use Rattle.nrca_ranges.specs.Laws.Strict.{set-shaped}
-use Rattle.nrca_defined.specs.Laws.Cells.{numbers, cell-there}
+use Rattle.nrca_defined.specs.Laws.Cells.{naturals, cell-there}
+use Rattle.nrca_defined.specs.Laws.Literals.{literal-there}
 
 -- one operand, and two
 one-operand : (A : Ty) (bs : List Bounds) (vs : List Datum) → HaveTypes (A ∷ []) vs → HaveShapes (row_of bs) vs → (v : Datum) × (vs ≡ v ∷ []) × HasType A v × HasShape (entry_at bs 0) v
@@ -66,15 +66,6 @@ member-there A b v h k e =
     one : (i : Interval) → is_one i ≡ true → (i.low ≡ 1) × (i.high ≡ 1)
     one i e = let p = and_parts _ _ e in (eqb-true i.low 1 p.0, eqb-true i.high 1 p.1)
 
--- values that are numbers
-naturals : (n : ℕ) (vs : List Datum) → HaveTypes (replicate n natural) vs → (ns : List ℕ) × (vs ≡ numbers ns) × (each as_natural vs ≡ Some ns)
-naturals zero [] h = ([], refl, refl)
-naturals zero (v ∷ vs) h = absurd h
-naturals (suc n) [] h = absurd h
-naturals (suc n) (v ∷ vs) h =
-    let r = naturals n vs h.1 in
-    (h.0.0 ∷ r.0, ap (λ x. x ∷ vs) h.0.1 ∙ ap (λ l. datum.natural h.0.0 ∷ l) r.1, rw (ap as_natural h.0.1, r.2) refl)
-
 -- a cell of an array, at numbers that are always an index
 cell-valued : (A : Ty) (rank : ℕ) (bs : List Bounds) (v : Datum) (at : List Datum) → HasType (types.array_of rank A) v → HaveTypes (replicate rank natural) at → HaveShapes (row_of bs) (v ∷ at) → is_cell bs ≡ true → Valued (each as_natural at >>= cell_of v)
 cell-valued A rank [] v at h k s e = cc
@@ -88,11 +79,12 @@ sub-there A rank bs [] h k e = absurd h
 sub-there A rank bs (v ∷ at) h k e = cell-valued A rank bs v at h.0 h.1 k e
 
 -- the operations of which the shapes tell more than the form
-cases : (X : Strict → Type 0) → ((op : ArithOp) → X (Strict.arith op)) → X Strict.get → X Strict.sub → ((s : Strict) → ((bs : List Bounds) → strict_certain s bs ≡ strict_sure s) → X s) → (s : Strict) → X s
-cases X f g h k (Strict.arith op) = f op
-cases X f g h k Strict.get = g
-cases X f g h k Strict.sub = h
-cases X f g h k s = k s (λ bs. refl)
+cases : (X : Strict → Type 0) → ((op : ArithOp) → X (Strict.arith op)) → X Strict.get → X Strict.sub → ((rank : ℕ) → X (Strict.literal rank)) → ((s : Strict) → ((bs : List Bounds) → strict_certain s bs ≡ strict_sure s) → X s) → (s : Strict) → X s
+cases X f g h l k (Strict.arith op) = f op
+cases X f g h l k Strict.get = g
+cases X f g h l k Strict.sub = h
+cases X f g h l k (Strict.literal rank) = l rank
+cases X f g h l k s = k s (λ bs. refl)
 
 -- an operation of which the operands' shapes tell that it has a value has one
 pub strict-fits : (s : Strict) (Ts : List Ty) (T : Ty) (bs : List Bounds) (vs : List Datum) → strict_certain s bs ≡ true → strict_rule s Ts T → HaveTypes Ts vs → HaveShapes (row_of bs) vs → Valued (strict_value s vs)
@@ -105,5 +97,6 @@ strict-fits s Ts T bs vs =
     let t = one-operand (types.set_of T) bs vs (subst (λ X. HaveTypes X vs) r h) k in
     subst (λ l. Valued (strict_value Strict.get l)) (sym t.1) (member-there T (entry_at bs 0) t.0 t.2 t.3 e))
     (λ e r h k. sub-there T r.0 bs vs (subst (λ X. HaveTypes X vs) r.2 h) k e)
+    (λ rank e r h k. literal-there r.0 r.1 rank bs vs r.2 (subst (λ X. HaveTypes X vs) r.3 h) k e)
     (λ s same e r h k. strict-defined s Ts T vs (sym (same bs) ∙ e) r h)
     s

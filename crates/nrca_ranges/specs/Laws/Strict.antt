@@ -191,7 +191,7 @@ numbers-in (b ∷ bs) (v ∷ vs) ns h e =
     subst (AreIn (interval_of b ∷ map interval_of bs)) (same_Some (p.0 ∷ q.0) ns q.2) (interval-is b p.0 (subst (HasShape b) (natural-is v p.0 p.1) h.0), numbers-in bs vs q.0 h.1 q.1)
 
 -- the first of them
-first-shaped : (n : ℕ) (bs : List Bounds) (vs : List Datum) → HaveShapes (row_of bs) vs → HaveShapes (row_of (take n bs)) (take n vs)
+pub first-shaped : (n : ℕ) (bs : List Bounds) (vs : List Datum) → HaveShapes (row_of bs) vs → HaveShapes (row_of (take n bs)) (take n vs)
 first-shaped zero bs vs h = tt
 first-shaped (suc n) [] [] h = tt
 first-shaped (suc n) [] (v ∷ vs) h = absurd h
