@@ -6,7 +6,8 @@
 - a law, that is a definition that is neither an abbreviation nor a type and whose result is a statement, in specs/ outside of specs/Laws;
 - a public definition of specs/ outside of specs/Laws without a comment of its own;
 - an edit that must be refused whose text does not stand once in the file that it names;
-- a public function that no other crate names, but the laws of a crate and the calls of FIXED.
+- a public function that no other crate names, but the laws of a crate and the calls of FIXED;
+- a place that makes want of memory, where neither `From`, nor `?`, nor an arm that matched one hands it on, but those of MADE.
 """
 import os
 import re
@@ -42,7 +43,34 @@ HANDED_ON = {
 }
 # calls that a library of the language promises to whoever stands on it, though no other crate here makes them
 FIXED = {
+    "aql_run::exit_of",
     "aql_run::sample_script",
+}
+# The functions that make want of memory themselves, in how many places; docs/DECISIONS.md has the reason of each.
+MADE = {
+    "crates/aql_csv/src/rows.rt::memory_fault": 1,
+    "crates/aql_desugar/src/matches.rt::add_numbers": 1,
+    "crates/aql_infer/src/walk.rt::infer": 1,
+    "crates/aql_infer_steps/src/names.rt::open": 1,
+    "crates/aql_infer_steps/src/positions.rt::push": 1,
+    "crates/aql_infer_steps/src/store.rt::new_variable": 1,
+    "crates/aql_parse/src/expressions.rt::complete": 1,
+    "crates/aql_run/src/serving.rt::end_with_made": 1,
+    "crates/aql_run/src/serving.rt::serve_sample": 1,
+    "crates/aql_run/src/steps.rt::answer_all": 1,
+    "crates/aql_run/src/steps.rt::answer_next": 1,
+    "crates/aql_run/src/steps.rt::discard_made": 1,
+    "crates/aql_run/src/steps.rt::write_entry": 1,
+    "crates/aql_session/src/session.rt::push_outcome": 2,
+    "crates/aql_types/src/count.rt::to_number": 1,
+    "crates/aql_types/src/grow.rt::push_variable": 1,
+    "crates/aql_types/src/push.rt::find_variable": 1,
+    "crates/aql_types/src/push.rt::raised_variable": 1,
+    "crates/aql_types/src/subst.rt::apply_raised": 1,
+    "crates/cdf_header/src/file.rt::read_piece": 1,
+    "crates/cdf_slab/src/loading.rt::load": 1,
+    "crates/cdf_slab/src/runs.rt::push_naturals": 1,
+    "crates/nrca_motion/src/still.rt::reduce_room": 1,
 }
 # laws that a definition beside them is made of
 NEEDED = {"decode-spell", "decode-spell_all"}
@@ -196,6 +224,31 @@ def unnamed(crates):
                     yield "%s:%d: no other crate names %s, which is public" % (path, number, match.group(1))
 
 
+def want_of_memory(path, source):
+    """The places of each function that make want of memory, where it is not handed on from one that was matched."""
+    found, name, above = {}, "", []
+    for text in source:
+        line = text.split("//")[0].rstrip()
+        match = re.match(r"\s*(?:pub(?:\([a-z]+\))? )?(?:const )?fn (\w+)", line)
+        name = match.group(1) if match else name
+        indent = len(line) - len(line.lstrip())
+        if not line:
+            continue
+        above = [it for it in above if it[0] < indent]
+        pattern, arrow, value = line.rpartition("=>")
+        makes = re.search(r"\bErr\(Memory\)|\bAllocError( \{|;|\)?$)|\b[A-Z]\w*::Memory\b|^\s*Memory,?$|\bstatus: 1\b", value)
+        handed = "Memory" in pattern or any(re.search(r"Memory.*=>|impl.* From<|\benum ", opener) for _, opener in above)
+        if makes and not handed and not re.match(r"\s*(use|ghost|requires|ensures) ", line) and not re.search(r"\bif let .*= |matches!", line):
+            found[name] = found.get(name, 0) + 1
+        if line.endswith(("{", "(")):
+            above.append((indent, line))
+    known = {key.split("::")[1] for key in MADE if key.startswith(path + "::")}
+    for name in sorted(known | set(found)):
+        count = found.get(name, 0)
+        if MADE.get("%s::%s" % (path, name), 0) != count:
+            yield "%s: %s makes want of memory in %d places" % (path, name, count)
+
+
 def main():
     crates = sorted(os.listdir(os.path.join(ROOT, "crates")))
     found = [*unnamed(crates)]
@@ -203,6 +256,8 @@ def main():
         for path, source in files(crate, "src", ".rt"):
             found += long_clauses(path, source)
             found += wide_functions(path, source)
+            if not crate.endswith("_tests"):
+                found += want_of_memory(path, source)
         for folder in ("must-fail", "edits"):
             for path, source in files(crate, folder, ".edit"):
                 found += stale(path, source)

@@ -10,6 +10,8 @@ FILES = {
     # Three records, of which two are alike, in 18 bytes.
     "a.csv": b'1,ab\n2,"c,d"\n1,ab\n',
     "empty.csv": b"",
+    # The numbers below 8,192 in records of 8 bytes: 65,536 bytes.
+    "large.csv": b"".join(b"%07d\n" % n for n in range(8192)),
     "plus.csv": b"1\n+1\n2,3\n",
     "one.csv": b"b\na\n\nb\n\xff",
     "open.csv": b'n\r\n7,"a\r\n""b"""',

@@ -63,12 +63,14 @@ IsDevice result = IsErrOf result faults.Device
 
 -- ---- words within the crate
 
--- where there are so many bytes they are read whole, unless the device failed or memory was wanting
+-- where there are so many bytes they are read whole, and where there are fewer the read was cut behind the last of them; unless the device failed
+-- or memory was wanting
 abbrev pub IsReadWhole : List ℕ → (size : ℕ) → Result (List ℕ) CsvFault → Type 0
 IsReadWhole bytes size (Ok found) = size ≡ length bytes → found ≡ bytes
 IsReadWhole bytes size (Err faults.Device) = Unit {0}
 IsReadWhole bytes size (Err faults.Memory) = Unit {0}
-IsReadWhole bytes size (Err e) = size ≡ length bytes → ⊥
+IsReadWhole bytes size (Err (faults.Cut k)) = (k ≡ length bytes) × (k < size)
+IsReadWhole bytes size (Err e) = ⊥
 
 -- a fault of a read of so many bytes
 abbrev pub IsOfReading : ℕ → CsvFault → Type 0

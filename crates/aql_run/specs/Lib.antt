@@ -7,6 +7,7 @@ pub mod Writing
 pub mod Codes
 pub mod Headline
 pub mod Outcome
+pub mod Refusals
 pub mod Complete
 pub mod Devices
 pub mod Reading

@@ -37,7 +37,7 @@ pub use aql_session::Options;
 use closed::Machine;
 use laws::tokens_exist;
 pub use program::start;
-pub use report::{Answers, Report, Stop};
+pub use report::{Answers, Report, Stop, exit_of};
 use serving::end_of;
 use std::alloc::Global;
 use std::thread::Threads;

@@ -1,5 +1,6 @@
 //! What a program does from its start to its end, over the devices of the system.
 
+use crate::report::exit_of;
 use crate::run;
 use aql_outside::FreeGate;
 use aql_system::{FileSystem, InputStream, OutputStream, SystemDisk};
@@ -23,7 +24,7 @@ where
             let mut input = InputStream::new(input);
             let mut output = OutputStream::new(output);
             let mut files = FileSystem::new(SystemDisk::new(rt));
-            run(
+            let report = run(
                 rt,
                 rt.alloc(),
                 words.as_slice(),
@@ -31,8 +32,8 @@ where
                 &mut output,
                 &mut files,
                 &FreeGate,
-            )
-            .status
+            );
+            exit_of(&report)
         }
         Err(error) if error.kind() == ErrorKind::OutOfMemory => 1,
         Err(_) => 2,

@@ -1,4 +1,6 @@
 //! What a run answers.
+ghost use Rattle.std.specs.Prelude.{◌≡◌};
+
 use crate::status::Status;
 use aql_csv::CsvFault;
 use aql_session::Answer;
@@ -49,6 +51,13 @@ pub struct Report {
     pub status: u8,
     pub answers: Answers,
     pub stop: Stop,
+}
+
+/// The exit status of a program that ran so.
+pub fn exit_of(report: &Report) -> u8
+    ensures { result ≡ report.now.status }
+{
+    report.status
 }
 
 /// How a run ended, and what is kept of it.

@@ -1,4 +1,5 @@
 pub mod Entries
+mod Causes
 mod KeptExamples
 mod Positions
 pub mod Examples

@@ -1,4 +1,5 @@
 pub mod Entries
 pub mod Script
+pub mod Causes
 pub mod Limits
 pub mod Laws
