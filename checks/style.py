@@ -34,6 +34,10 @@ HANDED_ON = {
     "crates/aql_infer/src/walk.rt::infer_choice",
     "crates/aql_infer/src/walk.rt::infer_function",
     "crates/aql_infer/src/walk.rt::infer_sum",
+    "crates/aql_run/src/serving.rt::end_of",
+    "crates/aql_run/src/serving.rt::serve",
+    "crates/aql_run/src/serving.rt::serve_sample",
+    "crates/aql_run/src/serving.rt::serve_source",
     "crates/aql_run/src/steps.rt::answer_all",
     "crates/aql_session/src/executions.rt::run_declaration",
     "crates/aql_session/src/executions.rt::run_plain",
@@ -44,6 +48,7 @@ HANDED_ON = {
 # calls that a library of the language promises to whoever stands on it, though no other crate here makes them
 FIXED = {
     "aql_run::exit_of",
+    "aql_run::run_keeping",
     "aql_run::sample_script",
 }
 # The functions that make want of memory themselves, in how many places; docs/DECISIONS.md has the reason of each.

@@ -4,4 +4,5 @@ pub mod Going
 pub mod LineStreams
 pub mod Streams
 pub mod Endings
+pub mod Keeping
 pub mod Completing

@@ -12,4 +12,5 @@ pub mod Complete
 pub mod Devices
 pub mod Reading
 pub mod Ending
+pub mod Keeping
 pub mod Laws

@@ -16,6 +16,7 @@ ghost use Rattle.std.specs.String.{string_bytes};
 ghost use Rattle.aql_session.specs.Device.{source_of, sink_of, files_of, BlamesSink};
 ghost use Rattle.aql_run.specs.Headline.{Headline};
 ghost use Rattle.aql_run.specs.Ending.{HasSample, Reported};
+ghost use Rattle.aql_run.specs.Keeping.{Keeps};
 
 mod closed;
 mod entries;
@@ -33,11 +34,12 @@ mod writing;
 pub use crate::sample::sample_script;
 pub use aql_options::{WordFault, read_words};
 use aql_outside::{Files, Gate, Sink, Source};
+pub use aql_script::ScriptFault;
 pub use aql_session::Options;
 use closed::Machine;
 use laws::tokens_exist;
-pub use program::start;
-pub use report::{Answers, Report, Stop, exit_of};
+pub use program::{Ended, start, start_keeping};
+pub use report::{Answers, Kept, Report, Stop, exit_of};
 use serving::end_of;
 use std::alloc::Global;
 use std::thread::Threads;
@@ -63,6 +65,30 @@ pub fn run<R: Threads + Sync, S: Source, O: Sink, F: Files, G: Gate>(
       files = files_of F.Files files.old files.new;
     }) result }
 {
+    let kept = run_keeping(rt, alloc, words, input, output, files, gate);
+    kept.report
+}
+
+/// The same run, whose report is that of `run`. Beside it the bytes of the script are handed out, and the
+/// fault of the script where its line was the last one, so that the fault can be explained.
+pub fn run_keeping<R: Threads + Sync, S: Source, O: Sink, F: Files, G: Gate>(
+    rt: &R,
+    alloc: Global,
+    words: &[String],
+    input: &mut S,
+    output: &mut O,
+    files: &mut F,
+    gate: &G,
+) -> Kept
+    ensures headline { Headline (map string_bytes words.now) (record {
+      source = source_of S.Source input.old input.new;
+      sink = sink_of O.Sink output.old output.new;
+      files = files_of F.Files files.old files.new;
+    }) result.report }
+    ensures keeps { Keeps (map string_bytes words.now) (source_of S.Source input.old input.new)
+        (sink_of O.Sink output.old output.new) result.report.status result.script.items
+        result.fault }
+{
     tokens_exist();
     report_run(rt, alloc, words, input, output, files, gate)
 }
@@ -76,32 +102,50 @@ fn report_run<R: Threads + Sync, S: Source, O: Sink, F: Files, G: Gate>(
     output: &mut O,
     files: &mut F,
     gate: &G,
-) -> Report
+) -> Kept
     ensures serves { Reported (map string_bytes words.now) (record {
       source = source_of S.Source input.old input.new;
       sink = sink_of O.Sink output.old output.new;
       files = files_of F.Files files.old files.new;
-    }) result }
-    ensures untouched_input { result.status ≡ 2 → input.new ≡ input.old }
-    ensures untouched_output { result.status ≡ 2 → output.new ≡ output.old }
+    }) result.report }
+    ensures keeps { Keeps (map string_bytes words.now) (source_of S.Source input.old input.new)
+        (sink_of O.Sink output.old output.new) result.report.status result.script.items
+        result.fault }
+    ensures untouched_input { result.report.status ≡ 2 → input.new ≡ input.old }
+    ensures untouched_output { result.report.status ≡ 2 → output.new ≡ output.old }
     ensures sample { (n : ℕ) → HasSample (map string_bytes words.now) n →
         input.new ≡ input.old }
-    ensures output { BlamesSink O.Sink output.old output.new (result.status ≡ 11) }
+    ensures output { BlamesSink O.Sink output.old output.new (result.report.status ≡ 11) }
     ensures kept { F.holds files.new ≡ F.holds files.old }
     ensures later_input { S.faults input.old ≤ S.faults input.new }
     ensures later_files { F.faults files.old ≤ F.faults files.new }
     ensures noticed_input { S.quiet → S.faults input.old < S.faults input.new →
-        (result.status ≡ 10) ⊎ (result.status ≡ 11) }
+        (result.report.status ≡ 10) ⊎ (result.report.status ≡ 11) }
     ensures noticed_files { F.quiet → F.faults files.old < F.faults files.new →
-        (result.status ≡ 13) ⊎ (result.status ≡ 11) }
+        (result.report.status ≡ 13) ⊎ (result.report.status ≡ 11) }
 {
     let mut answers = Vec::new(alloc);
+    let mut script = Vec::new(alloc);
+    let mut fault = None;
     let machine = Machine { rt, alloc, gate };
-    let end = end_of(&machine, words, input, output, files, &mut answers);
+    let end = end_of(
+        &machine,
+        words,
+        input,
+        output,
+        files,
+        &mut answers,
+        &mut script,
+        &mut fault,
+    );
     let status = end.status.code();
-    Report {
-        status,
-        answers: Answers { items: answers },
-        stop: end.stop,
+    Kept {
+        report: Report {
+            status,
+            answers: Answers { items: answers },
+            stop: end.stop,
+        },
+        script,
+        fault,
     }
 }

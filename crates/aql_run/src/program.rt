@@ -1,7 +1,7 @@
 //! What a program does from its start to its end, over the devices of the system.
 
-use crate::report::exit_of;
-use crate::run;
+use crate::report::{Kept, exit_of};
+use crate::run_keeping;
 use aql_outside::FreeGate;
 use aql_system::{FileSystem, InputStream, OutputStream, SystemDisk};
 use std::env;
@@ -9,6 +9,13 @@ use std::io::{self, ErrorKind, Read, Write};
 use std::process::ExitCode;
 use std::rt::{Env, Files};
 use std::thread::Threads;
+
+/// How a program ends: its exit status, and where the words of the command line could be had what was kept of the run.
+#[derive(Drop)]
+pub struct Ended {
+    pub status: u8,
+    pub kept: Option<Kept>,
+}
 
 /// Runs the script of the input over the files of the system with the words of the command line, writes the answers to the output,
 /// and gives the status of the run. What comes of it is the contract of `run`; that the devices of the system are what is handed
@@ -19,12 +26,23 @@ where
     I: Read + Drop,
     O: Write + Drop,
 {
-    let status = match words(rt) {
+    let ended = start_keeping(rt, input, output);
+    ExitCode::from(ended.status)
+}
+
+/// The same, for a program that explains the fault of the run, which it is handed.
+pub fn start_keeping<R, I, O>(rt: &R, input: I, output: O) -> Ended
+where
+    R: AllocGlobal + Env + Eprint + Files + Threads + Sync,
+    I: Read + Drop,
+    O: Write + Drop,
+{
+    let ended = match words(rt) {
         Ok(words) => {
             let mut input = InputStream::new(input);
             let mut output = OutputStream::new(output);
             let mut files = FileSystem::new(SystemDisk::new(rt));
-            let report = run(
+            let kept = run_keeping(
                 rt,
                 rt.alloc(),
                 words.as_slice(),
@@ -33,13 +51,21 @@ where
                 &mut files,
                 &FreeGate,
             );
-            exit_of(&report)
+            Ended {
+                status: exit_of(&kept.report),
+                kept: Some(kept),
+            }
         }
-        Err(error) if error.kind() == ErrorKind::OutOfMemory => 1,
-        Err(_) => 2,
+        Err(error) if error.kind() == ErrorKind::OutOfMemory => ended_early(1),
+        Err(_) => ended_early(2),
     };
-    tell(rt, status);
-    ExitCode::from(status)
+    tell(rt, ended.status);
+    ended
+}
+
+// The end of a program that ran nothing.
+fn ended_early(status: u8) -> Ended {
+    Ended { status, kept: None }
 }
 
 // The words of the command line, the program's name first.

@@ -3,6 +3,7 @@ ghost use Rattle.std.specs.Prelude.{◌≡◌};
 
 use crate::status::Status;
 use aql_csv::CsvFault;
+use aql_script::ScriptFault;
 use aql_session::Answer;
 use cdf_header::CdfFault;
 use nrca_motion::Moved;
@@ -58,6 +59,16 @@ pub fn exit_of(report: &Report) -> u8
     ensures { result ≡ report.now.status }
 {
     report.status
+}
+
+/// What is kept of a run beside its report, so that its fault can be explained: the bytes of the script
+/// with the statuses 0, 3 to 7, 9, 12 and 13, else some bytes; and the fault of the script, where it
+/// has one.
+#[derive(Drop)]
+pub struct Kept {
+    pub report: Report,
+    pub script: Vec<u8>,
+    pub fault: Option<ScriptFault>,
 }
 
 /// How a run ended, and what is kept of it.

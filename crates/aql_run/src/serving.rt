@@ -4,8 +4,11 @@ ghost use Rattle.std.specs.String.{string_bytes};
 ghost use Rattle.aql_options.specs.Words.{AreInRange};
 ghost use Rattle.aql_session.specs.Device.{source_of, sink_of, files_of, BlamesSink};
 ghost use Rattle.aql_run.specs.Lines.{in_declaration};
+ghost use Rattle.aql_run.specs.Reading.{ReadsWhole};
+ghost use Rattle.aql_run.specs.Sample.{sample_text};
 ghost use Rattle.aql_options.specs.Settings.{settings_of};
 ghost use Rattle.aql_run.specs.Devices.{NoticesFiles, NoticesInput};
+ghost use Rattle.aql_run.specs.Keeping.{HasScript, IsOfScript, IsRead, IsRefused, ReadsScript};
 ghost use Rattle.aql_run.specs.Ending.{AnswersEach, HasSample, EndsWith, IsReady, Refused, Responds, Running, Samples, Serving, Stopped};
 
 use crate::closed::{Machine, answer_each, prepare_script, read_options};
@@ -24,7 +27,8 @@ use aql_value::Memory;
 use std::alloc::Global;
 use std::thread::Threads;
 
-/// Reads the words, and then runs the script that they ask for.
+/// Reads the words, and then runs the script that they ask for, which is kept, with its fault where it
+/// has one.
 pub(crate) fn end_of<R: Threads + Sync, S: Source, O: Sink, F: Files, G: Gate>(
     machine: &Machine<R, G>,
     words: &[String],
@@ -32,8 +36,11 @@ pub(crate) fn end_of<R: Threads + Sync, S: Source, O: Sink, F: Files, G: Gate>(
     output: &mut O,
     files: &mut F,
     answers: &mut Vec<Answer>,
+    kept: &mut Vec<u8>,
+    found: &mut Option<ScriptFault>,
 ) -> End
     requires none { answers.old.items ≡ [] }
+    requires no_fault { found.old ≡ None }
     ensures serves { Running (map string_bytes words.now) answers.new.items (record {
       source = source_of S.Source input.old input.new;
       sink = sink_of O.Sink output.old output.new;
@@ -49,9 +56,15 @@ pub(crate) fn end_of<R: Threads + Sync, S: Source, O: Sink, F: Files, G: Gate>(
     ensures noticed_input { NoticesInput S.Source input.old input.new result.status }
     ensures later_files { F.faults files.old ≤ F.faults files.new }
     ensures noticed_files { NoticesFiles F.Files files.old files.new result.status }
+    ensures script { HasScript result.status → ReadsScript (map string_bytes words.now)
+        (source_of S.Source input.old input.new) kept.new.items }
+    ensures refused { IsRefused kept.new.items (sink_of O.Sink output.old output.new)
+        result.status found.new }
 {
     match read_options(machine.alloc, words) {
-        Ok(options) => serve(machine, &options, input, output, files, answers),
+        Ok(options) => serve(
+            machine, &options, input, output, files, answers, kept, found,
+        ),
         Err(WordFault::Usage) => End {
             status: Status::Usage,
             stop: Stop::Other,
@@ -71,8 +84,11 @@ fn serve<R: Threads + Sync, S: Source, O: Sink, F: Files, G: Gate>(
     output: &mut O,
     files: &mut F,
     answers: &mut Vec<Answer>,
+    kept: &mut Vec<u8>,
+    found: &mut Option<ScriptFault>,
 ) -> End
     requires none { answers.old.items ≡ [] }
+    requires no_fault { found.old ≡ None }
     requires options { AreInRange options.now }
     ensures serves { Serving (settings_of options.now) answers.new.items (record {
       source = source_of S.Source input.old input.new;
@@ -86,10 +102,14 @@ fn serve<R: Threads + Sync, S: Source, O: Sink, F: Files, G: Gate>(
     ensures noticed_input { NoticesInput S.Source input.old input.new result.status }
     ensures later_files { F.faults files.old ≤ F.faults files.new }
     ensures noticed_files { NoticesFiles F.Files files.old files.new result.status }
+    ensures script { HasScript result.status → IsRead options.now.sample
+        (source_of S.Source input.old input.new) kept.new.items }
+    ensures refused { IsRefused kept.new.items (sink_of O.Sink output.old output.new)
+        result.status found.new }
 {
     match options.sample {
-        Some(n) => serve_sample(machine, options, n, output, files, answers),
-        None => serve_source(machine, options, input, output, files, answers),
+        Some(n) => serve_sample(machine, options, n, output, files, answers, kept, found),
+        None => serve_source(machine, options, input, output, files, answers, kept, found),
     }
 }
 
@@ -101,8 +121,11 @@ fn serve_sample<R: Threads + Sync, O: Sink, F: Files, G: Gate>(
     output: &mut O,
     files: &mut F,
     answers: &mut Vec<Answer>,
+    kept: &mut Vec<u8>,
+    found: &mut Option<ScriptFault>,
 ) -> End
     requires none { answers.old.items ≡ [] }
+    requires no_fault { found.old ≡ None }
     requires options { AreInRange options.now }
     ensures written { Samples n (settings_of options.now) answers.new.items
         (sink_of O.Sink output.old output.new) (files_of F.Files files.old files.new) result }
@@ -110,9 +133,16 @@ fn serve_sample<R: Threads + Sync, O: Sink, F: Files, G: Gate>(
     ensures kept { F.holds files.new ≡ F.holds files.old }
     ensures later_files { F.faults files.old ≤ F.faults files.new }
     ensures noticed_files { NoticesFiles F.Files files.old files.new result.status }
+    ensures script { HasScript result.status → kept.new.items ≡ sample_text n }
+    ensures refused { IsRefused kept.new.items (sink_of O.Sink output.old output.new)
+        result.status found.new }
 {
     match sample_script(machine.alloc, n) {
-        Ok(script) => respond(machine, options, &script, output, files, answers),
+        Ok(script) => {
+            let end = respond(machine, options, &script, output, files, answers, found);
+            *kept = script;
+            end
+        }
         Err(_) => End {
             status: Status::Memory,
             stop: Stop::Other,
@@ -128,8 +158,11 @@ fn serve_source<R: Threads + Sync, S: Source, O: Sink, F: Files, G: Gate>(
     output: &mut O,
     files: &mut F,
     answers: &mut Vec<Answer>,
+    kept: &mut Vec<u8>,
+    found: &mut Option<ScriptFault>,
 ) -> End
     requires none { answers.old.items ≡ [] }
+    requires no_fault { found.old ≡ None }
     requires options { AreInRange options.now }
     requires no_sample { options.now.sample ≡ None }
     ensures serves { Serving (settings_of options.now) answers.new.items (record {
@@ -143,9 +176,17 @@ fn serve_source<R: Threads + Sync, S: Source, O: Sink, F: Files, G: Gate>(
     ensures noticed_input { NoticesInput S.Source input.old input.new result.status }
     ensures later_files { F.faults files.old ≤ F.faults files.new }
     ensures noticed_files { NoticesFiles F.Files files.old files.new result.status }
+    ensures script { HasScript result.status →
+        ReadsWhole (S.left input.old) (S.left input.new) kept.new.items }
+    ensures refused { IsRefused kept.new.items (sink_of O.Sink output.old output.new)
+        result.status found.new }
 {
     match read_script(machine.alloc, input) {
-        Ok(script) => respond(machine, options, &script, output, files, answers),
+        Ok(script) => {
+            let end = respond(machine, options, &script, output, files, answers, found);
+            *kept = script;
+            end
+        }
         Err(ReadFault::Memory) => End {
             status: Status::Memory,
             stop: Stop::Other,
@@ -161,7 +202,7 @@ fn serve_source<R: Threads + Sync, S: Source, O: Sink, F: Files, G: Gate>(
     }
 }
 
-// Runs a script that was read whole.
+// Runs a script that was read whole, and keeps its fault.
 fn respond<R: Threads + Sync, O: Sink, F: Files, G: Gate>(
     machine: &Machine<R, G>,
     options: &Options,
@@ -169,8 +210,10 @@ fn respond<R: Threads + Sync, O: Sink, F: Files, G: Gate>(
     output: &mut O,
     files: &mut F,
     answers: &mut Vec<Answer>,
+    found: &mut Option<ScriptFault>,
 ) -> End
     requires none { answers.old.items ≡ [] }
+    requires no_fault { found.old ≡ None }
     requires options { AreInRange options.now }
     ensures written { Responds script.now (settings_of options.now) answers.new.items
         (sink_of O.Sink output.old output.new) (files_of F.Files files.old files.new) result }
@@ -178,13 +221,18 @@ fn respond<R: Threads + Sync, O: Sink, F: Files, G: Gate>(
     ensures kept { F.holds files.new ≡ F.holds files.old }
     ensures later_files { F.faults files.old ≤ F.faults files.new }
     ensures noticed_files { NoticesFiles F.Files files.old files.new result.status }
+    ensures refused { IsRefused script.now (sink_of O.Sink output.old output.new)
+        result.status found.new }
 {
     match prepare_script(machine.alloc, script) {
         Ok(prepared) => answer(machine, &prepared, options, output, files, answers),
-        Err(fault) => End {
-            status: refuse(machine.alloc, fault, output),
-            stop: Stop::Other,
-        },
+        Err(fault) => {
+            *found = Some(fault);
+            End {
+                status: refuse(machine.alloc, fault, output),
+                stop: Stop::Other,
+            }
+        }
     }
 }
 
@@ -206,6 +254,7 @@ fn answer<R: Threads + Sync, O: Sink, F: Files, G: Gate>(
     ensures kept { F.holds files.new ≡ F.holds files.old }
     ensures later_files { F.faults files.old ≤ F.faults files.new }
     ensures noticed_files { NoticesFiles F.Files files.old files.new result.status }
+    ensures later { IsOfScript result.status → ⊥ }
 {
     match answer_each(machine, prepared, options, output, files, answers) {
         Ok(()) => End {

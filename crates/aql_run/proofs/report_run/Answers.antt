@@ -8,6 +8,7 @@ use Rattle.aql_run.specs.declared.status.Status.{Status}
 use Rattle.aql_run.specs.declared.status.Status.TheVariants as status
 use Rattle.aql_outside.specs.Laws.Causes.{blamed_as}
 use Rattle.aql_run.proofs.Endings.{reports}
+use Rattle.aql_run.proofs.Keeping.{keeps}
 use Rattle.aql_run.proofs.report_run.Goals as goal
 
 -- one of two statuses, by their numbers
@@ -24,6 +25,11 @@ returns-clause-serves g c =
     }) c.end_of-end.result
     (record { status = c.code-status.result; answers = record { items = c.end_of-end.new.answers }; stop = c.end_of-end.result.stop })
     c.code-status.ensures refl c.end_of-end.ensures.serves
+
+pub returns-clause-keeps : goal.returns-clause-keeps
+returns-clause-keeps g c =
+    keeps (map string_bytes c.args.words.now) (source_of g.S.Source c.args.input.now c.end_of-end.new.input) (sink_of g.O.Sink c.args.output.now c.end_of-end.new.output)
+    c.code-status.result c.end_of-end.result.status c.end_of-end.new.kept.items c.end_of-end.new.found c.code-status.ensures c.end_of-end.ensures.script c.end_of-end.ensures.refused
 
 pub returns-clause-untouched_input : goal.returns-clause-untouched_input
 returns-clause-untouched_input g c is = c.end_of-end.ensures.untouched_input (status_is c.end_of-end.result.status status.Usage c.code-status.result c.code-status.ensures is)

@@ -3,6 +3,7 @@ use Rattle.std.proofs.KnownBytes.{Appends-trans}
 use Rattle.aql_session.specs.Device.{sink_of, files_of}
 use Rattle.aql_options.specs.Settings.{settings_of}
 use Rattle.aql_run.proofs.Endings.{answers_done, answers_memory, answers_sink, answers_fault}
+use Rattle.aql_run.proofs.Keeping.{stopped_later}
 use Rattle.aql_run.proofs.serving.answer.Goals as goal
 
 pub returns-in-Ok-clause-written : goal.returns-in-Ok-clause-written
@@ -31,3 +32,7 @@ returns-in-Err-Fault-clause-written g c =
     c.stop_at.result c.in-Err-Fault.field-0
     (Appends-trans (g.O.Sink.holds c.args.output.now) (g.O.Sink.holds c.answer_each.new.output) (g.O.Sink.holds c.stop_at.new.output))
     c.in-Err-Fault.field-0-is c.requires.prepared c.in-Err-Fault.ensures.written (ap (λ k. k + 1) (c.len.ensures ∙ c.answer_each.new.answers.ok.0)) c.stop_at.ensures.written
+
+pub returns-in-Err-Fault-clause-later : goal.returns-in-Err-Fault-clause-later
+returns-in-Err-Fault-clause-later g c =
+    stopped_later (c.len.result + 1) c.in-Err-Fault.fault (sink_of g.O.Sink c.answer_each.new.output c.stop_at.new.output) c.stop_at.result c.stop_at.ensures.written

@@ -9,24 +9,24 @@ use Rattle.aql_run.specs.declared.status.Status.{Status}
 use Rattle.aql_run.specs.declared.status.Status.TheVariants as status
 use Rattle.aql_run.specs.Devices.{Devices}
 use Rattle.aql_run.proofs.Endings.{reported_files, reported_input, reported_sample, reported_serves}
-use Rattle.aql_run.proofs.run.Goals as goal
+use Rattle.aql_run.proofs.run_keeping.Goals as goal
 
 -- one of two statuses, of which this is the number
 one_of : (s a b : Status) (n : ℕ) → n ≡ code_of s → (n ≡ code_of a) ⊎ (n ≡ code_of b) → (s ≡ a) ⊎ (s ≡ b)
 one_of s a b n is (inl e) = inl (status_is s a n is e)
 one_of s a b n is (inr e) = inr (status_is s b n is e)
 
-pub returns : goal.returns
-returns g c =
+pub returns-clause-headline : goal.returns-clause-headline
+returns-clause-headline g c =
     let words = map string_bytes c.args.words.now in
-    let n = c.report_run.result.status in
+    let n = c.report_run.result.report.status in
     let d : Devices = record {
       source = source_of g.S.Source c.args.input.now c.report_run.new.input;
       sink = sink_of g.O.Sink c.args.output.now c.report_run.new.output;
       files = files_of g.F.Files c.args.files.now c.report_run.new.files;
     } in
     let (s, is, (taken, written, consumed, appended, few, (cause, complete))) =
-    reported_serves words (Rose d.sink.faults_before d.sink.faults_after) d c.report_run.result c.tokens_exist.ensures c.report_run.ensures.output.failed c.report_run.ensures.serves in
+    reported_serves words (Rose d.sink.faults_before d.sink.faults_after) d c.report_run.result.report c.tokens_exist.ensures c.report_run.ensures.output.failed c.report_run.ensures.serves in
     record {
       status = s;
       number = is;
@@ -41,7 +41,7 @@ returns g c =
       sample = λ m asked. c.report_run.ensures.sample m (reported_sample words m asked);
       input = record {
         later = c.report_run.ensures.later_input;
-        failed = λ e. reported_input words d c.report_run.result c.report_run.ensures.serves (is ∙ ap code_of e);
+        failed = λ e. reported_input words d c.report_run.result.report c.report_run.ensures.serves (is ∙ ap code_of e);
         noticed = λ q less. one_of s status.Input status.Output n is (c.report_run.ensures.noticed_input q less);
       };
       output = record {
@@ -51,7 +51,7 @@ returns g c =
       };
       files = record {
         later = c.report_run.ensures.later_files;
-        failed = λ e. reported_files words d c.report_run.result c.report_run.ensures.serves (is ∙ ap code_of e);
+        failed = λ e. reported_files words d c.report_run.result.report c.report_run.ensures.serves (is ∙ ap code_of e);
         noticed = λ q less. one_of s status.Files status.Output n is (c.report_run.ensures.noticed_files q less);
       };
       kept = c.report_run.ensures.kept;
