@@ -4,6 +4,8 @@
     python3 readvals.py sst.nc > sst.aql
     python3 readvals.py stations.csv
 
+Where ./install has put it, it is the command aql-readvals.
+
 Of a netCDF file it wants the command `ncdump` (Debian: netcdf-bin). A variable whose type has signs is read with NETCDFZ where one
 of its cells is below 0, as `ncdump` shows them. Of a variable that cannot be read it prints a comment with the reason, and with
 a command that makes it readable where there is one. Of a file of comma-separated records it prints the declaration with the kind
@@ -15,7 +17,9 @@ import csv
 import re
 import subprocess
 import sys
+from pathlib import Path
 
+PROGRAM = Path(sys.argv[0]).name
 NUMBERS = {"byte", "short", "int", "int64", "ubyte", "ushort", "uint", "uint64", "char"}
 SIGNED = {"byte", "short", "int", "int64"}
 RESERVED = set(
@@ -32,13 +36,13 @@ MOST = 2**128 - 1
 
 def main():
     if len(sys.argv) != 2 or sys.argv[1].startswith("-"):
-        sys.exit("usage: readvals.py FILE")
+        sys.exit(f"usage: {PROGRAM} FILE")
     name = sys.argv[1]
     try:
         with open(name, "rb") as file:
             front = file.read(8)
     except OSError as error:
-        sys.exit(f"readvals.py: {error}")
+        sys.exit(f"{PROGRAM}: {error}")
     is_netcdf = front[:3] == b"CDF" or front == b"\x89HDF\r\n\x1a\n"
     print("\n".join(of_netcdf(name) if is_netcdf else of_records(name)))
 
@@ -67,11 +71,11 @@ def of_variable(file, of, variable, dimensions, sizes, taken, filled):
     cells = 1
     for size in sizes:
         cells *= size
-    if of not in NUMBERS:
+    if not 1 <= len(sizes) <= 8:
+        yield comment(f"{said}: of rank {len(sizes)}, and the ranks 1 to 8 can be read")
+    elif of not in NUMBERS:
         cure = f"ncap2 -3 -s '{variable}=int(10*{variable})' OLD NEW makes whole numbers of it, here tenths" if of in ("float", "double") else ""
         yield comment(f"{said}: no whole numbers" + (f"; {cure}" if cure else ""))
-    elif not 1 <= len(sizes) <= 8:
-        yield comment(f"{said}: of rank {len(sizes)}, and the ranks 1 to 8 can be read")
     elif cells > GREATEST:
         yield comment(f"{said}: {cells} cells, more than {GREATEST} at a time; read a part")
     else:
@@ -180,9 +184,9 @@ def ncdump(word, name):
     try:
         run = subprocess.run(["ncdump", word, name], capture_output=True)
     except FileNotFoundError:
-        sys.exit("readvals.py: the command ncdump is wanted (Debian: netcdf-bin)")
+        sys.exit(f"{PROGRAM}: the command ncdump is wanted (Debian: netcdf-bin)")
     if run.returncode:
-        sys.exit(f"readvals.py: {run.stderr.decode(errors='replace').strip()}")
+        sys.exit(f"{PROGRAM}: {run.stderr.decode(errors='replace').strip()}")
     return run.stdout.decode(errors="surrogateescape")
 
 
