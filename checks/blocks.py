@@ -3,7 +3,7 @@
 
     checks/blocks.py PROGRAM
 
-In README.md, docs/LANGUAGE.md and docs/RECIPES.md a fenced block is one of these:
+In README.md and the pages of docs/ named below a fenced block is one of these:
 
 - a transcript: lines that begin with `$ ` are commands, the others what they print;
 - commands, marked `sh`, with what they print in the next block;
@@ -25,7 +25,7 @@ import tempfile
 from pathlib import Path
 
 ROOT = Path(__file__).resolve().parent.parent
-PAGES = ["README.md", "docs/LANGUAGE.md", "docs/RECIPES.md"]
+PAGES = ["README.md", "docs/LANGUAGE.md", "docs/RECIPES.md", "docs/LARGE.md", "docs/MANY.md"]
 PRINTED = re.compile(r"(typ \S+ : |val [^\\ ]+ = |mac |plan \S+ = |rules \S+ = |turns \S+ = |moved \S+ = |moves \S+ = |graph \S+ = |fault )")
 STATED = re.compile(r"^(.*;)\s*\(\* ([^:]*): (.*) \*\)$")
 
@@ -35,9 +35,9 @@ class Page:
         self.name = name
         self.folder = folder
         self.wrong = []
-        self.one_script = name.endswith("RECIPES.md")
-        self.script = ""
-        self.lines = 0
+        self.one_script = name.endswith(("RECIPES.md", "LARGE.md"))
+        self.script = (ROOT / "examples/large.aql").read_text() if name.endswith("LARGE.md") else ""
+        self.lines = self.aql(self.script).count("\n") if self.script else 0
         self.blocks = 0
 
     def fails(self, number, message):
