@@ -199,7 +199,7 @@ def most_turns(data):
         "names": n + 2 * names * names + 3 * names,
         "by_name": 2 * n + names,
         "mean_by_name": 3 * n + 4 * names,
-        "joined": 2 * n,
+        "joined": 3 * n,
         "mean_there": 0,
         "moving": days + 6 * days,
         "rise": days,
