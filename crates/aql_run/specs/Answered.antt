@@ -37,7 +37,8 @@ pub record AreAnswered (ds : List Declaration) (sorts : List Sort) (settings : S
   pub each : (i : ℕ) (d : Declaration) (a : Answer) (o : Option Datum) → slice_get (positions ds) (prelude_count + i) ≡ Some d → slice_get answers i ≡ Some a →
       slice_get V (prelude_count + i) ≡ Some o → IsAnswered d (earlier_of (positions ds) (take (prelude_count + i) V)) (slice_get sorts (prelude_count + i)) settings holds a o
 
--- the next declaration has none, and why; the counts of faults are those of the files before and after the run
+-- why the declaration behind those that were answered has no answer: its fault, which stands there; the files had these counts of failed calls
+-- before and after the run
 abbrev pub IsStopped : List Declaration → Settings → Option Content → (before now : ℕ) → (answered : ℕ) → Outcomes → StepFault → Type 0
 IsStopped ds settings holds before now answered V f =
     (d : Declaration) × (slice_get (positions ds) (prelude_count + answered) ≡ Some d) × IsCause d (earlier_of (positions ds) V) settings.motion settings.budget holds before now f
@@ -47,12 +48,7 @@ abbrev pub ReadNoFile : List Declaration → (budget : ℕ) → Outcomes → (be
 ReadNoFile ds budget V begun = (i : ℕ) (d : Declaration) → i < begun → slice_get (positions ds) (prelude_count + i) ≡ Some d →
     ReadsNoFile d (earlier_of (positions ds) (take (prelude_count + i) V)) budget
 
--- how many declarations may have come to the files, where the one behind those that were answered has this fault: it did not where its
--- turns passed the budget
+-- how many declarations may have called the files, if this fault ended the run behind n answers: a declaration whose turns pass the budget has not
 abbrev pub reach : StepFault → (answered : ℕ) → ℕ
 reach (faults.Query start plan trace moved) n = n
-reach (faults.Cells c) n = n + 1
-reach (faults.File f) n = n + 1
-reach (faults.Csv f) n = n + 1
-reach faults.Device n = n + 1
-reach faults.Memory n = n + 1
+reach f n = n + 1

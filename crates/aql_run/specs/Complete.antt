@@ -55,7 +55,7 @@ pub record IsSound (words : List (List ℕ)) (script : List ℕ) (holds : Option
   pub within : (V : Outcomes) (d : Declaration) → AreOutcomes ds holds V → slice_get (positions ds) (length V) ≡ Some d →
       IsWithinBudget d (earlier_of (positions ds) V) (options_of words).budget holds
 
--- Where the script of a run is sound, all of it was read, and no count of faults rises, the run ends with every declaration answered, or for
+-- A sound script is answered whole: where all of it was read and no count of failed calls rose, the run ends with every declaration answered, or for
 -- want of memory.
 abbrev pub EndsWell : Status → (words : List (List ℕ)) → Told → (sink : Type 0) → (taken : List ℕ) → Type 0
 EndsWell s words told sink taken = (script : List ℕ) → IsScript (options_of words).sample told.left taken script → IsSound words script told.holds →

@@ -1,4 +1,4 @@
--- What a run promises: by the words of its command line, by what the devices told and counted before and after it, and by its report.
+-- What a run promises, of three things: the words of its command line, what its devices told and counted before and after it, and its report.
 use Rattle.std.specs.Prelude.{◌≡◌, ◌≤◌, ◌<◌, ◌+◌, ◌⊎◌, ℕ, List, Some, length}
 use Rattle.std.specs.Io.KnownBytes.{Consumes, Appends}
 use Rattle.aql_outside.specs.Causes.{Rose}
@@ -13,34 +13,34 @@ use Rattle.aql_run.specs.Outcome.{RunsWords}
 use Rattle.aql_run.specs.Reading.{most_bytes}
 use Rattle.aql_run.specs.declared.report.Report.{Report}
 
--- The run blames a device only where a call on it failed, as its count says, which did not fall. And no failure is passed over: where the
--- device is quiet and its count is greater than before, the run ended so.
+-- What a device's count of failed calls says of the end of a run. The count does not fall. The run blames the device only where the count rose. No
+-- failure is passed over: if the device is quiet, so that calls which end well leave its count, and the count is greater, the run ended by it.
 pub record Accounts {T : Type 0} (d : Device T) (blamed answer : Type 0) : Type 0 where
   pub later : d.faults_before ≤ d.faults_after
   pub failed : blamed → Rose d.faults_before d.faults_after
   pub noticed : d.quiet → d.faults_before < d.faults_after → answer
 
--- What a run promises of what its devices told, and of the report that it answers, for any number of workers.
+-- What a run promises, for any number of workers.
 pub record Headline (words : List (List ℕ)) (d : Devices) (r : Report) : Type 0 where
   -- the number of this status is answered
   pub status : Status
   pub number : r.status ≡ code_of status
-  -- These bytes were taken from the source, and these given to the sink, by what the two tell. Where one tells nothing they are some bytes.
+  -- The bytes that were taken from the source, and those that were given to the sink. A device that tells its bytes tells these; of one that
+  -- tells nothing they are some bytes.
   pub taken : List ℕ
   pub written : List ℕ
   pub consumed : Consumes d.source.before d.source.after taken
   pub appended : Appends d.sink.before d.sink.after written
   pub few : length taken ≤ most_bytes + 1
-  -- The status has its cause, what was answered and written is what the cause says, and the files are as before where no declaration that
-  -- was begun reads one.
+  -- the cause of the status stands, and the answers and the written bytes are those that belong to it
   pub cause : RunsWords status words (told_by d) d.files.same taken r.answers.items.items r.stop written
-  -- Where the script is sound, all of it was read and no count of faults rose, every declaration was answered, or memory is wanting.
+  -- a sound script that was read whole is answered whole, or memory is wanting, where no count of failed calls rose
   pub complete : EndsWell status words (told_by d) (Rose d.sink.faults_before d.sink.faults_after) taken
   -- where the words have no reading nothing is touched, and with a sample the source is not
   pub usage : status ≡ statuses.Usage → d.source.same × d.sink.same
   pub sample : (n : ℕ) → (options_of words).sample ≡ Some n → d.source.same
-  -- The source's failure ends the run with `Input`, that of the files with `Files`, or the one of the sink at the line of these with
-  -- `Output`, as any of the sink.
+  -- A failure of the source ends the run with `Input`, one of the files with `Files`, and one of the sink with `Output`. Where the sink fails at
+  -- the line that tells of the first two, it is `Output` too.
   pub input : Accounts d.source (status ≡ statuses.Input) ((status ≡ statuses.Input) ⊎ (status ≡ statuses.Output))
   pub output : Accounts d.sink (status ≡ statuses.Output) (status ≡ statuses.Output)
   pub files : Accounts d.files (status ≡ statuses.Files) ((status ≡ statuses.Files) ⊎ (status ≡ statuses.Output))

@@ -53,14 +53,14 @@ IsCut front all = (rest : List ℕ) × (rest ≢ []) × (all ≡ front ++ rest)
 abbrev pub IsWhole : List ℕ → Option (List ℕ) → Type 0
 IsWhole taken left = (length taken ≤ most_bytes) × IsAtEnd left
 
--- the script: what the source gave up to its end, or where a sample is asked for its text, and then nothing was taken
+-- The script of a run. Without a sample it is all that the source gave, up to its end. With one it is the sample's text, and nothing was taken.
 abbrev pub IsScript : (sample : Option ℕ) → (left : Option (List ℕ)) → (taken script : List ℕ) → Type 0
 IsScript None left taken script = (script ≡ taken) × IsWhole taken left
 IsScript (Some n) left taken script = (taken ≡ []) × (script ≡ sample_text n)
 
--- The script was read, every position has its principal type and is within the limits, and the first declarations have these
--- answers, which print these lines. Where the files are told, the outcomes are the script's over them, as far as the answers go.
--- Where the declarations that were begun, so many, read no file, the files are as before, as `same` says.
+-- A run over a script that has no fault of its own: the script, its declarations with their principal types, all within the limits; the outcomes of
+-- the declarations that were answered, their answers, and the lines that these print. Over told files the outcomes are those that the script has
+-- over these files, one for each answer. If none of the declarations that were begun reads a file, `same` holds: the files are as before.
 pub record HasRun (settings : Settings) (told : Told) (same : Type 0) (begun : ℕ) (taken : List ℕ) (answers : List Answer) (lines : List ℕ) : Type 0 where
   pub script : List ℕ
   pub ds : List Declaration
@@ -87,17 +87,13 @@ stop_of (faults.Query start plan trace moved) = stops.Query start plan trace mov
 stop_of (faults.Cells cells) = stops.Cells cells
 stop_of (faults.File fault) = stops.File fault
 stop_of (faults.Csv fault) = stops.Csv fault
-stop_of faults.Device = stops.Other
-stop_of faults.Memory = stops.Other
+stop_of f = stops.Other
 
 -- the budget was passed
 abbrev pub IsBudgetFault : StepFault → Type 0
 IsBudgetFault (faults.Query start plan trace moved) = Unit {0}
 IsBudgetFault (faults.Cells cells) = Unit {0}
-IsBudgetFault (faults.File fault) = ⊥
-IsBudgetFault (faults.Csv fault) = ⊥
-IsBudgetFault faults.Device = ⊥
-IsBudgetFault faults.Memory = ⊥
+IsBudgetFault f = ⊥
 
 -- a file cannot be read as it is asked for
 abbrev pub IsFileFault : StepFault → Type 0
@@ -105,7 +101,7 @@ IsFileFault (faults.File fault) = Unit {0}
 IsFileFault (faults.Csv fault) = Unit {0}
 IsFileFault f = ⊥
 
--- the line of such a fault of declaration n
+-- the line that tells a fault of a file, in declaration n; of other faults there is none
 abbrev pub file_line : ℕ → StepFault → List ℕ
 file_line n (faults.File fault) = of_file n fault
 file_line n (faults.Csv fault) = of_table n fault
@@ -120,8 +116,8 @@ abbrev pub HasScriptFault : Settings → Told → (same : Type 0) → (taken : L
 HasScriptFault settings told same taken answers stop lines line fault P =
     (script : List ℕ) × IsScript settings.sample told.left taken script × P script × BeginsNone same answers stop lines line fault
 
--- The cause of a status stands, the report has these answers and this stop, and a run that ends with it writes these lines of its
--- answers and then this line of its fault. Three statuses have no such cause.
+-- What a run with a status has done: the cause of the status, the answers and the stop of the report, the lines of these answers, and behind them the
+-- line of the fault. Usage, Memory and Output have no line of their own, and come below.
 abbrev pub Writes : Status → Settings → Told → (same : Type 0) → (taken : List ℕ) → List Answer → Stop → (lines line : List ℕ) → Type 0
 Writes status.Done settings told same taken answers stop lines line =
     (run : HasRun settings told same (length answers) taken answers lines) × (length answers ≡ length run.ds) × (stop ≡ stops.Done) × (line ≡ [])
@@ -163,38 +159,30 @@ abbrev pub CutsFault : Settings → Told → (same : Type 0) → (taken : List �
 CutsFault settings told same taken answers written =
     (other : Status) × (kept : Stop) × (lines line front : List ℕ) × Writes other settings told same taken answers kept lines line × IsCut front line × (written ≡ lines ++ front)
 
--- the lines of all answers but the last, and a front of the last one's; so many declarations were begun
+-- an output that ends within the last answer's lines: it has all lines of the answers before, and a front of those of the last
 pub record CutsLast (settings : Settings) (told : Told) (same : Type 0) (begun : ℕ) (taken : List ℕ) (answers : List Answer) (written : List ℕ) : Type 0 where
   pub lines : List ℕ
   pub run : HasRun settings told same begun taken answers lines
   pub front : IsPrefix written lines
   pub whole : IsPrefix (entries settings.plan (take (length answers - 1) answers) (drop prelude_count run.outcomes)) written
 
--- What a run that ended with a status has written, where the words have a reading: the whole output; for want of memory a front
--- of the lines of the answers; for a fault of the sink that, or all lines of the answers and a front of the line of some fault.
+-- What a run with a status has written, where the words have a reading. Memory: nothing, or an output that ends within the last answer's lines.
+-- Output, where the sink failed: such an output with some of its lines lacking, or all lines of the answers and a front of the line of a fault. Any
+-- other status: the whole output.
 abbrev pub Serves : Status → Settings → Told → (same : Type 0) → (taken : List ℕ) → List Answer → Stop → (written : List ℕ) → Type 0
 Serves status.Memory settings told same taken answers stop written =
     (stop ≡ stops.Other) × (((answers ≡ []) × (written ≡ []) × same) ⊎ CutsLast settings told same (length answers + 1) taken answers written)
 Serves status.Output settings told same taken answers stop written =
     (stop ≡ stops.Other) × (((c : CutsLast settings told same (length answers) taken answers written) × (c.front.0 ≢ [])) ⊎ CutsFault settings told same taken answers written)
 Serves status.Usage settings told same taken answers stop written = ⊥
-Serves status.Done settings told same taken answers stop written = WritesAll status.Done settings told same taken answers stop written
-Serves status.Text settings told same taken answers stop written = WritesAll status.Text settings told same taken answers stop written
-Serves status.Syntax settings told same taken answers stop written = WritesAll status.Syntax settings told same taken answers stop written
-Serves status.Type settings told same taken answers stop written = WritesAll status.Type settings told same taken answers stop written
-Serves status.Deep settings told same taken answers stop written = WritesAll status.Deep settings told same taken answers stop written
-Serves status.Large settings told same taken answers stop written = WritesAll status.Large settings told same taken answers stop written
-Serves status.Long settings told same taken answers stop written = WritesAll status.Long settings told same taken answers stop written
-Serves status.File settings told same taken answers stop written = WritesAll status.File settings told same taken answers stop written
-Serves status.Input settings told same taken answers stop written = WritesAll status.Input settings told same taken answers stop written
-Serves status.Spent settings told same taken answers stop written = WritesAll status.Spent settings told same taken answers stop written
-Serves status.Files settings told same taken answers stop written = WritesAll status.Files settings told same taken answers stop written
+Serves s settings told same taken answers stop written = WritesAll s settings told same taken answers stop written
 
 -- nothing was answered, taken or written, and the files are as before
 abbrev pub DoesNothing : (same : Type 0) → (taken : List ℕ) → List Answer → Stop → (written : List ℕ) → Type 0
 DoesNothing same taken answers stop written = (taken ≡ []) × (answers ≡ []) × (stop ≡ stops.Other) × (written ≡ []) × same
 
--- What a run did by the words: where they have no reading, nothing.
+-- What a run does by the words of its command line. Words without a reading end it with Usage, and nothing is done. Want of memory may end it
+-- before anything is done. Else the words have a reading, and the run serves their settings.
 abbrev pub RunsWords : Status → (words : List (List ℕ)) → Told → (same : Type 0) → (taken : List ℕ) → List Answer → Stop → (written : List ℕ) → Type 0
 RunsWords status.Usage words told same taken answers stop written = (HasReading words → ⊥) × DoesNothing same taken answers stop written
 RunsWords status.Memory words told same taken answers stop written =

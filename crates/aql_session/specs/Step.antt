@@ -52,9 +52,7 @@ use Rattle.aql_session.specs.declared.answer.StepFault.TheVariants as faults
 abbrev pub NoMacroHasValue : Earlier → Type 0
 NoMacroHasValue [] = Unit {0}
 NoMacroHasValue ((mac f p body, o) ∷ earlier) = (o ≡ None) × NoMacroHasValue earlier
-NoMacroHasValue ((val x e, o) ∷ earlier) = NoMacroHasValue earlier
-NoMacroHasValue ((read x r e, o) ∷ earlier) = NoMacroHasValue earlier
-NoMacroHasValue ((bare e, o) ∷ earlier) = NoMacroHasValue earlier
+NoMacroHasValue ((d, o) ∷ earlier) = NoMacroHasValue earlier
 
 -- each value has every type of its position, and no macro has one
 abbrev pub OutcomesFit : Earlier → Type 0
@@ -81,10 +79,8 @@ query_turns d earlier = turns_in earlier (start_of d earlier)
 
 -- what a readval asks for, where its argument has a value
 abbrev pub asks : Declaration → Earlier → Option Asked
-asks (val x e) earlier = None
-asks (mac f p body) earlier = None
 asks (read x r e) earlier = den e (globals_of earlier) [] >>= asked_of r
-asks (bare e) earlier = None
+asks d earlier = None
 
 -- Of what code motion makes of a plan: None where it was not asked for, and then the plan stands for it.
 
@@ -103,7 +99,7 @@ abbrev pub moved_turns : Outcomes → Option (Box Moved) → Option ℕ
 moved_turns V None = None
 moved_turns V (Some m) = Some (settle V [] (term_of m.value.term))
 
--- with the word `--motion`, moves lead from the plan to the moved term, in which no move is left, and they are few; without it there is none
+-- What the word `--motion` asks for: a moved term, to which moves lead from the plan, and in which no move is left. Without the word there is none.
 abbrev pub IsMovedBy : (motion : Bool) → Outcomes → (plan : Term) → Option (Box Moved) → Type 0
 IsMovedBy true V plan (Some m) = IsMotion V plan m.value.moves (term_of m.value.term)
 IsMovedBy true V plan None = ⊥
@@ -191,28 +187,23 @@ pub record IsReadable (budget : ℕ) (holds : Option Content) (a : Asked) : Type
 -- argument and what reading took
 abbrev pub IsCounted : Declaration → Earlier → (budget : ℕ) → Option Content → (plan : Term) → (moved : Option (Box Moved)) → (outcome : Option Datum) →
     (took : Ran × ℕ) → Type 0
-IsCounted (val x e) earlier budget holds plan moved o took = choice_of (val x e) earlier budget plan moved ≡ Some took
 IsCounted (mac f p body) earlier budget holds plan moved o took = took ≡ (ran.Declared, 0)
 IsCounted (read x r e) earlier budget holds plan moved o took =
     (c : Ran × ℕ) × (n : ℕ) × (choice_of (read x r e) earlier budget plan moved ≡ Some c) × (took ≡ (ran.Read, c.1 + n))
     × IsCountOf budget holds (asks (read x r e) earlier) o n
-IsCounted (bare e) earlier budget holds plan moved o took = choice_of (bare e) earlier budget plan moved ≡ Some took
+IsCounted d earlier budget holds plan moved o took = choice_of d earlier budget plan moved ≡ Some took
 
 -- The answer.
 
 -- the trace leads from the start term to the plan, which is a normal form; of a macro both are Bottom
 abbrev pub HasPlan : Declaration → Earlier → (start : Term) → List code.Step → (plan : Term) → Type 0
-HasPlan (val x e) earlier start trace plan = IsPlan (outcomes_of earlier) start trace plan
 HasPlan (mac f p body) earlier start trace plan = (plan ≡ bottom_term) × (trace ≡ [])
-HasPlan (read x r e) earlier start trace plan = IsPlan (outcomes_of earlier) start trace plan
-HasPlan (bare e) earlier start trace plan = IsPlan (outcomes_of earlier) start trace plan
+HasPlan d earlier start trace plan = IsPlan (outcomes_of earlier) start trace plan
 
 -- with the word `--motion` there is a moved term of the plan, of a readval of that of its argument; without it, and of a macro, there is none
 abbrev pub HasMotion : Declaration → Earlier → (motion : Bool) → (plan : Term) → (moved : Option (Box Moved)) → Type 0
-HasMotion (val x e) earlier motion plan moved = IsMovedBy motion (outcomes_of earlier) plan moved
 HasMotion (mac f p body) earlier motion plan moved = moved ≡ None
-HasMotion (read x r e) earlier motion plan moved = IsMovedBy motion (outcomes_of earlier) plan moved
-HasMotion (bare e) earlier motion plan moved = IsMovedBy motion (outcomes_of earlier) plan moved
+HasMotion d earlier motion plan moved = IsMovedBy motion (outcomes_of earlier) plan moved
 
 -- with the word `--graph` there is the array-free form of a query's plan, with the query's encoded outcome; without it, of a macro and of a readval
 -- there is none
@@ -283,7 +274,7 @@ MayBeEvaluated d earlier motion budget =
 abbrev pub AsksFor : Declaration → Earlier → (motion : Bool) → (budget : ℕ) → (Asked → Type 0) → Type 0
 AsksFor d earlier motion budget P = MayBeEvaluated d earlier motion budget × (a : Asked) × (asks d earlier ≡ Some a) × P a
 
--- neither the device nor memory
+-- a fault that is the file's own: no failed call, and no want of memory
 abbrev pub IsOfFile : CdfFault → Type 0
 IsOfFile file_faults.Device = ⊥
 IsOfFile file_faults.Memory = ⊥
@@ -347,9 +338,10 @@ IsSpent d earlier motion budget start trace plan moved =
     × (budget < query_turns d earlier) × (budget < turns_in earlier plan)
     × IsMovedBy motion (outcomes_of earlier) plan moved × (budget < turns_in earlier (moved_term plan moved))
 
--- when each fault comes: Query where the turns of the start term, of a plan of it and of what is moved in that all pass the budget, Cells where
--- they do not, but the cells, or the bytes of a file of records, pass it, File and Csv only where these do not either, and then it is the first
--- fault that the files tell; Device only where the count of faults rose; want of memory is free
+-- What each fault of a declaration stands for. Query: the turns of the start term, of a plan of it and of its moved term all pass the budget. Each
+-- of the next four wants an argument that has a value and was evaluated within the budget. Cells: the cells that are asked for pass the budget, or
+-- the bytes of a file of records do. File and Csv: they do not, and this is the first fault that the files tell. Device: a call was made on the
+-- files, and the count of failed calls rose. Memory: nothing is said of it.
 abbrev pub IsCause : Declaration → Earlier → (motion : Bool) → (budget : ℕ) → Option Content → (before now : ℕ) → StepFault → Type 0
 IsCause d earlier motion budget holds before now (faults.Query start plan trace moved) =
     IsSpent d earlier motion budget (term_of start) trace (term_of plan) moved
@@ -366,8 +358,4 @@ ReadsNoFile d earlier budget = ForSome (asks d earlier) (CallsNoFile budget)
 -- the turns passed the budget
 abbrev pub IsOverTurns : StepFault → Type 0
 IsOverTurns (faults.Query start plan trace moved) = Unit {0}
-IsOverTurns (faults.Cells c) = ⊥
-IsOverTurns (faults.File f) = ⊥
-IsOverTurns (faults.Csv f) = ⊥
-IsOverTurns faults.Device = ⊥
-IsOverTurns faults.Memory = ⊥
+IsOverTurns f = ⊥
