@@ -1,5 +1,5 @@
 -- Places among tokens.
-use Rattle.std.specs.Prelude.{◌≤◌, ℕ}
+use Rattle.std.specs.Prelude.{◌≡◌, ◌≤◌, ℕ, length}
 use Rattle.std.specs.List.{All}
 use Rattle.aql_places.specs.declared.places.Part.{Part}
 use Rattle.aql_places.specs.declared.places.Places.{Places}
@@ -10,8 +10,10 @@ pub record IsPartOf (n : ℕ) (p : Part) : Type 0 where
   pub order : p.from ≤ p.to
   pub within : p.to ≤ n
 
--- all parts lie among n tokens, and the furthest token is one of them, or the end behind them
+-- there is a word for each of n tokens, all parts lie among them, and the furthest token is one of them, or the end
+-- behind them
 pub record ArePlaces (n : ℕ) (p : Places) : Type 0 where
+  pub words : length p.words.items ≡ n
   pub parts : All (IsPartOf n) p.parts.items
   pub furthest : p.furthest ≤ n
 

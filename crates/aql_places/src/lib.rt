@@ -17,3 +17,4 @@ mod word;
 
 pub use places::{Part, Places, locate};
 pub use symbol::Symbol;
+pub use word::Word;

@@ -1,9 +1,9 @@
 //! The places of a script.
 ghost use Rattle.std.specs.Prelude.{IfOk, OnOk, length};
-ghost use Rattle.aql_places.specs.Places.{ArePlaces};
+ghost use Rattle.aql_places.specs.Places.{ArePlaces, IsWithin};
 
 use crate::symbol::Symbol;
-use crate::walk::{run, start};
+use crate::walk::{Walk, run, start};
 use crate::word::{Word, words_of};
 use aql_syntax::token::Token;
 use aql_value::Memory;
@@ -18,13 +18,15 @@ pub struct Part {
     pub count: u64,
 }
 
-/// The parts of a script, each behind those that stand in it, in the order of the text.
+/// What the grammar finds in a script. `words` says what each token is, and `parts` has the expressions and the patterns in
+/// the order of the text, each behind those that stand in it.
 ///
 /// `furthest` is the last token that the reading looked at, or the number of tokens where it looked behind them all, and
 /// `reached` has each symbol that was looked for there. `whole` says whether the tokens were all read: where they were not,
 /// no script goes on with the furthest token.
 #[derive(Drop)]
 pub struct Places {
+    pub words: Vec<Word>,
     pub parts: Vec<Part>,
     pub furthest: u64,
     pub reached: Vec<Symbol>,
@@ -36,19 +38,21 @@ pub fn locate(alloc: Global, tokens: &[Token], source: &[u8]) -> Result<Places, 
     ensures { IfOk result (ArePlaces (length tokens.now)) }
 {
     let words = words_of(alloc, tokens, source)?;
-    places_in(alloc, &words)
-}
-
-// The places of the parts of a script of these words.
-fn places_in(alloc: Global, words: &[Word]) -> Result<Places, Memory>
-    ensures { IfOk result (ArePlaces (length words.now)) }
-{
-    let mut walk = start(alloc);
-    let whole = run(words, &mut walk)?;
+    let (walk, whole) = walked(alloc, &words)?;
     Ok(Places {
+        words,
         parts: walk.parts,
         furthest: walk.furthest,
         reached: walk.reached,
         whole,
     })
+}
+
+// The walk over the words of a script, and whether it has read them all.
+fn walked(alloc: Global, words: &[Word]) -> Result<(Walk, bool), Memory>
+    ensures { IfOk result (λ x. IsWithin (length words.now) x.0) }
+{
+    let mut walk = start(alloc);
+    let whole = run(words, &mut walk)?;
+    Ok((walk, whole))
 }

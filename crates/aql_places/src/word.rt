@@ -10,7 +10,7 @@ use std::alloc::Global;
 
 /// What a token is to the rules. A number and a string are constants.
 #[derive(Clone, Copy, Debug, PartialEq, Eq)]
-pub(crate) enum Word {
+pub enum Word {
     Name,
     Reader,
     Constant,
