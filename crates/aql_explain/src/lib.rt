@@ -16,8 +16,13 @@ mod drawing;
 mod place;
 mod row;
 mod sentence;
+mod slip;
 mod span;
+mod syntax;
+mod view;
+mod wanted;
 
+use aql_script::ScriptFault;
 use aql_value::Memory;
 pub use cause::Cause;
 pub use place::Place;
@@ -35,6 +40,12 @@ pub struct Picture {
 pub fn explain(alloc: Global, script: &[u8], cause: &Cause) -> Result<Option<Picture>, Memory>
     ensures { IfOk result (λ o. IfSome o (λ p. IsPlaceIn script.now p.place)) }
 {
+    if let Cause::Script {
+        fault: ScriptFault::Syntax { declaration },
+    } = cause
+    {
+        return syntax::syntax_picture(alloc, script, *declaration);
+    }
     match span::place_of(alloc, script, cause)? {
         None => Ok(None),
         Some(place) => {
