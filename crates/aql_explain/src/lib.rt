@@ -4,8 +4,8 @@
 //! `explain` is the one call: it is handed the script and the cause of the fault's line, and answers the picture, or none
 //! where there is nothing to show. Its clause says that the place lies in the script, and has its line and column.
 //!
-//! Read `specs/Place`, then `cause`, `place`, `span`, `drawing`, `row` and `sentence`. That the place is the fault's and
-//! that the sentence fits it stands in no clause.
+//! Read `specs/Place`, then `cause`, `place`, `span`, `drawing`, `row` and `sentence`; for a fault of syntax `syntax`, then
+//! `view`, `slip` and `wanted`. That the place is the fault's and that the sentence fits it stands in no clause.
 #![tactic(auto)]
 
 ghost use Rattle.std.specs.Prelude.{IfOk, IfSome};
