@@ -20,9 +20,7 @@ pub(crate) fn declaration(here: Option<Word>) -> &'static [Symbol] {
             S::Name,
             S::Mark(Sign::Equal),
             S::Mark(Sign::Fn),
-            S::Pattern,
-            S::Mark(Sign::FatArrow),
-            S::Expression,
+            S::Lambda,
         ],
         Some(Word::Mark(Sign::Readval)) => &[
             S::Next,

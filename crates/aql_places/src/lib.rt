@@ -11,10 +11,12 @@
 mod levels;
 mod places;
 mod rules;
+mod scope;
 mod symbol;
 mod walk;
 mod word;
 
 pub use places::{Part, Places, locate};
+pub use scope::Scope;
 pub use symbol::Symbol;
 pub use word::Word;

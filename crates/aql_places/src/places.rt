@@ -2,6 +2,7 @@
 ghost use Rattle.std.specs.Prelude.{IfOk, OnOk, length};
 ghost use Rattle.aql_places.specs.Places.{ArePlaces, IsWithin};
 
+use crate::scope::Scope;
 use crate::symbol::Symbol;
 use crate::walk::{Walk, run, start};
 use crate::word::{Word, words_of};
@@ -19,7 +20,8 @@ pub struct Part {
 }
 
 /// What the grammar finds in a script. `words` says what each token is, and `parts` has the expressions and the patterns in
-/// the order of the text, each behind those that stand in it.
+/// the order of the text, each behind those that stand in it. `scopes` has the patterns that bind names, in the order of the
+/// text.
 ///
 /// `furthest` is the last token that the reading looked at, or the number of tokens where it looked behind them all, and
 /// `reached` has each symbol that was looked for there. `whole` says whether the tokens were all read: where they were not,
@@ -28,6 +30,7 @@ pub struct Part {
 pub struct Places {
     pub words: Vec<Word>,
     pub parts: Vec<Part>,
+    pub scopes: Vec<Scope>,
     pub furthest: u64,
     pub reached: Vec<Symbol>,
     pub whole: bool,
@@ -42,6 +45,7 @@ pub fn locate(alloc: Global, tokens: &[Token], source: &[u8]) -> Result<Places, 
     Ok(Places {
         words,
         parts: walk.parts,
+        scopes: walk.scopes,
         furthest: walk.furthest,
         reached: walk.reached,
         whole,

@@ -17,6 +17,14 @@ pub enum Symbol {
     End,
     /// What is read so far begins a generator or a match, and no test.
     Settled,
+    /// The names of the pattern that was read are bound.
+    Binds,
+    /// The names of the last pattern are seen from here on.
+    Seen,
+    /// No name that was bound since the part began is seen from here on.
+    Unseen,
+    /// The same, and the names are seen in what stands before the bar.
+    UnseenRow,
     Script,
     Declaration,
     Expression,
@@ -41,6 +49,8 @@ pub enum Symbol {
     Named,
     /// `fn`, a pattern, `=>`, an expression, `)`, `!` and the argument.
     Function,
+    /// A pattern, `=>` and an expression.
+    Lambda,
     /// Behind `(`.
     Enclosed,
     /// Behind the first expression in parentheses.
@@ -51,6 +61,8 @@ pub enum Symbol {
     Members,
     /// Behind the first expression in double brackets.
     Bracketed,
+    /// The bounds of a tabulation.
+    Bounds,
     Cells,
     Bindings,
     Subscripts,
@@ -63,6 +75,8 @@ pub enum Symbol {
     OneMoreBound,
     /// The end of a list that has eight items at most.
     Enough,
+    /// The qualifiers of a comprehension.
+    Row,
     Qualifier,
     Qualifiers,
     /// `<-` or `==`.

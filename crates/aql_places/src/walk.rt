@@ -4,16 +4,19 @@ ghost use Rattle.aql_places.specs.Places.{IsWithin, Keeps};
 
 use crate::places::Part;
 use crate::rules::rule;
+use crate::scope::{Scope, begin_scope, end_scopes};
 use crate::symbol::Symbol;
 use crate::word::Word;
 use aql_value::Memory;
 use std::alloc::Global;
 
-/// A symbol that is still to come, the first token of the part that it belongs to, and how many parts stand before that.
+/// A symbol that is still to come; the first token of the part that it belongs to and that of the part around it, and how
+/// many parts stand before them.
 #[derive(Clone, Copy)]
 pub(crate) struct Entry {
     symbol: Symbol,
     first: u64,
+    outer: u64,
     before: u64,
 }
 
@@ -33,6 +36,7 @@ pub(crate) struct Walk {
     pub furthest: u64,
     pub reached: Vec<Symbol>,
     pub parts: Vec<Part>,
+    pub scopes: Vec<Scope>,
     stack: Vec<Entry>,
     attempt: Option<Attempt>,
 }
@@ -49,6 +53,7 @@ pub(crate) fn start(alloc: Global) -> Walk
         furthest: 0,
         reached: Vec::new(alloc),
         parts: Vec::new(alloc),
+        scopes: Vec::new(alloc),
         stack: Vec::new(alloc),
         attempt: None,
     }
@@ -62,6 +67,7 @@ pub(crate) fn run(words: &[Word], walk: &mut Walk) -> Result<bool, Memory>
     walk.stack.push(Entry {
         symbol: Symbol::Script,
         first: 0,
+        outer: 0,
         before: 0,
     })?;
     let turns = (words.len() as u64).saturating_add(1).saturating_mul(TURNS);
@@ -103,6 +109,10 @@ fn step(words: &[Word], walk: &mut Walk, entry: Entry) -> Result<bool, Memory>
         }
         Symbol::Settled => {
             walk.attempt = None;
+            return Ok(true);
+        }
+        Symbol::Binds | Symbol::Seen | Symbol::Unseen | Symbol::UnseenRow => {
+            bind(walk, entry)?;
             return Ok(true);
         }
         Symbol::Next => return Ok(go_on(words, walk, true)),
@@ -166,6 +176,22 @@ fn finish(walk: &mut Walk, entry: Entry) -> Result<(), Memory>
     Ok(())
 }
 
+// Notes from where to where names are seen, at the word that the walk has come to.
+fn bind(walk: &mut Walk, entry: Entry) -> Result<(), Memory>
+    ensures { OnOk result (Keeps walk.old walk.new) }
+{
+    let at = walk.at;
+    match entry.symbol {
+        Symbol::Binds => {
+            walk.scopes.push(Scope::new(entry.first, at))?;
+        }
+        Symbol::Seen => begin_scope(&mut walk.scopes, at),
+        Symbol::UnseenRow => end_scopes(&mut walk.scopes, entry.first, at, entry.outer),
+        _ => end_scopes(&mut walk.scopes, entry.first, at, entry.first),
+    }
+    Ok(())
+}
+
 // Puts the symbols that stand for that of an entry in its place, and says whether there are any.
 fn expand(words: &[Word], walk: &mut Walk, entry: Entry) -> Result<bool, Memory>
     requires { IsWithin (length words.now) walk.old }
@@ -181,24 +207,30 @@ fn expand(words: &[Word], walk: &mut Walk, entry: Entry) -> Result<bool, Memory>
                     parts: walk.parts.len() as u64,
                 });
             }
-            let (first, before) = if begins_part(entry.symbol) {
-                (walk.at, walk.parts.len() as u64)
+            let inner = if begins_part(entry.symbol) {
+                Entry {
+                    symbol: entry.symbol,
+                    first: walk.at,
+                    outer: entry.first,
+                    before: walk.parts.len() as u64,
+                }
             } else {
-                (entry.first, entry.before)
+                entry
             };
-            put(&mut walk.stack, symbols, first, before)?;
+            put(&mut walk.stack, symbols, inner)?;
             Ok(true)
         }
     }
 }
 
 // Puts symbols of one part on the stack, the first on top.
-fn put(stack: &mut Vec<Entry>, symbols: &[Symbol], first: u64, before: u64) -> Result<(), Memory> {
+fn put(stack: &mut Vec<Entry>, symbols: &[Symbol], part: Entry) -> Result<(), Memory> {
     for symbol in symbols.iter().rev() {
         stack.push(Entry {
             symbol: *symbol,
-            first,
-            before,
+            first: part.first,
+            outer: part.outer,
+            before: part.before,
         })?;
     }
     Ok(())
@@ -211,6 +243,8 @@ fn begins_part(symbol: Symbol) -> bool {
         Symbol::Union | Symbol::Sum | Symbol::Product | Symbol::Application | Symbol::Pattern => {
             true
         }
+        Symbol::Lambda | Symbol::Row | Symbol::Bounds | Symbol::Bound => true,
+        Symbol::Qualifier | Symbol::Bindings => true,
         _ => false,
     }
 }
@@ -229,6 +263,7 @@ fn go_back(walk: &mut Walk) -> Result<bool, Memory>
             walk.stack.push(Entry {
                 symbol: Symbol::Expression,
                 first: walk.at,
+                outer: walk.at,
                 before: attempt.parts,
             })?;
             Ok(true)
