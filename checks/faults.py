@@ -16,7 +16,7 @@ SCRIPTS = [b"foo;", b"1+;", b'"a', b"(" * 5000, b"1;" * 10000 + b"foo;", b" " * 
            bytes(range(256)) * 100, b"1;\n" * 3000 + b"foo\n;", b'1; readval \\V using NETCDF1 at ("none.nc", "v", 0, 1);']
 PICTURES = [
     (b"1;\n  2 + {3}; 4;\n", b"2:3:   2 + {3}; 4;\n       ^^^^^^^^\naql: the declaration that begins here has no type\n"),
-    (b"[[1; 2]];\nval\t\\x 3;", b"2:1: val\t\\x 3;\n     ^^^\t^^^^^\naql: the declaration that begins here has no reading by the grammar\n"),
+    (b"[[1; 2]];\nval\t\\x 3;", b"2:8: val\t\\x 3;\n        \t   ^\naql: `=` is wanted here, and the number `3` stands here\n"),
     ("\"é\" ≤ 1;".encode(), "1:6: \"é\" ≤ 1;\n         ^\naql: no sign, word, number or string begins here\n".encode()),
     (b"1; (* \x1b[31m \x9b", b"1:4: 1; (* ?[31m ?\n        ^^\naql: this comment is not closed: it goes to the next `*)`, and comments do not nest\n"),
 ]

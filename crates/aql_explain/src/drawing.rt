@@ -22,6 +22,14 @@ pub(crate) fn picture_text(
     place: &Place,
     cause: &Cause,
 ) -> Result<Vec<u8>, Memory> {
+    let mut text = lines(alloc, script, place)?;
+    push_sentence(script, place, cause, &mut text)?;
+    text.extend_from_slice(b"\n")?;
+    Ok(text)
+}
+
+/// The lines of a picture up to the sentence: the line and the column, the line's text and the mark under it.
+pub(crate) fn lines(alloc: Global, script: &[u8], place: &Place) -> Result<Vec<u8>, Memory> {
     let mut row = Row {
         text: Vec::new(alloc),
         under: Vec::new(alloc),
@@ -31,8 +39,6 @@ pub(crate) fn picture_text(
     row.text.extend_from_slice(b"\n")?;
     row.text.extend_from_slice(&row.under)?;
     row.text.extend_from_slice(b"\naql: ")?;
-    push_sentence(script, place, cause, &mut row.text)?;
-    row.text.extend_from_slice(b"\n")?;
     Ok(row.text)
 }
 

@@ -4,8 +4,8 @@
 //! `explain` is the one call: it is handed the script and the cause of the fault's line, and answers the picture, or none
 //! where there is nothing to show. Its clause says that the place lies in the script, and has its line and column.
 //!
-//! Read `specs/Place`, then `cause`, `place`, `span`, `drawing`, `row` and `sentence`. That the place is the fault's and
-//! that the sentence fits it stands in no clause.
+//! Read `specs/Place`, then `cause`, `place`, `span`, `drawing`, `row` and `sentence`; for a fault of syntax `syntax`, then
+//! `view`, `slip` and `wanted`. That the place is the fault's and that the sentence fits it stands in no clause.
 #![tactic(auto)]
 
 ghost use Rattle.std.specs.Prelude.{IfOk, IfSome};
@@ -16,8 +16,13 @@ mod drawing;
 mod place;
 mod row;
 mod sentence;
+mod slip;
 mod span;
+mod syntax;
+mod view;
+mod wanted;
 
+use aql_script::ScriptFault;
 use aql_value::Memory;
 pub use cause::Cause;
 pub use place::Place;
@@ -35,6 +40,12 @@ pub struct Picture {
 pub fn explain(alloc: Global, script: &[u8], cause: &Cause) -> Result<Option<Picture>, Memory>
     ensures { IfOk result (λ o. IfSome o (λ p. IsPlaceIn script.now p.place)) }
 {
+    if let Cause::Script {
+        fault: ScriptFault::Syntax { declaration },
+    } = cause
+    {
+        return syntax::syntax_picture(alloc, script, *declaration);
+    }
     match span::place_of(alloc, script, cause)? {
         None => Ok(None),
         Some(place) => {

@@ -41,9 +41,7 @@ fn script_words(script: &[u8], place: &Place, fault: ScriptFault) -> &'static [u
         ScriptFault::Deep { at: _ } => {
             b"the 401st step into brackets and behind operators: name parts of this expression by `val`"
         }
-        ScriptFault::Syntax { declaration: _ } => {
-            b"the declaration that begins here has no reading by the grammar"
-        }
+        ScriptFault::Syntax { declaration: _ } => b"",
         ScriptFault::Type { declaration: _ } => b"the declaration that begins here has no type",
         ScriptFault::Large { declaration: _ } => {
             b"with its macros put in place it has more than 20000 nodes or 1000 levels: name parts of it by `val`"
@@ -186,7 +184,8 @@ fn push_field(row: u64, field: u64, text: &mut Vec<u8>) -> Result<(), Memory> {
     push_between(b"", u128::from(row), b" of the file is no number", text)
 }
 
-fn push_words(words: &[u8], text: &mut Vec<u8>) -> Result<(), Memory>
+/// Words as they are.
+pub(crate) fn push_words(words: &[u8], text: &mut Vec<u8>) -> Result<(), Memory>
     ensures { OnOk result (text.new.items ≡ text.old.items ++ words.now) }
 {
     text.extend_from_slice(words)?;

@@ -29,7 +29,7 @@ pub(crate) fn place_of(alloc: Global, script: &[u8], cause: &Cause) -> Result<Op
         Cause::Script { fault } => match *fault {
             ScriptFault::Text { at } => Ok(place_at(script, at, text_end(script, at))),
             ScriptFault::Deep { at } => Ok(place_at(script, at, at.saturating_add(1))),
-            ScriptFault::Syntax { declaration } => declaration_place(alloc, script, declaration),
+            ScriptFault::Syntax { declaration: _ } => Ok(None),
             ScriptFault::Type { declaration } => declaration_place(alloc, script, declaration),
             ScriptFault::Large { declaration } => declaration_place(alloc, script, declaration),
             ScriptFault::Memory => Ok(None),
@@ -77,6 +77,25 @@ fn first_line(script: &[u8], found: &[Token], n: u64) -> Option<Place>
     }
     let end = line_end(script, from);
     place_at(script, from, reached.to.min(end))
+}
+
+/// The tokens from declaration n on.
+pub(crate) fn from_declaration<'a>(script: &[u8], found: &'a [Token], n: u64) -> &'a [Token] {
+    let mut reached = Reached {
+        declaration: 1,
+        open: 0,
+        from: None,
+        to: 0,
+    };
+    let mut rest = found;
+    while let Some((token, behind)) = rest.split_first() {
+        if reached.declaration >= n {
+            return rest;
+        }
+        reached = step(reached, script, token, n);
+        rest = behind;
+    }
+    rest
 }
 
 // Goes over the tokens of a script.

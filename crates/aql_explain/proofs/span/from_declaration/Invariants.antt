@@ -1,0 +1,8 @@
+use Rattle.std.proofs.Common.{length}
+use Rattle.aql_explain.proofs.span.from_declaration.Given as goal
+
+abbrev pub invariant-loop-token : goal.invariant-loop-token
+invariant-loop-token l = Unit {0}
+
+abbrev pub decreases-loop-token : goal.decreases-loop-token
+decreases-loop-token l = length l.rest
