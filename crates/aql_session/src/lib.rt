@@ -17,6 +17,7 @@
 mod answer;
 mod executions;
 mod graphs;
+mod packing;
 mod queries;
 mod readings;
 mod session;

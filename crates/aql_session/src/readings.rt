@@ -17,6 +17,7 @@ ghost use Rattle.aql_session.specs.Executions.{slab_asked, table_asked, request_
 ghost use Rattle.aql_session.specs.Step.{CallsNoFile};
 
 use crate::answer::StepFault;
+use crate::packing::packed;
 use aql_csv::{Csv, CsvFault, read_csv};
 use aql_outside::Files;
 use aql_syntax::ast::{CsvReader, Reader};
@@ -161,7 +162,7 @@ fn read_table<F: Files>(
 {
     match read_csv(alloc, files, file, reader, budget) {
         Ok(Csv { value, bytes }) => {
-            let value = Held::Value(value);
+            let value = packed(alloc, value)?;
             valid_held(&value);
             Ok(Read {
                 value: Some(value),

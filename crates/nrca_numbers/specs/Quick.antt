@@ -2,10 +2,12 @@
 use Rattle.std.specs.Prelude.{◌≡◌, ℕ, Bool, List, length, nat_eq, Option, Some, None, if◌then◌else◌}
 use Rattle.aql_value.specs.Datum.{Datum, natural, truth}
 use Rattle.aql_value.specs.Operations.{nth}
+use Rattle.aql_value.specs.declared.ops.CompareOp.{CompareOp}
 use Rattle.aql_value.specs.Partial.{each, total}
 use Rattle.nrca_term.specs.declared.term.Core.{Core}
 use Rattle.nrca_term.specs.declared.term.Terms.{Terms}
 use Rattle.nrca_term.specs.Meaning.{Outcomes, cden}
+use Rattle.nrca_term.specs.Nodes.{compare_term}
 use Rattle.nrca_term.specs.Turns.{settle}
 use Rattle.nrca_term.specs.View.{term_of, terms_of}
 use Rattle.nrca_loops.specs.declared.env.Env.{Env}
@@ -19,6 +21,14 @@ IsNumber V env t n = cden V (values env) (term_of t) ≡ Some (natural n)
 -- the term is worth the truth value
 abbrev pub IsTruth : Outcomes → Env → Core → Bool → Type 0
 IsTruth V env t b = cden V (values env) (term_of t) ≡ Some (truth b)
+
+-- whether the comparison holds of the terms' values
+abbrev pub IsComparison : Outcomes → Env → CompareOp → Core → Core → Bool → Type 0
+IsComparison V env op t u b = cden V (values env) (compare_term op (term_of t) (term_of u)) ≡ Some (truth b)
+
+-- the comparison of the terms takes no turns
+abbrev pub ComparesFree : Outcomes → Env → CompareOp → Core → Core → Type 0
+ComparesFree V env op t u = settle V (values env) (compare_term op (term_of t) (term_of u)) ≡ 0
 
 -- the cell of the array at the index that the terms are worth is the number
 abbrev pub IsCell : Outcomes → Env → Datum → Terms → ℕ → Type 0

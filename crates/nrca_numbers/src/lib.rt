@@ -12,6 +12,7 @@ mod added;
 mod blocks;
 mod choices;
 mod columns;
+mod comparing;
 mod lanes;
 mod lending;
 mod naturals;

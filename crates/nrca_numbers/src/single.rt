@@ -5,6 +5,7 @@ ghost use Rattle.nrca_loops.specs.Evaluates.{TakesNone};
 ghost use Rattle.nrca_numbers.specs.Lending.{lent_datum};
 ghost use Rattle.nrca_numbers.specs.Quick.{IsNumber, IsTruth, IsCell, TakeNone};
 
+use crate::comparing::lent_compare;
 use crate::lending::{Lent, lent_part, lent_value};
 use crate::naturals::{
     held_number, lent_cell, lent_dim, number_compare, value_number, variable_number,
@@ -76,15 +77,13 @@ pub(crate) fn quick_truth(term: &Core, globals: &Globals, env: &Env) -> Option<b
 {
     match term {
         Core::Bool(b) => Some(*b),
-        Core::Compare(op, first, second) => {
-            let Some(a) = quick(first, globals, env) else {
-                return None;
-            };
-            let Some(b) = quick(second, globals, env) else {
-                return None;
-            };
-            Some(number_compare(*op, a, b))
-        }
+        Core::Compare(op, first, second) => match quick(first, globals, env) {
+            Some(a) => match quick(second, globals, env) {
+                Some(b) => Some(number_compare(*op, a, b)),
+                None => None,
+            },
+            None => lent_compare(*op, first, second, globals, env),
+        },
         Core::If(test, yes, no) => match quick_truth(test, globals, env) {
             Some(true) => quick_truth(yes, globals, env),
             Some(false) => quick_truth(no, globals, env),
@@ -155,6 +154,7 @@ pub fn quick_test(test: &Core, globals: &Globals, env: &Env) -> Option<bool>
 fn is_plain(term: &Core) -> bool {
     match term {
         Core::Nat(_) => true,
+        Core::Text(_) => true,
         Core::Var(_) => true,
         Core::Global(_) => true,
         Core::Arith(_, first, second) => is_plain(first) && is_plain(second),

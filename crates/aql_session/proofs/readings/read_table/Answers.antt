@@ -1,15 +1,16 @@
 use Rattle.std.proofs.Common.{refl, sym, ap, subst}
-use Rattle.std.specs.Prelude.{Err}
+use Rattle.std.specs.Prelude.{Err, Some}
+use Rattle.aql_value.specs.Valid.{IsValue}
 use Rattle.aql_csv.specs.File.{found_of}
 use Rattle.aql_session.specs.Executions.{IsReadCause, table_asked}
 use Rattle.aql_session.proofs.Tables.{table-of, table-cause}
 use Rattle.aql_session.proofs.readings.read_table.Goals as goal
 
-pub returns-in-Ok-clause-read : goal.returns-in-Ok-clause-read
-returns-in-Ok-clause-read g c =
+pub returns-in_ok-value-in-Ok-clause-read : goal.returns-in_ok-value-in-Ok-clause-read
+returns-in_ok-value-in-Ok-clause-read g c =
     let r = c.args.reader.now in
-    table-of c.args.file.now r.header r.kinds.items.items c.args.budget (g.F.Files.holds c.args.files.now) _ (found_of c.in-Ok.field-0) refl c.from.ensures
-    (λ n. (let z = c.in-Ok.ensures.unnamed n in cc)) c.in-Ok.ensures.given c.in-Ok.ensures.told c.in-Ok.ensures.typed c.valid_held.ensures
+    table-of c.args.file.now r.header r.kinds.items.items c.args.budget (g.F.Files.holds c.args.files.now) _ (found_of c.in-Ok.field-0) (ap Some c.in_ok-value-in-Ok.ensures) c.from.ensures
+    (λ n. (let z = c.in-Ok.ensures.unnamed n in cc)) c.in-Ok.ensures.given c.in-Ok.ensures.told c.in-Ok.ensures.typed (subst IsValue c.in_ok-value-in-Ok.ensures c.valid_held.ensures)
 
 pub returns-in-Err-clause-cause : goal.returns-in-Err-clause-cause
 returns-in-Err-clause-cause g c =
