@@ -11,7 +11,7 @@ import sys
 from headline import ROOT, call, lines_of, module, reach, rust_type, view
 
 # the most definitions and lines, of all pages and without the annexes
-MOST = {"all": (930, 3801), "first": (600, 2560)}
+MOST = {"all": (930, 3776), "first": (598, 2529)}
 
 # the pages in a reader's order: the file, its title, what to know before it, its modules in order
 PAGES = [
