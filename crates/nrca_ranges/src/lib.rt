@@ -11,12 +11,14 @@
 
 mod certain;
 mod context;
+mod entering;
 mod finding;
 mod interval;
 mod operations;
 mod positions;
 mod shape;
 mod transfer;
+mod variables;
 mod walk;
 
 pub use context::{Ctx, Fact, Known, Mark};
