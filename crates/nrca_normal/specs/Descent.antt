@@ -9,7 +9,7 @@ use Rattle.nrca_term.specs.Places.{put_at}
 use Rattle.nrca_term.specs.Facts.{enter_facts, no_facts}
 use Rattle.nrca_term.specs.Measure.{left_of}
 use Rattle.nrca_ranges.specs.declared.context.Mark.{Mark}
-use Rattle.nrca_ranges.specs.Bounds.{Bounds, Ranges, at_root}
+use Rattle.nrca_ranges.specs.Bounds.{Bounds, at_root}
 use Rattle.nrca_ranges.specs.Context.{context_of, at_mark, ranges_at_mark}
 use Rattle.nrca_ranges.specs.Shapes.{ranges_of}
 use Rattle.nrca_ranges.specs.Transfer.{enter_ranges}

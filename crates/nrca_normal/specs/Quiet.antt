@@ -1,5 +1,5 @@
 -- Where no rule may be applied.
-use Rattle.std.proofs.Common.{ℕ, List, Option}
+use Rattle.std.proofs.Common.{ℕ}
 use Rattle.nrca_term.specs.Term.{Term}
 use Rattle.nrca_term.specs.Facts.{Context}
 use Rattle.nrca_rule_laws.specs.Search.{AllPlaces, FirstParts}

@@ -1,5 +1,5 @@
 -- Rewritings of a term in a context, one after another.
-use Rattle.std.proofs.Common.{◌≡◌, ℕ, List, [], ◌∷◌, ◌++◌, Option, Some}
+use Rattle.std.proofs.Common.{◌≡◌, ℕ, List, [], ◌∷◌, ◌++◌, Some}
 use Rattle.nrca_term.specs.declared.trace.Step.{Step}
 use Rattle.nrca_term.specs.Term.{Term}
 use Rattle.nrca_term.specs.Places.{place_of, put_at}

@@ -1,5 +1,5 @@
 -- Where no rule may be applied: in the parts so far, and in all places of a node.
-use Rattle.std.proofs.Common.{◌≡◌, ℕ, suc, ◌+◌, ◌≤◌, List, [], ◌∷◌, Option, Some, sym, subst, arith}
+use Rattle.std.proofs.Common.{◌≡◌, ℕ, suc, ◌+◌, ◌≤◌, [], ◌∷◌, Some, sym, subst, arith}
 use Rattle.nrca_term.specs.Term.{Term, child_of, parts_of, count}
 use Rattle.nrca_term.specs.Places.{put_at}
 use Rattle.nrca_term.specs.Facts.{Context, enter_facts}

@@ -1,5 +1,5 @@
 -- Rewritings after one another; those of a part are rewritings of its node.
-use Rattle.std.proofs.Common.{◌≡◌, ℕ, zero, suc, List, [], ◌∷◌, ◌++◌, map, Option, Some, refl, sym, ap, subst, ◌∙◌, arith}
+use Rattle.std.proofs.Common.{◌≡◌, ℕ, zero, suc, List, [], ◌∷◌, ◌++◌, map, Some, refl, sym, ap, subst, ◌∙◌, arith}
 use Rattle.aql_value.specs.Partial.{◌>>=◌}
 use Rattle.nrca_term.specs.declared.trace.Step.{Step}
 use Rattle.nrca_term.specs.Term.{Term, Parts, node, none, part, parts_of, child_of, set_child, with_part}

@@ -1,5 +1,5 @@
 -- What is known of positions is the same at all places of a term (`positions-at`).
-use Rattle.std.proofs.Common.{◌≡◌, ℕ, List, [], ◌∷◌, Option, Some, None, refl, ◌∙◌}
+use Rattle.std.proofs.Common.{◌≡◌, ℕ, List, [], ◌∷◌, Option, Some, None, refl}
 use Rattle.nrca_term.specs.Term.{Term, parts_of, child_of}
 use Rattle.nrca_term.specs.Facts.{Context, enter_facts, context_below}
 use Rattle.nrca_ranges.specs.Bounds.{Ranges}

@@ -1,4 +1,4 @@
-use Rattle.std.proofs.Common.{ap, refl, subst}
+use Rattle.std.proofs.Common.{refl, subst}
 use Rattle.nrca_term.specs.View.{term_of}
 use Rattle.nrca_ranges.specs.Context.{context_of}
 use Rattle.nrca_motion.specs.Found.{TellsSite, QuietEverywhere}

@@ -1,4 +1,4 @@
-use Rattle.std.proofs.Common.{ap, [], ◌∷◌, refl, sym}
+use Rattle.std.proofs.Common.{[], ◌∷◌, refl, sym}
 use Rattle.nrca_term.specs.Term.{parts_of}
 use Rattle.nrca_term.specs.View.{term_of}
 use Rattle.nrca_term.specs.Laws.Entering.{child-counted}

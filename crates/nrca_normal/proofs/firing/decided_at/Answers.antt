@@ -1,4 +1,4 @@
-use Rattle.std.proofs.Common.{ap, subst, [], ◌∷◌}
+use Rattle.std.proofs.Common.{subst, [], ◌∷◌}
 use Rattle.nrca_term.specs.View.{term_of}
 use Rattle.nrca_ranges.specs.Context.{context_of}
 use Rattle.nrca_checks.specs.Deciding.{DecidesTruth, DecidesApart}
