@@ -16,7 +16,7 @@ pub certain-of : (x : Told) → (summary_of x).certain ≡ x.certain
 unfolding summary_of
 certain-of x = refl
 
-shape-of : (x : Told) → (summary_of x).shape ≡ bounds_of x.shape
+pub shape-of : (x : Told) → (summary_of x).shape ≡ bounds_of x.shape
 unfolding summary_of
 shape-of x = refl
 

@@ -1,5 +1,5 @@
 -- What is known of values, as data: what contracts see of a `Shape`, and which values it is known of.
-use Rattle.std.proofs.Common.{◌≡◌, ℕ, ◌-◌, ◌<◌, ◌≤◌, ◌^◌, List, [], ◌∷◌, length}
+use Rattle.std.proofs.Common.{◌≡◌, ℕ, ◌-◌, ◌<◌, ◌≤◌, ◌^◌, List, [], ◌∷◌, length, reverse, ◌++◌, Option}
 use Rattle.aql_value.specs.Canon.{canon}
 use Rattle.aql_value.specs.Datum.{Datum, Data, natural, tuple, set, array, list_of}
 use Rattle.aql_value.specs.Lists.{Every}
@@ -59,3 +59,20 @@ abbrev mutual
   HaveShapes end (v ∷ vs) = ⊥
   HaveShapes (entry b bs) [] = ⊥
   HaveShapes (entry b bs) (v ∷ vs) = HasShape b v × HaveShapes bs vs
+
+-- what is known of the values of a place: of those of the positions that have one, and of the variables, the outermost first
+pub record Ranges : Type 0 where
+  pub positions : List (Option Bounds)
+  pub variables : List Bounds
+
+-- at the root of a closed term there is no variable
+abbrev pub at_root : List (Option Bounds) → Ranges
+at_root gs = record { positions = gs; variables = [] }
+
+-- with further variables inside of the others
+abbrev pub with_own : Ranges → List Bounds → Ranges
+with_own gs own = record { positions = gs.positions; variables = gs.variables ++ own }
+
+-- values of the variables, the innermost first, each of the shape of its variable
+abbrev pub VariablesFit : Ranges → List Datum → Type 0
+VariablesFit gs vals = HaveShapes (row_of (reverse gs.variables)) vals

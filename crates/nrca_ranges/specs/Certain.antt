@@ -1,15 +1,15 @@
 -- Terms that are certain to have a value: the firm ones, and those of which the shapes of the parts tell it.
-use Rattle.std.proofs.Common.{ℕ, suc, ◌-◌, Bool, true, false, ◌&&◌, ◌||◌, nat_eq, List, [], ◌∷◌, length, Option, if◌then◌else◌}
+use Rattle.std.proofs.Common.{ℕ, suc, ◌-◌, Bool, true, false, ◌&&◌, ◌||◌, nat_eq, List, [], ◌∷◌, length, if◌then◌else◌}
 use Rattle.aql_value.specs.Indices.{product}
 use Rattle.aql_value.specs.Strict.{Strict}
 use Rattle.nrca_term.specs.Term.{Term, Parts, node, none, part, Form}
 use Rattle.nrca_term.specs.Facts.{Context, enter_facts}
 use Rattle.nrca_term.specs.Firm.{wants_all, firm}
 use Rattle.nrca_ranges.specs.declared.interval.Interval.{Interval}
-use Rattle.nrca_ranges.specs.Bounds.{Bounds, unknown, number, row, members, grid}
+use Rattle.nrca_ranges.specs.Bounds.{Bounds, unknown, number, row, members, grid, Ranges}
 use Rattle.nrca_ranges.specs.Entered.{is_shaped}
 use Rattle.nrca_ranges.specs.Intervals.{is_end, always_fits, is_below, is_one, all_single, lows, loop_sum}
-use Rattle.nrca_ranges.specs.Transfer.{interval_of, count_of, entry_at, first_intervals, all_bounds}
+use Rattle.nrca_ranges.specs.Transfer.{interval_of, count_of, entry_at, first_intervals, parts_bounds, enter_ranges}
 
 -- whether there are as many numbers as dimensions, each below its own
 abbrev pub all_below : List Interval → List Bounds → Bool
@@ -68,18 +68,18 @@ form_certain D (Form.tab rank) bs = true
 form_certain D (Form.strict s) bs = strict_certain s bs
 
 abbrev mutual
-  -- a term that is certain to have a value at a place with these facts, the positions' values having these shapes
-  pub certain : List (Option Bounds) → Context → Term → Bool
+  -- a term that is certain to have a value at a place with these facts, where so much is known of the values of positions and variables
+  pub certain : Ranges → Context → Term → Bool
   certain gs c (node f ps) =
-      firm (is_shaped gs) c (node f ps)
-      || (form_certain (is_shaped gs) f (all_bounds gs c (node f ps) 0 ps) && (if wants_all f then all_certain gs c (node f ps) 0 ps else some_certain gs c (node f ps) 0 ps))
+      firm (is_shaped gs.positions) c (node f ps)
+      || (form_certain (is_shaped gs.positions) f (parts_bounds gs c (node f ps)) && (if wants_all f then all_certain gs c (node f ps) 0 ps else some_certain gs c (node f ps) 0 ps))
 
   -- all of the parts from part i of a term on
-  pub all_certain : List (Option Bounds) → Context → Term → ℕ → Parts → Bool
+  pub all_certain : Ranges → Context → Term → ℕ → Parts → Bool
   all_certain gs c t i none = true
-  all_certain gs c t i (part k u ps) = certain gs (enter_facts c t i) u && all_certain gs c t (suc i) ps
+  all_certain gs c t i (part k u ps) = certain (enter_ranges gs c t i) (enter_facts c t i) u && all_certain gs c t (suc i) ps
 
   -- one of the parts from part i of a term on
-  pub some_certain : List (Option Bounds) → Context → Term → ℕ → Parts → Bool
+  pub some_certain : Ranges → Context → Term → ℕ → Parts → Bool
   some_certain gs c t i none = false
-  some_certain gs c t i (part k u ps) = certain gs (enter_facts c t i) u || some_certain gs c t (suc i) ps
+  some_certain gs c t i (part k u ps) = certain (enter_ranges gs c t i) (enter_facts c t i) u || some_certain gs c t (suc i) ps

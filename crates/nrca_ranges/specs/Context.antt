@@ -15,6 +15,7 @@ use Rattle.nrca_ranges.specs.declared.context.Known.TheVariants.{Domain, Test, D
 use Rattle.nrca_ranges.specs.declared.context.Fact.{Fact}
 use Rattle.nrca_ranges.specs.declared.context.Ctx.{Ctx}
 use Rattle.nrca_ranges.specs.declared.context.Mark.{Mark}
+use Rattle.nrca_ranges.specs.Bounds.{Ranges}
 
 -- how a comparison is known
 abbrev pub known_of : Known → facts.Known
@@ -45,6 +46,10 @@ around c = (context_of c).depth
 -- what the context was at the mark
 abbrev pub at_mark : Mark → Context → Context
 at_mark m c = record { facts = take m.facts c.facts; depth = m.depth }
+
+-- what was known of values at the mark
+abbrev pub ranges_at_mark : Mark → Ranges → Ranges
+ranges_at_mark m gs = record { positions = gs.positions; variables = take m.variables gs.variables }
 
 -- the context of a part of the term that stands at the place of a context
 abbrev pub enter_part : Ctx → Term → ℕ → Context

@@ -4,6 +4,9 @@ pub mod Entered
 pub mod Forms
 pub mod Intervals
 pub mod Ordered
+pub mod Own
+pub mod Positions
+pub mod Replaced
 pub mod Sound
 pub mod Strict
 pub mod Summaries

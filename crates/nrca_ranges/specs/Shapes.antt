@@ -20,7 +20,7 @@ use Rattle.nrca_ranges.specs.declared.shape.Shape.TheFolds.{fold-Shape}
 use Rattle.nrca_ranges.specs.declared.positions.GlobalShapes.{GlobalShapes}
 use Rattle.nrca_ranges.specs.declared.context.Ctx.{Ctx}
 use Rattle.nrca_ranges.specs.Bounds as bounds
-use Rattle.nrca_ranges.specs.Bounds.{Bounds, unknown, number, row_of, IsIn, IsCount, HasShape}
+use Rattle.nrca_ranges.specs.Bounds.{Bounds, unknown, number, row_of, IsIn, IsCount, HasShape, Ranges, with_own, VariablesFit}
 use Rattle.nrca_ranges.specs.Certain as certainty
 use Rattle.nrca_ranges.specs.Certain.{certain}
 use Rattle.nrca_ranges.specs.Context.{context_of, IsSmallTerm}
@@ -68,13 +68,29 @@ shapes_in g = map bounds_there g.shapes.items
 abbrev pub known_shapes : Ctx → List (Option Bounds)
 known_shapes c = shapes_in c.globals
 
+-- what is known of the values of a context's place
+abbrev pub ranges_of : Ctx → Ranges
+ranges_of c = record { positions = known_shapes c; variables = bounds_each c.variables.items }
+
+-- the same inside of a term that stands there, with these shapes of further variables
+abbrev pub ranges_below : Ctx → List Shape → Ranges
+ranges_below c own = with_own (ranges_of c) (bounds_each own)
+
+-- what is known of values inside of part i of the term that stands at the context
+abbrev pub EntersRanges : Ctx → Core → ℕ → Ctx → Type 0
+EntersRanges c t i r = ranges_of r ≡ transfer.enter_ranges (ranges_of c) (context_of c) (term_of t) i
+
 -- the positions that have a value are those that have a shape, and each value has its position's
 abbrev pub Tells : List (Option Bounds) → Outcomes → Type 0
 Tells gs V = ((n : ℕ) (b : Bounds) (v : Datum) → at_position gs n ≡ Some (Some b) → outcome V n ≡ Some v → HasShape b v) × ((n : ℕ) → is_shaped gs n ≡ is_defined V n)
 
 -- the values of positions and variables that a context allows: the shapes are theirs, and the facts hold
 abbrev pub Allows : Outcomes → Ctx → List Datum → Type 0
-Allows V c vals = Tells (known_shapes c) V × FactsHold V (context_of c) vals
+Allows V c vals = Tells (known_shapes c) V × FactsHold V (context_of c) vals × VariablesFit (ranges_of c) vals
+
+-- the facts of a place hold at values of its variables, and each value has the shape of its variable
+abbrev pub PlaceHolds : Outcomes → Ranges → Context → List Datum → Type 0
+PlaceHolds V gs c vals = FactsHold V c vals × VariablesFit gs vals
 
 -- each value that the term has at values that the context allows has the shape
 unfoldable pub IsShapeIn : Ctx → Term → Bounds → Type 0
@@ -101,7 +117,7 @@ AreNumbersIn c (t ∷ ts) (i ∷ is) = IsNumberIn c t i × AreNumbersIn c ts is
 
 -- what is known of the term's value at the place of the context
 abbrev pub shape_at : Ctx → Term → Bounds
-shape_at c t = transfer.bounds (known_shapes c) (context_of c) t
+shape_at c t = transfer.bounds (ranges_of c) (context_of c) t
 
 -- whether the term is firm there
 abbrev pub firm_at : Ctx → Term → Bool
@@ -109,7 +125,7 @@ firm_at c t = firm (is_shaped (known_shapes c)) (context_of c) t
 
 -- whether it is certain to have a value there
 abbrev pub certain_at : Ctx → Term → Bool
-certain_at c t = certain (known_shapes c) (context_of c) t
+certain_at c t = certain (ranges_of c) (context_of c) t
 
 -- its span there
 abbrev pub span_at : Ctx → Term → Span
@@ -140,8 +156,8 @@ abbrev pub bounds_by_strict : code_strict.Strict → List Shape → Bounds
 bounds_by_strict f ss = transfer.strict_bounds (pure_strict f) (bounds_each ss)
 
 -- the same of every form
-abbrev pub bounds_by_form : GlobalShapes → code.Form → List Shape → Bounds
-bounds_by_form g f ss = transfer.form_bounds (shapes_in g) (pure_form f) (bounds_each ss)
+abbrev pub bounds_by_form : Ctx → List Shape → code.Form → List Shape → Bounds
+bounds_by_form c own f ss = transfer.form_bounds (ranges_below c own) (pure_form f) (bounds_each ss)
 
 -- whether a node of the form has a value wherever its parts have
 abbrev pub certain_by_form : GlobalShapes → code.Form → List Shape → Bool

@@ -1,11 +1,11 @@
 -- What is known of a node's value from what is known of its parts' values, and so of a term's: its transfer function.
-use Rattle.std.proofs.Common.{◌≡◌, ℕ, zero, suc, Bool, true, false, nat_eq, List, [], ◌∷◌, length, map, take, Some, None, Option}
+use Rattle.std.proofs.Common.{◌≡◌, ℕ, zero, suc, Bool, true, false, nat_eq, nat_lt, List, [], ◌∷◌, ◌++◌, length, map, take, reverse, Some, None, if◌then◌else◌}
 use Rattle.aql_value.specs.Strict.{Strict}
-use Rattle.nrca_term.specs.Term.{Term, Parts, node, none, part, Form}
-use Rattle.nrca_term.specs.Facts.{Context, enter_facts}
+use Rattle.nrca_term.specs.Term.{Term, Parts, node, none, part, Form, form_of, parts_of, child_of}
+use Rattle.nrca_term.specs.Facts.{Context, enter_facts, context_below}
 use Rattle.nrca_term.specs.Firm.{Span, span}
 use Rattle.nrca_ranges.specs.declared.interval.Interval.{Interval}
-use Rattle.nrca_ranges.specs.Bounds.{Bounds, Row, unknown, number, row, members, grid, end, entry, row_of}
+use Rattle.nrca_ranges.specs.Bounds.{Bounds, Row, unknown, number, row, members, grid, end, entry, row_of, Ranges, with_own}
 use Rattle.nrca_ranges.specs.Entered.{position_bounds}
 use Rattle.nrca_ranges.specs.Intervals.{between, everything, before, hull, hulls, arith_interval, union_count, loop_count, loop_sum}
 
@@ -130,9 +130,57 @@ union_bounds a b = members (union_count (count_of a) (count_of b)) (join_bounds 
 abbrev pub loop_bounds : Bounds → Bounds → Bounds
 loop_bounds a b = members (loop_count (count_of a) (count_of b)) (member_of b)
 
+-- the shape of a number below one of the interval: 0 up to the greatest but one, and 0 alone below 0
+abbrev pub index_below : Interval → Bounds
+index_below i = number (between 0 (before i.high))
+
 -- the shape of the set of the numbers below a number
 abbrev pub below_bounds : Interval → Bounds
-below_bounds i = members i (number (between 0 (before i.high)))
+below_bounds i = members i (index_below i)
+
+-- of a number its interval, and else nothing
+abbrev pub flat : Bounds → Bounds
+flat (number i) = number i
+flat unknown = unknown
+flat (row bs) = unknown
+flat (members i b) = unknown
+flat (grid is b) = unknown
+
+-- so of the parts of a tuple
+abbrev pub flat_row : Row → Row
+flat_row end = end
+flat_row (entry b bs) = entry (flat b) (flat_row bs)
+
+-- what is kept of a shape for a variable: the shape, and of its parts, members or cells those that are numbers
+abbrev pub kept : Bounds → Bounds
+kept unknown = unknown
+kept (number i) = number i
+kept (row bs) = row (flat_row bs)
+kept (members i b) = members i (flat b)
+kept (grid is b) = grid is (flat b)
+
+-- what is known of the variables that a node of the form binds in part i, the outermost first, by the shapes of the parts before it
+abbrev pub own_bounds : Form → ℕ → List Bounds → List Bounds
+own_bounds Form.bind zero bs = []
+own_bounds Form.bind (suc i) bs = kept (entry_at bs 0) ∷ []
+own_bounds Form.big_union zero bs = []
+own_bounds Form.big_union (suc i) bs = kept (member_of (entry_at bs 0)) ∷ []
+own_bounds Form.sum zero bs = []
+own_bounds Form.sum (suc i) bs = kept (member_of (entry_at bs 0)) ∷ []
+own_bounds (Form.tab rank) i bs = if nat_lt i rank then [] else map index_below (first_intervals rank bs)
+own_bounds (Form.var n) i bs = []
+own_bounds (Form.global n) i bs = []
+own_bounds Form.choose i bs = []
+own_bounds Form.default i bs = []
+own_bounds (Form.strict s) i bs = []
+
+-- what is known inside of part i
+abbrev pub inside : Ranges → Form → ℕ → List Bounds → Ranges
+inside gs f i bs = with_own gs (own_bounds f i bs)
+
+-- what is known of variable i, the innermost being number 0
+abbrev pub variable_bounds : List Bounds → ℕ → Bounds
+variable_bounds xs i = entry_at (reverse xs) i
 
 -- by the shapes of the parts, of a form that evaluates all of them and binds nothing
 abbrev pub strict_bounds : Strict → List Bounds → Bounds
@@ -159,9 +207,9 @@ abbrev pub tab_bounds : ℕ → List Bounds → Bounds
 tab_bounds rank bs = grid (first_intervals rank bs) (entry_at bs rank)
 
 -- by the shapes of the parts; a number that is written down is told by its span
-abbrev pub form_bounds : List (Option Bounds) → Form → List Bounds → Bounds
-form_bounds gs (Form.var i) bs = unknown
-form_bounds gs (Form.global n) bs = position_bounds gs n
+abbrev pub form_bounds : Ranges → Form → List Bounds → Bounds
+form_bounds gs (Form.var i) bs = variable_bounds gs.variables i
+form_bounds gs (Form.global n) bs = position_bounds gs.positions n
 form_bounds gs Form.bind bs = entry_at bs 1
 form_bounds gs Form.choose bs = join_bounds (entry_at bs 1) (entry_at bs 2)
 form_bounds gs Form.default bs = join_bounds (entry_at bs 0) (entry_at bs 1)
@@ -175,12 +223,30 @@ abbrev pub by_span : Span → Bounds → Bounds
 by_span (Some x) b = number (between x.0 x.1)
 by_span None b = b
 
-abbrev mutual
-  -- what is known of a term's value at a place with these facts, the positions' values having these shapes
-  pub bounds : List (Option Bounds) → Context → Term → Bounds
-  bounds gs c (node f ps) = by_span (span c (node f ps)) (form_bounds gs f (all_bounds gs c (node f ps) 0 ps))
+-- a shape, and behind it what follows from it
+abbrev pub and_then : Bounds → (Bounds → List Bounds) → List Bounds
+and_then b f = b ∷ f b
 
-  -- the same of the parts from part i of a term on, each at its own place
-  pub all_bounds : List (Option Bounds) → Context → Term → ℕ → Parts → List Bounds
-  all_bounds gs c t i none = []
-  all_bounds gs c t i (part k u ps) = bounds gs (enter_facts c t i) u ∷ all_bounds gs c t (suc i) ps
+abbrev mutual
+  -- what is known of a term's value at a place with these facts, where so much is known of the values of positions and variables
+  pub bounds : Ranges → Context → Term → Bounds
+  bounds gs c (node f ps) = by_span (span c (node f ps)) (form_bounds gs f (all_bounds gs c (node f ps) 0 [] ps))
+
+  -- the same of the parts from part i of a term on, each at its own place; `bs` is what is known of the parts before it
+  pub all_bounds : Ranges → Context → Term → ℕ → List Bounds → Parts → List Bounds
+  all_bounds gs c t i bs none = []
+  all_bounds gs c t i bs (part k u ps) =
+      and_then (bounds (inside gs (form_of t) i bs) (enter_facts c t i) u) (λ b. all_bounds gs c t (suc i) (bs ++ b ∷ []) ps)
+
+-- what is known of all parts of a term
+abbrev pub parts_bounds : Ranges → Context → Term → List Bounds
+parts_bounds gs c t = all_bounds gs c t 0 [] (parts_of t)
+
+-- what is known of values inside of part i of a term
+abbrev pub enter_ranges : Ranges → Context → Term → ℕ → Ranges
+enter_ranges gs c t i = inside gs (form_of t) i (take i (parts_bounds gs c t))
+
+-- and at the place at a path
+abbrev pub ranges_at : Ranges → Context → Term → List ℕ → Ranges
+ranges_at gs c t [] = gs
+ranges_at gs c t (i ∷ path) = context_below gs (child_of (parts_of t) i) (λ u. ranges_at (enter_ranges gs c t i) (enter_facts c t i) u path)

@@ -1,14 +1,15 @@
-//! The context of a place: the comparisons known there, the number of variables, the shapes of positions.
+//! The context of a place: the comparisons known there, the number of variables, the shapes of variables and positions.
 
 ghost use Rattle.std.specs.Prelude.{◌≡◌, ◌<◌, IfOk, OnOk};
-ghost use Rattle.nrca_term.specs.Term.{parts_of, count};
 ghost use Rattle.nrca_term.specs.View.{term_of};
 ghost use Rattle.nrca_term.specs.Facts.{no_facts};
 ghost use Rattle.nrca_ranges.specs.Context.{fact_of, facts_in, known_facts, around};
-ghost use Rattle.nrca_ranges.specs.Shapes.{known_shapes, AllowsInside};
-ghost use Rattle.nrca_ranges.specs.Context.{context_of, at_mark, IsSmallTerm, HasRoom, AddsTo, IsEntered, LeaveRoom, bound_fact, bounds_facts, loop_facts, part_facts, test_facts};
+ghost use Rattle.nrca_ranges.specs.Bounds.{at_root};
+ghost use Rattle.nrca_ranges.specs.Shapes.{shapes_in, ranges_of};
+ghost use Rattle.nrca_ranges.specs.Context.{context_of, IsSmallTerm, HasRoom, AddsTo, LeaveRoom, bound_fact, bounds_facts, loop_facts, part_facts, test_facts};
 
 use crate::positions::GlobalShapes;
+use crate::shape::{Shape, copy_list};
 use aql_value::{CompareOp, Memory};
 use nrca_subst::shift;
 use nrca_term::{Core, Terms};
@@ -31,20 +32,23 @@ pub struct Fact {
     pub depth: u64,
 }
 
-/// The facts of a place, those of the outermost node first; its number of variables; and for each
-/// position, counted from 1, the shape of its value, or none where it has no value.
+/// The facts of a place, those of the outermost node first; its number of variables; for each
+/// position, counted from 1, the shape of its value, or none where it has no value; and the shapes of
+/// the variables, the outermost first.
 #[derive(Drop)]
 pub struct Ctx {
     pub facts: Vec<Fact>,
     pub depth: u64,
     pub globals: GlobalShapes,
+    pub variables: Vec<Shape>,
 }
 
-/// How many facts and variables a context had before a part was entered.
+/// How many facts, variables and shapes of variables a context had before a part was entered.
 #[derive(Drop)]
 pub struct Mark {
     pub facts: usize,
     pub depth: u64,
+    pub variables: usize,
 }
 
 impl Ctx {
@@ -52,11 +56,13 @@ impl Ctx {
     pub fn new(alloc: Global, globals: GlobalShapes) -> Ctx
         ensures context { context_of result ≡ no_facts }
         ensures globals { result.globals ≡ globals }
+        ensures ranges { ranges_of result ≡ at_root (shapes_in globals) }
     {
         Ctx {
             facts: Vec::new(alloc),
             depth: 0,
             globals,
+            variables: Vec::new(alloc),
         }
     }
 
@@ -84,55 +90,17 @@ impl Ctx {
     /// A context with the same facts, variables and shapes.
     pub fn copy(&self, alloc: Global) -> Result<Ctx, Memory>
         ensures context { IfOk result (λ c. context_of c ≡ context_of self.now) }
-        ensures globals { IfOk result (λ c. known_shapes c ≡ known_shapes self.now) }
+        ensures ranges { IfOk result (λ c. ranges_of c ≡ ranges_of self.now) }
     {
         let facts = copy_facts(alloc, self.facts.as_slice())?;
         let globals = self.globals.copy(alloc)?;
+        let variables = copy_list(alloc, self.variables.as_slice())?;
         Ok(Ctx {
             facts,
             depth: self.depth,
             globals,
+            variables,
         })
-    }
-
-    /// The context of a part, counted from 0, of the node that stands at the place: a copy, entered.
-    pub fn enter(&self, alloc: Global, parent: &Core, part: u64) -> Result<Ctx, Memory>
-        requires has { part < count (parts_of (term_of parent.now)) }
-        requires inside { IsSmallTerm self.now.depth (term_of parent.now) }
-        ensures entered { IfOk result (λ c. IsEntered self.now parent.now part c) }
-        ensures globals { IfOk result (λ c. known_shapes c ≡ known_shapes self.now) }
-        ensures allows { IfOk result (λ c. AllowsInside self.now parent.now part c) }
-    {
-        let mut inner = self.copy(alloc)?;
-        let _mark = inner.push(alloc, parent, part)?;
-        Ok(inner)
-    }
-
-    /// Enters a part of the node that stands at the place, counted from 0. Of the facts that it adds
-    /// it keeps copies. Where memory is wanting, some of them may have been added.
-    pub fn push(&mut self, alloc: Global, parent: &Core, part: u64) -> Result<Mark, Memory>
-        requires has { part < count (parts_of (term_of parent.now)) }
-        requires inside { IsSmallTerm self.old.depth (term_of parent.now) }
-        ensures entered { OnOk result (IsEntered self.old parent.now part self.new) }
-        ensures back { IfOk result (λ m. at_mark m (context_of self.new) ≡ context_of self.old) }
-        ensures globals { self.new.globals ≡ self.old.globals }
-    {
-        let mark = Mark {
-            facts: self.facts.len(),
-            depth: self.depth,
-        };
-        add_facts(alloc, &mut self.facts, self.depth, parent, part)?;
-        self.depth += parent.binders(part);
-        Ok(mark)
-    }
-
-    /// Leaves the part that was entered at the mark, with all parts inside it.
-    pub fn take_back(&mut self, mark: Mark)
-        ensures back { context_of self.new ≡ at_mark mark (context_of self.old) }
-        ensures globals { self.new.globals ≡ self.old.globals }
-    {
-        self.facts.truncate(mark.facts);
-        self.depth = mark.depth;
     }
 }
 

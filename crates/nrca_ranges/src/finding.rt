@@ -70,6 +70,7 @@ pub fn tell(alloc: Global, term: &Core, ctx: &Ctx) -> Result<Told, Memory>
 {
     let mut progress = Progress {
         facts: Vec::new(alloc),
+        variables: Vec::new(alloc),
         told: Vec::new(alloc),
     };
     walk(alloc, term, ctx, ctx.depth, &mut progress)?;

@@ -1,7 +1,7 @@
 //! Shapes: what is known of a value.
 
 ghost use Rattle.std.specs.Prelude.{◌≡◌, IfOk};
-ghost use Rattle.nrca_ranges.specs.Shapes.{bounds_of, shapes_of};
+ghost use Rattle.nrca_ranges.specs.Shapes.{bounds_of, bounds_each, shapes_of};
 ghost use Rattle.nrca_ranges.specs.Transfer.{interval_of, count_of, member_of, cell_of};
 ghost use Rattle.nrca_ranges.specs.Transfer.{join_bounds, join_number, join_members, join_grid};
 
@@ -68,6 +68,18 @@ fn copy_boxed(alloc: Global, shape: &Box<Shape>) -> Result<Box<Shape>, Memory>
     let copied = shape.copy(alloc)?;
     let boxed = Box::new(alloc, copied)?;
     Ok(boxed)
+}
+
+/// Equal shapes.
+pub(crate) fn copy_list(alloc: Global, shapes: &[Shape]) -> Result<Vec<Shape>, Memory>
+    ensures { IfOk result (λ v. bounds_each v.items ≡ bounds_each shapes.now) }
+{
+    let mut copied = Vec::new(alloc);
+    for shape in shapes {
+        let next = shape.copy(alloc)?;
+        copied.push(next)?;
+    }
+    Ok(copied)
 }
 
 #[cycle(copies)]

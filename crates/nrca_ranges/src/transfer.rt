@@ -9,12 +9,13 @@ ghost use Rattle.nrca_ranges.specs.Transfer.{interval_of, count_of, entry_at, fi
 ghost use Rattle.nrca_ranges.specs.Transfer.{index_bounds, dimensions_of, part_at, part_bounds};
 ghost use Rattle.nrca_ranges.specs.Transfer.{union_bounds, loop_bounds, below_bounds, tab_bounds};
 
+use crate::context::Ctx;
 use crate::interval::{Interval, Intervals};
 use crate::operations::{arith_interval, end_below, everything, loop_count, loop_sum, union_count};
-use crate::positions::GlobalShapes;
 use crate::shape::{
     Shape, Shapes, cell_shape, count_interval, join, member_shape, number_interval,
 };
+use crate::variables::variable_shape;
 use aql_value::Memory;
 use nrca_term::{Form, Strict};
 use std::alloc::Global;
@@ -194,8 +195,8 @@ fn make_shapes(items: Vec<Shape>) -> Shapes
     Shapes(items)
 }
 
-// The shape of tuples with parts of these shapes.
-fn row_shape(parts: Shapes) -> Shape
+/// The shape of tuples with parts of these shapes.
+pub(crate) fn row_shape(parts: Shapes) -> Shape
     ensures { bounds_of result ≡ bounds.row (bounds.row_of (shapes_of parts)) }
 {
     Shape::Row(parts)
@@ -267,14 +268,16 @@ pub(crate) fn node_shape<'a>(
     alloc: Global,
     form: Form<'a>,
     shapes: Vec<Shape>,
-    globals: &GlobalShapes,
+    ctx: &Ctx,
+    own: &[Shape],
 ) -> Result<Shape, Memory>
-    ensures { IfOk result (λ s. bounds_of s ≡ bounds_by_form globals.now form.entry shapes.items) }
+    ensures { IfOk result
+        (λ s. bounds_of s ≡ bounds_by_form ctx.now own.now form.entry shapes.items) }
 {
     let mut shapes = shapes;
     match form {
-        Form::Var(_) => Ok(Shape::Unknown),
-        Form::Global(n) => globals.shape(alloc, n),
+        Form::Var(i) => variable_shape(alloc, ctx, own, i),
+        Form::Global(n) => ctx.globals.shape(alloc, n),
         Form::Bind => Ok(take_entry(&mut shapes, 1)),
         Form::Choose => {
             let first = take_entry(&mut shapes, 1);

@@ -11,9 +11,9 @@ ghost use Rattle.nrca_ranges.specs.Shapes.{bounds_of, bounds_each, shapes_in};
 ghost use Rattle.nrca_ranges.specs.Spans.{span_of, IsOrdered};
 ghost use Rattle.nrca_ranges.specs.Transfer.{by_span};
 ghost use Rattle.nrca_ranges.specs.Walk.{span_with, span_below, IsOther, gather_flags};
-ghost use Rattle.nrca_ranges.specs.Walk.{IsArithTold, IsToldWith, AreToldWith, IsGathered};
+ghost use Rattle.nrca_ranges.specs.Walk.{IsArithTold, IsGathered};
 ghost use Rattle.nrca_ranges.specs.Walk.{told_each, summaries_below, IsSummary};
-ghost use Rattle.nrca_ranges.specs.Walk.{KeepsFacts, TellsOf, TellsOfPart, HoldsParts, ClosesNode};
+ghost use Rattle.nrca_ranges.specs.Walk.{KeepsFacts, TellsOf, TellsOfPart, HoldsParts, HoldsFirst, ClosesNode};
 
 use crate::certain::form_certain;
 use crate::context::{Ctx, Fact, add_facts};
@@ -22,6 +22,7 @@ use crate::operations::{always_fits, arith_interval};
 use crate::positions::GlobalShapes;
 use crate::shape::{Shape, number_interval};
 use crate::transfer::node_shape;
+use crate::variables::add_variables;
 use aql_value::{ArithOp, Memory};
 use nrca_term::{Core, Form, Strict};
 use std::alloc::Global;
@@ -35,11 +36,13 @@ pub struct Told {
     pub shape: Shape,
 }
 
-/// What a walk keeps: the facts of the parts that it is in, behind those of the context; and what is told of
+/// What a walk keeps: the facts of the parts that it is in, and the shapes of the variables that are bound
+/// there, behind those of the context; and what is told of
 /// terms whose nodes are not yet told of, in order.
 #[derive(Drop)]
 pub(crate) struct Progress {
     pub facts: Vec<Fact>,
+    pub variables: Vec<Shape>,
     pub told: Vec<Told>,
 }
 
@@ -219,36 +222,6 @@ fn node_span(term: &Core, ctx: &Ctx, own: &[Fact], depth: u64) -> Option<Interva
     }
 }
 
-// A node that is not arithmetic, from what is gathered of its parts.
-fn shaped_told(
-    alloc: Global,
-    term: &Core,
-    ctx: &Ctx,
-    own: &[Fact],
-    depth: u64,
-    found: Gathered,
-    shapes: Vec<Shape>,
-) -> Result<Told, Memory>
-    requires other { IsOther (form_of (term_of term.now)) }
-    requires parts { AreToldWith ctx.now own.now depth term.now found shapes.items }
-    ensures { IfOk result (λ x. IsToldWith ctx.now own.now depth term.now x) }
-{
-    let form = term.form();
-    let span = node_span(term, ctx, own, depth);
-    let sure = form_sure(form, &ctx.globals);
-    let fits = form_certain(form, shapes.as_slice(), &ctx.globals);
-    let told = node_shape(alloc, form, shapes, &ctx.globals)?;
-    let firm = both(sure, found.firm);
-    let certain = either(firm, both(fits, found.certain));
-    let shape = narrow_shape(span, told);
-    Ok(Told {
-        firm,
-        certain,
-        span,
-        shape,
-    })
-}
-
 // An arithmetic node, from its sides and the number that the second one is.
 fn arith_told(op: ArithOp, left: &Told, right: &Told, n: Option<u128>) -> Told
     requires left { IsOrdered left.now.span }
@@ -301,17 +274,31 @@ fn other_told(
     term: &Core,
     ctx: &Ctx,
     own: &[Fact],
+    variables: &[Shape],
     depth: u64,
     parts: Vec<Told>,
 ) -> Result<Told, Memory>
     requires other { IsOther (form_of (term_of term.now)) }
-    requires parts { told_each parts.items ≡ summaries_below ctx.now own.now depth term.now }
-    ensures { IfOk result (λ x. IsSummary ctx.now own.now depth term.now x) }
+    requires parts { told_each parts.items
+        ≡ summaries_below ctx.now own.now variables.now depth term.now }
+    ensures { IfOk result (λ x. IsSummary ctx.now own.now variables.now depth term.now x) }
 {
-    let found = gather_all(wants_all(term.form()), parts.as_slice());
+    let form = term.form();
+    let found = gather_all(wants_all(form), parts.as_slice());
     let shapes = take_shapes(alloc, parts)?;
-    let told = shaped_told(alloc, term, ctx, own, depth, found, shapes)?;
-    Ok(told)
+    let span = node_span(term, ctx, own, depth);
+    let sure = form_sure(form, &ctx.globals);
+    let fits = form_certain(form, shapes.as_slice(), &ctx.globals);
+    let told = node_shape(alloc, form, shapes, ctx, variables)?;
+    let firm = both(sure, found.firm);
+    let certain = either(firm, both(fits, found.certain));
+    let shape = narrow_shape(span, told);
+    Ok(Told {
+        firm,
+        certain,
+        span,
+        shape,
+    })
 }
 
 // A node, from its parts.
@@ -320,15 +307,17 @@ fn node_told(
     term: &Core,
     ctx: &Ctx,
     own: &[Fact],
+    variables: &[Shape],
     depth: u64,
     parts: Vec<Told>,
 ) -> Result<Told, Memory>
-    requires parts { told_each parts.items ≡ summaries_below ctx.now own.now depth term.now }
-    ensures { IfOk result (λ x. IsSummary ctx.now own.now depth term.now x) }
+    requires parts { told_each parts.items
+        ≡ summaries_below ctx.now own.now variables.now depth term.now }
+    ensures { IfOk result (λ x. IsSummary ctx.now own.now variables.now depth term.now x) }
 {
     match term {
         Core::Arith(op, _, b) => Ok(arith_told(*op, &parts[0], &parts[1], b.number())),
-        _ => other_told(alloc, term, ctx, own, depth, parts),
+        _ => other_told(alloc, term, ctx, own, variables, depth, parts),
     }
 }
 
@@ -347,7 +336,15 @@ fn close_node(
     ensures told { OnOk result (ClosesNode ctx.now depth term.now base progress.old progress.new) }
 {
     let parts = progress.told.split_off(base)?;
-    let told = node_told(alloc, term, ctx, progress.facts.as_slice(), depth, parts)?;
+    let told = node_told(
+        alloc,
+        term,
+        ctx,
+        progress.facts.as_slice(),
+        progress.variables.as_slice(),
+        depth,
+        parts,
+    )?;
     progress.told.push(told)?;
     Ok(())
 }
@@ -367,7 +364,7 @@ pub(crate) fn walk(
 {
     let base = progress.told.len();
     for i in 0..term.parts() {
-        walk_part(alloc, term, i, ctx, depth, progress)?;
+        walk_part(alloc, term, i, ctx, depth, base, progress)?;
     }
     close_node(alloc, term, ctx, depth, base, progress)?;
     Ok(())
@@ -376,23 +373,34 @@ pub(crate) fn walk(
 // Tells of a part of a node, at its own place. It is written into `walk`, so that a level of the term costs one frame.
 #[cycle(walk)]
 #[inline(always)]
-fn walk_part(
+pub(crate) fn walk_part(
     alloc: Global,
     term: &Core,
     i: u64,
     ctx: &Ctx,
     depth: u64,
+    base: usize,
     progress: &mut Progress,
 ) -> Result<(), Memory>
     requires inside { IsSmallTerm depth (term_of term.now) }
+    requires first { HoldsFirst ctx.now depth term.now base i progress.old }
     ensures back { OnOk result (KeepsFacts progress.old progress.new) }
     ensures told { OnOk result (TellsOfPart ctx.now depth term.now i progress.old progress.new) }
 {
     if let Some(part) = term.part(i) {
         let before = progress.facts.len();
+        let outside = progress.variables.len();
         add_facts(alloc, &mut progress.facts, depth, term, i)?;
+        add_variables(
+            alloc,
+            &mut progress.variables,
+            term.form(),
+            i,
+            &progress.told[base..],
+        )?;
         walk(alloc, part, ctx, depth + term.binders(i), progress)?;
         progress.facts.truncate(before);
+        progress.variables.truncate(outside);
     }
     Ok(())
 }

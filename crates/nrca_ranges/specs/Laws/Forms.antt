@@ -1,5 +1,6 @@
 -- The value of a node has the shape that the shapes of its parts tell (`form-shaped`).
-use Rattle.std.proofs.Common.{◌≡◌, ℕ, zero, suc, ◌-◌, ◌<◌, ◌≤◌, ◌^◌, Bool, true, false, nat_lt, sum, List, [], ◌∷◌, length, map, take, Option, Some, None, option_to_list, unwrap_or, refl, sym, subst, ◌∙◌, arith, if◌then◌else◌}
+use Rattle.std.proofs.Common.{◌≡◌, ℕ, zero, suc, ◌-◌, ◌<◌, ◌≤◌, ◌^◌, Bool, true, false, nat_lt, sum, List, [], ◌∷◌, length, map, take, reverse, Option, Some, None, option_to_list, unwrap_or, refl, sym, subst, ◌∙◌, arith, if◌then◌else◌}
+use Rattle.std.specs.List.{slice_get}
 use Rattle.std.proofs.lemmas.Bool.{lt-ltb, le-ltb}
 use Rattle.std.proofs.lemmas.Nat.{mul-le}
 use Rattle.std.proofs.lemmas.Option.{cond_some, same_Some}
@@ -19,7 +20,7 @@ use Rattle.nrca_term.specs.Term.{Form}
 use Rattle.nrca_term.specs.Meaning.{Outcomes, at_position, Part, worth, here, form_value, test_value, members_value, loop_values, bounds_value}
 use Rattle.nrca_term.specs.Places.{branch, otherwise, indices_of, entry_values}
 use Rattle.nrca_term.specs.Laws.Facts.{natural-is}
-use Rattle.nrca_ranges.specs.Bounds.{Bounds, number, members, row_of, IsIn, IsCount, HasShape, HaveShapes}
+use Rattle.nrca_ranges.specs.Bounds.{Bounds, number, members, row_of, IsIn, IsCount, HasShape, HaveShapes, Ranges, VariablesFit}
 use Rattle.nrca_ranges.specs.Entered.{shape_there}
 use Rattle.nrca_ranges.specs.Intervals.{loop_count, loop_sum}
 use Rattle.nrca_ranges.specs.Shapes.{Tells}
@@ -63,6 +64,14 @@ position-shaped : (o : Option (Option Bounds)) (v : Datum) → ((b : Bounds) →
 position-shaped None v h = tt
 position-shaped (Some None) v h = tt
 position-shaped (Some (Some b)) v h = h b refl
+
+-- a variable
+variable-shaped : (bs : List Bounds) (vals : List Datum) (i : ℕ) (v : Datum) → HaveShapes (row_of bs) vals → slice_get vals i ≡ Some v → HasShape (entry_at bs i) v
+variable-shaped [] [] i v h e = cc
+variable-shaped [] (w ∷ vals) i v h e = absurd h
+variable-shaped (b ∷ bs) [] i v h e = absurd h
+variable-shaped (b ∷ bs) (w ∷ vals) zero v h e = subst (HasShape b) (same_Some w v e) h.0
+variable-shaped (b ∷ bs) (w ∷ vals) (suc i) v h e = variable-shaped bs vals i v h.1 e
 
 -- a loop: its members, and the bodies' values at them
 pub loop-shaped : (ps : List Part) (bs : List Bounds) (rs : List Datum) → Shaped Form.sum ps 0 (entry_at bs 0) → Shaped Form.sum ps 1 (entry_at bs 1) → loop_values ps ≡ Some rs →
@@ -125,14 +134,14 @@ sum-shaped a b ms rs v u l h e =
     )
 
 -- The value of a node has the shape that those of its parts tell.
-pub form-shaped : (V : Outcomes) (vals : List Datum) (gs : List (Option Bounds)) → Tells gs V → (f : Form) (ps : List Part) (bs : List Bounds) → length bs ≡ length ps → AllShaped f ps bs → (v : Datum) → form_value V vals f ps ≡ Some v →
+pub form-shaped : (V : Outcomes) (vals : List Datum) (gs : Ranges) → Tells gs.positions V → VariablesFit gs vals → (f : Form) (ps : List Part) (bs : List Bounds) → length bs ≡ length ps → AllShaped f ps bs → (v : Datum) → form_value V vals f ps ≡ Some v →
     HasShape (form_bounds gs f bs) v
-form-shaped V vals gs tl (Form.var i) ps bs l h v e = tt
-form-shaped V vals gs tl (Form.global n) ps bs l h v e = position-shaped (at_position gs n) v (λ b k. tl.0 n b v k e)
-form-shaped V vals gs tl Form.bind ps bs l h v e =
+form-shaped V vals gs tl vf (Form.var i) ps bs l h v e = variable-shaped (reverse gs.variables) vals i v vf e
+form-shaped V vals gs tl vf (Form.global n) ps bs l h v e = position-shaped (at_position gs.positions n) v (λ b k. tl.0 n b v k e)
+form-shaped V vals gs tl vf Form.bind ps bs l h v e =
     let a = then-is (worth ps 0 []) (λ w. worth ps 1 (w ∷ [])) v e in
     (subst (λ o. Every (λ new. (v : Datum) → worth ps 1 new ≡ Some v → HasShape (entry_at bs 1) v) (map (λ w. w ∷ []) (option_to_list o))) a.1 (h 1)).0 v a.2
-form-shaped V vals gs tl Form.choose ps bs l h v e =
+form-shaped V vals gs tl vf Form.choose ps bs l h v e =
     let a = then-is (test_value ps) (λ b. if b then worth ps 1 [] else worth ps 2 []) v e in
     taken a.0 (subst (λ o. Every (λ new. (v : Datum) → worth ps 1 new ≡ Some v → HasShape (entry_at bs 1) v) (branch true o)) a.1 (h 1)) (subst (λ o. Every (λ new. (v : Datum) → worth ps 2 new ≡ Some v → HasShape (entry_at bs 2) v) (branch false o)) a.1 (h 2)) a.2
   where
@@ -140,20 +149,20 @@ form-shaped V vals gs tl Form.choose ps bs l h v e =
         (if b then worth ps 1 [] else worth ps 2 []) ≡ Some v → HasShape (join_bounds (entry_at bs 1) (entry_at bs 2)) v
     taken true x y k = joined-first (entry_at bs 1) (entry_at bs 2) v (x.0 v k)
     taken false x y k = joined-second (entry_at bs 1) (entry_at bs 2) v (y.0 v k)
-form-shaped V vals gs tl Form.default ps bs l h v e = from (worth ps 0 []) refl (h 1) e
+form-shaped V vals gs tl vf Form.default ps bs l h v e = from (worth ps 0 []) refl (h 1) e
   where
     from : (o : Option Datum) → worth ps 0 [] ≡ o → Every (λ new. (v : Datum) → worth ps 1 new ≡ Some v → HasShape (entry_at bs 1) v) (otherwise o) → or_else o (worth ps 1 []) ≡ Some v → HasShape (join_bounds (entry_at bs 0) (entry_at bs 1)) v
     from None i y k = joined-second (entry_at bs 0) (entry_at bs 1) v (y.0 v k)
     from (Some w) i y k = joined-first (entry_at bs 0) (entry_at bs 1) v ((h 0).0 v (i ∙ k))
-form-shaped V vals gs tl Form.big_union ps bs l h v e =
+form-shaped V vals gs tl vf Form.big_union ps bs l h v e =
     let p = then-is (loop_values ps) union_all v e in
     let r = loop-shaped ps bs p.0 (h 0) (h 1) p.1 in
     union-all-shaped (entry_at bs 0) (entry_at bs 1) (length r.0) p.0 v r.2.1 r.1 r.3 p.2
-form-shaped V vals gs tl Form.sum ps bs l h v e =
+form-shaped V vals gs tl vf Form.sum ps bs l h v e =
     let p = then-is (loop_values ps) sum_of v e in
     let r = loop-shaped ps bs p.0 (h 0) (h 1) p.1 in
     sum-shaped (entry_at bs 0) (entry_at bs 1) r.0 p.0 v r.2 r.1 r.3 p.2
-form-shaped V vals gs tl (Form.tab rank) ps bs l h v e =
+form-shaped V vals gs tl vf (Form.tab rank) ps bs l h v e =
     let a = then-is (bounds_value rank ps) (λ ds. each (λ at. worth ps rank (push_index at [])) (indices ds) >>= array_of ds) v e in
     let b = then-is (each (λ at. worth ps rank (push_index at [])) (indices a.0)) (array_of a.0) v a.2 in
     let n = then-is (each here (take rank ps)) (each as_natural) a.0 a.1 in
@@ -169,6 +178,6 @@ form-shaped V vals gs tl (Form.tab rank) ps bs l h v e =
       subst (Every (HasShape (entry_at bs rank))) (sym (list_of-data_of b.0))
           (each-values (λ at. worth ps rank (push_index at [])) (λ at. (w : Datum) → worth ps rank (push_index at []) ≡ Some w → HasShape (entry_at bs rank) w) (HasShape (entry_at bs rank)) (λ at w u i. u w i) (indices a.0) b.0 cells b.1),
     )
-form-shaped V vals gs tl (Form.strict s) ps bs l h v e =
+form-shaped V vals gs tl vf (Form.strict s) ps bs l h v e =
     let a = then-is (each here ps) (strict_value s) v e in
     strict-shaped s bs a.0 v (here-shaped ps bs a.0 l (λ i w k. (h i).0 w k) a.1) a.2
