@@ -1,18 +1,16 @@
 -- What told files settle of a readval: what is asked for has one fault at most, the same in every run, and none where it can be read.
-use Rattle.std.proofs.Common.{ℕ, ◌≡◌, ◌≤◌, ◌<◌, List, length, Bool, Option, Some, None, option_map, Result, Ok, Err, refl, sym, ap, ◌∙◌, subst, arith}
-use Rattle.std.specs.Option.{ForSome}
+use Rattle.std.proofs.Common.{ℕ, ◌≡◌, ◌≤◌, List, length, Bool, Option, Some, None, option_map, Result, Ok, Err, refl, sym, ap, ◌∙◌, subst, arith}
 use Rattle.std.specs.Str.{IsUtf8}
 use Rattle.std.proofs.lemmas.Str.{is_utf8-from_IsUtf8}
 use Rattle.std.specs.Prelude.{if◌then◌else◌}
 use Rattle.aql_outside.specs.Contents.{Content}
-use Rattle.aql_value.specs.Datum.{Datum}
 use Rattle.aql_syntax.specs.Script.{Earlier}
 use Rattle.aql_syntax.specs.Tree.{Declaration}
 use Rattle.aql_syntax.specs.declared.ast.Kind.{Kind}
 use Rattle.aql_csv.specs.declared.fault.CsvFault.{CsvFault}
 use Rattle.cdf_header.specs.declared.fault.CdfFault.{CdfFault}
-use Rattle.aql_session.specs.Asked.{Asked, hyperslab, table, cells}
-use Rattle.aql_session.specs.Reading.{file_in, in_table, read_fault, read_table}
+use Rattle.aql_session.specs.Asked.{Asked, hyperslab, table}
+use Rattle.aql_session.specs.Reading.{file_in, read_fault, read_table}
 use Rattle.aql_session.specs.Step.{HasFileFault, HasTableFault, IsAffordable, IsAnswerable, IsCause, IsReadable, PassesBudget, asks}
 use Rattle.aql_session.specs.declared.answer.StepFault.{StepFault}
 use Rattle.aql_session.specs.declared.answer.StepFault.TheVariants as faults
