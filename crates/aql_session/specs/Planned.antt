@@ -1,5 +1,5 @@
 -- The term of a query, its plan, what is moved in it, and which of them was evaluated.
-use Rattle.std.specs.Prelude.{◌≡◌, ℕ, ◌<◌, Bool, List, [], Option, Some}
+use Rattle.std.specs.Prelude.{◌≡◌, ℕ, ◌<◌, Bool, [], Option, Some}
 use Rattle.std.specs.Global.{Box}
 use Rattle.std.specs.Option.{ForSome}
 use Rattle.aql_value.specs.Valid.{IsValue}

@@ -1,4 +1,4 @@
-use Rattle.std.proofs.Common.{[], Some, None, refl, sym, subst}
+use Rattle.std.proofs.Common.{[], Some, sym, subst}
 use Rattle.nrca_encoded.specs.Graphs.{IsGraph}
 use Rattle.nrca_term.specs.Meaning.{cden}
 use Rattle.nrca_term.specs.View.{term_of}

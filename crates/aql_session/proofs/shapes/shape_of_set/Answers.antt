@@ -1,4 +1,4 @@
-use Rattle.std.proofs.Common.{◌≡◌, length, refl, ap, sym, subst, ◌∙◌, arith}
+use Rattle.std.proofs.Common.{length, refl, ap, sym, subst, ◌∙◌, arith}
 use Rattle.aql_value.specs.Datum.{data_of, list_of, set}
 use Rattle.aql_value.specs.Laws.Datum.{list_of-data_of}
 use Rattle.nrca_ranges.specs.declared.interval.Interval.{Interval}
