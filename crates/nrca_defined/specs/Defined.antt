@@ -1,5 +1,5 @@
 -- Terms that have a value at all values that a place allows.
-use Rattle.std.proofs.Common.{List, Option}
+use Rattle.std.proofs.Common.{List}
 use Rattle.aql_value.specs.Datum.{Datum}
 use Rattle.aql_ty.specs.Types.{Ty}
 use Rattle.aql_ty.specs.ValueTypes.{HaveTypes}

@@ -8,10 +8,10 @@ use Rattle.nrca_term.specs.Facts.{Context}
 use Rattle.nrca_term.specs.Firm.{firm}
 use Rattle.nrca_term.specs.Rules.{LoopOf}
 use Rattle.nrca_ranges.specs.declared.context.Ctx.{Ctx}
-use Rattle.nrca_ranges.specs.Bounds.{Bounds}
+use Rattle.nrca_ranges.specs.Bounds.{Ranges}
 use Rattle.nrca_ranges.specs.Context.{context_of}
 use Rattle.nrca_ranges.specs.Entered.{is_shaped}
-use Rattle.nrca_ranges.specs.Shapes.{known_shapes}
+use Rattle.nrca_ranges.specs.Shapes.{ranges_of}
 use Rattle.nrca_defined.specs.Defined.{IsDefinedAt}
 use Rattle.nrca_motion.specs.declared.moves.MoveRule.{MoveRule}
 use Rattle.nrca_motion.specs.declared.moves.MoveRule.TheVariants.{M1, M2, M3, M4}
@@ -61,42 +61,42 @@ FitsAt M3 i t = TabBody (form_of t) i × ((a b : Term) × LetBelow t i a b)
 FitsAt M4 i t = IsStrictLet t i
 
 -- A move may be made at a node: it is a left side, and what has to be defined is sure to have a value at the place.
-pub record MayMove (gs : List (Option Bounds)) (c : Context) (t : Term) (f : Fit) : Type 0 where
+pub record MayMove (gs : Ranges) (c : Context) (t : Term) (f : Fit) : Type 0 where
   pub fits : FitsAt f.rule f.part t
   pub defined : (r : Term) (needs : List Term) → MoveRedex f.rule t r needs → Every (IsDefinedAt gs c) needs
 
 -- The rule does not fit, or one of the terms that have to be defined is not firm.
-unfoldable pub IsRefused : List (Option Bounds) → Context → MoveRule → Term → Type 0
-IsRefused gs c R t = (r : Term) (needs : List Term) → MoveRedex R t r needs → Every (λ x. firm (is_shaped gs) c x ≡ true) needs → ⊥
+unfoldable pub IsRefused : Ranges → Context → MoveRule → Term → Type 0
+IsRefused gs c R t = (r : Term) (needs : List Term) → MoveRedex R t r needs → Every (λ x. firm (is_shaped gs.positions) c x ≡ true) needs → ⊥
 
 -- Of a term under `count` further variables: it uses none of them, and outside of them it is sure to have a value; or it uses one, or is
 -- not firm there.
-abbrev pub TellsOutside : List (Option Bounds) → Context → ℕ → Term → Bool → Type 0
+abbrev pub TellsOutside : Ranges → Context → ℕ → Term → Bool → Type 0
 TellsOutside gs c count t true = ((u : Term) × (t ≡ shift_term 0 count u)) × ((u : Term) → t ≡ shift_term 0 count u → IsDefinedAt gs c u)
-TellsOutside gs c count t false = (u : Term) → t ≡ shift_term 0 count u → firm (is_shaped gs) c u ≡ true → ⊥
+TellsOutside gs c count t false = (u : Term) → t ≡ shift_term 0 count u → firm (is_shaped gs.positions) c u ≡ true → ⊥
 
 -- the same in a context
 abbrev pub TellsOut : Ctx → ℕ → Term → Bool → Type 0
-TellsOut c count t b = TellsOutside (known_shapes c) (context_of c) count t b
+TellsOut c count t b = TellsOutside (ranges_of c) (context_of c) count t b
 
 -- of the operand of a loop, its first part
 abbrev pub TellsOperand : Ctx → Term → Bool → Type 0
-TellsOperand c t true = (e : Term) → child_of (parts_of t) 0 ≡ Some e → IsDefinedAt (known_shapes c) (context_of c) e
-TellsOperand c t false = (e : Term) → child_of (parts_of t) 0 ≡ Some e → firm (is_shaped (known_shapes c)) (context_of c) e ≡ true → ⊥
+TellsOperand c t true = (e : Term) → child_of (parts_of t) 0 ≡ Some e → IsDefinedAt (ranges_of c) (context_of c) e
+TellsOperand c t false = (e : Term) → child_of (parts_of t) 0 ≡ Some e → firm (is_shaped (ranges_of c).positions) (context_of c) e ≡ true → ⊥
 
 -- whether the move of the rule may be made
 abbrev pub TellsMove : Ctx → Term → Fit → Bool → Type 0
-TellsMove c t f true = MayMove (known_shapes c) (context_of c) t f
-TellsMove c t f false = IsRefused (known_shapes c) (context_of c) f.rule t
+TellsMove c t f true = MayMove (ranges_of c) (context_of c) t f
+TellsMove c t f false = IsRefused (ranges_of c) (context_of c) f.rule t
 
 -- no move is left at a place, by the positions that have a shape
-abbrev pub IsQuietAt : List (Option Bounds) → Context → Term → Type 0
-IsQuietAt gs c t = IsStillAt (is_shaped gs) c t
+abbrev pub IsQuietAt : Ranges → Context → Term → Type 0
+IsQuietAt gs c t = IsStillAt (is_shaped gs.positions) c t
 
 -- which move may be made at a node
 abbrev pub TellsNode : Ctx → Term → Option Fit → Type 0
-TellsNode c t (Some f) = MayMove (known_shapes c) (context_of c) t f
-TellsNode c t None = IsQuietAt (known_shapes c) (context_of c) t
+TellsNode c t (Some f) = MayMove (ranges_of c) (context_of c) t f
+TellsNode c t None = IsQuietAt (ranges_of c) (context_of c) t
 
 -- the right side that is made
 abbrev pub IsMade : Fit → Term → Term → Type 0

@@ -2,6 +2,7 @@
 
 ghost use Rattle.std.specs.Prelude.{◌≡◌, ◌≤◌, IfOk, OnOk, drop, length};
 ghost use Rattle.nrca_term.specs.View.{term_of};
+ghost use Rattle.nrca_ranges.specs.Shapes.{ranges_of};
 ghost use Rattle.nrca_ranges.specs.Context.{context_of, IsSmallTerm};
 ghost use Rattle.nrca_motion.specs.Found.{IsBehind, IsQuiet, IsAbove, GoesOnward, TellsSite, next};
 
@@ -32,6 +33,7 @@ pub fn find(
     requires inside { IsSmallTerm ctx.old.depth (term_of term.now) }
     requires behind { IsBehind ctx.old (term_of term.now) (drop at from.now) }
     ensures back { OnOk result (context_of ctx.new ≡ context_of ctx.old) }
+    ensures ranges { OnOk result (ranges_of ctx.new ≡ ranges_of ctx.old) }
     ensures globals { ctx.new.globals ≡ ctx.old.globals }
     ensures found { IfOk result (TellsSite ctx.old (term_of term.now)) }
 {
@@ -61,6 +63,7 @@ fn find_in_parts(
     requires behind { IsBehind ctx.old (term_of term.now) (drop at from.now) }
     requires here { IsQuiet ctx.old (term_of term.now) }
     ensures back { OnOk result (context_of ctx.new ≡ context_of ctx.old) }
+    ensures ranges { OnOk result (ranges_of ctx.new ≡ ranges_of ctx.old) }
     ensures globals { ctx.new.globals ≡ ctx.old.globals }
     ensures found { IfOk result (TellsSite ctx.old (term_of term.now)) }
 {

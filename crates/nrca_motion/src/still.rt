@@ -135,6 +135,7 @@ fn parts_of_end(progress: Progress) -> (Moved, GlobalShapes)
         facts: _,
         depth: _,
         globals,
+        variables: _,
     } = ctx;
     let moves = Moves(moves);
     (Moved { term, moves }, globals)

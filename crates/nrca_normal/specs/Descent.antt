@@ -9,9 +9,10 @@ use Rattle.nrca_term.specs.Places.{put_at}
 use Rattle.nrca_term.specs.Facts.{enter_facts, no_facts}
 use Rattle.nrca_term.specs.Measure.{left_of}
 use Rattle.nrca_ranges.specs.declared.context.Mark.{Mark}
-use Rattle.nrca_ranges.specs.Bounds.{Bounds}
-use Rattle.nrca_ranges.specs.Context.{context_of, at_mark}
-use Rattle.nrca_ranges.specs.Shapes.{known_shapes}
+use Rattle.nrca_ranges.specs.Bounds.{Bounds, at_root}
+use Rattle.nrca_ranges.specs.Context.{context_of, at_mark, ranges_at_mark}
+use Rattle.nrca_ranges.specs.Shapes.{ranges_of}
+use Rattle.nrca_ranges.specs.Transfer.{enter_ranges}
 use Rattle.nrca_normal.specs.declared.descent.Descent.{Descent}
 use Rattle.nrca_normal.specs.declared.firing.Firing.{Firing}
 use Rattle.nrca_normal.specs.Conditions.{MayFire, IsQuietAt}
@@ -33,15 +34,15 @@ IsTypedThere d t = IsTypedAmong d.ctx.depth t
 
 -- a rule may be applied to the term that stands there
 abbrev pub MayFireThere : Descent → Term → Firing → Type 0
-MayFireThere d t f = MayFire (known_shapes d.ctx) (context_of d.ctx) t f
+MayFireThere d t f = MayFire (ranges_of d.ctx) (context_of d.ctx) t f
 
 -- no rule may be applied to it
 abbrev pub IsQuietThere : Descent → Term → Type 0
-IsQuietThere d t = IsQuietAt (known_shapes d.ctx) (context_of d.ctx) t
+IsQuietThere d t = IsQuietAt (ranges_of d.ctx) (context_of d.ctx) t
 
 -- the root of a closed term, before any rewriting
 pub record IsAtRoot (gs : List (Option Bounds)) (d : Descent) : Type 0 where
-  pub globals : known_shapes d.ctx ≡ gs
+  pub globals : ranges_of d.ctx ≡ at_root gs
   pub context : context_of d.ctx ≡ no_facts
   pub way : d.way.items ≡ []
   pub steps : d.steps.items ≡ []
@@ -58,26 +59,26 @@ AreSome false steps = steps ≡ []
 -- The descent is where it was, the steps that were recorded lead from the first term that stands there to the second, and the answer
 -- is whether there are any.
 pub record HasRewritten (old : Descent) (t : Term) (new : Descent) (u : Term) (changed : Bool) : Type 0 where
-  pub globals : known_shapes new.ctx ≡ known_shapes old.ctx
+  pub globals : ranges_of new.ctx ≡ ranges_of old.ctx
   pub context : context_of new.ctx ≡ context_of old.ctx
   pub way : new.way.items ≡ old.way.items
   pub steps : List Step
-  pub leads : Leads (known_shapes old.ctx) (context_of old.ctx) t steps u
+  pub leads : Leads (ranges_of old.ctx) (context_of old.ctx) t steps u
   pub recorded : new.steps.items ≡ old.steps.items ++ map (behind old.way.items) steps
   pub some : AreSome changed steps
 
 -- the term was rewritten until no rule may be applied at any of its places
 abbrev pub HasSettled : Descent → Term → Descent → Term → Bool → Type 0
-HasSettled old t new u changed = HasRewritten old t new u changed × QuietEverywhere (known_shapes old.ctx) (context_of old.ctx) u
+HasSettled old t new u changed = HasRewritten old t new u changed × QuietEverywhere (ranges_of old.ctx) (context_of old.ctx) u
 
 -- so was its part i, and the term is as before but for that
 abbrev pub HasSettledPart : Descent → Term → ℕ → Descent → Term → Bool → Type 0
 HasSettledPart old t i new u changed =
-    HasRewritten old t new u changed × ((q : Term) × (u ≡ put_at t (i ∷ []) q) × QuietEverywhere (known_shapes old.ctx) (enter_facts (context_of old.ctx) t i) q)
+    HasRewritten old t new u changed × ((q : Term) × (u ≡ put_at t (i ∷ []) q) × QuietEverywhere (ranges_of old.ctx) (enter_facts (context_of old.ctx) t i) q)
 
 -- so were its first n parts, and no rule may be applied at the node
 abbrev pub HasSettledParts : Descent → Term → ℕ → Descent → Term → Bool → Type 0
-HasSettledParts old t n new u changed = HasRewritten old t new u changed × IsQuietThere old u × QuietParts (known_shapes old.ctx) (context_of old.ctx) u n
+HasSettledParts old t n new u changed = HasRewritten old t new u changed × IsQuietThere old u × QuietParts (ranges_of old.ctx) (context_of old.ctx) u n
 
 -- The node was rewritten until no rule may be applied there. The answer is whether it was, and how many of its first parts are settled.
 abbrev pub HasSettledNode : Descent → Term → Descent → Term → Bool × ℕ → Type 0
@@ -85,7 +86,7 @@ HasSettledNode old t new u r = HasSettledParts old t r.1 new u r.0
 
 -- so many of the first parts were settled, whether or not something was rewritten
 abbrev pub HasSettledFirst : Descent → Term → Descent → Term → ℕ → Type 0
-HasSettledFirst old t new u n = (changed : Bool) × HasRewritten old t new u changed × QuietParts (known_shapes old.ctx) (context_of old.ctx) u n
+HasSettledFirst old t new u n = (changed : Bool) × HasRewritten old t new u changed × QuietParts (ranges_of old.ctx) (context_of old.ctx) u n
 
 -- where nothing was rewritten below the node, no rule may be applied there
 abbrev pub IsQuietIfUnchanged : Bool → Descent → Term → Type 0
@@ -98,15 +99,16 @@ GoesOn i below old t new u next = ((below ≡ true) × HasSettledParts old t nex
 
 -- the descent has gone down to part i of the term; the mark gives back the context
 pub record HasEntered (old : Descent) (t : Term) (i : ℕ) (new : Descent) (m : Mark) : Type 0 where
-  pub globals : known_shapes new.ctx ≡ known_shapes old.ctx
+  pub globals : ranges_of new.ctx ≡ enter_ranges (ranges_of old.ctx) (context_of old.ctx) t i
   pub context : context_of new.ctx ≡ enter_facts (context_of old.ctx) t i
   pub back : at_mark m (context_of new.ctx) ≡ context_of old.ctx
+  pub values : ranges_at_mark m (ranges_of new.ctx) ≡ ranges_of old.ctx
   pub way : new.way.items ≡ old.way.items ++ i ∷ []
   pub steps : new.steps.items ≡ old.steps.items
 
 -- the descent has come back to the node, with the context of the mark
 pub record HasLeft (old : Descent) (m : Mark) (new : Descent) : Type 0 where
-  pub globals : known_shapes new.ctx ≡ known_shapes old.ctx
+  pub globals : ranges_of new.ctx ≡ ranges_at_mark m (ranges_of old.ctx)
   pub context : context_of new.ctx ≡ at_mark m (context_of old.ctx)
   pub way : new.way.items ≡ take (length old.way.items - 1) old.way.items
   pub steps : new.steps.items ≡ old.steps.items

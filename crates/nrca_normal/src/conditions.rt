@@ -2,6 +2,7 @@
 
 ghost use Rattle.std.specs.Prelude.{◌≡◌, ◌+◌, ◌<◌, ◌^◌, [], ◌∷◌, IfOk, OnOk};
 ghost use Rattle.nrca_term.specs.View.{term_of};
+ghost use Rattle.nrca_ranges.specs.Shapes.{ranges_of};
 ghost use Rattle.nrca_ranges.specs.Context.{context_of, IsSmallTerm};
 ghost use Rattle.nrca_normal.specs.Ways.{HasRoom, ways_in, other_ways};
 ghost use Rattle.nrca_normal.specs.Conditions.{TellsWay, TellsWays};
@@ -23,6 +24,7 @@ pub(crate) fn all_defined(
     requires inside { IsSmallTerm ctx.old.depth (term_of term.now) }
     requires room { HasRoom ways }
     ensures back { OnOk result (context_of ctx.new ≡ context_of ctx.old) }
+    ensures ranges { OnOk result (ranges_of ctx.new ≡ ranges_of ctx.old) }
     ensures globals { ctx.new.globals ≡ ctx.old.globals }
     ensures told { IfOk result (TellsWays ctx.old (term_of term.now) (ways_in ways)) }
 {
@@ -52,6 +54,7 @@ pub(crate) fn part_defined(
 ) -> Result<bool, Memory>
     requires inside { IsSmallTerm ctx.old.depth (term_of term.now) }
     ensures back { OnOk result (context_of ctx.new ≡ context_of ctx.old) }
+    ensures ranges { OnOk result (ranges_of ctx.new ≡ ranges_of ctx.old) }
     ensures globals { ctx.new.globals ≡ ctx.old.globals }
     ensures told { IfOk result (TellsWay ctx.old (term_of term.now) (i ∷ [])) }
 {
@@ -70,6 +73,7 @@ pub(crate) fn part_defined(
 fn inner_defined(alloc: Global, term: &Core, i: u64, ctx: &mut Ctx) -> Result<bool, Memory>
     requires inside { IsSmallTerm ctx.old.depth (term_of term.now) }
     ensures back { OnOk result (context_of ctx.new ≡ context_of ctx.old) }
+    ensures ranges { OnOk result (ranges_of ctx.new ≡ ranges_of ctx.old) }
     ensures globals { ctx.new.globals ≡ ctx.old.globals }
     ensures told { IfOk result (TellsWay ctx.old (term_of term.now) (0 ∷ i ∷ [])) }
 {
@@ -96,6 +100,7 @@ fn others_defined(
     requires inside { IsSmallTerm ctx.old.depth (term_of term.now) }
     requires room { from + count < 2 ^ 64 }
     ensures back { OnOk result (context_of ctx.new ≡ context_of ctx.old) }
+    ensures ranges { OnOk result (ranges_of ctx.new ≡ ranges_of ctx.old) }
     ensures globals { ctx.new.globals ≡ ctx.old.globals }
     ensures told { IfOk result (TellsWays ctx.old (term_of term.now) (other_ways from but count)) }
 {

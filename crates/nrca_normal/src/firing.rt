@@ -6,6 +6,7 @@ ghost use Rattle.nrca_term.specs.Normal.{is_check};
 ghost use Rattle.nrca_term.specs.Rules.{IsComparison};
 ghost use Rattle.nrca_term.specs.declared.trace.Rule.TheVariants.{C4};
 ghost use Rattle.nrca_rule_laws.specs.Fitting.{RuleFits, IsRight, IsSmallPart};
+ghost use Rattle.nrca_ranges.specs.Shapes.{ranges_of};
 ghost use Rattle.nrca_ranges.specs.Context.{context_of, IsSmallTerm};
 ghost use Rattle.nrca_normal.specs.Conditions.{IsApplicable, IsMade, TellsRule, TellsChecks, TellsNode, IsUnknownAt, name_of};
 
@@ -54,6 +55,7 @@ impl Firing {
 pub(crate) fn rule_at(alloc: Global, term: &Core, ctx: &mut Ctx) -> Result<Option<Firing>, Memory>
     requires inside { IsSmallTerm ctx.old.depth (term_of term.now) }
     ensures back { OnOk result (context_of ctx.new ≡ context_of ctx.old) }
+    ensures ranges { OnOk result (ranges_of ctx.new ≡ ranges_of ctx.old) }
     ensures globals { ctx.new.globals ≡ ctx.old.globals }
     ensures told { IfOk result (TellsNode ctx.old (term_of term.now)) }
 {
@@ -72,6 +74,7 @@ fn fires(alloc: Global, rule: Rule, term: &Core, ctx: &mut Ctx) -> Result<bool, 
     requires inside { IsSmallTerm ctx.old.depth (term_of term.now) }
     requires plain { is_check rule ≡ false }
     ensures back { OnOk result (context_of ctx.new ≡ context_of ctx.old) }
+    ensures ranges { OnOk result (ranges_of ctx.new ≡ ranges_of ctx.old) }
     ensures globals { ctx.new.globals ≡ ctx.old.globals }
     ensures told { IfOk result (TellsRule ctx.old rule (term_of term.now)) }
 {
@@ -87,6 +90,7 @@ fn fires(alloc: Global, rule: Rule, term: &Core, ctx: &mut Ctx) -> Result<bool, 
 fn check_at(alloc: Global, term: &Core, ctx: &mut Ctx) -> Result<Option<Firing>, Memory>
     requires inside { IsSmallTerm ctx.old.depth (term_of term.now) }
     ensures back { OnOk result (context_of ctx.new ≡ context_of ctx.old) }
+    ensures ranges { OnOk result (ranges_of ctx.new ≡ ranges_of ctx.old) }
     ensures globals { ctx.new.globals ≡ ctx.old.globals }
     ensures told { IfOk result (TellsChecks ctx.old (term_of term.now)) }
 {
@@ -110,6 +114,7 @@ fn decided_at(alloc: Global, term: &Core, ctx: &mut Ctx) -> Result<Option<Firing
     requires compares { IsComparison (term_of term.now) }
     requires unknown { IsUnknownAt ctx.old (term_of term.now) }
     ensures back { OnOk result (context_of ctx.new ≡ context_of ctx.old) }
+    ensures ranges { OnOk result (ranges_of ctx.new ≡ ranges_of ctx.old) }
     ensures globals { ctx.new.globals ≡ ctx.old.globals }
     ensures told { IfOk result (TellsChecks ctx.old (term_of term.now)) }
 {

@@ -111,6 +111,7 @@ fn end(run: Descent) -> (Trace, GlobalShapes)
         facts: _,
         depth: _,
         globals,
+        variables: _,
     } = ctx;
     (Trace(steps), globals)
 }

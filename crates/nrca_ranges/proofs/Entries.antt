@@ -1,7 +1,7 @@
 -- What is known of variables, entry by entry.
-use Rattle.std.proofs.Common.{◌≡◌, ℕ, zero, suc, ◌+◌, ◌-◌, ◌<◌, ◌≤◌, Bool, true, false, nat_lt, List, [], ◌∷◌, ◌++◌, length, map, take, reverse, get_or, refl, sym, ap, subst, ◌∙◌, arith, inl, inr, append_assoc}
-use Rattle.std.proofs.lemmas.Bool.{cases_Bool, ltb-false}
-use Rattle.std.proofs.lemmas.List.{take_more, map-append, take-map, take_at, length-map, length-append, length-reverse, reverse-append, get_or-reverse}
+use Rattle.std.proofs.Common.{◌≡◌, ℕ, zero, suc, ◌+◌, ◌-◌, ◌<◌, ◌≤◌, nat_lt, List, [], ◌∷◌, ◌++◌, length, map, take, reverse, get_or, refl, sym, ap, ◌∙◌, arith, inl, inr, append_assoc}
+use Rattle.std.proofs.lemmas.Bool.{cases_Bool}
+use Rattle.std.proofs.lemmas.List.{take_more, map-append, take-map, take_at, length-map, length-reverse, reverse-append, get_or-reverse}
 use Rattle.nrca_term.specs.Term.{Form, form_binders}
 use Rattle.nrca_ranges.specs.declared.shape.Shape.{Shape}
 use Rattle.nrca_ranges.specs.declared.walk.Told.{Told}

@@ -1,5 +1,5 @@
 -- Terms that are certain to have a value: the firm ones, and those of which the shapes of the parts tell it.
-use Rattle.std.proofs.Common.{ℕ, suc, ◌-◌, Bool, true, false, ◌&&◌, ◌||◌, nat_eq, List, [], ◌∷◌, length, Option, if◌then◌else◌}
+use Rattle.std.proofs.Common.{ℕ, suc, ◌-◌, Bool, true, false, ◌&&◌, ◌||◌, nat_eq, List, [], ◌∷◌, length, if◌then◌else◌}
 use Rattle.aql_value.specs.Indices.{product}
 use Rattle.aql_value.specs.Strict.{Strict}
 use Rattle.nrca_term.specs.Term.{Term, Parts, node, none, part, Form}

@@ -5,6 +5,7 @@ pub mod Forms
 pub mod Intervals
 pub mod Ordered
 pub mod Own
+pub mod Positions
 pub mod Replaced
 pub mod Sound
 pub mod Strict

@@ -1,5 +1,5 @@
 -- The walk over a term: the facts of a place inside of it, and what is gathered of the parts of a node.
-use Rattle.std.proofs.Common.{◌≡◌, ℕ, zero, suc, ◌≤◌, ◌++◌, Bool, true, false, ◌&&◌, ◌||◌, List, [], ◌∷◌, length, map, take, drop, Option, Some, None, if◌then◌else◌}
+use Rattle.std.proofs.Common.{◌≡◌, ℕ, suc, ◌≤◌, ◌++◌, Bool, true, false, ◌&&◌, ◌||◌, List, [], ◌∷◌, length, map, take, drop, Option, Some, None, if◌then◌else◌}
 use Rattle.aql_value.specs.declared.ops.ArithOp.{ArithOp}
 use Rattle.aql_value.specs.Strict.{Strict}
 use Rattle.nrca_term.specs.declared.term.Core.{Core}
@@ -82,10 +82,6 @@ pub record IsTold (gs : Ranges) (c : Context) (t : Term) (x : Told) : Type 0 whe
 -- the same in a context
 abbrev pub IsToldIn : Ctx → Term → Told → Type 0
 IsToldIn c t x = IsTold (ranges_of c) (context_of c) t x
-
--- the same of a term of the code inside of one that stands at the context, with these facts and shapes of its own
-abbrev pub IsToldWith : Ctx → List Fact → List Shape → ℕ → Core → Told → Type 0
-IsToldWith c own ss d t x = IsTold (ranges_below c ss) (facts_below c own d) (term_of t) x
 
 -- what is told of a term, as data: whether it is firm, whether it is certain to have a value, its span, its shape
 pub record Summary : Type 0 where
@@ -188,10 +184,6 @@ pub record AreTold (gs : Ranges) (c : Context) (t : Term) (x : Gathered) (ss : L
   pub firm : x.firm ≡ parts_true firm_in gs c t
   pub certain : x.certain ≡ parts_true certainty.certain gs c t
   pub shapes : bounds_each ss ≡ transfer.parts_bounds gs c t
-
--- the same inside of a term that stands at the context
-abbrev pub AreToldWith : Ctx → List Fact → List Shape → ℕ → Core → Gathered → List Shape → Type 0
-AreToldWith c own vs d t x ss = AreTold (ranges_below c vs) (facts_below c own d) (term_of t) x ss
 
 -- the parts gathered: whether all, or else one of them, are so
 pub record IsGathered (all : Bool) (ss : List Summary) (x : Gathered) : Type 0 where

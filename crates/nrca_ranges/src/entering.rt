@@ -38,7 +38,8 @@ impl Ctx {
         ensures entered { OnOk result (IsEntered self.old parent.now part self.new) }
         ensures ranges { OnOk result (EntersRanges self.old parent.now part self.new) }
         ensures back { IfOk result (λ m. at_mark m (context_of self.new) ≡ context_of self.old) }
-        ensures values { IfOk result (λ m. ranges_at_mark m (ranges_of self.new) ≡ ranges_of self.old) }
+        ensures values { IfOk result
+            (λ m. ranges_at_mark m (ranges_of self.new) ≡ ranges_of self.old) }
         ensures globals { self.new.globals ≡ self.old.globals }
     {
         let mark = Mark {
@@ -73,7 +74,8 @@ fn add_own(
     part: u64,
     told: Vec<Told>,
 ) -> Result<(), Memory>
-    ensures { OnOk result (AddsBounds shapes.old.items (entered_bounds parent.now part told.items) shapes.new.items) }
+    ensures { OnOk result
+        (AddsBounds shapes.old.items (entered_bounds parent.now part told.items) shapes.new.items) }
 {
     add_variables(alloc, shapes, parent.form(), part, told.as_slice())
 }

@@ -26,7 +26,8 @@ pub(crate) fn add_variables<'a>(
     part: u64,
     told: &[Told],
 ) -> Result<(), Memory>
-    ensures { OnOk result (AddsBounds shapes.old.items (own_told form.entry part told.now) shapes.new.items) }
+    ensures { OnOk result
+        (AddsBounds shapes.old.items (own_told form.entry part told.now) shapes.new.items) }
 {
     match form {
         Form::Bind => {
@@ -74,7 +75,8 @@ fn add_shape(shapes: &mut Vec<Shape>, shape: Shape) -> Result<(), Memory>
 
 // The shapes of the indices below the first numbers.
 fn add_indices(shapes: &mut Vec<Shape>, rank: u64, told: &[Told]) -> Result<(), Memory>
-    ensures { OnOk result (AddsBounds shapes.old.items (indices_told rank told.now) shapes.new.items) }
+    ensures { OnOk result
+        (AddsBounds shapes.old.items (indices_told rank told.now) shapes.new.items) }
 {
     let end = rank.min(told.len() as u64) as usize;
     add_each(shapes, &told[..end])
@@ -203,7 +205,8 @@ pub(crate) fn variable_shape(
     own: &[Shape],
     i: u64,
 ) -> Result<Shape, Memory>
-    ensures { IfOk result (λ s. bounds_of s ≡ variable_bounds (ranges_below ctx.now own.now).variables i) }
+    ensures { IfOk result
+        (λ s. bounds_of s ≡ variable_bounds (ranges_below ctx.now own.now).variables i) }
 {
     let inner = own.len() as u64;
     if i < inner {

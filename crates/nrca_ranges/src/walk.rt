@@ -11,7 +11,7 @@ ghost use Rattle.nrca_ranges.specs.Shapes.{bounds_of, bounds_each, shapes_in};
 ghost use Rattle.nrca_ranges.specs.Spans.{span_of, IsOrdered};
 ghost use Rattle.nrca_ranges.specs.Transfer.{by_span};
 ghost use Rattle.nrca_ranges.specs.Walk.{span_with, span_below, IsOther, gather_flags};
-ghost use Rattle.nrca_ranges.specs.Walk.{IsArithTold, IsToldWith, AreToldWith, IsGathered};
+ghost use Rattle.nrca_ranges.specs.Walk.{IsArithTold, IsGathered};
 ghost use Rattle.nrca_ranges.specs.Walk.{told_each, summaries_below, IsSummary};
 ghost use Rattle.nrca_ranges.specs.Walk.{KeepsFacts, TellsOf, TellsOfPart, HoldsParts, HoldsFirst, ClosesNode};
 
@@ -222,37 +222,6 @@ fn node_span(term: &Core, ctx: &Ctx, own: &[Fact], depth: u64) -> Option<Interva
     }
 }
 
-// A node that is not arithmetic, from what is gathered of its parts.
-fn shaped_told(
-    alloc: Global,
-    term: &Core,
-    ctx: &Ctx,
-    own: &[Fact],
-    variables: &[Shape],
-    depth: u64,
-    found: Gathered,
-    shapes: Vec<Shape>,
-) -> Result<Told, Memory>
-    requires other { IsOther (form_of (term_of term.now)) }
-    requires parts { AreToldWith ctx.now own.now variables.now depth term.now found shapes.items }
-    ensures { IfOk result (λ x. IsToldWith ctx.now own.now variables.now depth term.now x) }
-{
-    let form = term.form();
-    let span = node_span(term, ctx, own, depth);
-    let sure = form_sure(form, &ctx.globals);
-    let fits = form_certain(form, shapes.as_slice(), &ctx.globals);
-    let told = node_shape(alloc, form, shapes, ctx, variables)?;
-    let firm = both(sure, found.firm);
-    let certain = either(firm, both(fits, found.certain));
-    let shape = narrow_shape(span, told);
-    Ok(Told {
-        firm,
-        certain,
-        span,
-        shape,
-    })
-}
-
 // An arithmetic node, from its sides and the number that the second one is.
 fn arith_told(op: ArithOp, left: &Told, right: &Told, n: Option<u128>) -> Told
     requires left { IsOrdered left.now.span }
@@ -314,10 +283,22 @@ fn other_told(
         ≡ summaries_below ctx.now own.now variables.now depth term.now }
     ensures { IfOk result (λ x. IsSummary ctx.now own.now variables.now depth term.now x) }
 {
-    let found = gather_all(wants_all(term.form()), parts.as_slice());
+    let form = term.form();
+    let found = gather_all(wants_all(form), parts.as_slice());
     let shapes = take_shapes(alloc, parts)?;
-    let told = shaped_told(alloc, term, ctx, own, variables, depth, found, shapes)?;
-    Ok(told)
+    let span = node_span(term, ctx, own, depth);
+    let sure = form_sure(form, &ctx.globals);
+    let fits = form_certain(form, shapes.as_slice(), &ctx.globals);
+    let told = node_shape(alloc, form, shapes, ctx, variables)?;
+    let firm = both(sure, found.firm);
+    let certain = either(firm, both(fits, found.certain));
+    let shape = narrow_shape(span, told);
+    Ok(Told {
+        firm,
+        certain,
+        span,
+        shape,
+    })
 }
 
 // A node, from its parts.

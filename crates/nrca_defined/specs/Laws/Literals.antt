@@ -5,7 +5,6 @@ use Rattle.std.proofs.lemmas.List.{length-drop}
 use Rattle.aql_value.specs.Datum.{Datum, array, data_of}
 use Rattle.aql_value.specs.Indices.{product}
 use Rattle.aql_value.specs.Operations.{as_natural, array_of, literal_of}
-use Rattle.aql_value.specs.Partial.{each}
 use Rattle.aql_value.specs.Laws.Partial.{each-length}
 use Rattle.aql_ty.specs.Types.{Ty, natural, IsRank}
 use Rattle.aql_ty.specs.ValueTypes.{HaveTypes}

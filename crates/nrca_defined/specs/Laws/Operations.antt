@@ -2,7 +2,7 @@
 use Rattle.std.proofs.Common.{◌≡◌, ℕ, ◌≤◌, true, List, [], ◌∷◌, length, replicate, refl, sym, subst, ◌∙◌, arith}
 use Rattle.std.proofs.lemmas.Bool.{and_parts, eqb-true}
 use Rattle.aql_value.specs.declared.ops.ArithOp.{ArithOp}
-use Rattle.aql_value.specs.Datum.{Datum, data_of, list_of}
+use Rattle.aql_value.specs.Datum.{Datum}
 use Rattle.aql_value.specs.Laws.Set.{length_canon}
 use Rattle.aql_value.specs.Operations.{as_natural, only, get_of, arith_of, cell_of}
 use Rattle.aql_value.specs.Partial.{◌>>=◌, each}

@@ -1,5 +1,5 @@
 -- What is told of a node makes that a move may be made there, or that none is left.
-use Rattle.std.proofs.Common.{◌≡◌, ℕ, ◌+◌, ◌<◌, ◌≤◌, Bool, true, false, if◌then◌else◌, List, [], ◌∷◌, length, Option, Some, None, refl, sym, ap, subst, ◌∙◌, arith, inl, inr}
+use Rattle.std.proofs.Common.{◌≡◌, ℕ, ◌+◌, ◌<◌, ◌≤◌, Bool, true, false, if◌then◌else◌, List, [], ◌∷◌, length, Some, None, refl, sym, ap, subst, ◌∙◌, arith, inl, inr}
 use Rattle.std.proofs.lemmas.Bool.{cases_lt, le-ltb}
 use Rattle.std.proofs.lemmas.Option.{same_Some}
 use Rattle.aql_value.specs.Lists.{Every}
@@ -12,10 +12,10 @@ use Rattle.nrca_term.specs.Rules.{LoopOf}
 use Rattle.nrca_term.specs.Laws.Entering.{child-counted}
 use Rattle.nrca_term.specs.Laws.TypedForm.{top_var-closed}
 use Rattle.nrca_rule_laws.specs.Laws.Weights.{weight-shift}
-use Rattle.nrca_ranges.specs.Bounds.{Bounds}
+use Rattle.nrca_ranges.specs.Bounds.{Ranges}
 use Rattle.nrca_ranges.specs.declared.context.Ctx.{Ctx}
 use Rattle.nrca_ranges.specs.Context.{context_of, IsSmallTerm}
-use Rattle.nrca_ranges.specs.Shapes.{known_shapes}
+use Rattle.nrca_ranges.specs.Shapes.{ranges_of}
 use Rattle.nrca_ranges.specs.Entered.{is_shaped}
 use Rattle.nrca_ranges.specs.Laws.Entered.{inside-part}
 use Rattle.nrca_defined.specs.Defined.{IsDefinedAt}
@@ -67,8 +67,8 @@ pub room-small : (n : ℕ) (t : Term) → WellFormed t → IsSmallTerm n t → H
 room-small n t w h = omega (arith, h.1, top_var-closed n t w h.0)
 
 -- what is told of a term outside of variables
-pub tells-outside : (gs : List (Option Bounds)) (c : Context) (k : ℕ) (t u : Term) (b : Bool) → WellFormed t → t ≡ shift_term 0 k u →
-    (b ≡ true → IsDefinedAt gs c u) → (firm (is_shaped gs) c u ≡ true → b ≡ true) → TellsOutside gs c k t b
+pub tells-outside : (gs : Ranges) (c : Context) (k : ℕ) (t u : Term) (b : Bool) → WellFormed t → t ≡ shift_term 0 k u →
+    (b ≡ true → IsDefinedAt gs c u) → (firm (is_shaped gs.positions) c u ≡ true → b ≡ true) → TellsOutside gs c k t b
 tells-outside gs c k t u b w e s f = at b refl
   where
     same : (v : Term) → t ≡ shift_term 0 k v → u ≡ v
@@ -79,7 +79,7 @@ tells-outside gs c k t u b w e s f = at b refl
 
     at : (d : Bool) → b ≡ d → TellsOutside gs c k t d
     at true q = ((u, e), λ v g. subst (IsDefinedAt gs c) (same v g) (s q))
-    at false q = λ v g h. never (sym q ∙ f (ap (firm (is_shaped gs) c) (same v g) ∙ h))
+    at false q = λ v g h. never (sym q ∙ f (ap (firm (is_shaped gs.positions) c) (same v g) ∙ h))
 
 -- a node without a let in a strict part
 pub no-strict : (t : Term) (n : ℕ) → count (parts_of t) ≤ n → ((i : ℕ) → i < n → IsStrictLet t i → ⊥) → TellsStrict t None
@@ -227,14 +227,14 @@ goes-out M3 i t body first r needs h e g m = (m.1, let-first t body first m.1 m.
 goes-out M4 i t body first r needs h e g m = absurd h
 
 -- what goes out is firm where all that has to be defined is
-firm-out : (gs : List (Option Bounds)) (c : Context) (R : MoveRule) (t u : Term) (needs : List Term) → Needs R t u needs → Every (λ x. firm (is_shaped gs) c x ≡ true) needs → firm (is_shaped gs) c u ≡ true
-firm-out gs c M1 t u needs n h = (subst (Every (λ x. firm (is_shaped gs) c x ≡ true)) n.2 h).1.0
-firm-out gs c M2 t u needs n h = (subst (Every (λ x. firm (is_shaped gs) c x ≡ true)) n h).0
-firm-out gs c M3 t u needs n h = (subst (Every (λ x. firm (is_shaped gs) c x ≡ true)) n h).0
+firm-out : (gs : Ranges) (c : Context) (R : MoveRule) (t u : Term) (needs : List Term) → Needs R t u needs → Every (λ x. firm (is_shaped gs.positions) c x ≡ true) needs → firm (is_shaped gs.positions) c u ≡ true
+firm-out gs c M1 t u needs n h = (subst (Every (λ x. firm (is_shaped gs.positions) c x ≡ true)) n.2 h).1.0
+firm-out gs c M2 t u needs n h = (subst (Every (λ x. firm (is_shaped gs.positions) c x ≡ true)) n h).0
+firm-out gs c M3 t u needs n h = (subst (Every (λ x. firm (is_shaped gs.positions) c x ≡ true)) n h).0
 firm-out gs c M4 t u needs n h = absurd n
 
 -- so a rule is refused whose term does not go out
-pub refused-first : (gs : List (Option Bounds)) (c : Context) (R : MoveRule) (i k : ℕ) (t body first : Term) → HasForm R i t → child_of (parts_of t) i ≡ Some body → child_of (parts_of body) 0 ≡ Some first →
+pub refused-first : (gs : Ranges) (c : Context) (R : MoveRule) (i k : ℕ) (t body first : Term) → HasForm R i t → child_of (parts_of t) i ≡ Some body → child_of (parts_of body) 0 ≡ Some first →
     k ≡ binders_of (parts_of t) i → TellsOutside gs c k first false → IsRefused gs c R t
 unfolding IsRefused
 refused-first gs c R i k t body first h e g l o = λ r needs m f.
@@ -242,10 +242,10 @@ refused-first gs c R i k t body first h e g l o = λ r needs m f.
     o u.0 (u.1 ∙ ap (λ n. shift_term 0 n u.0) (sym l)) (firm-out gs c R t u.0 needs u.2 f)
 
 -- and M1 over an operand that is not firm
-pub refused-operand : (gs : List (Option Bounds)) (c : Context) (t : Term) → ((e : Term) → child_of (parts_of t) 0 ≡ Some e → firm (is_shaped gs) c e ≡ true → ⊥) → IsRefused gs c M1 t
+pub refused-operand : (gs : Ranges) (c : Context) (t : Term) → ((e : Term) → child_of (parts_of t) 0 ≡ Some e → firm (is_shaped gs.positions) c e ≡ true → ⊥) → IsRefused gs c M1 t
 unfolding IsRefused
 refused-operand gs c t o = λ r needs m f.
-    o m.2 (ap (λ x. child_of (parts_of x) 0) m.6) (subst (Every (λ x. firm (is_shaped gs) c x ≡ true)) m.8 f).0
+    o m.2 (ap (λ x. child_of (parts_of x) 0) m.6) (subst (Every (λ x. firm (is_shaped gs.positions) c x ≡ true)) m.8 f).0
 
 -- where it goes out, the rule fits
 fits-first : (R : MoveRule) (i : ℕ) (t body first u : Term) → HasForm R i t → child_of (parts_of t) i ≡ Some body → child_of (parts_of body) 0 ≡ Some first → first ≡ shift_term 0 (binders_of (parts_of t) i) u → FitsAt R i t
@@ -263,7 +263,7 @@ fits-first M3 i t body first u h e g o =
 fits-first M4 i t body first u h e g o = absurd h
 
 -- what has to be defined is, where what goes out is, and under M1 the operand
-defined-out : (gs : List (Option Bounds)) (c : Context) (R : MoveRule) (t u : Term) (needs : List Term) → (R ≡ M1 → (e : Term) → child_of (parts_of t) 0 ≡ Some e → IsDefinedAt gs c e) → Needs R t u needs →
+defined-out : (gs : Ranges) (c : Context) (R : MoveRule) (t u : Term) (needs : List Term) → (R ≡ M1 → (e : Term) → child_of (parts_of t) 0 ≡ Some e → IsDefinedAt gs c e) → Needs R t u needs →
     IsDefinedAt gs c u → Every (IsDefinedAt gs c) needs
 defined-out gs c M1 t u needs o n d = subst (Every (IsDefinedAt gs c)) (sym n.2) (o refl n.0 n.1, (d, tt))
 defined-out gs c M2 t u needs o n d = subst (Every (IsDefinedAt gs c)) (sym n) (d, tt)
@@ -271,7 +271,7 @@ defined-out gs c M3 t u needs o n d = subst (Every (IsDefinedAt gs c)) (sym n) (
 defined-out gs c M4 t u needs o n d = absurd n
 
 -- the move may be made
-pub moves-first : (gs : List (Option Bounds)) (c : Context) (f : Fit) (k : ℕ) (t body first : Term) → HasForm f.rule f.part t → child_of (parts_of t) f.part ≡ Some body → child_of (parts_of body) 0 ≡ Some first →
+pub moves-first : (gs : Ranges) (c : Context) (f : Fit) (k : ℕ) (t body first : Term) → HasForm f.rule f.part t → child_of (parts_of t) f.part ≡ Some body → child_of (parts_of body) 0 ≡ Some first →
     k ≡ binders_of (parts_of t) f.part → (f.rule ≡ M1 → (e : Term) → child_of (parts_of t) 0 ≡ Some e → IsDefinedAt gs c e) → TellsOutside gs c k first true → MayMove gs c t f
 moves-first gs c f k t body first h e g l o d = record {
   fits = fits-first f.rule f.part t body first d.0.0 h e g (d.0.1 ∙ ap (λ n. shift_term 0 n d.0.0) l);
@@ -288,17 +288,17 @@ redex-form M3 t r needs n m = (m.0, (m.3, (shift_term 0 (binders_of (parts_of t)
 redex-form M4 t r needs n m = absurd (n refl)
 
 -- where M4 does not fit, and of the other rules one that is refused or none, no move is left
-still-but : (gs : List (Option Bounds)) (c : Context) (t : Term) → TellsStrict t None → ((R : MoveRule) (i : ℕ) → HasForm R i t → IsRefused gs c R t) → IsQuietAt gs c t
+still-but : (gs : Ranges) (c : Context) (t : Term) → TellsStrict t None → ((R : MoveRule) (i : ℕ) → HasForm R i t → IsRefused gs c R t) → IsQuietAt gs c t
 unfolding IsRefused
 still-but gs c t s k M1 r needs m f = let i = redex-form M1 t r needs (λ e. cc) m in k M1 i.0 i.1 r needs m f
 still-but gs c t s k M2 r needs m f = let i = redex-form M2 t r needs (λ e. cc) m in k M2 i.0 i.1 r needs m f
 still-but gs c t s k M3 r needs m f = let i = redex-form M3 t r needs (λ e. cc) m in k M3 i.0 i.1 r needs m f
 still-but gs c t s k M4 r needs m f = s m.0 (m.3, m.4, (m.1, m.2, m.5))
 
-pub still-none : (gs : List (Option Bounds)) (c : Context) (t : Term) → TellsStrict t None → TellsForm t None → IsQuietAt gs c t
+pub still-none : (gs : Ranges) (c : Context) (t : Term) → TellsStrict t None → TellsForm t None → IsQuietAt gs c t
 still-none gs c t s k = still-but gs c t s (λ R i h. absurd (k R i h))
 
-pub still-refused : (gs : List (Option Bounds)) (c : Context) (t : Term) (f : Fit) → TellsStrict t None → TellsForm t (Some f) → IsRefused gs c f.rule t → IsQuietAt gs c t
+pub still-refused : (gs : Ranges) (c : Context) (t : Term) (f : Fit) → TellsStrict t None → TellsForm t (Some f) → IsRefused gs c f.rule t → IsQuietAt gs c t
 still-refused gs c t f s h k = still-but gs c t s (λ R i g. subst (λ Q. IsRefused gs c Q t) (sym (form-alone f.rule R f.part i t h g)) k)
 
 -- the operand of a loop whose body is an if
@@ -313,18 +313,18 @@ operand-there t h k = never (sym (ap (λ x. child_of (parts_of x) 0) h.1.6) ∙ 
     never : {x : Term} → Some x ≡ None → ⊥
     never e = cc
 
-pub tells-operand : (k : Ctx) (t e : Term) (b : Bool) → child_of (parts_of t) 0 ≡ Some e → (b ≡ true → IsDefinedAt (known_shapes k) (context_of k) e) → (firm (is_shaped (known_shapes k)) (context_of k) e ≡ true → b ≡ true) → TellsOperand k t b
+pub tells-operand : (k : Ctx) (t e : Term) (b : Bool) → child_of (parts_of t) 0 ≡ Some e → (b ≡ true → IsDefinedAt (ranges_of k) (context_of k) e) → (firm (is_shaped (ranges_of k).positions) (context_of k) e ≡ true → b ≡ true) → TellsOperand k t b
 tells-operand k t e b h s f = at b refl
   where
     never : false ≡ true → ⊥
     never q = cc
 
     at : (d : Bool) → b ≡ d → TellsOperand k t d
-    at true q = λ x g. subst (IsDefinedAt (known_shapes k) (context_of k)) (same_Some e x (sym h ∙ g)) (s q)
-    at false q = λ x g z. never (sym q ∙ f (ap (firm (is_shaped (known_shapes k)) (context_of k)) (same_Some e x (sym h ∙ g)) ∙ z))
+    at true q = λ x g. subst (IsDefinedAt (ranges_of k) (context_of k)) (same_Some e x (sym h ∙ g)) (s q)
+    at false q = λ x g z. never (sym q ∙ f (ap (firm (is_shaped (ranges_of k).positions) (context_of k)) (same_Some e x (sym h ∙ g)) ∙ z))
 
 -- M1 may be made, or is refused, by what is told of the operand
 pub moves-operand : (o : Ctx) (f : Fit) (b : Bool) (k : ℕ) (t body first : Term) → HasForm f.rule f.part t → child_of (parts_of t) f.part ≡ Some body → child_of (parts_of body) 0 ≡ Some first →
     k ≡ binders_of (parts_of t) f.part → f.rule ≡ M1 → TellsOut o k first true → TellsOperand o t b → TellsMove o t f b
-moves-operand o f true k t body first h e g l m d x = moves-first (known_shapes o) (context_of o) f k t body first h e g l (λ q. x) d
-moves-operand o f false k t body first h e g l m d x = subst (λ R. IsRefused (known_shapes o) (context_of o) R t) (sym m) (refused-operand (known_shapes o) (context_of o) t x)
+moves-operand o f true k t body first h e g l m d x = moves-first (ranges_of o) (context_of o) f k t body first h e g l (λ q. x) d
+moves-operand o f false k t body first h e g l m d x = subst (λ R. IsRefused (ranges_of o) (context_of o) R t) (sym m) (refused-operand (ranges_of o) (context_of o) t x)

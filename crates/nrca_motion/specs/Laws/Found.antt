@@ -9,14 +9,20 @@ use Rattle.nrca_term.specs.Facts.{Context, enter_facts, context_at, context_belo
 use Rattle.nrca_rule_laws.specs.Search.{AllBefore, FirstParts}
 use Rattle.nrca_rule_laws.specs.Laws.Search.{all-node, all-more, before-parts, before-child, before-node, before-root, before-kept}
 use Rattle.nrca_term.specs.Places.{put_at}
-use Rattle.nrca_ranges.specs.Bounds.{Bounds}
+use Rattle.nrca_ranges.specs.Bounds.{Ranges}
+use Rattle.nrca_term.specs.declared.term.Core.{Core}
+use Rattle.nrca_term.specs.View.{term_of}
+use Rattle.nrca_ranges.specs.declared.context.Ctx.{Ctx}
+use Rattle.nrca_ranges.specs.Context.{context_of}
+use Rattle.nrca_ranges.specs.Shapes.{ranges_of, EntersRanges}
+use Rattle.nrca_ranges.specs.Transfer.{enter_ranges, ranges_at}
 use Rattle.nrca_motion.specs.declared.fitting.Fit.{Fit}
 use Rattle.nrca_motion.specs.declared.search.Site.{Site}
 use Rattle.nrca_motion.specs.Fitting.{IsQuietAt, MayMove}
 use Rattle.nrca_motion.specs.Laws.Moving.{path-next, path-end}
 use Rattle.nrca_motion.specs.Found.{QuietBefore, QuietEverywhere, QuietParts, MovesAt, TellsPlace, GoesOnward, next}
 
-module _ (gs : List (Option Bounds)) where
+module _ (gs : Ranges) where
   -- nothing comes before the root
   pub behind-root : (c : Context) (t : Term) → QuietBefore gs c t []
   unfolding QuietBefore
@@ -47,19 +53,19 @@ module _ (gs : List (Option Bounds)) where
   pub site-here : (c : Context) (t : Term) (s : Site) → s.way.items ≡ [] → MayMove gs c t s.fit → TellsPlace gs c t (Some s)
   unfolding TellsPlace MovesAt QuietBefore
   site-here c t s e f =
-      subst (λ w. ((r : Term) × (place_of t (reverse w) ≡ Some r) × MayMove gs (context_at enter_facts c t (reverse w)) r s.fit) × AllBefore (IsQuietAt gs) c t (reverse w)) (sym e)
+      subst (λ w. ((r : Term) × (place_of t (reverse w) ≡ Some r) × MayMove (ranges_at gs c t (reverse w)) (context_at enter_facts c t (reverse w)) r s.fit) × AllBefore (IsQuietAt gs) c t (reverse w)) (sym e)
       ((t, refl, f), before-root (IsQuietAt gs) c t)
 
   found-below : (c : Context) (t : Term) (n : ℕ) (u : Term) (p : List ℕ) (f : Fit) → QuietParts gs c t n → child_of (parts_of t) n ≡ Some u →
-      MovesAt gs (enter_facts c t n) u p f × QuietBefore gs (enter_facts c t n) u p → MovesAt gs c t (n ∷ p) f × QuietBefore gs c t (n ∷ p)
+      MovesAt (enter_ranges gs c t n) (enter_facts c t n) u p f × QuietBefore (enter_ranges gs c t n) (enter_facts c t n) u p → MovesAt gs c t (n ∷ p) f × QuietBefore gs c t (n ∷ p)
   unfolding MovesAt QuietBefore QuietParts
   found-below c t n u p f h e k = (
-    (k.0.0, ap (λ o. o >>= λ r. place_of r p) e ∙ k.0.1, subst (λ d. MayMove gs d k.0.0 f) (sym (ap (λ o. context_below c o (λ r. context_at enter_facts (enter_facts c t n) r p)) e)) k.0.2),
+    (k.0.0, ap (λ o. o >>= λ r. place_of r p) e ∙ k.0.1, subst (λ o. MayMove (context_below gs o (λ r. ranges_at (enter_ranges gs c t n) (enter_facts c t n) r p)) (context_below c o (λ r. context_at enter_facts (enter_facts c t n) r p)) k.0.0 f) (sym e) k.0.2),
     before-node (IsQuietAt gs) c t n p u e h k.1,
   )
 
   -- a site in a part is a site of the node, the part's number put behind its way
-  pub site-above : (c : Context) (t : Term) (n : ℕ) (u : Term) (s r : Site) → QuietParts gs c t n → child_of (parts_of t) n ≡ Some u → TellsPlace gs (enter_facts c t n) u (Some s) →
+  pub site-above : (c : Context) (t : Term) (n : ℕ) (u : Term) (s r : Site) → QuietParts gs c t n → child_of (parts_of t) n ≡ Some u → TellsPlace (enter_ranges gs c t n) (enter_facts c t n) u (Some s) →
       (r.way.items ≡ s.way.items ++ n ∷ []) × (r.fit ≡ s.fit) → TellsPlace gs c t (Some r)
   unfolding TellsPlace
   site-above c t n u s r h e f w =
@@ -97,9 +103,22 @@ module _ (gs : List (Option Bounds)) where
   unfolding TellsPlace
   quiet-none c t h = h
 
+  -- it does not matter what is known of variables
+  pub quiet-inside : (c d : Context) (t u : Term) (i : ℕ) → TellsPlace (enter_ranges gs c t i) d u None → QuietEverywhere gs d u
+  unfolding TellsPlace QuietEverywhere
+  quiet-inside c d t u i h = h
+
+  pub behind-inside : (c d : Context) (t u : Term) (i : ℕ) (p : List ℕ) → QuietBefore gs d u p → QuietBefore (enter_ranges gs c t i) d u p
+  unfolding QuietBefore
+  behind-inside c d t u i p h = h
+
+-- what is known in a part of a node, where the context is that of the node
+pub entered-ranges : (c d r : Ctx) (t : Core) (i : ℕ) → EntersRanges d t i r → ranges_of d ≡ ranges_of c → context_of d ≡ context_of c → ranges_of r ≡ enter_ranges (ranges_of c) (context_of c) (term_of t) i
+entered-ranges c d r t i e g f = e ∙ ap (λ x. enter_ranges x (context_of d) (term_of t) i) g ∙ ap (λ x. enter_ranges (ranges_of c) x (term_of t) i) f
+
 -- what is told in an equal context
-pub told-as : (gs hs : List (Option Bounds)) (c d : Context) (t : Term) (o : Option Site) → hs ≡ gs → d ≡ c → TellsPlace hs d t o → TellsPlace gs c t o
+pub told-as : (gs hs : Ranges) (c d : Context) (t : Term) (o : Option Site) → hs ≡ gs → d ≡ c → TellsPlace hs d t o → TellsPlace gs c t o
 told-as gs hs c d t o e f h = subst (λ x. TellsPlace x c t o) e (subst (λ x. TellsPlace hs x t o) f h)
 
-pub behind-as : (gs hs : List (Option Bounds)) (c d : Context) (t : Term) (p : List ℕ) → hs ≡ gs → d ≡ c → QuietBefore gs c t p → QuietBefore hs d t p
+pub behind-as : (gs hs : Ranges) (c d : Context) (t : Term) (p : List ℕ) → hs ≡ gs → d ≡ c → QuietBefore gs c t p → QuietBefore hs d t p
 behind-as gs hs c d t p e f h = subst (λ x. QuietBefore x d t p) (sym e) (subst (λ x. QuietBefore gs x t p) (sym f) h)

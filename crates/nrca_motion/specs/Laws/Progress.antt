@@ -16,16 +16,18 @@ use Rattle.nrca_term.specs.Meaning.{Outcomes}
 use Rattle.nrca_term.specs.Typing.{IsTyped, ctyped, parts_typed, instances, OutcomesHave}
 use Rattle.nrca_term.specs.Laws.TypedForm.{well_formed-typed, closed-typed}
 use Rattle.nrca_term.specs.Laws.TypedPlaces.{typed-place, keeps-put_at}
-use Rattle.nrca_term.specs.Laws.Contexts.{stands}
 use Rattle.nrca_term.specs.Laws.Measure.{weight-put_at, path-below}
 use Rattle.nrca_term.specs.TypedPlaces.{Keeps, KeepsTypes}
 use Rattle.nrca_term.specs.Places.{place_of, put_at, reach}
-use Rattle.nrca_term.specs.Facts.{Context, no_facts, facts_at, FactsHold}
+use Rattle.nrca_term.specs.Facts.{Context, no_facts, facts_at}
 use Rattle.nrca_term.specs.Rules.{IsDefined}
-use Rattle.nrca_ranges.specs.Bounds.{Bounds}
+use Rattle.nrca_ranges.specs.Bounds.{Bounds, Ranges, at_root}
 use Rattle.nrca_ranges.specs.Context.{context_of, IsSmallTerm}
 use Rattle.nrca_ranges.specs.Entered.{is_shaped}
-use Rattle.nrca_ranges.specs.Shapes.{Tells, known_shapes}
+use Rattle.nrca_ranges.specs.Shapes.{Tells, PlaceHolds, known_shapes, ranges_of}
+use Rattle.nrca_ranges.specs.Transfer.{ranges_at}
+use Rattle.nrca_ranges.specs.Laws.Positions.{positions-at}
+use Rattle.nrca_ranges.specs.Laws.Sound.{holds}
 use Rattle.nrca_defined.specs.Defined.{IsDefinedAt}
 use Rattle.nrca_rule_laws.specs.Laws.Steps.{cube}
 use Rattle.nrca_motion.specs.declared.moves.Move.{Move}
@@ -59,18 +61,19 @@ ready-inside p h =
     subst (λ n. IsSmallTerm n (term_of p.term)) z (closed-typed (instances h.typed.0) [] (term_of p.term) h.typed.1 h.typed.2, omega (arith, h.small))
 
 -- what the search finds is a site of the term
-pub site-of : (p q : Progress) (s : Site) → IsReady p → term_of q.term ≡ term_of p.term → q.from.items ≡ p.from.items → (known_shapes q.ctx) ≡ (known_shapes p.ctx) → context_of q.ctx ≡ context_of p.ctx →
-    TellsPlace (known_shapes p.ctx) (context_of p.ctx) (term_of p.term) (Some s) → IsSiteOf q s
+pub site-of : (p q : Progress) (s : Site) → IsReady p → term_of q.term ≡ term_of p.term → q.from.items ≡ p.from.items → ranges_of q.ctx ≡ ranges_of p.ctx → context_of q.ctx ≡ context_of p.ctx →
+    TellsPlace (ranges_of p.ctx) (context_of p.ctx) (term_of p.term) (Some s) → IsSiteOf q s
 unfolding TellsPlace
 site-of p q s h t f g k x = record {
   ready = record {
     typed = subst IsTyped (sym t) h.typed;
     small = omega (arith, h.small, ap weight_of t);
     root = k ∙ h.root;
-    behind = subst (λ y. QuietBefore (known_shapes q.ctx) no_facts (term_of q.term) y) (sym f) (subst (λ y. QuietBefore (known_shapes q.ctx) no_facts y p.from.items) (sym t) (subst (λ y. QuietBefore y no_facts (term_of p.term) p.from.items) (sym g) h.behind));
+    variables = g ∙ h.variables ∙ ap (λ x. at_root x.positions) (sym g);
+    behind = subst (λ y. QuietBefore (ranges_of q.ctx) no_facts (term_of q.term) y) (sym f) (subst (λ y. QuietBefore (ranges_of q.ctx) no_facts y p.from.items) (sym t) (subst (λ y. QuietBefore y no_facts (term_of p.term) p.from.items) (sym g) h.behind));
   };
-  moves = subst (λ y. MovesAt (known_shapes q.ctx) no_facts y (reverse s.way.items) s.fit) (sym t) (subst (λ y. MovesAt y no_facts (term_of p.term) (reverse s.way.items) s.fit) (sym g) (subst (λ y. MovesAt (known_shapes p.ctx) y (term_of p.term) (reverse s.way.items) s.fit) h.root x.0));
-  behind = subst (λ y. QuietBefore (known_shapes q.ctx) no_facts y (reverse s.way.items)) (sym t) (subst (λ y. QuietBefore y no_facts (term_of p.term) (reverse s.way.items)) (sym g) (subst (λ y. QuietBefore (known_shapes p.ctx) y (term_of p.term) (reverse s.way.items)) h.root x.1));
+  moves = subst (λ y. MovesAt (ranges_of q.ctx) no_facts y (reverse s.way.items) s.fit) (sym t) (subst (λ y. MovesAt y no_facts (term_of p.term) (reverse s.way.items) s.fit) (sym g) (subst (λ y. MovesAt (ranges_of p.ctx) y (term_of p.term) (reverse s.way.items) s.fit) h.root x.0));
+  behind = subst (λ y. QuietBefore (ranges_of q.ctx) no_facts y (reverse s.way.items)) (sym t) (subst (λ y. QuietBefore y no_facts (term_of p.term) (reverse s.way.items)) (sym g) (subst (λ y. QuietBefore (ranges_of p.ctx) y (term_of p.term) (reverse s.way.items)) h.root x.1));
 }
 
 -- the numbers of the way to a site have 32 bits: they are below the weight of a small term
@@ -109,7 +112,7 @@ needs-typed G M3 env l r needs T c m =
 needs-typed G M4 env l r needs T c m = subst (Every (λ x. (S : Ty) × ctyped G env x S)) (sym m.7) tt
 
 -- so it has values, where it is sure to have them
-needs-defined : (given : List Ty) (V : Outcomes) (gs : List (Option Bounds)) (c : Context) (env : List Ty) (vals : List Datum) (needs : List Term) → OutcomesHave (instances given) V → HaveTypes env vals → Tells gs V → FactsHold V c vals →
+needs-defined : (given : List Ty) (V : Outcomes) (gs : Ranges) (c : Context) (env : List Ty) (vals : List Datum) (needs : List Term) → OutcomesHave (instances given) V → HaveTypes env vals → Tells gs.positions V → PlaceHolds V gs c vals →
     Every (IsDefinedAt gs c) needs → Every (λ x. (S : Ty) × ctyped (instances given) env x S) needs → Every (IsDefined V vals) needs
 unfolding IsDefinedAt
 needs-defined given V gs c env vals needs oh h tl s d k =
@@ -117,7 +120,7 @@ needs-defined given V gs c env vals needs oh h tl s d k =
 
 -- a move of the definitions
 step-of : (gs : List (Option Bounds)) (f : Fit) (t u l r : Term) (path : List ℕ) (given : List Ty) (T : Ty) (V : Outcomes) → ctyped (instances given) [] t T → OutcomesHave (instances given) V → Tells gs V →
-    place_of t path ≡ Some l → MayMove gs (facts_at t path) l f → IsMade f l r → u ≡ put_at t path r → MoveStep V f.rule path t u
+    place_of t path ≡ Some l → MayMove (ranges_at (at_root gs) no_facts t path) (facts_at t path) l f → IsMade f l r → u ≡ put_at t path r → MoveStep V f.rule path t u
 step-of gs f t u l r path given T V ty oh tl e m k p =
     let q = typed-place (instances given) path [] t l T ty e in
     record {
@@ -127,13 +130,13 @@ step-of gs f t u l r path given T V ty oh tl e m k p =
       found = e;
       put = p;
       moved = k.1;
-      defined = Every-join (HaveTypes q.around) (FactsHold V (facts_at t path)) (λ vals. Every (IsDefined V vals) k.0)
-          (λ vals h s. needs-defined given V gs (facts_at t path) q.around vals k.0 oh h tl s (m.defined r k.0 k.1) (needs-typed (instances given) f.rule q.around l r k.0 q.type q.typed k.1))
-          (reach V [] t path) (q.values V [] oh tt) (stands V t (well_formed-typed (instances given) [] t T ty) path);
+      defined = Every-join (HaveTypes q.around) (PlaceHolds V (ranges_at (at_root gs) no_facts t path) (facts_at t path)) (λ vals. Every (IsDefined V vals) k.0)
+          (λ vals h s. needs-defined given V (ranges_at (at_root gs) no_facts t path) (facts_at t path) q.around vals k.0 oh h (subst (λ l. Tells l V) (sym (positions-at path (at_root gs) no_facts t)) tl) s (m.defined r k.0 k.1) (needs-typed (instances given) f.rule q.around l r k.0 q.type q.typed k.1))
+          (reach V [] t path) (q.values V [] oh tt) (holds V gs t tl (well_formed-typed (instances given) [] t T ty) path);
     }
 
 -- the move that is recorded
-recorded : (gs : List (Option Bounds)) (f : Fit) (t u l r : Term) (s : Move) (path : List ℕ) → place_of t path ≡ Some l → MayMove gs (facts_at t path) l f → IsMade f l r → u ≡ put_at t path r →
+recorded : (gs : List (Option Bounds)) (f : Fit) (t u l r : Term) (s : Move) (path : List ℕ) → place_of t path ≡ Some l → MayMove (ranges_at (at_root gs) no_facts t path) (facts_at t path) l f → IsMade f l r → u ≡ put_at t path r →
     s.rule ≡ f.rule → s.path ≡ path → IsChained gs t (s ∷ []) u
 unfolding IsChained
 recorded gs f t u l r s path e m k p a b = λ given T V ty oh tl.
@@ -158,25 +161,28 @@ lowered f t u l r path y e k p =
     }
 
 -- the move of a site
-pub taken : (p q : Progress) (s : Site) (move : Move) → IsSiteOf p s → IsMovedAt s.fit (term_of p.term) (reverse s.way.items) (term_of q.term) → (known_shapes q.ctx) ≡ (known_shapes p.ctx) → context_of q.ctx ≡ context_of p.ctx →
+pub taken : (p q : Progress) (s : Site) (move : Move) → IsSiteOf p s → IsMovedAt s.fit (term_of p.term) (reverse s.way.items) (term_of q.term) → ranges_of q.ctx ≡ ranges_of p.ctx → context_of q.ctx ≡ context_of p.ctx →
     move.rule ≡ s.fit.rule → move.path ≡ reverse s.way.items → q.moves.items ≡ p.moves.items ++ move ∷ [] → q.from.items ≡ reverse s.way.items → HasGone p q
 unfolding MovesAt IsMovedAt
 taken p q s move h w g c a b st fr =
     let z : h.moves.0 ≡ w.0 = same_Some h.moves.0 w.0 (sym h.moves.1 ∙ w.2) in
-    let m : MayMove (known_shapes p.ctx) (facts_at (term_of p.term) (reverse s.way.items)) w.0 s.fit = subst (λ x. MayMove (known_shapes p.ctx) (facts_at (term_of p.term) (reverse s.way.items)) x s.fit) z h.moves.2 in
+    let m : MayMove (ranges_at (at_root (known_shapes p.ctx)) no_facts (term_of p.term) (reverse s.way.items)) (facts_at (term_of p.term) (reverse s.way.items)) w.0 s.fit =
+    subst (λ y. MayMove (ranges_at y no_facts (term_of p.term) (reverse s.way.items)) (facts_at (term_of p.term) (reverse s.way.items)) w.0 s.fit) h.ready.variables
+    (subst (λ x. MayMove (ranges_at (ranges_of p.ctx) no_facts (term_of p.term) (reverse s.way.items)) (facts_at (term_of p.term) (reverse s.way.items)) x s.fit) z h.moves.2) in
     record {
-      globals = g;
+      globals = ap (λ x. x.positions) g;
       root = c ∙ h.ready.root;
+      variables = g ∙ h.ready.variables ∙ ap (λ x. at_root x.positions) (sym g);
       move = move;
       moves = st;
       chained = recorded (known_shapes p.ctx) s.fit (term_of p.term) (term_of q.term) w.0 w.1 move (reverse s.way.items) w.2 m w.3 w.4 a b;
       types = kept-types s.fit (term_of p.term) (term_of q.term) w.0 w.1 (reverse s.way.items) w.2 w.3 w.4;
       lowers = lowered s.fit (term_of p.term) (term_of q.term) w.0 w.1 (reverse s.way.items) h.ready.typed w.2 w.3 w.4;
       behind =
-          subst (λ y. QuietBefore (known_shapes q.ctx) no_facts (term_of q.term) y) (sym fr)
+          subst (λ y. QuietBefore (ranges_of q.ctx) no_facts (term_of q.term) y) (sym fr)
           (subst (λ y. QuietBefore y no_facts (term_of q.term) (reverse s.way.items)) (sym g)
-          (subst (λ y. QuietBefore (known_shapes p.ctx) no_facts y (reverse s.way.items)) (sym w.4)
-          (behind-kept (known_shapes p.ctx) no_facts (term_of p.term) w.1 (reverse s.way.items) h.behind)));
+          (subst (λ y. QuietBefore (ranges_of p.ctx) no_facts y (reverse s.way.items)) (sym w.4)
+          (behind-kept (ranges_of p.ctx) no_facts (term_of p.term) w.1 (reverse s.way.items) h.behind)));
     }
 
 -- the beginning
@@ -185,12 +191,13 @@ unfolding IsChained KeepsTypes
 begun gs t p h = record {
   globals = h.globals;
   root = h.root;
+  variables = h.variables;
   chained = λ given T V ty oh tl. subst (λ s. MoveChain V s t (term_of p.term)) (sym h.moves) (sym h.term);
   types = λ given env T c. subst (λ x. ctyped (instances given) env x T) (sym h.term) c;
   weighs = ap weight_of h.term;
   nodes = ap (number_of in_loops) h.term;
   falls = omega (arith, ap length h.moves, ap (measure_of (number_of in_loops t)) h.term);
-  behind = subst (QuietBefore gs no_facts (term_of p.term)) (sym h.from) (behind-root gs no_facts (term_of p.term));
+  behind = subst (QuietBefore (ranges_of p.ctx) no_facts (term_of p.term)) (sym h.from) (behind-root (ranges_of p.ctx) no_facts (term_of p.term));
 }
 
 -- between two moves the next may be looked for
@@ -200,7 +207,8 @@ under-ready gs t p y l h = record {
   typed = (y.0, y.1, h.types y.0 [] y.1 y.2);
   small = omega (arith, l, h.weighs);
   root = h.root;
-  behind = subst (λ x. QuietBefore x no_facts (term_of p.term) p.from.items) (sym h.globals) h.behind;
+  variables = h.variables;
+  behind = h.behind;
 }
 
 -- the measure falls
@@ -217,6 +225,7 @@ unfolding IsChained KeepsTypes
 under-way gs t p q h g = record {
   globals = g.globals ∙ h.globals;
   root = g.root;
+  variables = g.variables;
   chained = λ given T V ty oh tl.
       subst (λ s. MoveChain V s t (term_of q.term)) (sym g.moves)
       (chain-append V p.moves.items (g.move ∷ []) t (term_of p.term) (term_of q.term) (h.chained given T V ty oh tl)
@@ -225,7 +234,7 @@ under-way gs t p q h g = record {
   weighs = g.lowers.weighs ∙ h.weighs;
   nodes = g.lowers.nodes ∙ h.nodes;
   falls = omega (arith, h.falls, less-left gs t p q h g, ap length g.moves, length-append p.moves.items (g.move ∷ []));
-  behind = subst (λ x. QuietBefore x no_facts (term_of q.term) q.from.items) (g.globals ∙ h.globals) g.behind;
+  behind = g.behind;
 }
 
 -- the end: the term is still

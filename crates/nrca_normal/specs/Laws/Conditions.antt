@@ -16,19 +16,21 @@ use Rattle.nrca_term.specs.Meaning.{Outcomes}
 use Rattle.nrca_term.specs.Typing.{ctyped, instances, OutcomesHave}
 use Rattle.nrca_term.specs.Laws.TypedForm.{well_formed-typed}
 use Rattle.nrca_term.specs.Laws.TypedPlaces.{typed-place}
-use Rattle.nrca_term.specs.Laws.Contexts.{stands-from}
 use Rattle.nrca_term.specs.Places.{place_of, reach}
 use Rattle.nrca_term.specs.Facts as facts
-use Rattle.nrca_term.specs.Facts.{Context, Fact, SomeFact, IsFact, LiterallyKnown, Literally, truth_of, enter_facts, context_at, context_below, FactsHold}
+use Rattle.nrca_term.specs.Facts.{Context, Fact, SomeFact, IsFact, LiterallyKnown, Literally, truth_of, enter_facts, context_at, context_below}
 use Rattle.nrca_term.specs.Firm.{firm}
 use Rattle.nrca_term.specs.Rules.{Way, DefinedAt, Decides, KnownAt, IsDefined, IsComparison}
 use Rattle.nrca_term.specs.Normal.{is_check, FirmAt}
 use Rattle.nrca_rule_laws.specs.Fitting.{RuleFits}
 use Rattle.nrca_checks.specs.Knowing.{IsKnown}
 use Rattle.nrca_checks.specs.Deciding.{DecidesTruth, DecidesApart}
-use Rattle.nrca_ranges.specs.Bounds.{Bounds}
+use Rattle.nrca_ranges.specs.Bounds.{Ranges}
 use Rattle.nrca_ranges.specs.Entered.{is_shaped}
-use Rattle.nrca_ranges.specs.Shapes.{Tells, known_shapes}
+use Rattle.nrca_ranges.specs.Shapes.{Tells, PlaceHolds, ranges_of}
+use Rattle.nrca_ranges.specs.Transfer.{enter_ranges, ranges_at}
+use Rattle.nrca_ranges.specs.Laws.Positions.{positions-at}
+use Rattle.nrca_ranges.specs.Laws.Sound.{holds-from}
 use Rattle.nrca_defined.specs.Defined.{IsDefinedAt}
 use Rattle.nrca_normal.specs.declared.firing.Firing.{Firing}
 use Rattle.nrca_normal.specs.declared.firing.Firing.TheVariants.{Plain, Decided}
@@ -47,25 +49,26 @@ place-part : (t : Term) (i : ℕ) (u : Term) (w : Way) → child_of (parts_of t)
 place-part t i u w e = ap (λ o. o >>= λ r. place_of r w) e
 
 -- at the node itself
-pub tells-here : (gs : List (Option Bounds)) (c : Context) (t : Term) (b : Bool) → (b ≡ true → IsDefinedAt gs c t) → (firm (is_shaped gs) c t ≡ true → b ≡ true) → TellsAt gs c t [] b
+pub tells-here : (gs : Ranges) (c : Context) (t : Term) (b : Bool) → (b ≡ true → IsDefinedAt gs c t) → (firm (is_shaped gs.positions) c t ≡ true → b ≡ true) → TellsAt gs c t [] b
 unfolding TellsAt
 tells-here gs c t b s f = ((λ k r e. subst (IsDefinedAt gs c) (same_Some t r e) (s k)), (λ h. f (h t refl)))
 
 -- in a part
-tells-inner : (gs : List (Option Bounds)) (c : Context) (t : Term) (i : ℕ) (u : Term) (w : Way) (b : Bool) → child_of (parts_of t) i ≡ Some u → TellsAt gs (enter_facts c t i) u w b → TellsAt gs c t (i ∷ w) b
+tells-inner : (gs : Ranges) (c : Context) (t : Term) (i : ℕ) (u : Term) (w : Way) (b : Bool) → child_of (parts_of t) i ≡ Some u → TellsAt (enter_ranges gs c t i) (enter_facts c t i) u w b → TellsAt gs c t (i ∷ w) b
 unfolding TellsAt
 tells-inner gs c t i u w b e k = (
-  (λ q s p. subst (λ x. IsDefinedAt gs x s) (sym (context-part c t i u w e)) (k.0 q s (sym (place-part t i u w e) ∙ p))),
-  (λ m. k.1 (λ s p. ap (λ x. firm (is_shaped gs) x s) (sym (context-part c t i u w e)) ∙ m s (place-part t i u w e ∙ p))),
+  (λ q s p. subst (λ o. IsDefinedAt (context_below gs o (λ r. ranges_at (enter_ranges gs c t i) (enter_facts c t i) r w)) (context_below c o (λ r. context_at enter_facts (enter_facts c t i) r w)) s) (sym e)
+      (k.0 q s (sym (place-part t i u w e) ∙ p))),
+  (λ m. k.1 (λ s p. ap (λ x. firm (is_shaped gs.positions) x s) (sym (context-part c t i u w e)) ∙ m s (place-part t i u w e ∙ p))),
 )
 
 -- in a part, whose context is that of the place entered
-pub tells-part : (gs hs : List (Option Bounds)) (c d : Context) (t : Term) (i : ℕ) (u : Term) (w : Way) (b : Bool) → child_of (parts_of t) i ≡ Some u → d ≡ enter_facts c t i → hs ≡ gs →
+pub tells-part : (gs hs : Ranges) (c d : Context) (t : Term) (i : ℕ) (u : Term) (w : Way) (b : Bool) → child_of (parts_of t) i ≡ Some u → d ≡ enter_facts c t i → hs ≡ enter_ranges gs c t i →
     TellsAt hs d u w b → TellsAt gs c t (i ∷ w) b
 tells-part gs hs c d t i u w b e f g h = tells-inner gs c t i u w b e (subst (λ x. TellsAt x (enter_facts c t i) u w b) g (subst (λ x. TellsAt hs x u w b) f h))
 
 -- where there is no part
-pub tells-nothing : (gs : List (Option Bounds)) (c : Context) (t : Term) (i : ℕ) (w : Way) → child_of (parts_of t) i ≡ None → TellsAt gs c t (i ∷ w) true
+pub tells-nothing : (gs : Ranges) (c : Context) (t : Term) (i : ℕ) (w : Way) → child_of (parts_of t) i ≡ None → TellsAt gs c t (i ∷ w) true
 unfolding TellsAt
 tells-nothing gs c t i w e = ((λ q s p. absurd (never s (sym (ap (λ o. o >>= λ r. place_of r w) e) ∙ p))), (λ f. refl))
   where
@@ -73,23 +76,23 @@ tells-nothing gs c t i w e = ((λ q s p. absurd (never s (sym (ap (λ o. o >>= �
     never s q = cc
 
 -- the same in a context that is equal
-pub tells-as : (gs hs : List (Option Bounds)) (c d : Context) (t : Term) (w : Way) (b : Bool) → hs ≡ gs → d ≡ c → TellsAt hs d t w b → TellsAt gs c t w b
+pub tells-as : (gs hs : Ranges) (c d : Context) (t : Term) (w : Way) (b : Bool) → hs ≡ gs → d ≡ c → TellsAt hs d t w b → TellsAt gs c t w b
 tells-as gs hs c d t w b e f h = subst (λ x. TellsAt x c t w b) e (subst (λ x. TellsAt hs x t w b) f h)
 
 -- of no way, of one, of several
-pub tells-free : (gs : List (Option Bounds)) (c : Context) (t : Term) → TellsAll gs c t [] true
+pub tells-free : (gs : Ranges) (c : Context) (t : Term) → TellsAll gs c t [] true
 unfolding TellsAll
 tells-free gs c t = ((λ k. tt), (λ f. refl))
 
-pub tells-one : (gs : List (Option Bounds)) (c : Context) (t : Term) (w : Way) (b : Bool) → TellsAt gs c t w b → TellsAll gs c t (w ∷ []) b
+pub tells-one : (gs : Ranges) (c : Context) (t : Term) (w : Way) (b : Bool) → TellsAt gs c t w b → TellsAll gs c t (w ∷ []) b
 unfolding TellsAt TellsAll
 tells-one gs c t w b h = ((λ k. (h.0 k, tt)), (λ f. h.1 f.0))
 
-pub tells-every : (gs : List (Option Bounds)) (c : Context) (t : Term) (ws : List Way) → Every (IsDefinedAlong gs c t) ws → TellsAll gs c t ws true
+pub tells-every : (gs : Ranges) (c : Context) (t : Term) (ws : List Way) → Every (IsDefinedAlong gs c t) ws → TellsAll gs c t ws true
 unfolding TellsAll
 tells-every gs c t ws h = ((λ k. h), (λ f. refl))
 
-pub tells-refused : (gs : List (Option Bounds)) (c : Context) (t : Term) (w : Way) (ws : List Way) → (Every (FirmAt (is_shaped gs) c t) ws → FirmAt (is_shaped gs) c t w) →
+pub tells-refused : (gs : Ranges) (c : Context) (t : Term) (w : Way) (ws : List Way) → (Every (FirmAt (is_shaped gs.positions) c t) ws → FirmAt (is_shaped gs.positions) c t w) →
     TellsAt gs c t w false → TellsAll gs c t ws false
 unfolding TellsAt TellsAll
 tells-refused gs c t w ws k h = ((λ e. absurd (never e)), (λ f. h.1 (k f)))
@@ -98,19 +101,19 @@ tells-refused gs c t w ws k h = ((λ e. absurd (never e)), (λ f. h.1 (k f)))
     never e = cc
 
 -- the term at the end of a way is sure to have a value
-pub tells-true : (gs : List (Option Bounds)) (c : Context) (t : Term) (w : Way) (b : Bool) → b ≡ true → TellsAt gs c t w b → IsDefinedAlong gs c t w
+pub tells-true : (gs : Ranges) (c : Context) (t : Term) (w : Way) (b : Bool) → b ≡ true → TellsAt gs c t w b → IsDefinedAlong gs c t w
 unfolding TellsAt
 tells-true gs c t w b e h = h.0 e
 
 -- so it has one at each list of values with which an evaluation comes there
-along-way : (given : List Ty) (V : Outcomes) (gs : List (Option Bounds)) (c : Context) (t : Term) (env : List Ty) (vals : List Datum) (T : Ty) →
-    OutcomesHave (instances given) V → HaveTypes env vals → Tells gs V → FactsHold V c vals → ctyped (instances given) env t T → (w : Way) → IsDefinedAlong gs c t w → DefinedAt V vals t w
+along-way : (given : List Ty) (V : Outcomes) (gs : Ranges) (c : Context) (t : Term) (env : List Ty) (vals : List Datum) (T : Ty) →
+    OutcomesHave (instances given) V → HaveTypes env vals → Tells gs.positions V → PlaceHolds V gs c vals → ctyped (instances given) env t T → (w : Way) → IsDefinedAlong gs c t w → DefinedAt V vals t w
 unfolding IsDefinedAt
 along-way given V gs c t env vals T g h tl st ty w d s e =
     let p = typed-place (instances given) w env t s T ty e in
-    Every-join (HaveTypes p.around) (FactsHold V (context_at enter_facts c t w)) (λ there. IsDefined V there s)
-    (λ there m k. d s e given V p.around there p.type g m tl k p.typed)
-    (reach V vals t w) (p.values V vals g h) (stands-from V c vals t (well_formed-typed (instances given) env t T ty) st w)
+    Every-join (HaveTypes p.around) (PlaceHolds V (ranges_at gs c t w) (context_at enter_facts c t w)) (λ there. IsDefined V there s)
+    (λ there m k. d s e given V p.around there p.type g m (subst (λ l. Tells l V) (sym (positions-at w gs c t)) tl) k p.typed)
+    (reach V vals t w) (p.values V vals g h) (holds-from V w gs c vals t tl (well_formed-typed (instances given) env t T ty) st)
 
 -- what a rule that is no check asks beside
 known-plain : (R : Rule) (c : Context) (t : Term) → is_check R ≡ false → KnownAt R c t
@@ -186,7 +189,7 @@ not-check R e k = never (sym (ap is_check k) ∙ e)
     never q = cc
 
 -- a rule that fits may be applied where what it wants defined is
-pub fires-plain : (gs : List (Option Bounds)) (c : Context) (t : Term) (R : Rule) (w : Ways) → is_check R ≡ false → RuleFits R true t → AreWays R t w → TellsAll gs c t (ways_in w) true → MayFire gs c t (Plain R)
+pub fires-plain : (gs : Ranges) (c : Context) (t : Term) (R : Rule) (w : Ways) → is_check R ≡ false → RuleFits R true t → AreWays R t w → TellsAll gs c t (ways_in w) true → MayFire gs c t (Plain R)
 unfolding TellsAll AreWays HasCondition
 fires-plain gs c t R w e f a h = record {
   applicable = (not-check R e, f);
@@ -198,20 +201,20 @@ fires-plain gs c t R w e f a h = record {
 }
 
 -- a rule that does not fit is refused
-pub refused-unfit : (gs : List (Option Bounds)) (c : Context) (t : Term) (R : Rule) → RuleFits R false t → IsRefused gs c R t
+pub refused-unfit : (gs : Ranges) (c : Context) (t : Term) (R : Rule) → RuleFits R false t → IsRefused gs c R t
 unfolding IsRefused
 refused-unfit gs c t R h = λ r ws x f. h r ws x
 
 -- and one that wants more defined than is
-pub refused-ways : (gs : List (Option Bounds)) (c : Context) (t : Term) (R : Rule) (w : Ways) → AreWays R t w → TellsAll gs c t (ways_in w) false → IsRefused gs c R t
+pub refused-ways : (gs : Ranges) (c : Context) (t : Term) (R : Rule) (w : Ways) → AreWays R t w → TellsAll gs c t (ways_in w) false → IsRefused gs c R t
 unfolding IsRefused TellsAll AreWays
-refused-ways gs c t R w a h = λ r ws x f. never (h.1 (subst (Every (FirmAt (is_shaped gs) c t)) (a r ws x) f))
+refused-ways gs c t R w a h = λ r ws x f. never (h.1 (subst (Every (FirmAt (is_shaped gs.positions) c t)) (a r ws x) f))
   where
     never : false ≡ true → ⊥
     never q = cc
 
 -- a comparison that is a fact of the place may be replaced by what it tells
-pub fires-domain : (gs : List (Option Bounds)) (c : Context) (t : Term) → IsComparison t → LiterallyKnown facts.domain c t → MayFire gs c t (Plain C1)
+pub fires-domain : (gs : Ranges) (c : Context) (t : Term) → IsComparison t → LiterallyKnown facts.domain c t → MayFire gs c t (Plain C1)
 unfolding HasCondition
 fires-domain gs c t k h = record {
   applicable = ((λ e. cc), (truth_term true, [], (k, refl, refl)));
@@ -219,7 +222,7 @@ fires-domain gs c t k h = record {
   condition = λ r ws x m given V env vals T g v tl st ty. (subst (Every (DefinedAt V vals t)) (sym x.2) tt, tt);
 }
 
-pub fires-test : (gs : List (Option Bounds)) (c : Context) (t : Term) → IsComparison t → LiterallyKnown facts.test c t → MayFire gs c t (Plain C2)
+pub fires-test : (gs : Ranges) (c : Context) (t : Term) → IsComparison t → LiterallyKnown facts.test c t → MayFire gs c t (Plain C2)
 unfolding HasCondition
 fires-test gs c t k h = record {
   applicable = ((λ e. cc), (truth_term true, [], (k, refl, refl)));
@@ -227,7 +230,7 @@ fires-test gs c t k h = record {
   condition = λ r ws x m given V env vals T g v tl st ty. (subst (Every (DefinedAt V vals t)) (sym x.2) tt, tt);
 }
 
-pub fires-denied : (gs : List (Option Bounds)) (c : Context) (t : Term) → IsComparison t → LiterallyKnown facts.denied c t → MayFire gs c t (Plain C3)
+pub fires-denied : (gs : Ranges) (c : Context) (t : Term) → IsComparison t → LiterallyKnown facts.denied c t → MayFire gs c t (Plain C3)
 unfolding HasCondition
 fires-denied gs c t k h = record {
   applicable = ((λ e. cc), (truth_term false, [], (k, refl, refl)));
@@ -257,12 +260,12 @@ pub unknown-other : (c : Context) (t : Term) → (IsComparison t → ⊥) → Is
 unfolding IsUnknown
 unknown-other c t h = λ b k l. h k
 
-pub undecided-other : (gs : List (Option Bounds)) (c : Context) (t : Term) → (IsComparison t → ⊥) → IsUndecided gs c t
+pub undecided-other : (gs : Ranges) (c : Context) (t : Term) → (IsComparison t → ⊥) → IsUndecided gs c t
 unfolding IsUndecided
 undecided-other gs c t h = λ op a b x y e f p q l. h (op, a, b, e)
 
 -- a comparison that spans do not decide
-pub undecided-none : (gs : List (Option Bounds)) (c : Context) (t : Term) → DecidesApart c t None → IsUndecided gs c t
+pub undecided-none : (gs : Ranges) (c : Context) (t : Term) → DecidesApart c t None → IsUndecided gs c t
 unfolding IsUndecided
 undecided-none gs c t h = λ op a b x y e f p q l. never (h op a b x y e p q l)
   where
@@ -270,14 +273,14 @@ undecided-none gs c t h = λ op a b x y e f p q l. never (h op a b x y e p q l)
     never d = let z = d.1 in cc
 
 -- a comparison of which a side is not firm
-pub undecided-first : (gs : List (Option Bounds)) (c : Context) (t : Term) → TellsAt gs c t (0 ∷ []) false → IsUndecided gs c t
+pub undecided-first : (gs : Ranges) (c : Context) (t : Term) → TellsAt gs c t (0 ∷ []) false → IsUndecided gs c t
 unfolding IsUndecided TellsAt
 undecided-first gs c t h = λ op a b x y e f p q l. never (h.1 f.0)
   where
     never : false ≡ true → ⊥
     never d = cc
 
-pub undecided-second : (gs : List (Option Bounds)) (c : Context) (t : Term) → TellsAt gs c t (1 ∷ []) false → IsUndecided gs c t
+pub undecided-second : (gs : Ranges) (c : Context) (t : Term) → TellsAt gs c t (1 ∷ []) false → IsUndecided gs c t
 unfolding IsUndecided TellsAt
 undecided-second gs c t h = λ op a b x y e f p q l. never (h.1 f.1.0)
   where
@@ -289,7 +292,7 @@ sides-valued : (V : Outcomes) (vals : List Datum) (op : CompareOp) (a b : Term) 
 sides-valued V vals op a b h k = ((h a refl).0, (k b refl).0)
 
 -- a comparison whose spans decide it and whose sides are defined may be replaced by its truth value
-pub fires-decided : (gs : List (Option Bounds)) (c : Context) (t : Term) (truth_value : Bool) → IsComparison t → DecidesTruth c t (Some truth_value) → IsDefinedAlong gs c t (0 ∷ []) → IsDefinedAlong gs c t (1 ∷ []) →
+pub fires-decided : (gs : Ranges) (c : Context) (t : Term) (truth_value : Bool) → IsComparison t → DecidesTruth c t (Some truth_value) → IsDefinedAlong gs c t (0 ∷ []) → IsDefinedAlong gs c t (1 ∷ []) →
     MayFire gs c t (Decided truth_value)
 unfolding HasCondition
 fires-decided gs c t b k d p q = record {
@@ -302,7 +305,7 @@ fires-decided gs c t b k d p q = record {
         λ n e.
             let s = sides-valued V vals k.0 k.1 k.2 (subst (λ z. DefinedAt V vals z (0 ∷ [])) k.3 h) (subst (λ z. DefinedAt V vals z (1 ∷ [])) k.3 l) in
             let z : b ≡ n = same b n (sym m ∙ e) in
-            d V vals st k.0 k.1 k.2 s.0.0 s.1.0 n k.3 (ap Some z) s.0.1 s.1.1,
+            d V vals st.0 k.0 k.1 k.2 s.0.0 s.1.0 n k.3 (ap Some z) s.0.1 s.1.1,
       );
 }
   where
@@ -310,7 +313,7 @@ fires-decided gs c t b k d p q = record {
     same b n e = cc
 
 -- where every rule is refused and no check applies, the term is normal at its place
-pub quiet-here : (gs : List (Option Bounds)) (c : Context) (t : Term) → EachPlain (λ R. IsRefused gs c R t) → IsUnknown c t → IsUndecided gs c t → IsQuietAt gs c t
+pub quiet-here : (gs : Ranges) (c : Context) (t : Term) → EachPlain (λ R. IsRefused gs c R t) → IsUnknown c t → IsUndecided gs c t → IsQuietAt gs c t
 unfolding IsRefused IsUnknown IsUndecided EachPlain
 quiet-here gs c t h k l = record {
   unfit = λ R r ws e x f. h R e r ws x f;
@@ -320,17 +323,17 @@ quiet-here gs c t h k l = record {
 
 -- whether a rule that fits may be applied, by what is told of its ways
 pub tells-rule : (k : Ctx) (R : Rule) (t : Term) (w : Ways) (b : Bool) → is_check R ≡ false → RuleFits R true t → AreWays R t w → TellsWays k t (ways_in w) b → TellsRule k R t b
-tells-rule k R t w true e f a h = fires-plain (known_shapes k) (context_of k) t R w e f a h
-tells-rule k R t w false e f a h = refused-ways (known_shapes k) (context_of k) t R w a h
+tells-rule k R t w true e f a h = fires-plain (ranges_of k) (context_of k) t R w e f a h
+tells-rule k R t w false e f a h = refused-ways (ranges_of k) (context_of k) t R w a h
 
 -- the same of an equal context
-pub rule-told : (k l : Ctx) (R : Rule) (t : Term) (b : Bool) → (known_shapes l) ≡ (known_shapes k) → context_of l ≡ context_of k → TellsRule l R t b → TellsRule k R t b
-rule-told k l R t true g c h = subst (λ y. MayFire y (context_of k) t (Plain R)) g (subst (λ y. MayFire (known_shapes l) y t (Plain R)) c h)
-rule-told k l R t false g c h = subst (λ y. IsRefused y (context_of k) R t) g (subst (λ y. IsRefused (known_shapes l) y R t) c h)
+pub rule-told : (k l : Ctx) (R : Rule) (t : Term) (b : Bool) → (ranges_of l) ≡ (ranges_of k) → context_of l ≡ context_of k → TellsRule l R t b → TellsRule k R t b
+rule-told k l R t true g c h = subst (λ y. MayFire y (context_of k) t (Plain R)) g (subst (λ y. MayFire (ranges_of l) y t (Plain R)) c h)
+rule-told k l R t false g c h = subst (λ y. IsRefused y (context_of k) R t) g (subst (λ y. IsRefused (ranges_of l) y R t) c h)
 
 -- which rewriting may be done at a node at which every plain rule is refused
-pub node-told : (k l : Ctx) (t : Term) (o : Option Firing) → (known_shapes l) ≡ (known_shapes k) → context_of l ≡ context_of k → EachPlain (λ R. IsRefused (known_shapes k) (context_of k) R t) → TellsChecks l t o → TellsNode k t o
-node-told k l t (Some f) g c h x = subst (λ y. MayFire y (context_of k) t f) g (subst (λ y. MayFire (known_shapes l) y t f) c x)
+pub node-told : (k l : Ctx) (t : Term) (o : Option Firing) → (ranges_of l) ≡ (ranges_of k) → context_of l ≡ context_of k → EachPlain (λ R. IsRefused (ranges_of k) (context_of k) R t) → TellsChecks l t o → TellsNode k t o
+node-told k l t (Some f) g c h x = subst (λ y. MayFire y (context_of k) t f) g (subst (λ y. MayFire (ranges_of l) y t f) c x)
 node-told k l t None g c h x =
-    quiet-here (known_shapes k) (context_of k) t h (subst (λ y. IsUnknown y t) c x.0)
-    (subst (λ y. IsUndecided y (context_of k) t) g (subst (λ y. IsUndecided (known_shapes l) y t) c x.1))
+    quiet-here (ranges_of k) (context_of k) t h (subst (λ y. IsUnknown y t) c x.0)
+    (subst (λ y. IsUndecided y (context_of k) t) g (subst (λ y. IsUndecided (ranges_of l) y t) c x.1))

@@ -1,5 +1,5 @@
 -- The order of the rules has each of them once.
-use Rattle.std.proofs.Common.{◌≡◌, ℕ, zero, suc, ◌+◌, ◌<◌, ◌≤◌, ◌⊎◌, Bool, true, false, nat_eq, if◌then◌else◌, List, [], ◌∷◌, length, get_or, Option, refl, sym, ap, subst, ◌∙◌, arith, inl, inr}
+use Rattle.std.proofs.Common.{◌≡◌, ℕ, zero, suc, ◌+◌, ◌<◌, ◌≤◌, ◌⊎◌, Bool, true, false, nat_eq, if◌then◌else◌, List, [], ◌∷◌, length, get_or, refl, sym, ap, subst, ◌∙◌, arith, inl, inr}
 use Rattle.std.proofs.lemmas.Bool.{eqb-true, cases_Bool, cases_lt}
 use Rattle.nrca_term.specs.declared.trace.Rule.{Rule}
 use Rattle.nrca_term.specs.declared.trace.Rule.TheVariants.{B1, K1, I1, I2, L1, L2, L3, P1, P2, S1, S2, S3, S4, S5, S6, S7, S8, S9, A1, A2, A3, A4, A5, A6, A7, C1, C2, C3, C4, N1, N2}
@@ -7,7 +7,7 @@ use Rattle.aql_value.specs.Strict.{Strict}
 use Rattle.nrca_term.specs.Term.{Term, Form, form_of}
 use Rattle.nrca_term.specs.Normal.{is_check}
 use Rattle.nrca_rule_laws.specs.Laws.Lefts.{left_form, redex-left}
-use Rattle.nrca_ranges.specs.Bounds.{Bounds}
+use Rattle.nrca_ranges.specs.Bounds.{Ranges}
 use Rattle.nrca_term.specs.Facts.{Context}
 use Rattle.nrca_normal.specs.Conditions.{IsRefused}
 use Rattle.nrca_normal.specs.Order.{number_of, rules_of, EachPlain, FirstRules}
@@ -243,7 +243,7 @@ plain-each P f n l h other = λ R e. at R e (cases_Bool (left_form R f))
     at R e (inr k) = other R k
 
 -- a rule whose left side has another form is refused
-other-form : (gs : List (Option Bounds)) (c : Context) (t : Term) (R : Rule) → left_form R (form_of t) ≡ false → IsRefused gs c R t
+other-form : (gs : Ranges) (c : Context) (t : Term) (R : Rule) → left_form R (form_of t) ≡ false → IsRefused gs c R t
 unfolding IsRefused
 other-form gs c t R e = λ r ws x h. never (sym (redex-left R t r ws x) ∙ e)
   where
@@ -251,5 +251,5 @@ other-form gs c t R e = λ r ws x h. never (sym (redex-left R t r ws x) ∙ e)
     never q = cc
 
 -- where each rule is refused that is tried, every one is
-pub all-refused : (gs : List (Option Bounds)) (c : Context) (t : Term) (n : ℕ) → length (rules_of (form_of t)) ≤ n → FirstRules (λ R. IsRefused gs c R t) (rules_of (form_of t)) n → EachPlain (λ R. IsRefused gs c R t)
+pub all-refused : (gs : Ranges) (c : Context) (t : Term) (n : ℕ) → length (rules_of (form_of t)) ≤ n → FirstRules (λ R. IsRefused gs c R t) (rules_of (form_of t)) n → EachPlain (λ R. IsRefused gs c R t)
 all-refused gs c t n l h = plain-each (λ R. IsRefused gs c R t) (form_of t) n l h (other-form gs c t)

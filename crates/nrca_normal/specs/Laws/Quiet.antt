@@ -1,17 +1,18 @@
 -- Where no rule may be applied: in the parts so far, and in all places of a node.
-use Rattle.std.proofs.Common.{◌≡◌, ℕ, suc, ◌+◌, ◌≤◌, List, [], ◌∷◌, Option, Some, sym, subst, arith}
+use Rattle.std.proofs.Common.{◌≡◌, ℕ, suc, ◌+◌, ◌≤◌, [], ◌∷◌, Some, sym, subst, arith}
 use Rattle.nrca_term.specs.Term.{Term, child_of, parts_of, count}
 use Rattle.nrca_term.specs.Places.{put_at}
 use Rattle.nrca_term.specs.Facts.{Context, enter_facts}
 use Rattle.nrca_term.specs.Laws.Entering.{child-counted}
 use Rattle.nrca_rule_laws.specs.Search.{AllPlaces, FirstParts}
 use Rattle.nrca_rule_laws.specs.Laws.Search.{all-node, all-more, before-parts, before-node, before-root, before-kept}
-use Rattle.nrca_ranges.specs.Bounds.{Bounds}
+use Rattle.nrca_ranges.specs.Bounds.{Ranges}
+use Rattle.nrca_ranges.specs.Transfer.{enter_ranges}
 use Rattle.nrca_normal.specs.Conditions.{IsQuietAt}
 use Rattle.nrca_normal.specs.Quiet.{QuietEverywhere, QuietParts}
 use Rattle.nrca_normal.specs.Laws.Rewriting.{put-child, enter-put}
 
-module _ (gs : List (Option Bounds)) (c : Context) where
+module _ (gs : Ranges) (c : Context) where
   -- of no part
   pub parts-none : (t : Term) → QuietParts gs c t 0
   unfolding QuietParts
@@ -30,3 +31,8 @@ module _ (gs : List (Option Bounds)) (c : Context) where
   pub everywhere : (t : Term) (n : ℕ) → IsQuietAt gs c t → QuietParts gs c t n → count (parts_of t) ≤ n → QuietEverywhere gs c t
   unfolding QuietParts QuietEverywhere
   everywhere t n q h l = all-node (IsQuietAt gs) c t n q h (λ i u e. omega (arith, l, child-counted (parts_of t) i u e))
+
+-- it does not matter what is known of variables
+pub quiet-outside : (gs : Ranges) (c d : Context) (t u : Term) (i : ℕ) → QuietEverywhere (enter_ranges gs c t i) d u → QuietEverywhere gs d u
+unfolding QuietEverywhere
+quiet-outside gs c d t u i h = h

@@ -1,12 +1,14 @@
 -- Rewritings after one another; those of a part are rewritings of its node.
-use Rattle.std.proofs.Common.{◌≡◌, ℕ, zero, suc, List, [], ◌∷◌, ◌++◌, map, Option, Some, refl, sym, ap, subst, ◌∙◌, arith}
+use Rattle.std.proofs.Common.{◌≡◌, ℕ, zero, suc, List, [], ◌∷◌, ◌++◌, map, Some, refl, sym, ap, subst, ◌∙◌, arith}
 use Rattle.aql_value.specs.Partial.{◌>>=◌}
 use Rattle.nrca_term.specs.declared.trace.Step.{Step}
 use Rattle.nrca_term.specs.Term.{Term, Parts, node, none, part, parts_of, child_of, set_child, with_part}
 use Rattle.nrca_term.specs.Places.{place_of, put_at, on_child}
 use Rattle.nrca_term.specs.Facts.{Context, enter_facts, context_at, context_below}
 use Rattle.nrca_rule_laws.specs.Laws.Search.{enter-on}
-use Rattle.nrca_ranges.specs.Bounds.{Bounds}
+use Rattle.nrca_ranges.specs.Bounds.{Ranges}
+use Rattle.nrca_ranges.specs.Transfer.{enter_ranges, ranges_at}
+use Rattle.nrca_ranges.specs.Laws.Replaced.{ranges-put}
 use Rattle.nrca_normal.specs.Conditions.{MayFire}
 use Rattle.nrca_normal.specs.Rewriting.{IsRewriting, Leads, behind}
 
@@ -60,7 +62,7 @@ put-back t x y i b q e k = k ∙ ap (λ z. with_part z i q) e ∙ twice t
     twice : (t : Term) → with_part (with_part t i b) i q ≡ put_at t (i ∷ []) q
     twice (node f ps) = ap (node f) (set-on ps i b q)
 
-module _ (gs : List (Option Bounds)) where
+module _ (gs : Ranges) where
   -- one after the other
   pub leads-append : (c : Context) (xs ys : List Step) (t m u : Term) → Leads gs c t xs m → Leads gs c m ys u → Leads gs c t (xs ++ ys) u
   unfolding Leads
@@ -80,25 +82,26 @@ module _ (gs : List (Option Bounds)) where
   leads-same c t u h = h
 
   -- a rewriting in a part is one of the node
-  rewriting-above : (c : Context) (t p q : Term) (i : ℕ) (s : Step) → child_of (parts_of t) i ≡ Some p → IsRewriting gs (enter_facts c t i) p s q → IsRewriting gs c t (behind (i ∷ []) s) (put_at t (i ∷ []) q)
+  rewriting-above : (c : Context) (t p q : Term) (i : ℕ) (s : Step) → child_of (parts_of t) i ≡ Some p → IsRewriting (enter_ranges gs c t i) (enter_facts c t i) p s q → IsRewriting gs c t (behind (i ∷ []) s) (put_at t (i ∷ []) q)
   rewriting-above c t p q i s e h = record {
     firing = h.firing;
     from = h.from;
     to = h.to;
     rule = h.rule;
     found = ap (λ o. o >>= λ r. place_of r s.path) e ∙ h.found;
-    fires = subst (λ d. MayFire gs d h.from h.firing) (sym (ap (λ o. context_below c o (λ r. context_at enter_facts (enter_facts c t i) r s.path)) e)) h.fires;
+    fires =
+        subst (λ o. MayFire (context_below gs o (λ r. ranges_at (enter_ranges gs c t i) (enter_facts c t i) r s.path)) (context_below c o (λ r. context_at enter_facts (enter_facts c t i) r s.path)) h.from h.firing) (sym e) h.fires;
     made = h.made;
     put = put-below t i p q h.to s.path e h.put;
   }
 
   -- and so are several
-  pub leads-above : (c : Context) (t p q : Term) (i : ℕ) (steps : List Step) → child_of (parts_of t) i ≡ Some p → Leads gs (enter_facts c t i) p steps q → Leads gs c t (map (behind (i ∷ [])) steps) (put_at t (i ∷ []) q)
+  pub leads-above : (c : Context) (t p q : Term) (i : ℕ) (steps : List Step) → child_of (parts_of t) i ≡ Some p → Leads (enter_ranges gs c t i) (enter_facts c t i) p steps q → Leads gs c t (map (behind (i ∷ [])) steps) (put_at t (i ∷ []) q)
   unfolding Leads
   leads-above c t p q i [] e h = put-self t i p e ∙ ap (λ x. put_at t (i ∷ []) x) h
   leads-above c t p q i (s ∷ steps) e h = (
     put_at t (i ∷ []) h.0,
     rewriting-above c t p h.0 i s e h.1,
     subst (λ x. Leads gs c (put_at t (i ∷ []) h.0) (map (behind (i ∷ [])) steps) x) (put-twice t i h.0 q)
-        (leads-above c (put_at t (i ∷ []) h.0) h.0 q i steps (put-child t i p h.0 e) (subst (λ d. Leads gs d h.0 steps q) (sym (enter-put c t i h.0)) h.2)),
+        (leads-above c (put_at t (i ∷ []) h.0) h.0 q i steps (put-child t i p h.0 e) (subst (λ g. Leads g (enter_facts c (put_at t (i ∷ []) h.0) i) h.0 steps q) (sym (ranges-put gs c t i h.0)) (subst (λ d. Leads (enter_ranges gs c t i) d h.0 steps q) (sym (enter-put c t i h.0)) h.2))),
   )

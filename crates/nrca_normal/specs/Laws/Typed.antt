@@ -1,5 +1,5 @@
 -- What a type tells of a term and its parts, and what rewritings keep and lower.
-use Rattle.std.proofs.Common.{◌≡◌, ℕ, zero, suc, ◌+◌, ◌*◌, ◌<◌, ◌≤◌, List, [], ◌∷◌, ◌++◌, length, Option, Some, sym, ap, subst, arith, inl}
+use Rattle.std.proofs.Common.{◌≡◌, ℕ, zero, suc, ◌+◌, ◌*◌, ◌<◌, ◌≤◌, List, [], ◌∷◌, ◌++◌, length, Some, sym, ap, subst, arith, inl}
 use Rattle.std.proofs.lemmas.Nat.{mul-le}
 use Rattle.std.proofs.lemmas.List.{length-append}
 use Rattle.aql_ty.specs.Types.{Ty}
@@ -14,7 +14,7 @@ use Rattle.nrca_term.specs.Laws.TypedPlaces.{typed-place, keeps-put_at}
 use Rattle.nrca_term.specs.Laws.Measure.{below-put_at, below-weight, left-falls, pairs-weight, weight_of-child, form-positive, parts_weight-count}
 use Rattle.nrca_rule_laws.specs.Fitting.{IsSmallPart}
 use Rattle.nrca_rule_laws.specs.Laws.Lowering.{lowers}
-use Rattle.nrca_ranges.specs.Bounds.{Bounds}
+use Rattle.nrca_ranges.specs.Bounds.{Ranges}
 use Rattle.nrca_ranges.specs.Context.{IsSmallTerm}
 use Rattle.nrca_ranges.specs.Laws.Entered.{room-part}
 use Rattle.nrca_normal.specs.Conditions.{name_of}
@@ -50,7 +50,7 @@ typed-part n (node f ps) i u h e =
 pub part-number : (n : ℕ) (t : Term) (i : ℕ) → n + weight_of t ≤ 1280000 → i < count (parts_of t) → i < 1280000
 part-number n (node f ps) i h l = omega (arith, l, h, parts_weight-count ps, form-positive f)
 
-module _ (gs : List (Option Bounds)) (c : Context) where
+module _ (gs : Ranges) (c : Context) where
   -- a rewriting keeps types
   pub rewriting-types : (t u : Term) (s : Step) → IsRewriting gs c t s u → (given : List Ty) → Keeps (instances given) t u
   rewriting-types t u s h given = subst (Keeps (instances given) t) (sym h.put) (keeps-put_at (instances given) s.path t h.from h.to h.found (h.made.0.types given))

@@ -1,12 +1,12 @@
 -- The values with which an evaluation comes to a part have the shapes that are told of the variables bound there (`own-shaped`).
-use Rattle.std.proofs.Common.{◌≡◌, ℕ, zero, suc, ◌+◌, ◌<◌, ◌≤◌, ◌^◌, ◌-◌, Bool, true, false, nat_lt, List, [], ◌∷◌, ◌++◌, length, map, take, reverse, Option, Some, None, option_to_list, unwrap_or, refl, sym, ap, subst, ◌∙◌, arith, inl, inr, if◌then◌else◌}
+use Rattle.std.proofs.Common.{◌≡◌, ℕ, zero, suc, ◌<◌, ◌≤◌, Bool, true, false, nat_lt, List, [], ◌∷◌, ◌++◌, length, map, take, reverse, Option, Some, None, option_to_list, unwrap_or, refl, subst, arith, inl, inr}
 use Rattle.std.proofs.lemmas.Bool.{cases_Bool, ltb-true, ltb-false, lt-ltb, and_parts}
 use Rattle.std.proofs.lemmas.Option.{same_Some}
 use mathlib.Core.List.{reverse_aux}
 use Rattle.aql_value.specs.Datum.{Datum, natural, list_of}
 use Rattle.std.specs.Cmp.Lexicographic.{pointwise}
 use Rattle.aql_value.specs.Indices.{indices}
-use Rattle.aql_value.specs.Laws.Lists.{Every-all, Every-impl, Every-join, Every-onto}
+use Rattle.aql_value.specs.Laws.Lists.{Every-impl, Every-join, Every-onto}
 use Rattle.aql_value.specs.Laws.Partial.{then-is}
 use Rattle.aql_value.specs.Laws.RowMajor.{indices_below, indices_lengths}
 use Rattle.aql_value.specs.Lists.{Every}
@@ -16,7 +16,7 @@ use Rattle.nrca_term.specs.Term.{Form}
 use Rattle.nrca_term.specs.Meaning.{Part, worth, here, members_value, bounds_value, test_value}
 use Rattle.nrca_term.specs.Places.{branch, otherwise, indices_of, entry_values}
 use Rattle.nrca_ranges.specs.declared.interval.Interval.{Interval}
-use Rattle.nrca_ranges.specs.Bounds.{Bounds, Row, unknown, number, row, members, grid, end, entry, row_of, IsIn, AreIn, HasShape, HaveShapes}
+use Rattle.nrca_ranges.specs.Bounds.{Bounds, Row, unknown, number, row, members, grid, end, entry, row_of, AreIn, HasShape, HaveShapes}
 use Rattle.nrca_ranges.specs.Transfer.{interval_of, member_of, entry_at, index_below, flat, flat_row, kept, own_bounds}
 use Rattle.nrca_ranges.specs.Laws.Forms.{Shaped}
 use Rattle.nrca_ranges.specs.Laws.Intervals.{before-is}

@@ -7,7 +7,7 @@ use Rattle.nrca_term.specs.View.{term_of}
 use Rattle.nrca_term.specs.Term.{Term, Parts, none, part, form_of, parts_of, child_of, binders_of, count}
 use Rattle.nrca_term.specs.Nodes.{arith_term}
 use Rattle.nrca_term.specs.Facts.{Context, part_facts, enter_facts}
-use Rattle.nrca_term.specs.Firm.{number_of, span, firm, wants_all}
+use Rattle.nrca_term.specs.Firm.{number_of, span, wants_all}
 use Rattle.nrca_ranges.specs.declared.context.Ctx.{Ctx}
 use Rattle.nrca_ranges.specs.declared.context.Fact.{Fact}
 use Rattle.nrca_ranges.specs.declared.shape.Shape.{Shape}
@@ -17,7 +17,6 @@ use Rattle.nrca_ranges.specs.declared.walk.Told.{Told}
 use Rattle.nrca_ranges.specs.Bounds.{Bounds, Ranges, with_own}
 use Rattle.nrca_ranges.specs.Certain.{certain}
 use Rattle.nrca_ranges.specs.Context.{facts_in, context_of}
-use Rattle.nrca_ranges.specs.Entered.{is_shaped}
 use Rattle.nrca_ranges.specs.Shapes.{bounds_of, bounds_each, ranges_of, ranges_below}
 use Rattle.nrca_ranges.specs.Spans.{span_of}
 use Rattle.nrca_ranges.specs.Transfer.{own_bounds, inside, bounds, all_bounds, parts_bounds, enter_ranges}

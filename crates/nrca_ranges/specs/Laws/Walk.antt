@@ -3,7 +3,7 @@ use Rattle.std.proofs.Common.{◌≡◌, ℕ, suc, ◌+◌, Bool, true, false, �
 use Rattle.std.proofs.lemmas.List.{take-map, take_at, length-map}
 use Rattle.aql_value.specs.declared.ops.ArithOp.{ArithOp}
 use Rattle.aql_value.specs.Strict.{Strict}
-use Rattle.nrca_term.specs.Term.{Term, Parts, node, none, part, Form, form_of, parts_of}
+use Rattle.nrca_term.specs.Term.{Term, Parts, node, none, part, Form, form_of}
 use Rattle.nrca_term.specs.Nodes.{arith_term}
 use Rattle.nrca_term.specs.Facts as facts
 use Rattle.nrca_term.specs.Facts.{Context, enter_facts}

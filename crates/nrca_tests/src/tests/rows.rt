@@ -80,8 +80,8 @@ fn told_below(alloc: Global, bound: u128, words: &str) -> Result<Told, Memory> {
 const PAST: u128 = 18446744073709551616;
 
 // A number, a body below it, and whether the body is sure to have a value. `i+i`, `10/i`, `i/7`, `i*i`, and finer: a
-// quotient by a number from 1 on, inside of a tuple and of a default, a sum over a generated set, and cells of arrays of
-// rank 1 and 2.
+// quotient by a number from 1 on, inside of a tuple and of a default, a sum over a generated set, cells of arrays of
+// rank 1 and 2, and names of a let and of a member.
 const SURE: &[(u128, &str, bool)] = &[
     (1000, "v0 v0 +", true),
     (3, "10 v0 /", false),
@@ -100,6 +100,10 @@ const SURE: &[(u128, &str, bool)] = &[
     (3, "3 2 v0 tab2 v0 v0 sub2", false),
     (3, "v0 one get", true),
     (3, "v0 gen get", false),
+    (3, "7 10 v0 / let", true),
+    (3, "v0 10 v0 / let", false),
+    (3, "7 one 10 v0 / S", true),
+    (3, "v0 one 10 v0 / S", false),
 ];
 
 fn is_sure(told: Result<Told, Memory>, wanted: bool) -> Result<bool, Memory> {
@@ -116,7 +120,7 @@ fn rows_below_a_number(rt: HostRuntime) {
 }
 
 // A number, a body below it, the ends of the body's interval, and whether it is firm and has a span. `i+i` below 1000 is
-// from 0 to 1998, and `10/(i+1)` from 0 to 10, though it has no span; what a let binds is not known.
+// from 0 to 1998, and `10/(i+1)` from 0 to 10, though it has no span; so is the name of a let or of a member.
 #[derive(Clone, Copy)]
 struct Row<'a>(u128, &'a str, u128, u128, bool);
 
@@ -125,7 +129,8 @@ const INTERVALS: &[Row<'static>] = &[
     Row(3, "10 v0 1 + /", 0, 10, false),
     Row(3, "20 v0 -", 0, 20, true),
     Row(3, "g1 v0 1 + %", 0, 2, false),
-    Row(3, "v0 v0 let", 0, u128::MAX, false),
+    Row(3, "v0 v0 let", 0, 2, false),
+    Row(3, "5 one v0 S", 5, 5, false),
     Row(3, "3 v0 5 + tab1 1 sub1", 5, 7, false),
     Row(3, "v0 1 < 5 9 if", 5, 9, false),
 ];

@@ -4,7 +4,7 @@ use Rattle.nrca_term.specs.View.{term_of}
 use Rattle.nrca_term.specs.Laws.Entering.{child-counted}
 use Rattle.nrca_term.specs.Laws.WellFormed.{well_formed-Core}
 use Rattle.nrca_ranges.specs.Context.{context_of}
-use Rattle.nrca_ranges.specs.Shapes.{known_shapes}
+use Rattle.nrca_ranges.specs.Shapes.{ranges_of}
 use Rattle.nrca_motion.specs.Fitting.{TellsOut}
 use Rattle.nrca_motion.specs.Laws.Fitting.{first-inside, refused-first, moves-operand}
 use Rattle.nrca_motion.proofs.fitting.is_sure.Goals as goal
@@ -20,7 +20,7 @@ is_sure_outside-requires c = record {
 
 pub returns-then-not-sure : goal.returns-then-not-sure
 returns-then-not-sure c =
-    refused-first (known_shapes c.args.ctx.now) (context_of c.args.ctx.now) c.args.fit.rule c.args.fit.part c.binders.result (term_of c.args.term.now) (term_of c.in-Some.body.now) (term_of c.in-Some-part.first.now) c.requires.form
+    refused-first (ranges_of c.args.ctx.now) (context_of c.args.ctx.now) c.args.fit.rule c.args.fit.part c.binders.result (term_of c.args.term.now) (term_of c.in-Some.body.now) (term_of c.in-Some-part.first.now) c.requires.form
     (sym c.in-Some.ensures) (sym c.in-Some-part.ensures) c.binders.ensures.number
     (subst (TellsOut c.args.ctx.now c.binders.result (term_of c.in-Some-part.first.now)) c.if-not-sure.true c.in_ok-sure-in-Some-part.ensures)
 

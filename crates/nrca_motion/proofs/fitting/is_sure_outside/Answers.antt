@@ -2,7 +2,7 @@ use Rattle.std.proofs.Common.{◌+◌, sym, subst, arith, ◌∙◌}
 use Rattle.nrca_term.specs.View.{term_of}
 use Rattle.nrca_term.specs.Laws.WellFormed.{well_formed-Core}
 use Rattle.nrca_ranges.specs.Context.{context_of}
-use Rattle.nrca_ranges.specs.Shapes.{known_shapes}
+use Rattle.nrca_ranges.specs.Shapes.{ranges_of}
 use Rattle.nrca_motion.specs.Outside.{HasRoom, IsOutside}
 use Rattle.nrca_motion.specs.Laws.Outside.{outside-unused}
 use Rattle.nrca_motion.specs.Laws.Fitting.{inside-outside, room-small, tells-outside}
@@ -22,6 +22,6 @@ defined-requires c = record {
 
 pub returns-in_ok-found-in-Some : goal.returns-in_ok-found-in-Some
 returns-in_ok-found-in-Some c =
-    tells-outside (known_shapes c.args.ctx.now) (context_of c.args.ctx.now) c.args.count (term_of c.args.term.now) (term_of c.in-Some.lowered) c.in_ok-found-in-Some.found (well_formed-Core c.args.term.now)
+    tells-outside (ranges_of c.args.ctx.now) (context_of c.args.ctx.now) c.args.count (term_of c.args.term.now) (term_of c.in-Some.lowered) c.in_ok-found-in-Some.found (well_formed-Core c.args.term.now)
     (sym c.in_ok-copied.ensures ∙ subst (IsOutside c.args.count (term_of c.in_ok-copied.copied)) c.in-Some.is c.in_ok-lowered.ensures)
     c.in_ok-found-in-Some.ensures.sound c.in_ok-found-in-Some.ensures.strong

@@ -1,12 +1,11 @@
-use Rattle.std.proofs.Common.{ap, [], refl, sym}
+use Rattle.std.proofs.Common.{[], refl, sym}
 use Rattle.nrca_term.specs.Term.{parts_of}
 use Rattle.nrca_term.specs.View.{term_of}
 use Rattle.nrca_term.specs.Laws.Entering.{child-counted}
 use Rattle.nrca_term.specs.Laws.WellFormed.{well_formed-Core}
 use Rattle.nrca_ranges.specs.Context.{context_of}
 use Rattle.nrca_normal.specs.Laws.Conditions.{tells-here, tells-part, tells-nothing}
-use Rattle.nrca_ranges.specs.Shapes.{shapes_in}
-use Rattle.nrca_ranges.specs.Shapes.{known_shapes}
+use Rattle.nrca_ranges.specs.Shapes.{ranges_of}
 use Rattle.nrca_ranges.specs.Laws.Entered.{entered-inside}
 use Rattle.nrca_normal.proofs.conditions.part_defined.Goals as goal
 
@@ -22,9 +21,9 @@ defined-requires c = record {
 
 pub returns-in_ok-found-in-Some-clause-told : goal.returns-in_ok-found-in-Some-clause-told
 returns-in_ok-found-in-Some-clause-told c =
-    tells-part (known_shapes c.args.ctx.now) (known_shapes c.push.new.self) (context_of c.args.ctx.now) (context_of c.push.new.self) (term_of c.args.term.now) c.args.i (term_of c.in-Some.part.now) [] c.in_ok-found-in-Some.found
-    (sym c.in-Some.ensures) c.in_ok-mark-in-Some.ensures.entered (ap shapes_in c.push.ensures.globals)
-    (tells-here (known_shapes c.push.new.self) (context_of c.push.new.self) (term_of c.in-Some.part.now) c.in_ok-found-in-Some.found c.in_ok-found-in-Some.ensures.sound c.in_ok-found-in-Some.ensures.strong)
+    tells-part (ranges_of c.args.ctx.now) (ranges_of c.push.new.self) (context_of c.args.ctx.now) (context_of c.push.new.self) (term_of c.args.term.now) c.args.i (term_of c.in-Some.part.now) [] c.in_ok-found-in-Some.found
+    (sym c.in-Some.ensures) c.in_ok-mark-in-Some.ensures.entered c.in_ok-mark-in-Some.ensures.ranges
+    (tells-here (ranges_of c.push.new.self) (context_of c.push.new.self) (term_of c.in-Some.part.now) c.in_ok-found-in-Some.found c.in_ok-found-in-Some.ensures.sound c.in_ok-found-in-Some.ensures.strong)
 
 pub returns-in-None-clause-told : goal.returns-in-None-clause-told
-returns-in-None-clause-told c = tells-nothing (known_shapes c.args.ctx.now) (context_of c.args.ctx.now) (term_of c.args.term.now) c.args.i [] (sym c.in-None.ensures)
+returns-in-None-clause-told c = tells-nothing (ranges_of c.args.ctx.now) (context_of c.args.ctx.now) (term_of c.args.term.now) c.args.i [] (sym c.in-None.ensures)

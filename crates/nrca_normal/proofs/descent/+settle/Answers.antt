@@ -5,7 +5,7 @@ use Rattle.nrca_term.specs.Term.{count, parts_of}
 use Rattle.nrca_term.specs.View.{term_of}
 use Rattle.nrca_term.specs.Laws.Exchange.{count-with_part}
 use Rattle.nrca_ranges.specs.Context.{context_of}
-use Rattle.nrca_ranges.specs.Shapes.{shapes_in, known_shapes}
+use Rattle.nrca_ranges.specs.Shapes.{shapes_in, ranges_of}
 use Rattle.nrca_normal.specs.Conditions.{TellsNode}
 use Rattle.nrca_normal.specs.Laws.Quiet.{parts-none}
 use Rattle.nrca_normal.specs.Laws.Typed.{typed-small, part-falls, part-number}
@@ -21,7 +21,7 @@ settle-settle_part-requires t c =
     (omega (arith, f, c.decreases), (omega (arith, c.loop-i-test.true, c.parts.ensures), rewritten-typed c.args.run.now c.loop-i.run (term_of c.args.term.now) (term_of c.loop-i.term) c.loop-i.changed c.requires.typed c.loop-i.invariant.0))
 
 pub settle-returns-in_err-below-clause-globals : goal.settle-returns-in_err-below-clause-globals
-settle-returns-in_err-below-clause-globals t c = c.settle_part.ensures.globals ∙ c.loop-i.invariant.0.globals
+settle-returns-in_err-below-clause-globals t c = c.settle_part.ensures.globals ∙ ap (λ g. g.positions) c.loop-i.invariant.0.globals
 
 pub settle-part_after-requires : goal.settle-part_after-requires
 settle-part_after-requires t c =
@@ -39,7 +39,7 @@ settle-part_after-requires t c =
     )
 
 pub settle-returns-in_err-i-clause-globals : goal.settle-returns-in_err-i-clause-globals
-settle-returns-in_err-i-clause-globals t c = c.part_after.ensures.globals ∙ c.settle_part.ensures.globals ∙ c.loop-i.invariant.0.globals
+settle-returns-in_err-i-clause-globals t c = c.part_after.ensures.globals ∙ c.settle_part.ensures.globals ∙ ap (λ g. g.positions) c.loop-i.invariant.0.globals
 
 pub settle-loop-i-smaller : goal.settle-loop-i-smaller
 settle-loop-i-smaller t c =
@@ -53,7 +53,7 @@ settle-loop-i-preserved t c =
     (omega (arith, c.loop-i-test.true, c.parts.ensures)) c.loop-i.invariant c.in_ok-below.ensures.settled c.in_ok-i.ensures.on
 
 pub settle-returns-clause-globals : goal.settle-returns-clause-globals
-settle-returns-clause-globals t c = c.loop-i.invariant.0.globals
+settle-returns-clause-globals t c = ap (λ g. g.positions) c.loop-i.invariant.0.globals
 
 pub settle-returns-clause-settled : goal.settle-returns-clause-settled
 settle-returns-clause-settled t c =
@@ -70,6 +70,9 @@ settle_part-settle-done-requires t c =
 pub settle_part-exchange-requires-2 : goal.settle_part-exchange-requires-2
 settle_part-exchange-requires-2 t c =
     omega (arith, c.requires.has, ap (λ x. count (parts_of x)) c.exchange.ensures.now, count-with_part (term_of c.args.term.now) c.args.i (term_of Bottom))
+
+pub settle_part-returns-clause-globals : goal.settle_part-returns-clause-globals
+settle_part-returns-clause-globals t c = ap (λ g. g.positions) c.leave.ensures.globals ∙ c.settle-done.ensures.globals ∙ c.enter.ensures.globals
 
 pub settle_part-returns-clause-settled : goal.settle_part-returns-clause-settled
 settle_part-returns-clause-settled t c =
@@ -89,7 +92,7 @@ part_after-overflow_add-result-else-again t c = let l = part-number c.args.run.n
 
 pub settle_node-loop-firing-init : goal.settle_node-loop-firing-init
 settle_node-loop-firing-init t c =
-    (rewritten-none c.args.run.now c.args.run.now (term_of c.args.term.now) refl refl refl refl, parts-none (known_shapes c.args.run.now.ctx) (context_of c.args.run.now.ctx) (term_of c.args.term.now))
+    (rewritten-none c.args.run.now c.args.run.now (term_of c.args.term.now) refl refl refl refl, parts-none (ranges_of c.args.run.now.ctx) (context_of c.args.run.now.ctx) (term_of c.args.term.now))
 
 pub settle_node-rule_at-requires : goal.settle_node-rule_at-requires
 settle_node-rule_at-requires t c = record {
@@ -98,31 +101,31 @@ settle_node-rule_at-requires t c = record {
 }
 
 pub settle_node-returns-in_err-firing-clause-globals : goal.settle_node-returns-in_err-firing-clause-globals
-settle_node-returns-in_err-firing-clause-globals t c = ap shapes_in c.rule_at.ensures.globals ∙ c.loop-firing.invariant.0.globals
+settle_node-returns-in_err-firing-clause-globals t c = ap shapes_in c.rule_at.ensures.globals ∙ ap (λ g. g.positions) c.loop-firing.invariant.0.globals
 
 pub settle_node-rewrite-requires-clause-typed : goal.settle_node-rewrite-requires-clause-typed
 settle_node-rewrite-requires-clause-typed t c =
     rewritten-typed c.args.run.now (record { ctx = c.rule_at.new.ctx; way = c.loop-firing.run.way; steps = c.loop-firing.run.steps }) (term_of c.args.term.now) (term_of c.loop-firing.term) c.loop-firing.changed c.requires.typed
-    (rewritten-over c.args.run.now c.loop-firing.run (term_of c.args.term.now) (term_of c.loop-firing.term) c.loop-firing.changed c.rule_at.new.ctx c.loop-firing.invariant.0 c.rule_at.ensures.globals c.in_ok-firing.ensures.back)
+    (rewritten-over c.args.run.now c.loop-firing.run (term_of c.args.term.now) (term_of c.loop-firing.term) c.loop-firing.changed c.rule_at.new.ctx c.loop-firing.invariant.0 c.in_ok-firing.ensures.ranges c.in_ok-firing.ensures.back)
 
 pub settle_node-returns-in_err-rewrite-in-Some-clause-globals : goal.settle_node-returns-in_err-rewrite-in-Some-clause-globals
-settle_node-returns-in_err-rewrite-in-Some-clause-globals t c = c.rewrite.ensures.globals ∙ ap shapes_in c.rule_at.ensures.globals ∙ c.loop-firing.invariant.0.globals
+settle_node-returns-in_err-rewrite-in-Some-clause-globals t c = c.rewrite.ensures.globals ∙ ap shapes_in c.rule_at.ensures.globals ∙ ap (λ g. g.positions) c.loop-firing.invariant.0.globals
 
 pub settle_node-settle_bound-requires : goal.settle_node-settle_bound-requires
 settle_node-settle_bound-requires t c =
     let h = rewritten-again c.args.run.now (record { ctx = c.rule_at.new.ctx; way = c.loop-firing.run.way; steps = c.loop-firing.run.steps }) c.rewrite.new.run (term_of c.args.term.now) (term_of c.loop-firing.term) (term_of c.rewrite.new.term) c.loop-firing.changed
-    (rewritten-over c.args.run.now c.loop-firing.run (term_of c.args.term.now) (term_of c.loop-firing.term) c.loop-firing.changed c.rule_at.new.ctx c.loop-firing.invariant.0 c.rule_at.ensures.globals c.in_ok-firing.ensures.back)
+    (rewritten-over c.args.run.now c.loop-firing.run (term_of c.args.term.now) (term_of c.loop-firing.term) c.loop-firing.changed c.rule_at.new.ctx c.loop-firing.invariant.0 c.in_ok-firing.ensures.ranges c.in_ok-firing.ensures.back)
     c.in_ok-rewrite-in-Some.ensures.rewritten in
     let f = rewritten-falls c.args.run.now c.rewrite.new.run (term_of c.args.term.now) (term_of c.rewrite.new.term) true c.requires.typed h in
     (omega (arith, f, c.decreases), rewritten-typed c.args.run.now c.rewrite.new.run (term_of c.args.term.now) (term_of c.rewrite.new.term) true c.requires.typed h)
 
 pub settle_node-returns-in_err-settled-in-Some-clause-globals : goal.settle_node-returns-in_err-settled-in-Some-clause-globals
-settle_node-returns-in_err-settled-in-Some-clause-globals t c = c.settle_bound.ensures.globals ∙ c.rewrite.ensures.globals ∙ ap shapes_in c.rule_at.ensures.globals ∙ c.loop-firing.invariant.0.globals
+settle_node-returns-in_err-settled-in-Some-clause-globals t c = c.settle_bound.ensures.globals ∙ c.rewrite.ensures.globals ∙ ap shapes_in c.rule_at.ensures.globals ∙ ap (λ g. g.positions) c.loop-firing.invariant.0.globals
 
 pub settle_node-loop-firing-smaller : goal.settle_node-loop-firing-smaller
 settle_node-loop-firing-smaller t c =
     let ty = rewritten-typed c.args.run.now (record { ctx = c.rule_at.new.ctx; way = c.loop-firing.run.way; steps = c.loop-firing.run.steps }) (term_of c.args.term.now) (term_of c.loop-firing.term) c.loop-firing.changed c.requires.typed
-    (rewritten-over c.args.run.now c.loop-firing.run (term_of c.args.term.now) (term_of c.loop-firing.term) c.loop-firing.changed c.rule_at.new.ctx c.loop-firing.invariant.0 c.rule_at.ensures.globals c.in_ok-firing.ensures.back) in
+    (rewritten-over c.args.run.now c.loop-firing.run (term_of c.args.term.now) (term_of c.loop-firing.term) c.loop-firing.changed c.rule_at.new.ctx c.loop-firing.invariant.0 c.in_ok-firing.ensures.ranges c.in_ok-firing.ensures.back) in
     let h = c.in_ok-rewrite-in-Some.ensures.rewritten in
     let k = c.in_ok-settled-in-Some.ensures.settled in
     let l = rewritten-lower (record { ctx = c.rule_at.new.ctx; way = c.loop-firing.run.way; steps = c.loop-firing.run.steps }) c.rewrite.new.run (term_of c.loop-firing.term) (term_of c.rewrite.new.term) ty h in
@@ -134,16 +137,16 @@ pub settle_node-loop-firing-preserved : goal.settle_node-loop-firing-preserved
 settle_node-loop-firing-preserved t c =
     again-settled c.args.run.now c.rewrite.new.run c.settle_bound.new.run (term_of c.args.term.now) (term_of c.rewrite.new.term) (term_of c.settle_bound.new.term) c.in_ok-settled-in-Some.settled
     (rewritten-again c.args.run.now (record { ctx = c.rule_at.new.ctx; way = c.loop-firing.run.way; steps = c.loop-firing.run.steps }) c.rewrite.new.run (term_of c.args.term.now) (term_of c.loop-firing.term) (term_of c.rewrite.new.term) c.loop-firing.changed
-    (rewritten-over c.args.run.now c.loop-firing.run (term_of c.args.term.now) (term_of c.loop-firing.term) c.loop-firing.changed c.rule_at.new.ctx c.loop-firing.invariant.0 c.rule_at.ensures.globals c.in_ok-firing.ensures.back)
+    (rewritten-over c.args.run.now c.loop-firing.run (term_of c.args.term.now) (term_of c.loop-firing.term) c.loop-firing.changed c.rule_at.new.ctx c.loop-firing.invariant.0 c.in_ok-firing.ensures.ranges c.in_ok-firing.ensures.back)
     c.in_ok-rewrite-in-Some.ensures.rewritten)
     c.in_ok-settled-in-Some.ensures.settled
 
 pub settle_node-returns-in-None-clause-globals : goal.settle_node-returns-in-None-clause-globals
-settle_node-returns-in-None-clause-globals t c = ap shapes_in c.rule_at.ensures.globals ∙ c.loop-firing.invariant.0.globals
+settle_node-returns-in-None-clause-globals t c = ap shapes_in c.rule_at.ensures.globals ∙ ap (λ g. g.positions) c.loop-firing.invariant.0.globals
 
 pub settle_node-returns-in-None-clause-settled : goal.settle_node-returns-in-None-clause-settled
 settle_node-returns-in-None-clause-settled t c = (
-  rewritten-over c.args.run.now c.loop-firing.run (term_of c.args.term.now) (term_of c.loop-firing.term) c.loop-firing.changed c.rule_at.new.ctx c.loop-firing.invariant.0 c.rule_at.ensures.globals c.in_ok-firing.ensures.back,
+  rewritten-over c.args.run.now c.loop-firing.run (term_of c.args.term.now) (term_of c.loop-firing.term) c.loop-firing.changed c.rule_at.new.ctx c.loop-firing.invariant.0 c.in_ok-firing.ensures.ranges c.in_ok-firing.ensures.back,
   quiet-as c.args.run.now c.loop-firing.run (term_of c.args.term.now) (term_of c.loop-firing.term) c.loop-firing.changed (term_of c.loop-firing.term) c.loop-firing.invariant.0
       (subst (TellsNode c.loop-firing.run.ctx (term_of c.loop-firing.term)) c.in-None.is c.in_ok-firing.ensures.told),
   c.loop-firing.invariant.1,

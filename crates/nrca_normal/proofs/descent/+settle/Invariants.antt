@@ -1,7 +1,7 @@
 use Rattle.std.proofs.Common.{◌+◌, ◌-◌, ◌*◌}
 use Rattle.nrca_term.specs.View.{term_of}
 use Rattle.nrca_ranges.specs.Context.{context_of}
-use Rattle.nrca_ranges.specs.Shapes.{known_shapes}
+use Rattle.nrca_ranges.specs.Shapes.{ranges_of}
 use Rattle.nrca_normal.specs.Quiet.{QuietParts}
 use Rattle.nrca_normal.specs.Descent.{HasRewritten, HasSettledParts, steps_left}
 use Rattle.nrca_normal.proofs.descent.+settle.Given as goal
@@ -13,7 +13,7 @@ abbrev pub decreases-settle-loop-i : goal.decreases-settle-loop-i
 decreases-settle-loop-i l = steps_left (term_of l.term) * 1280002 + (1280001 - l.i)
 
 abbrev pub invariant-settle_node-loop-firing : goal.invariant-settle_node-loop-firing
-invariant-settle_node-loop-firing l = HasRewritten l.fn.run (term_of l.fn.term) l.run (term_of l.term) l.changed × QuietParts (known_shapes l.fn.run.ctx) (context_of l.fn.run.ctx) (term_of l.term) l.settled
+invariant-settle_node-loop-firing l = HasRewritten l.fn.run (term_of l.fn.term) l.run (term_of l.term) l.changed × QuietParts (ranges_of l.fn.run.ctx) (context_of l.fn.run.ctx) (term_of l.term) l.settled
 
 abbrev pub decreases-settle_node-loop-firing : goal.decreases-settle_node-loop-firing
 decreases-settle_node-loop-firing l = steps_left (term_of l.term)

@@ -1,7 +1,6 @@
-use Rattle.std.proofs.Common.{◌≡◌, map, ap, sym, subst, refl, ◌∙◌}
+use Rattle.std.proofs.Common.{ap, sym, subst, refl, ◌∙◌}
 use Rattle.aql_value.specs.Datum.{list_of, array}
 use Rattle.nrca_ranges.specs.Bounds.{HasShape, AreIn, unknown, grid}
-use Rattle.nrca_ranges.specs.Exact.{only}
 use Rattle.nrca_ranges.specs.Shapes.{bounds_of}
 use Rattle.nrca_ranges.specs.Laws.Bounds.{nothing-known}
 use Rattle.nrca_ranges.specs.Laws.Views.{bounds_of-Unknown, bounds_of-Grid}

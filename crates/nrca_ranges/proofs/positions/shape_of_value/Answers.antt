@@ -4,12 +4,11 @@ use Rattle.aql_value.specs.Datum.{data_of, list_of, array}
 use Rattle.aql_value.specs.Laws.Datum.{list_of-data_of}
 use Rattle.aql_value.specs.Meaning.{datum}
 use Rattle.nrca_ranges.specs.declared.interval.Interval.{Interval}
-use Rattle.nrca_ranges.specs.Bounds.{HasShape, IsCount, AreIn, unknown, members, grid}
+use Rattle.nrca_ranges.specs.Bounds.{HasShape, IsCount, unknown, members, grid}
 use Rattle.nrca_ranges.specs.Exact.{only, exact_bounds}
 use Rattle.nrca_ranges.specs.Shapes.{bounds_of}
 use Rattle.nrca_ranges.specs.Laws.Bounds.{count-is, nothing-known}
-use Rattle.nrca_ranges.specs.Laws.Views.{bounds_of-Unknown, bounds_of-Members, bounds_of-Grid}
-use Rattle.nrca_ranges.proofs.Lists.{are-only}
+use Rattle.nrca_ranges.specs.Laws.Views.{bounds_of-Unknown, bounds_of-Members}
 use Rattle.nrca_ranges.proofs.positions.shape_of_value.Goals as goal
 
 pub returns-in_ok-member-in-Members-clause-holds : goal.returns-in_ok-member-in-Members-clause-holds

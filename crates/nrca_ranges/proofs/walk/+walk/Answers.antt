@@ -11,7 +11,7 @@ use Rattle.nrca_ranges.specs.Transfer.{own_bounds}
 use Rattle.nrca_ranges.specs.Walk.{facts_below, summary_of, told_each, part_summary, summaries_there, own_told}
 use Rattle.nrca_ranges.specs.Laws.Entered.{part-small}
 use Rattle.nrca_ranges.specs.Laws.Walk.{below-same, ranges-same, taken-back, shapes-back}
-use Rattle.nrca_ranges.specs.Laws.Summaries.{told-none, told-more, told-last, keeps-none, keeps-both, holds-first, holds-parts, closes-node, rest-whole, told-part}
+use Rattle.nrca_ranges.specs.Laws.Summaries.{told-none, told-more, keeps-none, keeps-both, holds-first, holds-parts, closes-node, rest-whole, told-part}
 use Rattle.nrca_ranges.proofs.walk.+walk.Goals as goal
 
 pub walk-loop-i-init : goal.walk-loop-i-init
