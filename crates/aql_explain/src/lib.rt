@@ -5,7 +5,7 @@
 //! where there is nothing to show. Its clause says that the place lies in the script, and has its line and column.
 //!
 //! Read `specs/Place`, then `cause`, `place`, `span`, `drawing`, `row` and `sentence`; for a fault of syntax `syntax`, then
-//! `view`, `slip` and `wanted`. That the place is the fault's and that the sentence fits it stands in no clause.
+//! `view`, `slip` and `wanted`; for one of types `names`. That the place is the fault's and that the sentence fits it stands in no clause.
 #![tactic(auto)]
 
 ghost use Rattle.std.specs.Prelude.{IfOk, IfSome};
@@ -13,6 +13,7 @@ ghost use Rattle.aql_explain.specs.Place.{IsPlaceIn};
 
 mod cause;
 mod drawing;
+mod names;
 mod place;
 mod row;
 mod sentence;
@@ -46,6 +47,34 @@ pub fn explain(alloc: Global, script: &[u8], cause: &Cause) -> Result<Option<Pic
     {
         return syntax::syntax_picture(alloc, script, *declaration);
     }
+    if let Cause::Script {
+        fault: ScriptFault::Type { declaration },
+    } = cause
+    {
+        return type_picture(alloc, script, *declaration, cause);
+    }
+    plain_picture(alloc, script, cause)
+}
+
+// Of a declaration without a type: of a name in it that stands for nothing, or else of its first line.
+fn type_picture(
+    alloc: Global,
+    script: &[u8],
+    declaration: u64,
+    cause: &Cause,
+) -> Result<Option<Picture>, Memory>
+    ensures { IfOk result (λ o. IfSome o (λ p. IsPlaceIn script.now p.place)) }
+{
+    match names::name_picture(alloc, script, declaration)? {
+        Some(picture) => Ok(Some(picture)),
+        None => plain_picture(alloc, script, cause),
+    }
+}
+
+// By the place that the cause tells.
+fn plain_picture(alloc: Global, script: &[u8], cause: &Cause) -> Result<Option<Picture>, Memory>
+    ensures { IfOk result (λ o. IfSome o (λ p. IsPlaceIn script.now p.place)) }
+{
     match span::place_of(alloc, script, cause)? {
         None => Ok(None),
         Some(place) => {
