@@ -16,6 +16,10 @@ SCRIPTS = [b"foo;", b"1+;", b'"a', b"(" * 5000, b"1;" * 10000 + b"foo;", b" " * 
            bytes(range(256)) * 100, b"1;\n" * 3000 + b"foo\n;", b'1; readval \\V using NETCDF1 at ("none.nc", "v", 0, 1);']
 PICTURES = [
     (b"1;\n  2 + {3}; 4;\n", b"2:3:   2 + {3}; 4;\n       ^^^^^^^^\naql: the declaration that begins here has no type\n"),
+    (b"1; {x | x <- gen!3};", b"1:9: 1; {x | x <- gen!3};\n             ^\naql: no value of the name `x` is declared here, and a name in a pattern without `\\` is compared\n"),
+    (b"{count | \\x <- gen!3};", b"1:2: {count | \\x <- gen!3};\n      ^^^^^\naql: `count` is a macro: it is applied, `count!x`, and is no value\n"),
+    (b"let val \\y = 3 in sum!y end;", b"1:19: let val \\y = 3 in sum!y end;\n                        ^^^\naql: no macro of the name `sum` is declared here\n"),
+    (b"(fn \\x => x!3)!2;", b"1:11: (fn \\x => x!3)!2;\n                ^\naql: `x` is a local name, which has a value, and no macro\n"),
     (b"[[1; 2]];\nval\t\\x 3;", b"2:8: val\t\\x 3;\n        \t   ^\naql: `=` is wanted here, and the number `3` stands here\n"),
     ("\"é\" ≤ 1;".encode(), "1:6: \"é\" ≤ 1;\n         ^\naql: no sign, word, number or string begins here\n".encode()),
     (b"1; (* \x1b[31m \x9b", b"1:4: 1; (* ?[31m ?\n        ^^\naql: this comment is not closed: it goes to the next `*)`, and comments do not nest\n"),
