@@ -360,10 +360,7 @@ fn is_named(names: &Names, declared: Declared, name: &[u8]) -> bool {
 // Whether a pattern of the declaration at fault binds the name where the token stands.
 fn is_local(names: &Names, at: usize, name: &[u8]) -> bool {
     let first = names.first as u64;
-    names
-        .scopes
-        .iter()
-        .any(|scope| scope.from >= first && binds(names, *scope, at, name))
+    names.scopes.iter().any(|scope| scope.from >= first && binds(names, *scope, at, name))
 }
 
 // Whether a pattern binds the name where the token stands.
